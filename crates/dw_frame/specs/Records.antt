@@ -1,0 +1,26 @@
+-- The records of a `.debug_frame` section as they are spelled (DWARF 5, section 6.4.1).
+use Rattle.std.specs.Prelude.{ℕ, ℤ}
+use Rattle.dw_bytes.specs.declared.target.Format.{Format}
+use Rattle.dw_bytes.specs.Reading.{Reading}
+
+-- A CIE: the offset of its record, its header, and what its body has left behind the header, which is its program.
+pub record Cie : Type 0 where
+  pub offset : ℕ
+  pub format : Format
+  pub code_factor : ℕ
+  pub data_factor : ℤ
+  pub return_register : ℕ
+  pub program : Reading
+
+-- An FDE, likewise.
+pub record Fde : Type 0 where
+  pub offset : ℕ
+  pub format : Format
+  pub cie_pointer : ℕ
+  pub initial : ℕ
+  pub range : ℕ
+  pub program : Reading
+
+pub data Record : Type 0 where
+  common : Cie → Record
+  description : Fde → Record

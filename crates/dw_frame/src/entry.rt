@@ -1,0 +1,48 @@
+//! The records of a section.
+
+ghost use Rattle.std.specs.Prelude.{◌+◌, ◌<◌, ◌^◌};
+
+use crate::program::Program;
+use dw_bytes::Format;
+
+/// A common information entry (DWARF 5, section 6.4.1): what its FDEs have in common.
+#[derive(Clone, Copy, Debug)]
+pub struct CommonInformationEntry<'a> {
+    /// The offset of the record's first byte in the section.
+    pub offset: u32,
+    /// The format of the record's length.
+    pub format: Format,
+    /// What the delta of an advance is multiplied by.
+    pub code_alignment_factor: u64,
+    /// What a factored offset is multiplied by.
+    pub data_alignment_factor: i64,
+    /// The column of the rules that has the return address.
+    pub return_address_register: u16,
+    /// The initial instructions.
+    pub program: Program<'a>,
+}
+
+/// A frame description entry (DWARF 5, section 6.4.1): a range of addresses and its program.
+#[derive(Clone, Copy, Debug)]
+pub struct FrameDescriptionEntry<'a> {
+    /// The offset of the record's first byte in the section.
+    pub offset: u32,
+    /// The format of the record's length.
+    pub format: Format,
+    /// Where its CIE is said to begin in the section.
+    pub cie_pointer: u64,
+    /// The first address that it covers.
+    pub initial_location: u64,
+    /// How many addresses it covers.
+    pub address_range: u64,
+    /// The instructions.
+    pub program: Program<'a>,
+    pub ghost in_range: { initial_location + address_range < 2 ^ 64 },
+}
+
+/// A record of a section.
+#[derive(Clone, Copy, Debug)]
+pub enum Entry<'a> {
+    Cie(CommonInformationEntry<'a>),
+    Fde(FrameDescriptionEntry<'a>),
+}

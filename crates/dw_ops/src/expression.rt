@@ -1,0 +1,39 @@
+//! An expression: bytes under a target.
+
+ghost use Rattle.std.specs.Prelude.{◌≡◌, ◌<◌, ◌^◌, length};
+
+use dw_bytes::Target;
+
+/// The bytes of an expression and the target whose numbers they spell (DWARF 5, section 2.5).
+/// Offsets inside it count from its first byte. Nothing of the bytes has been judged.
+#[derive(Clone, Copy, Debug)]
+pub struct Expression<'a> {
+    bytes: &'a [u8],
+    target: Target,
+    pub ghost short: { length bytes.now < 2 ^ 32 },
+}
+
+impl<'a> Expression<'a> {
+    /// An expression of fewer than 2^32 bytes.
+    pub fn new(bytes: &'a [u8], target: Target) -> Self
+        requires { length bytes.now < 2 ^ 32 }
+        ensures bytes { result.bytes.now ≡ bytes.now }
+        ensures target { result.target ≡ target }
+    {
+        Expression { bytes, target }
+    }
+
+    /// All of its bytes.
+    pub fn bytes(&self) -> &'a [u8]
+        ensures { result.now ≡ self.now.bytes.now }
+    {
+        self.bytes
+    }
+
+    /// The target that it is read under.
+    pub fn target(&self) -> Target
+        ensures { result ≡ self.now.target }
+    {
+        self.target
+    }
+}

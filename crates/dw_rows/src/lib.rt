@@ -1,0 +1,2 @@
+//! The rows of a checked `.debug_frame` section (DWARF 5, section 6.4).
+#![tactic(auto)]
