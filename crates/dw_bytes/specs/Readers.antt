@@ -1,5 +1,5 @@
 -- Grammars put together from parts, and what reads them from left to right.
-use Rattle.std.specs.Prelude.{◌≡◌, ℕ, List, [], ◌++◌, Bool, true, if◌then◌else◌, Result, Ok, Err}
+use Rattle.std.specs.Prelude.{◌≡◌, ◌≤◌, ◌+◌, ℕ, List, [], ◌++◌, length, Bool, true, if◌then◌else◌, Result, Ok, Err}
 use Rattle.dw_bytes.specs.declared.fault.Fault.{Fault}
 use Rattle.dw_bytes.specs.declared.fault.FaultKind.{FaultKind}
 use Rattle.dw_bytes.specs.Reading.{Reading, ◌>>=◌}
@@ -35,3 +35,16 @@ Both First Second = Then First (λ a. Then Second (λ b. Made (a, b)))
 
 abbrev pub both_read : {A B : Type 0} → (Reading → Result (A × Reading) Fault) → (Reading → Result (B × Reading) Fault) → Reading → Result ((A × B) × Reading) Fault
 both_read first second = then_read first (λ a. then_read second (λ b. made_read (a, b)))
+
+-- A call that answers with result and leaves new read as read says. A refusal may leave what is left anywhere.
+abbrev pub ParsesBy : {X Y : Type 0} → (X → Y) → (Reading → Result (Y × Reading) Fault) → Reading → Result X Fault → Reading → Type 0
+ParsesBy view read old (Ok v) new = read old ≡ Ok (view v, new)
+ParsesBy view read old (Err fault) new = read old ≡ Err fault
+
+abbrev pub Parses : {X : Type 0} → (Reading → Result (X × Reading) Fault) → Reading → Result X Fault → Reading → Type 0
+Parses read old result new = ParsesBy (λ v. v) read old result new
+
+-- a refusal stands at what was left, or behind it
+abbrev pub IsRefusedWithin : {X : Type 0} → Reading → Result X Fault → Type 0
+IsRefusedWithin r (Ok x) = Unit {0}
+IsRefusedWithin r (Err fault) = fault.at ≤ r.position + length r.rest

@@ -1,3 +1,5 @@
 pub mod Records
 pub mod Instructions
+pub mod Operands
+pub mod Codes
 pub mod Views

@@ -2,10 +2,16 @@
 //! 6.4 and 7.24).
 #![tactic(auto)]
 
+mod call_frame_instruction;
+mod decode;
 mod entry;
-mod instruction;
+mod instructions;
+pub mod laws;
+mod operands;
 mod program;
 
+pub use call_frame_instruction::CallFrameInstruction;
+pub use decode::instruction;
 pub use entry::{CommonInformationEntry, Entry, FrameDescriptionEntry};
-pub use instruction::CallFrameInstruction;
+pub use instructions::Instructions;
 pub use program::Program;
