@@ -14,25 +14,27 @@ pub struct Expression<'a> {
 }
 
 impl<'a> Expression<'a> {
+    ghost use Rattle.dw_ops.specs.Views.{bytes_of, target_of};
+
     /// An expression of fewer than 2^32 bytes.
     pub fn new(bytes: &'a [u8], target: Target) -> Self
         requires { length bytes.now < 2 ^ 32 }
-        ensures bytes { result.bytes.now ≡ bytes.now }
-        ensures target { result.target ≡ target }
+        ensures bytes { bytes_of result ≡ bytes.now }
+        ensures target { target_of result ≡ target }
     {
         Expression { bytes, target }
     }
 
     /// All of its bytes.
     pub fn bytes(&self) -> &'a [u8]
-        ensures { result.now ≡ self.now.bytes.now }
+        ensures { result.now ≡ bytes_of self.now }
     {
         self.bytes
     }
 
     /// The target that it is read under.
     pub fn target(&self) -> Target
-        ensures { result ≡ self.now.target }
+        ensures { result ≡ target_of self.now }
     {
         self.target
     }

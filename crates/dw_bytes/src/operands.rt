@@ -1,0 +1,165 @@
+//! Operands that have to be in a range. Where they aren't, the fault stands at the code that they follow.
+
+ghost use Rattle.std.specs.Prelude.{◌≡◌, ◌≤◌};
+ghost use Rattle.dw_bytes.specs.Reading.{GoesOn};
+ghost use Rattle.dw_bytes.specs.Readers.{Parses, ParsesBy, IsRefusedWithin};
+ghost use Rattle.dw_bytes.specs.Operands.{unsigned, signed, register_number, read_size, piece_size, block, in_range, one_at, two_at};
+
+use crate::cursor::Cursor;
+use crate::fault::{Fault, FaultKind};
+use crate::target::{AddressSize, Target};
+
+fn number_of_register(number: u64, at: u32, target: Target) -> Result<u16, Fault>
+    ensures { result ≡ in_range target at register_number number }
+{
+    let _ = target;
+    match u16::try_from(number) {
+        Ok(register) => Ok(register),
+        Err(_) => Err(Fault {
+            kind: FaultKind::RegisterNumber,
+            at,
+        }),
+    }
+}
+
+fn size_of_piece(number: u64, at: u32, target: Target) -> Result<u32, Fault>
+    ensures { result ≡ in_range target at piece_size number }
+{
+    let _ = target;
+    match u32::try_from(number) {
+        Ok(size) => Ok(size),
+        Err(_) => Err(Fault {
+            kind: FaultKind::PieceSize,
+            at,
+        }),
+    }
+}
+
+fn size_of_read(size: u8, at: u32, target: Target) -> Result<u8, Fault>
+    ensures { result ≡ in_range target at read_size size }
+{
+    let is_size = match target.address_size {
+        AddressSize::Four => matches!(size, 1 | 2 | 4),
+        AddressSize::Eight => matches!(size, 1 | 2 | 4 | 8),
+    };
+    if is_size {
+        Ok(size)
+    } else {
+        Err(Fault {
+            kind: FaultKind::BadSize,
+            at,
+        })
+    }
+}
+
+/// A register: unsigned LEB128, at most 65535, else `RegisterNumber` at the code.
+pub fn register(cursor: &mut Cursor<'_>, at: u32) -> Result<u16, Fault>
+    requires { at ≤ cursor.old.position }
+    ensures exact { Parses (one_at at register_number) cursor.old result cursor.new }
+    ensures within { IsRefusedWithin cursor.old result }
+    ensures goes_on { GoesOn cursor.old cursor.new }
+{
+    let target = cursor.target();
+    let number = cursor.uleb()?;
+    number_of_register(number, at, target)
+}
+
+/// Two registers.
+pub fn two_registers(cursor: &mut Cursor<'_>, at: u32) -> Result<(u16, u16), Fault>
+    requires { at ≤ cursor.old.position }
+    ensures exact { Parses (two_at at register_number register_number) cursor.old result cursor.new }
+    ensures within { IsRefusedWithin cursor.old result }
+    ensures goes_on { GoesOn cursor.old cursor.new }
+{
+    let target = cursor.target();
+    let first = cursor.uleb()?;
+    let second = cursor.uleb()?;
+    Ok((number_of_register(first, at, target)?, number_of_register(second, at, target)?))
+}
+
+/// A register and an unsigned number.
+pub fn register_and_unsigned(cursor: &mut Cursor<'_>, at: u32) -> Result<(u16, u64), Fault>
+    requires { at ≤ cursor.old.position }
+    ensures exact { Parses (two_at at register_number unsigned) cursor.old result cursor.new }
+    ensures within { IsRefusedWithin cursor.old result }
+    ensures goes_on { GoesOn cursor.old cursor.new }
+{
+    let target = cursor.target();
+    let number = cursor.uleb()?;
+    let value = cursor.uleb()?;
+    Ok((number_of_register(number, at, target)?, value))
+}
+
+/// A register and a signed number.
+pub fn register_and_signed(cursor: &mut Cursor<'_>, at: u32) -> Result<(u16, i64), Fault>
+    requires { at ≤ cursor.old.position }
+    ensures exact { Parses (two_at at register_number signed) cursor.old result cursor.new }
+    ensures within { IsRefusedWithin cursor.old result }
+    ensures goes_on { GoesOn cursor.old cursor.new }
+{
+    let target = cursor.target();
+    let number = cursor.uleb()?;
+    let value = cursor.sleb()?;
+    Ok((number_of_register(number, at, target)?, value))
+}
+
+/// A register and the bytes of a block.
+pub fn register_and_block<'a>(cursor: &mut Cursor<'a>, at: u32) -> Result<(u16, &'a [u8]), Fault>
+    requires { at ≤ cursor.old.position }
+    ensures exact { ParsesBy (λ v. (v.0, v.1.now)) (two_at at register_number block) cursor.old result cursor.new }
+    ensures within { IsRefusedWithin cursor.old result }
+    ensures goes_on { GoesOn cursor.old cursor.new }
+{
+    let target = cursor.target();
+    let number = cursor.uleb()?;
+    let bytes = block(cursor, at)?;
+    Ok((number_of_register(number, at, target)?, bytes))
+}
+
+/// The bytes of a block, which has their count as unsigned LEB128 before them.
+pub fn block<'a>(cursor: &mut Cursor<'a>, at: u32) -> Result<&'a [u8], Fault>
+    ensures exact { ParsesBy (λ bytes. bytes.now) (one_at at block) cursor.old result cursor.new }
+    ensures within { IsRefusedWithin cursor.old result }
+    ensures goes_on { GoesOn cursor.old cursor.new }
+{
+    let _ = at;
+    let length = cursor.uleb()?;
+    cursor.take(length)
+}
+
+/// The size of a piece: unsigned LEB128, at most 2^32 - 1, else `PieceSize` at the code.
+pub fn piece_size(cursor: &mut Cursor<'_>, at: u32) -> Result<u32, Fault>
+    requires { at ≤ cursor.old.position }
+    ensures exact { Parses (one_at at piece_size) cursor.old result cursor.new }
+    ensures within { IsRefusedWithin cursor.old result }
+    ensures goes_on { GoesOn cursor.old cursor.new }
+{
+    let target = cursor.target();
+    let size = cursor.uleb()?;
+    size_of_piece(size, at, target)
+}
+
+/// The size of a piece and an offset.
+pub fn two_piece_sizes(cursor: &mut Cursor<'_>, at: u32) -> Result<(u32, u32), Fault>
+    requires { at ≤ cursor.old.position }
+    ensures exact { Parses (two_at at piece_size piece_size) cursor.old result cursor.new }
+    ensures within { IsRefusedWithin cursor.old result }
+    ensures goes_on { GoesOn cursor.old cursor.new }
+{
+    let target = cursor.target();
+    let size = cursor.uleb()?;
+    let offset = cursor.uleb()?;
+    Ok((size_of_piece(size, at, target)?, size_of_piece(offset, at, target)?))
+}
+
+/// The size of a read in one byte: 1, 2, 4 or 8 and at most that of an address, else `BadSize` at the code.
+pub fn read_size(cursor: &mut Cursor<'_>, at: u32) -> Result<u8, Fault>
+    requires { at ≤ cursor.old.position }
+    ensures exact { Parses (one_at at read_size) cursor.old result cursor.new }
+    ensures within { IsRefusedWithin cursor.old result }
+    ensures goes_on { GoesOn cursor.old cursor.new }
+{
+    let target = cursor.target();
+    let size = cursor.u8()?;
+    size_of_read(size, at, target)
+}

@@ -1,0 +1,3 @@
+pub mod Operations
+pub mod Views
+pub mod Opcodes

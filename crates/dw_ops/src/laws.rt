@@ -1,0 +1,30 @@
+//! Laws of operations: functions that do nothing, each with the law as its contract.
+
+ghost use Rattle.std.specs.Prelude.{◌≡◌, ◌<◌, ◌↔◌, ℕ, List, [], ◌∷◌, ◌++◌, length, map, Ok, Err};
+ghost use Rattle.dw_bytes.specs.declared.target.Target.{Target};
+ghost use Rattle.dw_bytes.specs.declared.fault.Fault.{Fault};
+ghost use Rattle.dw_bytes.specs.Reading.{Reading, IsExact};
+ghost use Rattle.dw_ops.specs.Operations.{Operation};
+ghost use Rattle.dw_ops.specs.Opcodes.{Spells, AreOperations, operation_at, operations_of};
+
+/// No spelling of an operation begins another, and bytes spell one operation.
+pub fn one_operation()
+    ensures { (target : Target) (a b x y : List ℕ) (i j : Operation) → Spells target a i → Spells target b j → a ++ x ≡ b ++ y → (a ≡ b) × (i ≡ j) }
+{}
+
+/// An operation is read exactly where it is spelled.
+pub fn operations_are_exact()
+    ensures { (r : Reading) → IsExact operation_at (Spells r.target) r }
+{}
+
+/// The operations of bytes are read to the end exactly where the bytes are their spellings, one after the other.
+pub fn expressions_are_operations()
+    ensures { (r : Reading) (items : List (ℕ × Operation)) → (operations_of r ≡ map Ok items) ↔ AreOperations r.target r.position r.rest items }
+{}
+
+/// The operations of bytes are the first and then those behind it, up to the end or the first fault.
+pub fn operations_come_in_order()
+    ensures operation { (r : Reading) (i : Operation) (after : Reading) → operation_at r ≡ Ok (i, after) → operations_of r ≡ Ok (r.position, i) ∷ operations_of after }
+    ensures fault { (r : Reading) (fault : Fault) → 0 < length r.rest → operation_at r ≡ Err fault → operations_of r ≡ Err fault ∷ [] }
+    ensures nothing { (r : Reading) → length r.rest ≡ 0 → operations_of r ≡ [] }
+{}

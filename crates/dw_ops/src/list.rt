@@ -1,0 +1,44 @@
+//! All operations of an expression.
+
+ghost use Rattle.std.specs.Prelude.{◌≡◌, IfOk, map};
+ghost use Rattle.dw_bytes.specs.Answers.{Answers, values_in, fault_in};
+ghost use Rattle.dw_ops.specs.Opcodes.{operations_of};
+ghost use Rattle.dw_ops.specs.Views.{reading_from, located_of};
+
+use crate::decode::decode_one;
+use crate::expression::Expression;
+use crate::operation::Operation;
+use dw_bytes::{Fault, FaultKind};
+use smallvec::SmallVec;
+use std::alloc::Global;
+
+/// All operations of an expression, each with its offset: one pass over its bytes. Up to 16 take no memory.
+///
+/// A refusal is the first fault of `decode_one` from left to right, or `Memory` at 0 where more than 16 operations lack
+/// memory.
+pub fn operations<'a>(
+    alloc: Global,
+    expression: &Expression<'a>,
+) -> Result<SmallVec<(u32, Operation<'a>), 16>, Fault>
+    ensures answer { Answers (fault_in (operations_of (reading_from expression.now 0))) result }
+    ensures list { IfOk result (λ list. map located_of list.items ≡ values_in (operations_of (reading_from expression.now 0))) }
+{
+    let mut list = SmallVec::new(alloc);
+    let end = expression.bytes().len() as u32;
+    let mut at = 0;
+    while at < end {
+        match decode_one(expression, at) {
+            Ok((operation, next)) => {
+                if list.push((at, operation)).is_err() {
+                    return Err(Fault {
+                        kind: FaultKind::Memory,
+                        at: 0,
+                    });
+                }
+                at = next;
+            }
+            Err(fault) => return Err(fault),
+        }
+    }
+    Ok(list)
+}
