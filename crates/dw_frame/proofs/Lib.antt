@@ -1,2 +1,5 @@
 pub mod Exact
-pub mod Programs
+pub mod EachInstruction
+pub mod Headers
+pub mod Framed
+pub mod EachRecord
