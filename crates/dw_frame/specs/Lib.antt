@@ -1,3 +1,7 @@
 pub mod Records
 pub mod Instructions
+pub mod Operands
+pub mod Codes
+pub mod Sections
+pub mod Heads
 pub mod Views

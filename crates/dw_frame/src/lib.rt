@@ -2,10 +2,22 @@
 //! 6.4 and 7.24).
 #![tactic(auto)]
 
+mod call_frame_instruction;
+mod decode;
 mod entry;
-mod instruction;
+mod header;
+mod instructions;
+pub mod laws;
+mod operands;
+mod parse;
 mod program;
+mod records;
+mod sections;
 
+pub use call_frame_instruction::CallFrameInstruction;
+pub use decode::instruction;
 pub use entry::{CommonInformationEntry, Entry, FrameDescriptionEntry};
-pub use instruction::CallFrameInstruction;
+pub use instructions::Instructions;
 pub use program::Program;
+pub use records::Entries;
+pub use sections::{cie_at, entries};

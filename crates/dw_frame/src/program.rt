@@ -1,6 +1,8 @@
 //! The bytes of a call frame program.
 
-use dw_bytes::Target;
+ghost use Rattle.std.specs.Prelude.{◌≡◌, ◌≤◌, ◌<◌, ◌^◌, length, drop};
+
+use dw_bytes::{Cursor, Target};
 
 /// A call frame program: the bytes from an offset of its section up to another (DWARF 5, section 6.4.2).
 /// All of its offsets count from the first byte of the section.
@@ -14,4 +16,75 @@ pub struct Program<'a> {
     pub ghost short: { length section.now < 2 ^ 32 },
 }
 
-ghost use Rattle.std.specs.Prelude.{◌≤◌, ◌<◌, ◌^◌, length};
+impl<'a> Program<'a> {
+    ghost use Rattle.std.specs.Prelude.{take};
+    ghost use Rattle.dw_frame.specs.Views.{reading_of, reading_from};
+
+    /// The bytes of a section from an offset up to another.
+    pub(crate) fn new(section: &'a [u8], start: u32, end: u32, target: Target) -> Self
+        requires ordered { start ≤ end }
+        requires inside { end ≤ length section.now }
+        requires short { length section.now < 2 ^ 32 }
+        ensures section { result.section.now ≡ take end section.now }
+        ensures start { result.start ≡ start }
+        ensures target { result.target ≡ target }
+    {
+        Program {
+            section: &section[..end as usize],
+            start,
+            target,
+        }
+    }
+
+    /// The offset of its first byte.
+    pub fn start(&self) -> u32
+        ensures { result ≡ self.now.start }
+    {
+        self.start
+    }
+
+    /// The offset behind its last byte.
+    pub fn end(&self) -> u32
+        ensures { result ≡ length self.now.section.now }
+    {
+        self.section.len() as u32
+    }
+
+    /// What its numbers are read under.
+    pub fn target(&self) -> Target
+        ensures { result ≡ self.now.target }
+    {
+        self.target
+    }
+
+    /// What is left of it from one of its offsets on.
+    pub(crate) fn from(&self, at: u32) -> Program<'a>
+        requires { at ≤ length self.now.section.now }
+        ensures { reading_of result ≡ reading_from self.now at }
+    {
+        Program {
+            section: self.section,
+            start: at,
+            target: self.target,
+        }
+    }
+
+    /// A cursor at one of its offsets, which can read up to its end.
+    pub(crate) fn cursor(&self, at: u32) -> Cursor<'a>
+        requires { at ≤ length self.now.section.now }
+        ensures { result ≡ reading_from self.now at }
+    {
+        cursor_at(self.section, self.target, at)
+    }
+}
+
+/// A cursor at an offset of a section.
+pub(crate) fn cursor_at(section: &[u8], target: Target, at: u32) -> Cursor<'_>
+    requires inside { at ≤ length section.now }
+    requires short { length section.now < 2 ^ 32 }
+    ensures { result ≡ record { target = target; position = at; rest = drop at section.now } }
+{
+    let mut cursor = Cursor::new(section, target);
+    let _ = cursor.take(u64::from(at));
+    cursor
+}

@@ -1,0 +1,152 @@
+-- A reader of parts is exact where each part is.
+use Rattle.std.proofs.Common.{◌≡◌, ℕ, ◌+◌, ◌≤◌, List, [], ◌++◌, length, take, drop, Bool, true, false, cond, Result, Ok, Err, refl, sym, ap, subst, ◌∙◌, append_assoc, arith}
+use Rattle.std.proofs.Math.Seq.{drop-append-add, drop-append_seam}
+use Rattle.std.proofs.lemmas.List.{length-append, length-take, take-append-drop, take_at}
+use Rattle.dw_bytes.specs.declared.target.Target.{Target}
+use Rattle.dw_bytes.specs.declared.target.Format.{Format}
+use Rattle.dw_bytes.specs.declared.fault.Fault.{Fault}
+use Rattle.dw_bytes.specs.Spelling.{Bytes, Fixed, Offset, Address, Length, Uleb, Sleb, bytes_of_address, bytes_of_offset}
+use Rattle.dw_bytes.specs.Reading.{Reading, Next, IsExact, ◌>>=◌, take_at as taken_at, fixed_at, offset_at, address_at, initial_length_at, uleb_at, sleb_at}
+use Rattle.dw_bytes.specs.Readers.{Then, then_read, Passing, passing_read, Made, made_read, Both, both_read}
+use Rattle.dw_bytes.proofs.Fields.{take_exact, fixed_exact, initial_length_exact, uleb_exact, sleb_exact}
+
+-- a reader that is exact wherever the target is this one
+abbrev pub Exact : {X : Type 0} → Target → (Reading → Result (X × Reading) Fault) → (List ℕ → X → Type 0) → Type 0
+Exact target read Spells = (r : Reading) → r.target ≡ target → IsExact read Spells r
+
+-- the value of a step that did not fail
+pub bind-ok : {A B : Type 0} (r : Result A Fault) (f : A → Result B Fault) (y : B) → (r >>= f) ≡ Ok y → (x : A) × (r ≡ Ok x) × (f x ≡ Ok y)
+bind-ok (Ok x) f y e = (x, refl, e)
+bind-ok (Err d) f y e = absurd cc
+
+abbrev finish : {A : Type 0} → A × Reading → Result (A × Reading) Fault
+finish x = Ok x
+
+pub ok-is : {A : Type 0} (x y : A × Reading) → finish x ≡ finish y → x ≡ y
+ok-is x y e = cc
+
+abbrev pub reading-of : Target → ℕ → List ℕ → Reading
+reading-of target position rest = record { target = target; position = position; rest = rest }
+
+pub same-reading : (a b : Reading) → a.target ≡ b.target → a.position ≡ b.position → a.rest ≡ b.rest → a ≡ b
+same-reading a b t p x = ap (λ v. reading-of v a.position a.rest) t ∙ (ap (λ v. reading-of b.target v a.rest) p ∙ ap (λ v. reading-of b.target b.position v) x)
+
+-- ---- the combinations
+
+pub then-exact : {A B : Type 0} (target : Target) (first : Reading → Result (A × Reading) Fault) (second : A → Reading → Result (B × Reading) Fault) (First : List ℕ → A → Type 0) (Second : A → List ℕ → B → Type 0)
+    → Exact target first First → ((a : A) → Exact target (second a) (Second a)) → Exact target (then_read first second) (Then First Second)
+then-exact {A} {B} target first second First Second one two r same = record {
+  found = λ b after e.
+      let a = bind-ok (first r) (λ x. second x.0 x.1) (b, after) e in
+      let h = (one r same).found a.0.0 a.0.1 a.1 in
+      let k = (two a.0.0 a.0.1 (h.target ∙ same)).found b after a.2 in
+      record {
+        bytes = h.bytes ++ k.bytes;
+        spelled = (a.0.0, h.bytes, k.bytes, refl, h.spelled, k.spelled);
+        parts = h.parts ∙ ap (λ (t : List ℕ). h.bytes ++ t) k.parts ∙ sym (append_assoc h.bytes k.bytes after.rest);
+        position = omega (arith, h.position, k.position, length-append h.bytes k.bytes);
+        target = k.target ∙ h.target;
+      };
+  only = λ b after h.
+      let s = h.spelled in
+      let mid : Reading = record { target = r.target; position = r.position + length s.1; rest = s.2 ++ after.rest } in
+      let first_is = (one r same).only s.0 mid (record { bytes = s.1; spelled = s.4; parts = h.parts ∙ ap (λ (t : List ℕ). t ++ after.rest) s.3 ∙ append_assoc s.1 s.2 after.rest; position = refl; target = refl }) in
+      let second_is = (two s.0 mid same).only b after (record { bytes = s.2; spelled = s.5; parts = refl; position = omega (arith, h.position, ap length s.3, length-append s.1 s.2); target = h.target }) in
+      ap (λ x. x >>= λ (a : A × Reading). second a.0 a.1) first_is ∙ second_is;
+}
+
+pub made-exact : {A : Type 0} (target : Target) (a : A) → Exact target (made_read a) (Made a)
+made-exact {A} target a r same_target = record {
+  found = λ b after e.
+      let same : (a, r) ≡ (b, after) = ok-is (a, r) (b, after) e in
+      subst (λ (p : A × Reading). Next (Made a) r p.0 p.1) same (record { bytes = []; spelled = (refl, refl); parts = refl; position = omega arith; target = refl });
+  only = λ b after h.
+      let rest : after.rest ≡ r.rest = ap (λ (t : List ℕ). t ++ after.rest) (sym h.spelled.0) ∙ sym h.parts in
+      let position : after.position ≡ r.position = omega (arith, h.position, ap length h.spelled.0) in
+      let same : r ≡ after = sym (same-reading after r h.target position rest) in
+      ap (λ (x : Reading). finish (a, x)) same ∙ ap (λ (y : A). finish (y, after)) (sym h.spelled.1);
+}
+
+guard-ok : {A : Type 0} (t : Bool) (fault : Fault) (x y : A × Reading) → cond t (finish x) (Err fault) ≡ finish y → (t ≡ true) × (x ≡ y)
+guard-ok true fault x y e = (refl, cc)
+guard-ok false fault x y e = absurd cc
+
+pub passing-exact : {A : Type 0} (target : Target) (test : A → Bool) (fault : Reading → Fault) (read : Reading → Result (A × Reading) Fault) (Spells : List ℕ → A → Type 0)
+    → Exact target read Spells → Exact target (passing_read test fault read) (Passing test Spells)
+passing-exact {A} target test fault read Spells exact r same = record {
+  found = λ b after e.
+      let a = bind-ok (read r) (λ x. cond (test x.0) (finish x) (Err (fault r))) (b, after) e in
+      let t = guard-ok (test a.0.0) (fault r) a.0 (b, after) a.2 in
+      let h = (exact r same).found a.0.0 a.0.1 a.1 in
+      subst (λ (q : A × Reading). Next (Passing test Spells) r q.0 q.1) t.1 (record { bytes = h.bytes; spelled = (h.spelled, t.0); parts = h.parts; position = h.position; target = h.target });
+  only = λ b after h.
+      let is = (exact r same).only b after (record { bytes = h.bytes; spelled = h.spelled.0; parts = h.parts; position = h.position; target = h.target }) in
+      ap (λ x. x >>= λ (a : A × Reading). cond (test a.0) (finish a) (Err (fault r))) is ∙ ap (λ t. cond t (finish (b, after)) (Err (fault r))) h.spelled.1;
+}
+
+pub both-exact : {A B : Type 0} (target : Target) (first : Reading → Result (A × Reading) Fault) (second : Reading → Result (B × Reading) Fault) (First : List ℕ → A → Type 0) (Second : List ℕ → B → Type 0)
+    → Exact target first First → Exact target second Second → Exact target (both_read first second) (Both First Second)
+both-exact target first second First Second one two =
+    then-exact target first _ First _ one (λ a. then-exact target second _ Second _ two (λ b. made-exact target (a, b)))
+
+-- ---- the fields
+
+pub take-exact : (target : Target) (n : ℕ) → Exact target (taken_at n) (Bytes n)
+take-exact target n r same = take_exact n r
+
+pub uleb-exact : (target : Target) → Exact target uleb_at Uleb
+uleb-exact target r same = uleb_exact r
+
+pub sleb-exact : (target : Target) → Exact target sleb_at Sleb
+sleb-exact target r same = sleb_exact r
+
+pub fixed-exact : (target : Target) (n : ℕ) → Exact target (fixed_at n) (Fixed target.order n)
+fixed-exact target n r same = subst (λ (t : Target). IsExact (fixed_at n) (Fixed t.order n) r) same (fixed_exact n r)
+
+pub address-exact : (target : Target) → Exact target address_at (Address target)
+address-exact target r same =
+    let here = fixed_exact (bytes_of_address r.target.address_size) r in
+    let own : IsExact address_at (Address r.target) r = record { found = here.found; only = here.only } in
+    subst (λ (t : Target). IsExact address_at (Address t) r) same own
+
+pub offset-exact : (target : Target) (format : Format) → Exact target (offset_at format) (Offset target.order format)
+offset-exact target format r same =
+    let here = fixed_exact (bytes_of_offset format) r in
+    let own : IsExact (offset_at format) (Offset r.target.order format) r = record { found = here.found; only = here.only } in
+    subst (λ (t : Target). IsExact (offset_at format) (Offset t.order format) r) same own
+
+pub length-exact : (target : Target) → Exact target initial_length_at (Length target.order)
+length-exact target r same = subst (λ (t : Target). IsExact initial_length_at (Length t.order) r) same (initial_length_exact r)
+
+-- ---- no spelling begins another
+
+at-start : {X : Type 0} (Spells : List ℕ → X → Type 0) (target : Target) (bytes a x : List ℕ) (v : X) → bytes ≡ a ++ x → Spells a v → Next Spells (reading-of target 0 bytes) v (reading-of target (length a) x)
+at-start Spells target bytes a x v e h = record { bytes = a; spelled = h; parts = e; position = omega arith; target = refl }
+
+pub one-spelling : {X : Type 0} (target : Target) (read : Reading → Result (X × Reading) Fault) (Spells : List ℕ → X → Type 0) → Exact target read Spells
+    → (a b x y : List ℕ) (m n : X) → Spells a m → Spells b n → a ++ x ≡ b ++ y → (a ≡ b) × (m ≡ n)
+one-spelling {X} target read Spells exact a b x y m n p q e =
+    let r = reading-of target 0 (a ++ x) in
+    let first = (exact r refl).only m (reading-of target (length a) x) (at-start Spells target (a ++ x) a x m refl p) in
+    let second = (exact r refl).only n (reading-of target (length b) y) (at-start Spells target (a ++ x) b y n e q) in
+    let both : (m, reading-of target (length a) x) ≡ (n, reading-of target (length b) y) = ok-is (m, reading-of target (length a) x) (n, reading-of target (length b) y) (sym first ∙ second) in
+    let len : length a ≡ length b = ap (λ (w : X × Reading). w.1.position) both in
+    (sym (take_at a x (length a) refl) ∙ ap (take (length a)) e ∙ take_at b y (length a) (sym len), ap (λ (w : X × Reading). w.0) both)
+
+-- ---- what is left of a section
+
+suffix : (section bytes rest : List ℕ) (at : ℕ) → at ≤ length section → drop at section ≡ bytes ++ rest → rest ≡ drop (at + length bytes) section
+suffix section bytes rest at inside parts =
+    let front : length (take at section) ≡ at = omega (arith, length-take at section) in
+    let whole : take at section ++ (bytes ++ rest) ≡ section = ap (λ (t : List ℕ). take at section ++ t) (sym parts) ∙ take-append-drop at section in
+    sym (drop-append_seam bytes rest)
+    ∙ (sym (drop-append-add (take at section) (bytes ++ rest) (length bytes))
+    ∙ (ap (λ n. drop (n + length bytes) (take at section ++ (bytes ++ rest))) front ∙ ap (drop (at + length bytes)) whole))
+
+-- A reader that is exact leaves what the section has from where it ends.
+pub leaves-suffix : {X : Type 0} (target : Target) (read : Reading → Result (X × Reading) Fault) (Spells : List ℕ → X → Type 0) → Exact target read Spells
+    → (section : List ℕ) (at : ℕ) (v : X) (after : Reading) → at ≤ length section → read (reading-of target at (drop at section)) ≡ Ok (v, after) → after ≡ reading-of target after.position (drop after.position section)
+leaves-suffix target read Spells exact section at v after inside e =
+    let next = (exact (reading-of target at (drop at section)) refl).found v after e in
+    let rest : after.rest ≡ drop (at + length next.bytes) section = suffix section next.bytes after.rest at inside next.parts in
+    same-reading after (reading-of target after.position (drop after.position section)) next.target refl (rest ∙ ap (λ n. drop n section) (sym next.position))

@@ -1,0 +1,141 @@
+-- Things one after the other are read exactly where they are spelled.
+use Rattle.std.proofs.Common.{◌≡◌, ℕ, zero, suc, ◌+◌, ◌-◌, ◌<◌, ◌≤◌, ◌↔◌, cond, ltb, List, [], ◌∷◌, length, map, Result, Ok, Err, refl, sym, ap, subst, ◌∙◌, arith, inl, inr}
+use Rattle.std.proofs.lemmas.Bool.{lt-ltb, le-ltb, cases_lt}
+use Rattle.std.proofs.lemmas.List.{length-append}
+use Rattle.dw_bytes.specs.declared.target.Target.{Target}
+use Rattle.dw_bytes.specs.declared.fault.Fault.{Fault}
+use Rattle.dw_bytes.specs.Reading.{Reading, Next, IsExact, ◌>>=◌}
+use Rattle.dw_bytes.specs.Sequence.{Sequence, Located, located_read, and_then, at_most_of, sequence_of}
+use Rattle.dw_bytes.proofs.Readers.{Exact, bind-ok, ok-is}
+
+-- A reader of one thing: exact wherever the target is this one, and no spelling is empty.
+pub record ReadsEach {X : Type 0} (target : Target) (read : Reading → Result (X × Reading) Fault) (Spells : ℕ → List ℕ → X → Type 0) : Type 0 where
+  pub exact : (r : Reading) → r.target ≡ target → IsExact read (Spells r.position) r
+  pub some : (at : ℕ) (bytes : List ℕ) (x : X) → Spells at bytes x → 0 < length bytes
+
+-- A reader takes bytes, whatever the target.
+abbrev pub Forward : {X : Type 0} → (Reading → Result (X × Reading) Fault) → Type 0
+Forward {X} read = (r : Reading) (x : X) (after : Reading) → read r ≡ Ok (x, after) → length after.rest < length r.rest
+
+-- a thing that is exact without its offset is exact with it
+pub located-exact : {X : Type 0} (target : Target) (read : Reading → Result (X × Reading) Fault) (Spells : List ℕ → X → Type 0) → Exact target read Spells → (r : Reading) → r.target ≡ target → IsExact (located_read read) (Located Spells r.position) r
+located-exact {X} target read Spells exact r same = record {
+  found = λ item after e.
+      let a = bind-ok (read r) (λ x. Ok ((r.position, x.0), x.1)) (item, after) e in
+      let h = (exact r same).found a.0.0 a.0.1 a.1 in
+      let is : ((r.position, a.0.0), a.0.1) ≡ (item, after) = ok-is ((r.position, a.0.0), a.0.1) (item, after) a.2 in
+      subst (λ (q : (ℕ × X) × Reading). Next (Located Spells r.position) r q.0 q.1) is (record { bytes = h.bytes; spelled = (refl, h.spelled); parts = h.parts; position = h.position; target = h.target });
+  only = λ item after h.
+      let is = (exact r same).only item.1 after (record { bytes = h.bytes; spelled = h.spelled.1; parts = h.parts; position = h.position; target = h.target }) in
+      ap (λ x. x >>= λ (a : X × Reading). Ok ((r.position, a.0), a.1)) is ∙ ap (λ (n : ℕ). Ok ((n, item.1), after)) (sym h.spelled.0);
+}
+
+-- ---- what one step gives
+
+empty : (xs : List ℕ) → length xs ≡ 0 → xs ≡ []
+empty [] h = refl
+empty (x ∷ xs) h = absurd (omega arith)
+
+turn : {X : Type 0} (read : Reading → Result (X × Reading) Fault) (n : ℕ) (r : Reading) → 0 < length r.rest → at_most_of read (suc n) r ≡ and_then (read r) (at_most_of read n)
+turn read n r some = ap (λ b. cond b (and_then (read r) (at_most_of read n)) []) (lt-ltb 0 (length r.rest) some)
+
+none : {X : Type 0} (read : Reading → Result (X × Reading) Fault) (n : ℕ) (r : Reading) → length r.rest ≡ 0 → at_most_of read n r ≡ []
+none read zero r h = refl
+none read (suc n) r h = ap (λ b. cond b (and_then (read r) (at_most_of read n)) []) (le-ltb 0 (length r.rest) (omega arith))
+
+same-then : {X : Type 0} (read : Reading → Result (X × Reading) Fault) → Forward read → (r : Reading) (x : Result (X × Reading) Fault) (f g : Reading → List (Result X Fault)) → read r ≡ x → ((after : Reading) → length after.rest < length r.rest → f after ≡ g after) → and_then x f ≡ and_then x g
+same-then {X} read forward r (Ok found) f g is same = ap (λ (items : List (Result X Fault)). Ok found.0 ∷ items) (same found.1 (forward r found.0 found.1 is))
+same-then read forward r (Err fault) f g is same = refl
+
+-- any count that is enough gives the same
+pub enough-same : {X : Type 0} (read : Reading → Result (X × Reading) Fault) → Forward read → (n m : ℕ) (r : Reading) → length r.rest ≤ n → length r.rest ≤ m → at_most_of read n r ≡ at_most_of read m r
+enough-same read forward zero m r h k = sym (none read m r (omega arith))
+enough-same read forward (suc n) zero r h k = none read (suc n) r (omega arith)
+enough-same read forward (suc n) (suc m) r h k =
+    ap (λ x. cond (ltb 0 (length r.rest)) x []) (same-then read forward r (read r) (at_most_of read n) (at_most_of read m) refl (λ after lt. enough-same read forward n m after (omega arith) (omega arith)))
+
+turn-of : {X : Type 0} (read : Reading → Result (X × Reading) Fault) → Forward read → (n : ℕ) (r : Reading) (x : X) (after : Reading) → length r.rest ≡ suc n → read r ≡ Ok (x, after) → sequence_of read r ≡ Ok x ∷ sequence_of read after
+unfolding sequence_of
+turn-of {X} read forward n r x after long is =
+    let less = forward r x after is in
+    ap (λ k. at_most_of read k r) long ∙ (turn read n r (omega arith) ∙ (ap (λ y. and_then y (at_most_of read n)) is ∙ ap (λ (items : List (Result X Fault)). Ok x ∷ items) (enough-same read forward n (length after.rest) after (omega (arith, less)) (omega arith))))
+
+-- what is read comes first, and then what is behind it
+pub goes-on : {X : Type 0} (read : Reading → Result (X × Reading) Fault) → Forward read → (r : Reading) (x : X) (after : Reading) → read r ≡ Ok (x, after) → sequence_of read r ≡ Ok x ∷ sequence_of read after
+goes-on read forward r x after is = let less = forward r x after is in turn-of read forward (length r.rest - 1) r x after (omega (arith, less)) is
+
+stops-of : {X : Type 0} (read : Reading → Result (X × Reading) Fault) (n : ℕ) (r : Reading) (fault : Fault) → length r.rest ≡ suc n → read r ≡ Err fault → sequence_of read r ≡ Err fault ∷ []
+unfolding sequence_of
+stops-of read n r fault long is = ap (λ k. at_most_of read k r) long ∙ (turn read n r (omega arith) ∙ ap (λ x. and_then x (at_most_of read n)) is)
+
+-- a fault comes alone
+pub stops : {X : Type 0} (read : Reading → Result (X × Reading) Fault) (r : Reading) (fault : Fault) → 0 < length r.rest → read r ≡ Err fault → sequence_of read r ≡ Err fault ∷ []
+stops read r fault some is = stops-of read (length r.rest - 1) r fault (omega arith) is
+
+-- no bytes are left
+pub ends : {X : Type 0} (read : Reading → Result (X × Reading) Fault) (r : Reading) → length r.rest ≡ 0 → sequence_of read r ≡ []
+unfolding sequence_of
+ends read r h = none read (length r.rest) r h
+
+-- ---- exactness
+
+then-ok : {X : Type 0} (x : Result (X × Reading) Fault) (f : Reading → List (Result X Fault)) (y : X) (others : List (Result X Fault)) → and_then x f ≡ Ok y ∷ others → (after : Reading) × (x ≡ Ok (y, after)) × (f after ≡ others)
+then-ok {X} (Ok found) f y others is =
+    let same : found.0 ≡ y = cc in
+    (found.1, ap (λ (z : X). Ok (z, found.1)) same, cc)
+then-ok (Err fault) f y others is = absurd cc
+
+not-none : {X : Type 0} (x : Result (X × Reading) Fault) (f : Reading → List (Result X Fault)) → and_then x f ≡ [] → ⊥
+not-none (Ok found) f is = cc
+not-none (Err fault) f is = cc
+
+abbrev pub all-read : {X : Type 0} → List X → List (Result X Fault)
+all-read xs = map Ok xs
+
+pub all-found : {X : Type 0} (target : Target) (read : Reading → Result (X × Reading) Fault) (Spells : ℕ → List ℕ → X → Type 0) → ReadsEach target read Spells
+    → (n : ℕ) (r : Reading) (xs : List X) → r.target ≡ target → length r.rest ≤ n → at_most_of read n r ≡ all-read xs → Sequence Spells r.position r.rest xs
+all-found target read Spells each zero r [] same enough is = empty r.rest (omega arith)
+all-found target read Spells each zero r (x ∷ xs) same enough is = absurd cc
+all-found target read Spells each (suc n) r [] same enough is = elim (cases_lt 0 (length r.rest)) [
+  | inr out ↦ empty r.rest (omega arith)
+  | inl some ↦ absurd (not-none (read r) (at_most_of read n) (sym (turn read n r some) ∙ is))
+]
+all-found {X} target read Spells each (suc n) r (x ∷ xs) same enough is = elim (cases_lt 0 (length r.rest)) [
+  | inr out ↦ let no-more : [] ≡ all-read (x ∷ xs) = sym (none read (suc n) r (omega arith)) ∙ is in absurd cc
+  | inl some ↦
+      let (after, found, others) = then-ok (read r) (at_most_of read n) x (all-read xs) (sym (turn read n r some) ∙ is) in
+      let next = (each.exact r same).found x after found in
+      let taken = each.some r.position next.bytes x next.spelled in
+      let rest = all-found target read Spells each n after xs (next.target ∙ same) (omega (arith, taken, ap length next.parts, length-append next.bytes after.rest)) others in
+      (next.bytes, after.rest, next.parts, next.spelled, subst (λ p. Sequence Spells p after.rest xs) next.position rest)
+]
+
+pub all-only : {X : Type 0} (target : Target) (read : Reading → Result (X × Reading) Fault) (Spells : ℕ → List ℕ → X → Type 0) → ReadsEach target read Spells
+    → (n : ℕ) (r : Reading) (xs : List X) → r.target ≡ target → length r.rest ≤ n → Sequence Spells r.position r.rest xs → at_most_of read n r ≡ all-read xs
+all-only target read Spells each n r [] same enough are = none read n r (ap length are)
+all-only target read Spells each zero r (x ∷ xs) same enough (first, rest, parts, spelled, others) =
+    let some = each.some r.position first x spelled in
+    absurd (omega (arith, some, ap length parts, length-append first rest))
+all-only {X} target read Spells each (suc n) r (x ∷ xs) same enough (first, rest, parts, spelled, others) =
+    let after : Reading = record { target = r.target; position = r.position + length first; rest = rest } in
+    let some = each.some r.position first x spelled in
+    let long = length-append first rest in
+    let is = (each.exact r same).only x after (record { bytes = first; spelled = spelled; parts = parts; position = refl; target = refl }) in
+    let tail = all-only target read Spells each n after xs same (omega (arith, some, ap length parts, long)) others in
+    turn read n r (omega (arith, some, ap length parts, long)) ∙ (ap (λ y. and_then y (at_most_of read n)) is ∙ ap (λ (items : List (Result X Fault)). Ok x ∷ items) tail)
+
+pub sequence-exact : {X : Type 0} (target : Target) (read : Reading → Result (X × Reading) Fault) (Spells : ℕ → List ℕ → X → Type 0) → ReadsEach target read Spells
+    → (r : Reading) (xs : List X) → r.target ≡ target → (sequence_of read r ≡ all-read xs) ↔ Sequence Spells r.position r.rest xs
+unfolding sequence_of
+sequence-exact target read Spells each r xs same = (
+  (λ is. all-found target read Spells each (length r.rest) r xs same (omega arith) is),
+  (λ are. all-only target read Spells each (length r.rest) r xs same (omega arith) are),
+)
+
+-- a reader that is exact for every target takes bytes
+pub forward : {X : Type 0} (read : Reading → Result (X × Reading) Fault) (Spells : Target → ℕ → List ℕ → X → Type 0) → ((target : Target) → ReadsEach target read (Spells target)) → Forward read
+forward read Spells each r x after is =
+    let here = each r.target in
+    let next = (here.exact r refl).found x after is in
+    let some = here.some r.position next.bytes x next.spelled in
+    omega (arith, some, ap length next.parts, length-append next.bytes after.rest)

@@ -1,0 +1,30 @@
+-- Things that are spelled one after the other: the records of a section, the instructions of a program.
+use Rattle.std.specs.Prelude.{◌≡◌, ◌+◌, ℕ, zero, suc, List, [], ◌∷◌, ◌++◌, length, nat_lt, if◌then◌else◌, Result, Ok, Err}
+use Rattle.dw_bytes.specs.declared.fault.Fault.{Fault}
+use Rattle.dw_bytes.specs.Reading.{Reading, ◌>>=◌}
+
+-- The bytes are the spellings of the things, without a gap, from an offset on. What spells a thing may depend on its offset.
+abbrev pub Sequence : {X : Type 0} → (ℕ → List ℕ → X → Type 0) → ℕ → List ℕ → List X → Type 0
+Sequence Spells at bytes [] = bytes ≡ []
+Sequence Spells at bytes (x ∷ xs) = (first rest : List ℕ) × (bytes ≡ first ++ rest) × Spells at first x × Sequence Spells (at + length first) rest xs
+
+-- a thing and its offset
+abbrev pub Located : {X : Type 0} → (List ℕ → X → Type 0) → ℕ → List ℕ → ℕ × X → Type 0
+Located Spells at bytes item = (item.0 ≡ at) × Spells bytes item.1
+
+abbrev pub located_read : {X : Type 0} → (Reading → Result (X × Reading) Fault) → Reading → Result ((ℕ × X) × Reading) Fault
+located_read read r = read r >>= λ x. Ok ((r.position, x.0), x.1)
+
+-- what was read, and then the others; nothing comes after a fault
+abbrev pub and_then : {X : Type 0} → Result (X × Reading) Fault → (Reading → List (Result X Fault)) → List (Result X Fault)
+and_then (Ok found) others = Ok found.0 ∷ others found.1
+and_then (Err fault) others = Err fault ∷ []
+
+-- at most count things
+abbrev pub at_most_of : {X : Type 0} → (Reading → Result (X × Reading) Fault) → ℕ → Reading → List (Result X Fault)
+at_most_of read zero r = []
+at_most_of read (suc count) r = if nat_lt 0 (length r.rest) then and_then (read r) (at_most_of read count) else []
+
+-- The things from left to right, up to the end or the first fault: there are no more of them than bytes.
+unfoldable pub sequence_of : {X : Type 0} → (Reading → Result (X × Reading) Fault) → Reading → List (Result X Fault)
+sequence_of read r = at_most_of read (length r.rest) r
