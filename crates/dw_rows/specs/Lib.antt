@@ -1,3 +1,7 @@
 pub mod Rules
 pub mod Views
 pub mod Places
+pub mod Effects
+pub mod Meaning
+pub mod Judgement
+pub mod UnwindRows
