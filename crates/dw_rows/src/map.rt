@@ -3,7 +3,8 @@
 ghost use Rattle.std.specs.Prelude.{◌≡◌, ◌≢◌, ℕ, ◌+◌, ◌<◌, ◌≤◌, [], List, length, slice_get, MatchResult};
 ghost use Rattle.arrayvec.specs.ArrayVec.{array_vec_len};
 ghost use Rattle.dw_bytes.specs.declared.fault.FaultKind.{FaultKind};
-ghost use Rattle.dw_rows.specs.Rules.{rule_in, rule_list, rule_count, changed_at};
+ghost use Rattle.std.specs.Bool.{OnTrue, OnFalse};
+ghost use Rattle.dw_rows.specs.Rules.{Rule, IsTable, rule_in, rule_list, rule_count, changed_at};
 ghost use Rattle.dw_rows.specs.Views.{rule_of, entries_of};
 ghost use Rattle.dw_rows.specs.Places.{place_in};
 
@@ -67,6 +68,28 @@ impl RegisterRuleMap {
         rule_of_register(self.entries.as_slice(), number)
     }
 
+    /// The same rules again. Its cost is that of the rules that are there.
+    pub fn copy(&self) -> Self
+        ensures { result ≡ self.now }
+    {
+        let mut entries = ArrayVec::new();
+        let _ = entries.try_extend_from_slice(self.entries.as_slice());
+        RegisterRuleMap { entries }
+    }
+
+    /// Gives a register a rule. It is refused where there would be too many rules.
+    pub fn set(&mut self, number: u16, rule: RegisterRule) -> Result<(), FaultKind>
+        ensures { MatchResult result
+            (λ _. self.new ≡ rule_list (changed_at (rule_in self.old) number (rule_of rule)))
+            (λ kind. (kind ≡ FaultKind.TooManyRules) × (MAX_RULES < rule_count (changed_at (rule_in self.old) number (rule_of rule)))) }
+    {
+        if put_rule(&mut self.entries, number, rule) {
+            Ok(())
+        } else {
+            Err(FaultKind::TooManyRules)
+        }
+    }
+
     /// The rules other than `Default`.
     pub fn iter(&self) -> RegisterRules<'_>
         ensures { result ≡ self.now }
@@ -85,4 +108,48 @@ fn rule_of_register(entries: &[RuleEntry], register: u16) -> RegisterRule
         }
     }
     RegisterRule::Default
+}
+
+/// How many entries are below the register.
+fn place_of(entries: &[RuleEntry], register: u16) -> usize
+    ensures value { result ≡ place_in register (entries_of entries.now) }
+    ensures within { result ≤ length entries.now }
+{
+    for (place, entry) in entries.iter().enumerate() {
+        if entry.register >= register {
+            return place;
+        }
+    }
+    entries.len()
+}
+
+/// Gives the register the rule `Default`.
+fn clear_rule(table: &mut ArrayVec<RuleEntry, MAX_RULES>, register: u16)
+    requires { IsTable 0 (entries_of table.old.items) }
+    ensures table { IsTable 0 (entries_of table.new.items) }
+    ensures rules { entries_of table.new.items ≡ rule_list (changed_at (rule_in (entries_of table.old.items)) register Rule.default) }
+{
+    let place = place_of(table.as_slice(), register);
+    if place < table.len() && table.as_slice()[place].register == register {
+        table.remove(place);
+    }
+}
+
+/// Gives the register the rule. Only where there is no room for it, it answers `false`.
+fn put_rule(table: &mut ArrayVec<RuleEntry, MAX_RULES>, register: u16, rule: RegisterRule) -> bool
+    requires { IsTable 0 (entries_of table.old.items) }
+    ensures table { IsTable 0 (entries_of table.new.items) }
+    ensures rules { OnTrue result (entries_of table.new.items ≡ rule_list (changed_at (rule_in (entries_of table.old.items)) register (rule_of rule))) }
+    ensures full { OnFalse result (MAX_RULES < rule_count (changed_at (rule_in (entries_of table.old.items)) register (rule_of rule))) }
+{
+    clear_rule(table, register);
+    if let RegisterRule::Default = rule {
+        return true;
+    }
+    if table.is_full() {
+        return false;
+    }
+    let place = place_of(table.as_slice(), register);
+    table.insert(place, RuleEntry { register, rule });
+    true
 }
