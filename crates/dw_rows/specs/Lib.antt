@@ -5,3 +5,4 @@ pub mod Effects
 pub mod Meaning
 pub mod Judgement
 pub mod UnwindRows
+pub mod Machine
