@@ -6,3 +6,4 @@ pub mod Meaning
 pub mod Judgement
 pub mod UnwindRows
 pub mod Machine
+pub mod Actions

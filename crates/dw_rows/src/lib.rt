@@ -1,6 +1,7 @@
 //! The rows of a checked `.debug_frame` section (DWARF 5, section 6.4).
 #![tactic(auto)]
 
+mod action;
 mod machine;
 mod map;
 mod row;
