@@ -80,7 +80,7 @@ impl RegisterRuleMap {
     /// Gives a register a rule. It is refused where there would be too many rules.
     pub fn set(&mut self, number: u16, rule: RegisterRule) -> Result<(), FaultKind>
         ensures { MatchResult result
-            (λ _. self.new ≡ rule_list (changed_at (rule_in self.old) number (rule_of rule)))
+            (λ _. (self.new ≡ rule_list (changed_at (rule_in self.old) number (rule_of rule))) × (length self.new ≤ MAX_RULES))
             (λ kind. (kind ≡ FaultKind.TooManyRules) × (MAX_RULES < rule_count (changed_at (rule_in self.old) number (rule_of rule)))) }
     {
         if put_rule(&mut self.entries, number, rule) {
@@ -140,13 +140,15 @@ fn put_rule(table: &mut ArrayVec<RuleEntry, MAX_RULES>, register: u16, rule: Reg
     requires { IsTable 0 (entries_of table.old.items) }
     ensures table { IsTable 0 (entries_of table.new.items) }
     ensures rules { OnTrue result (entries_of table.new.items ≡ rule_list (changed_at (rule_in (entries_of table.old.items)) register (rule_of rule))) }
+    ensures few { length (entries_of table.new.items) ≤ MAX_RULES }
     ensures full { OnFalse result (MAX_RULES < rule_count (changed_at (rule_in (entries_of table.old.items)) register (rule_of rule))) }
 {
     clear_rule(table, register);
+    let full = table.is_full();
     if let RegisterRule::Default = rule {
         return true;
     }
-    if table.is_full() {
+    if full {
         return false;
     }
     let place = place_of(table.as_slice(), register);
