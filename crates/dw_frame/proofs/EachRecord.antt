@@ -11,7 +11,7 @@ use Rattle.dw_bytes.specs.Reading.{Reading, Next, IsExact, ◌>>=◌, take_at, i
 use Rattle.dw_bytes.proofs.Readers.{bind-ok, ok-is, same-reading, length-exact, take-exact}
 use Rattle.dw_bytes.proofs.Sequences.{ReadsEach, Forward, forward, goes-on, stops, ends, all-read, sequence-exact}
 use Rattle.dw_frame.specs.Records.{Record}
-use Rattle.dw_frame.specs.Sections.{Header, IsRecord, AreRecords, record_from, header_at, body_of, framed_at, record_at, section_from, entries_from, entries_of}
+use Rattle.dw_frame.specs.Sections.{IsRecord, AreRecords, record_from, header_at, body_of, framed_at, record_at, section_from, entries_from, entries_of}
 use Rattle.dw_frame.proofs.Headers.{header-exact}
 
 -- ---- a length and its body
@@ -115,7 +115,7 @@ record-only r x after next =
     rw (one, two) (ap (λ (y : Record). finish (y, after)) (sym s.record_is))
 
 -- a length takes bytes
-some-length : (order : Order) (bytes : List ℕ) (format : Format) (v : ℕ) → Len order bytes format v → 0 < length bytes
+pub some-length : (order : Order) (bytes : List ℕ) (format : Format) (v : ℕ) → Len order bytes format v → 0 < length bytes
 some-length order bytes Dwarf32 v h = omega (arith, h.0.count)
 some-length order bytes Dwarf64 v (mark, rest, parts, first, second) = omega (arith, first.count, ap length parts, length-append mark rest)
 

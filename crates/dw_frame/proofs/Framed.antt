@@ -1,14 +1,14 @@
 -- Where a record's body and program lie in its section.
-use Rattle.std.proofs.Common.{◌≡◌, ℕ, ◌+◌, ◌≤◌, List, ◌++◌, length, take, drop, Result, Ok, Err, refl, sym, ap, ◌∙◌, arith}
+use Rattle.std.proofs.Common.{◌≡◌, ℕ, ◌+◌, ◌≤◌, List, ◌++◌, length, take, drop, Result, Ok, refl, sym, ap, ◌∙◌, arith}
 use Rattle.std.proofs.lemmas.List.{drop-take, length-take, take_at}
 use Rattle.dw_bytes.specs.declared.target.Target.{Target}
 use Rattle.dw_bytes.specs.declared.target.Format.{Format}
 use Rattle.dw_bytes.specs.declared.fault.Fault.{Fault}
 use Rattle.dw_bytes.specs.Spelling.{Bytes, Length}
-use Rattle.dw_bytes.specs.Reading.{Reading, ◌>>=◌, take_at as taken_at, initial_length_at}
+use Rattle.dw_bytes.specs.Reading.{Reading, take_at as taken_at, initial_length_at}
 use Rattle.dw_bytes.proofs.Readers.{length-exact, take-exact, leaves-suffix}
 use Rattle.dw_frame.specs.declared.program.Program.{Program}
-use Rattle.dw_frame.specs.Sections.{Header, IsHeader, header_at, body_of, framed_at, section_from}
+use Rattle.dw_frame.specs.Sections.{Header, IsHeader, header_at, framed_at, section_from}
 use Rattle.dw_frame.specs.Views.{reading_of, reading_from}
 use Rattle.dw_frame.proofs.Headers.{header-exact}
 

@@ -1,15 +1,15 @@
 -- Headers are read exactly where they are spelled.
-use Rattle.std.proofs.Common.{◌≡◌, ℕ, Bool, true, false, List, Result, refl}
-use Rattle.std.specs.Prelude.{ℤ, ◌==◌}
+use Rattle.std.proofs.Common.{ℕ, Bool, true, false}
+use Rattle.std.specs.Prelude.{◌==◌}
 use Rattle.dw_bytes.specs.declared.target.Target.{Target}
 use Rattle.dw_bytes.specs.declared.target.Format.{Format}
 use Rattle.dw_bytes.specs.declared.fault.FaultKind.{FaultKind}
 use Rattle.dw_bytes.specs.declared.fault.FaultKind.TheVariants.{Version, Augmentation, AddressSize, SegmentSize, RegisterNumber, RangePastTop}
 use Rattle.dw_bytes.specs.Spelling.{Fixed, Address, Offset, Uleb, Sleb, bytes_of_address}
-use Rattle.dw_bytes.specs.Reading.{Reading, fixed_at, address_at, offset_at, uleb_at, sleb_at}
+use Rattle.dw_bytes.specs.Reading.{fixed_at, address_at, offset_at, uleb_at, sleb_at}
 use Rattle.dw_bytes.specs.Readers.{Passing, passing_read, fault_here}
-use Rattle.dw_bytes.proofs.Readers.{Exact, then-exact, passing-exact, made-exact, fixed-exact, uleb-exact, sleb-exact, address-exact, offset-exact, leaves-suffix}
-use Rattle.dw_frame.specs.Sections.{Header, common_header, description_header, cie_id, top_of, ends_by, is_register, Byte, byte_at, IsCieHeader, cie_header_at, IsFdeHeader, fde_header_at, IsFrom, from_id_at, IsHeader, header_at}
+use Rattle.dw_bytes.proofs.Readers.{Exact, then-exact, passing-exact, made-exact, fixed-exact, uleb-exact, sleb-exact, address-exact, offset-exact}
+use Rattle.dw_frame.specs.Sections.{common_header, description_header, cie_id, top_of, ends_by, is_register, Byte, byte_at, IsCieHeader, cie_header_at, IsFdeHeader, fde_header_at, IsFrom, from_id_at, IsHeader, header_at}
 
 byte-exact : (target : Target) (kind : FaultKind) (value : ℕ) → Exact target (byte_at kind value) (Byte target value)
 byte-exact target kind value = passing-exact target (λ v. v == value) (fault_here kind) (fixed_at 1) (Fixed target.order 1) (fixed-exact target 1)

@@ -3,5 +3,6 @@ pub mod Instructions
 pub mod Operands
 pub mod Codes
 pub mod Sections
+pub mod Bounds
 pub mod Heads
 pub mod Views

@@ -10,7 +10,7 @@ use Rattle.dw_bytes.specs.Spelling.{Fixed, Address, Offset, Length, Uleb, Sleb, 
 use Rattle.dw_bytes.specs.Reading.{Reading, ◌>>=◌, take_at, fixed_at, address_at, offset_at, initial_length_at, uleb_at, sleb_at}
 use Rattle.dw_bytes.specs.Readers.{Then, then_read, Passing, passing_read, Made, made_read, fault_here}
 use Rattle.dw_bytes.specs.Sequence.{Sequence, sequence_of}
-use Rattle.dw_frame.specs.Records.{Cie, Fde, Record, common, description}
+use Rattle.dw_frame.specs.Records.{Cie, Record, common, description}
 
 -- ---- headers
 
