@@ -1,6 +1,7 @@
 -- A reader of parts is exact where each part is.
-use Rattle.std.proofs.Common.{◌≡◌, ℕ, ◌+◌, List, [], ◌++◌, length, take, Bool, true, false, cond, Result, Ok, Err, refl, sym, ap, subst, ◌∙◌, append_assoc, arith}
-use Rattle.std.proofs.lemmas.List.{length-append, take_at}
+use Rattle.std.proofs.Common.{◌≡◌, ℕ, ◌+◌, ◌≤◌, List, [], ◌++◌, length, take, drop, Bool, true, false, cond, Result, Ok, Err, refl, sym, ap, subst, ◌∙◌, append_assoc, arith}
+use Rattle.std.proofs.Math.Seq.{drop-append-add, drop-append_seam}
+use Rattle.std.proofs.lemmas.List.{length-append, length-take, take-append-drop, take_at}
 use Rattle.dw_bytes.specs.declared.target.Target.{Target}
 use Rattle.dw_bytes.specs.declared.target.Format.{Format}
 use Rattle.dw_bytes.specs.declared.fault.Fault.{Fault}
@@ -24,7 +25,7 @@ finish x = Ok x
 pub ok-is : {A : Type 0} (x y : A × Reading) → finish x ≡ finish y → x ≡ y
 ok-is x y e = cc
 
-abbrev reading-of : Target → ℕ → List ℕ → Reading
+abbrev pub reading-of : Target → ℕ → List ℕ → Reading
 reading-of target position rest = record { target = target; position = position; rest = rest }
 
 pub same-reading : (a b : Reading) → a.target ≡ b.target → a.position ≡ b.position → a.rest ≡ b.rest → a ≡ b
@@ -131,3 +132,21 @@ one-spelling {X} target read Spells exact a b x y m n p q e =
     let both : (m, reading-of target (length a) x) ≡ (n, reading-of target (length b) y) = ok-is (m, reading-of target (length a) x) (n, reading-of target (length b) y) (sym first ∙ second) in
     let len : length a ≡ length b = ap (λ (w : X × Reading). w.1.position) both in
     (sym (take_at a x (length a) refl) ∙ ap (take (length a)) e ∙ take_at b y (length a) (sym len), ap (λ (w : X × Reading). w.0) both)
+
+-- ---- what is left of a section
+
+suffix : (section bytes rest : List ℕ) (at : ℕ) → at ≤ length section → drop at section ≡ bytes ++ rest → rest ≡ drop (at + length bytes) section
+suffix section bytes rest at inside parts =
+    let front : length (take at section) ≡ at = omega (arith, length-take at section) in
+    let whole : take at section ++ (bytes ++ rest) ≡ section = ap (λ (t : List ℕ). take at section ++ t) (sym parts) ∙ take-append-drop at section in
+    sym (drop-append_seam bytes rest)
+    ∙ (sym (drop-append-add (take at section) (bytes ++ rest) (length bytes))
+    ∙ (ap (λ n. drop (n + length bytes) (take at section ++ (bytes ++ rest))) front ∙ ap (drop (at + length bytes)) whole))
+
+-- A reader that is exact leaves what the section has from where it ends.
+pub leaves-suffix : {X : Type 0} (target : Target) (read : Reading → Result (X × Reading) Fault) (Spells : List ℕ → X → Type 0) → Exact target read Spells
+    → (section : List ℕ) (at : ℕ) (v : X) (after : Reading) → at ≤ length section → read (reading-of target at (drop at section)) ≡ Ok (v, after) → after ≡ reading-of target after.position (drop after.position section)
+leaves-suffix target read Spells exact section at v after inside e =
+    let next = (exact (reading-of target at (drop at section)) refl).found v after e in
+    let rest : after.rest ≡ drop (at + length next.bytes) section = suffix section next.bytes after.rest at inside next.parts in
+    same-reading after (reading-of target after.position (drop after.position section)) next.target refl (rest ∙ ap (λ n. drop n section) (sym next.position))

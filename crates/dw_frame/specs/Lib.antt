@@ -2,4 +2,7 @@ pub mod Records
 pub mod Instructions
 pub mod Operands
 pub mod Codes
+pub mod Sections
+pub mod Bounds
+pub mod Heads
 pub mod Views

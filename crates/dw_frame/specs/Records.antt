@@ -12,11 +12,12 @@ pub record Cie : Type 0 where
   pub return_register : ℕ
   pub program : Reading
 
--- An FDE, likewise.
+-- An FDE, likewise. Its CIE_pointer stands at an offset of its own.
 pub record Fde : Type 0 where
   pub offset : ℕ
   pub format : Format
   pub cie_pointer : ℕ
+  pub pointer_offset : ℕ
   pub initial : ℕ
   pub range : ℕ
   pub program : Reading

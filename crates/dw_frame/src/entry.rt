@@ -31,6 +31,8 @@ pub struct FrameDescriptionEntry<'a> {
     pub format: Format,
     /// Where its CIE is said to begin in the section.
     pub cie_pointer: u64,
+    /// Where that field stands in the section.
+    pub cie_pointer_offset: u32,
     /// The first address that it covers.
     pub initial_location: u64,
     /// How many addresses it covers.

@@ -1,11 +1,14 @@
 //! Laws of the records and instructions: functions that do nothing, each with the law as its contract.
 
-ghost use Rattle.std.specs.Prelude.{◌≡◌, ◌<◌, ◌↔◌, ℕ, List, [], ◌∷◌, ◌++◌, length, map, Ok, Err};
+ghost use Rattle.std.specs.Prelude.{◌≡◌, ◌<◌, ◌↔◌, ℕ, List, [], ◌∷◌, ◌++◌, length, map, Contains, Result, Ok, Err, Some, None};
 ghost use Rattle.dw_bytes.specs.declared.target.Target.{Target};
 ghost use Rattle.dw_bytes.specs.declared.fault.Fault.{Fault};
 ghost use Rattle.dw_bytes.specs.Reading.{Reading, IsExact};
 ghost use Rattle.dw_frame.specs.Instructions.{Instruction};
+ghost use Rattle.dw_frame.specs.Records.{Cie, Record, common};
 ghost use Rattle.dw_frame.specs.Codes.{Spells, AreInstructions, instruction_at, instructions_of};
+ghost use Rattle.dw_frame.specs.Sections.{IsRecord, AreRecords, record_at, entries_of, cie_among};
+ghost use Rattle.dw_frame.specs.Bounds.{StandsIn, Ascends, IsSound};
 
 /// No spelling of an instruction begins another, and bytes spell one instruction.
 pub fn one_instruction()
@@ -29,4 +32,39 @@ pub fn instructions_come_in_order()
     ensures instruction { (r : Reading) (i : Instruction) (after : Reading) → instruction_at r ≡ Ok (i, after) → instructions_of r ≡ Ok (r.position, i) ∷ instructions_of after }
     ensures fault { (r : Reading) (fault : Fault) → 0 < length r.rest → instruction_at r ≡ Err fault → instructions_of r ≡ Err fault ∷ [] }
     ensures nothing { (r : Reading) → length r.rest ≡ 0 → instructions_of r ≡ [] }
+{}
+
+/// Each instruction of a program and each fault stands in it, a fault perhaps at its end.
+pub fn instructions_stand_in_their_program()
+    ensures { (r : Reading) (item : Result (ℕ × Instruction) Fault) → Contains (instructions_of r) item → StandsIn r item }
+{}
+
+/// The record that is read is the one that is spelled, and one that is spelled is read.
+pub fn records_are_exact()
+    ensures { (r : Reading) → IsExact record_at (IsRecord r.target r.position) r }
+{}
+
+/// A section is read without a fault exactly where its bytes are the spellings of records without a
+/// gap, and then it gives these.
+pub fn sections_are_records()
+    ensures { (target : Target) (section : List ℕ) (records : List Record) → (entries_of target section ≡ map Ok records) ↔ AreRecords target 0 section records }
+{}
+
+/// The records of a section begin one behind the other.
+pub fn records_ascend()
+    ensures { (target : Target) (at : ℕ) (section : List ℕ) (records : List Record) → AreRecords target at section records → Ascends records }
+{}
+
+/// Each record that a section gives, and so its program, lies inside it, an FDE's addresses are
+/// addresses of the target, and a fault stands inside the section or at its end.
+pub fn records_are_sound()
+    ensures { (target : Target) (section : List ℕ) (item : Result Record Fault) → Contains (entries_of target section) item → IsSound target (length section) item }
+{}
+
+/// The CIE at an offset is one of the records and begins there. Where there is none, no CIE begins
+/// there, and a fault is one of the section's.
+pub fn the_cie_at_an_offset()
+    ensures found { (offset : ℕ) (entries : List (Result Record Fault)) (c : Cie) → cie_among offset entries ≡ Ok (Some c) → Contains entries (Ok (common c)) × (c.offset ≡ offset) }
+    ensures none { (offset : ℕ) (entries : List (Result Record Fault)) (c : Cie) → cie_among offset entries ≡ Ok None → Contains entries (Ok (common c)) → ¬ (c.offset ≡ offset) }
+    ensures fault { (offset : ℕ) (entries : List (Result Record Fault)) (fault : Fault) → cie_among offset entries ≡ Err fault → Contains entries (Err fault) }
 {}

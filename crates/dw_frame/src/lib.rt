@@ -5,13 +5,19 @@
 mod call_frame_instruction;
 mod decode;
 mod entry;
+mod header;
 mod instructions;
 pub mod laws;
 mod operands;
+mod parse;
 mod program;
+mod records;
+mod sections;
 
 pub use call_frame_instruction::CallFrameInstruction;
 pub use decode::instruction;
 pub use entry::{CommonInformationEntry, Entry, FrameDescriptionEntry};
 pub use instructions::Instructions;
 pub use program::Program;
+pub use records::Entries;
+pub use sections::{cie_at, entries};

@@ -1,6 +1,6 @@
 //! The bytes of a call frame program.
 
-ghost use Rattle.std.specs.Prelude.{◌≡◌, ◌≤◌, ◌<◌, ◌^◌, length};
+ghost use Rattle.std.specs.Prelude.{◌≡◌, ◌≤◌, ◌<◌, ◌^◌, length, drop};
 
 use dw_bytes::{Cursor, Target};
 
@@ -18,7 +18,7 @@ pub struct Program<'a> {
 
 impl<'a> Program<'a> {
     ghost use Rattle.std.specs.Prelude.{take};
-    ghost use Rattle.dw_frame.specs.Views.{reading_from};
+    ghost use Rattle.dw_frame.specs.Views.{reading_of, reading_from};
 
     /// The bytes of a section from an offset up to another.
     pub(crate) fn new(section: &'a [u8], start: u32, end: u32, target: Target) -> Self
@@ -57,13 +57,34 @@ impl<'a> Program<'a> {
         self.target
     }
 
+    /// What is left of it from one of its offsets on.
+    pub(crate) fn from(&self, at: u32) -> Program<'a>
+        requires { at ≤ length self.now.section.now }
+        ensures { reading_of result ≡ reading_from self.now at }
+    {
+        Program {
+            section: self.section,
+            start: at,
+            target: self.target,
+        }
+    }
+
     /// A cursor at one of its offsets, which can read up to its end.
     pub(crate) fn cursor(&self, at: u32) -> Cursor<'a>
         requires { at ≤ length self.now.section.now }
         ensures { result ≡ reading_from self.now at }
     {
-        let mut cursor = Cursor::new(self.section, self.target);
-        let _ = cursor.take(u64::from(at));
-        cursor
+        cursor_at(self.section, self.target, at)
     }
+}
+
+/// A cursor at an offset of a section.
+pub(crate) fn cursor_at(section: &[u8], target: Target, at: u32) -> Cursor<'_>
+    requires inside { at ≤ length section.now }
+    requires short { length section.now < 2 ^ 32 }
+    ensures { result ≡ record { target = target; position = at; rest = drop at section.now } }
+{
+    let mut cursor = Cursor::new(section, target);
+    let _ = cursor.take(u64::from(at));
+    cursor
 }

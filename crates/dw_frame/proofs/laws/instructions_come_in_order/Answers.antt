@@ -1,4 +1,4 @@
-use Rattle.dw_frame.proofs.Programs.{next-instruction, next-fault, no-instruction}
+use Rattle.dw_frame.proofs.EachInstruction.{next-instruction, next-fault, no-instruction}
 use Rattle.dw_frame.proofs.laws.instructions_come_in_order.Goals as goal
 
 pub returns : goal.returns

@@ -1,4 +1,4 @@
-use Rattle.dw_frame.proofs.Programs.{one-instruction}
+use Rattle.dw_frame.proofs.EachInstruction.{one-instruction}
 use Rattle.dw_frame.proofs.laws.one_instruction.Goals as goal
 
 pub returns : goal.returns

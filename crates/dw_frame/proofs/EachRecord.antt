@@ -1,0 +1,159 @@
+-- Records are read exactly where they are spelled.
+use Rattle.std.proofs.Common.{◌≡◌, ℕ, ◌+◌, ◌<◌, ◌≤◌, ◌↔◌, List, [], ◌∷◌, ◌++◌, length, Result, Ok, Err, refl, sym, ap, subst, ◌∙◌, append_assoc, arith}
+use Rattle.std.proofs.lemmas.List.{length-append, length-drop}
+use Rattle.dw_bytes.specs.declared.target.Target.{Target}
+use Rattle.dw_bytes.specs.declared.target.Order.{Order}
+use Rattle.dw_bytes.specs.declared.target.Format.{Format}
+use Rattle.dw_bytes.specs.declared.target.Format.TheVariants.{Dwarf32, Dwarf64}
+use Rattle.dw_bytes.specs.declared.fault.Fault.{Fault}
+use Rattle.dw_bytes.specs.Spelling.{Len, Length}
+use Rattle.dw_bytes.specs.Reading.{Reading, Next, IsExact, ◌>>=◌, take_at, initial_length_at}
+use Rattle.dw_bytes.proofs.Readers.{bind-ok, ok-is, same-reading, length-exact, take-exact}
+use Rattle.dw_bytes.proofs.Sequences.{ReadsEach, Forward, forward, goes-on, stops, ends, all-read, sequence-exact}
+use Rattle.dw_frame.specs.Records.{Record}
+use Rattle.dw_frame.specs.Sections.{IsRecord, AreRecords, record_from, header_at, body_of, framed_at, record_at, section_from, entries_from, entries_of}
+use Rattle.dw_frame.proofs.Headers.{header-exact}
+
+-- ---- a length and its body
+
+pub record IsFramed (r : Reading) (format : Format) (body after : Reading) : Type 0 where
+  pub front : List ℕ
+  pub length_is : Length r.target.order front (format, length body.rest)
+  pub parts : r.rest ≡ front ++ (body.rest ++ after.rest)
+  pub body_position : body.position ≡ r.position + length front
+  pub body_target : body.target ≡ r.target
+  pub position : after.position ≡ body.position + length body.rest
+  pub target : after.target ≡ r.target
+
+abbrev framed : Format → Reading → Reading → Result ((Format × Reading) × Reading) Fault
+framed format body after = Ok ((format, body), after)
+
+pub framed-found : (r : Reading) (format : Format) (body after : Reading) → framed_at r ≡ Ok ((format, body), after) → IsFramed r format body after
+unfolding framed_at
+framed-found r format body after is =
+    let a = bind-ok (initial_length_at r) (λ size. take_at size.0.1 size.1 >>= λ bytes. framed size.0.0 (body_of size.1 bytes.0) bytes.1) ((format, body), after) is in
+    let b = bind-ok (take_at a.0.0.1 a.0.1) (λ bytes. framed a.0.0.0 (body_of a.0.1 bytes.0) bytes.1) ((format, body), after) a.2 in
+    let size = (length-exact r.target r refl).found a.0.0 a.0.1 a.1 in
+    let bytes = (take-exact r.target a.0.0.1 a.0.1 size.target).found b.0.0 b.0.1 b.1 in
+    let same : ((a.0.0.0, body_of a.0.1 b.0.0), b.0.1) ≡ ((format, body), after) = ok-is {A = Format × Reading} ((a.0.0.0, body_of a.0.1 b.0.0), b.0.1) ((format, body), after) b.2 in
+    let value : b.0.0 ≡ bytes.bytes = bytes.spelled.value in
+    let count : length b.0.0 ≡ a.0.0.1 = ap length value ∙ bytes.spelled.count in
+    let here : IsFramed r a.0.0.0 (body_of a.0.1 b.0.0) b.0.1 = record {
+      front = size.bytes;
+      length_is = subst (λ n. Length r.target.order size.bytes (a.0.0.0, n)) (sym count) size.spelled;
+      parts = size.parts ∙ ap (λ (t : List ℕ). size.bytes ++ t) (bytes.parts ∙ ap (λ (t : List ℕ). t ++ b.0.1.rest) (sym value));
+      body_position = size.position;
+      body_target = size.target;
+      position = bytes.position ∙ ap (λ (t : List ℕ). a.0.1.position + length t) (sym value);
+      target = bytes.target ∙ size.target;
+    } in
+    subst (λ (p : (Format × Reading) × Reading). IsFramed r p.0.0 p.0.1 p.1) same here
+
+pub framed-only : (r : Reading) (format : Format) (body after : Reading) → IsFramed r format body after → framed_at r ≡ Ok ((format, body), after)
+unfolding framed_at
+framed-only r format body after h =
+    let mid : Reading = record { target = r.target; position = r.position + length h.front; rest = body.rest ++ after.rest } in
+    let one = (length-exact r.target r refl).only (format, length body.rest) mid (record { bytes = h.front; spelled = h.length_is; parts = h.parts; position = refl; target = refl }) in
+    let two = (take-exact r.target (length body.rest) mid refl).only body.rest after (record { bytes = body.rest; spelled = record { count = refl; value = refl }; parts = refl; position = omega (arith, h.position, h.body_position); target = h.target }) in
+    rw (one, two) (ap (λ (b : Reading). framed format b after) (same-reading (body_of mid body.rest) body (sym h.body_target) (sym h.body_position) refl))
+
+-- ---- a record
+
+abbrev finish : Record × Reading → Result (Record × Reading) Fault
+finish x = Ok x
+
+pub record-found : (r : Reading) (x : Record) (after : Reading) → record_at r ≡ Ok (x, after) → Next (IsRecord r.target r.position) r x after
+unfolding record_at
+record-found r x after is =
+    let a = bind-ok (framed_at r) (λ f. header_at r.target f.0.0 f.0.1 >>= λ h. finish (record_from r.position f.0.0 f.0.1.position h.0 h.1, f.1)) (x, after) is in
+    let format = a.0.0.0 in
+    let body = a.0.0.1 in
+    let end = a.0.1 in
+    let b = bind-ok (header_at r.target format body) (λ h. finish (record_from r.position format body.position h.0 h.1, end)) (x, after) a.2 in
+    let frame = framed-found r format body end a.1 in
+    let header = (header-exact r.target format body frame.body_target).found b.0.0 b.0.1 b.1 in
+    let program = b.0.1 in
+    let same : (record_from r.position format body.position b.0.0 program, end) ≡ (x, after) = ok-is {A = Record} (record_from r.position format body.position b.0.0 program, end) (x, after) b.2 in
+    let rest = program.rest in
+    let program_is : program ≡ record { target = r.target; position = r.position + length frame.front + length header.bytes; rest = rest } =
+    same-reading program (record { target = r.target; position = r.position + length frame.front + length header.bytes; rest = rest }) (header.target ∙ frame.body_target) (omega (arith, header.position, frame.body_position)) refl in
+    let here : Next (IsRecord r.target r.position) r (record_from r.position format body.position b.0.0 program) end = record {
+      bytes = frame.front ++ body.rest;
+      spelled = record {
+        format = format;
+        header = b.0.0;
+        front = frame.front;
+        fields = header.bytes;
+        program = rest;
+        parts = ap (λ (t : List ℕ). frame.front ++ t) header.parts;
+        length_is = subst (λ (t : List ℕ). Length r.target.order frame.front (format, length t)) header.parts frame.length_is;
+        header_is = header.spelled;
+        record_is = ap (λ n. record_from r.position format n b.0.0 program) frame.body_position ∙ ap (λ (p : Reading). record_from r.position format (r.position + length frame.front) b.0.0 p) program_is;
+      };
+      parts = frame.parts ∙ sym (append_assoc frame.front body.rest end.rest);
+      position = omega (arith, frame.position, frame.body_position, length-append frame.front body.rest);
+      target = frame.target;
+    } in
+    subst (λ (p : Record × Reading). Next (IsRecord r.target r.position) r p.0 p.1) same here
+
+pub record-only : (r : Reading) (x : Record) (after : Reading) → Next (IsRecord r.target r.position) r x after → record_at r ≡ Ok (x, after)
+unfolding record_at
+record-only r x after next =
+    let s = next.spelled in
+    let body : Reading = record { target = r.target; position = r.position + length s.front; rest = s.fields ++ s.program } in
+    let program : Reading = record { target = r.target; position = r.position + length s.front + length s.fields; rest = s.program } in
+    let one = framed-only r s.format body after (record {
+      front = s.front;
+      length_is = s.length_is;
+      parts = next.parts ∙ ap (λ (t : List ℕ). t ++ after.rest) s.parts ∙ append_assoc s.front (s.fields ++ s.program) after.rest;
+      body_position = refl;
+      body_target = refl;
+      position = omega (arith, next.position, ap length s.parts, length-append s.front (s.fields ++ s.program));
+      target = next.target;
+    }) in
+    let two = (header-exact r.target s.format body refl).only s.header program (record { bytes = s.fields; spelled = s.header_is; parts = refl; position = refl; target = refl }) in
+    rw (one, two) (ap (λ (y : Record). finish (y, after)) (sym s.record_is))
+
+-- a length takes bytes
+pub some-length : (order : Order) (bytes : List ℕ) (format : Format) (v : ℕ) → Len order bytes format v → 0 < length bytes
+some-length order bytes Dwarf32 v h = omega (arith, h.0.count)
+some-length order bytes Dwarf64 v (mark, rest, parts, first, second) = omega (arith, first.count, ap length parts, length-append mark rest)
+
+pub some-bytes : (target : Target) (at : ℕ) (bytes : List ℕ) (x : Record) → IsRecord target at bytes x → 0 < length bytes
+some-bytes target at bytes x s =
+    let some = some-length target.order s.front s.format (length (s.fields ++ s.program)) s.length_is in
+    omega (arith, some, ap length s.parts, length-append s.front (s.fields ++ s.program))
+
+pub each-record : (target : Target) → ReadsEach target record_at (IsRecord target)
+each-record target = record {
+  exact = λ r same.
+      let own : IsExact record_at (IsRecord r.target r.position) r = record { found = record-found r; only = record-only r } in
+      subst (λ (t : Target). IsExact record_at (IsRecord t r.position) r) same own;
+  some = some-bytes target;
+}
+
+pub records-forward : Forward record_at
+records-forward = forward record_at IsRecord each-record
+
+-- ---- laws
+
+pub record-exact : (r : Reading) → IsExact record_at (IsRecord r.target r.position) r
+record-exact r = (each-record r.target).exact r refl
+
+pub sections-are-records : (target : Target) (section : List ℕ) (records : List Record) → (entries_of target section ≡ all-read records) ↔ AreRecords target 0 section records
+unfolding entries_from
+sections-are-records target section records = sequence-exact target record_at (IsRecord target) (each-record target) (section_from target section 0) records refl
+
+-- ---- the section from an offset on
+
+pub at-end : (target : Target) (section : List ℕ) (at : ℕ) → length section ≤ at → entries_from target section at ≡ []
+unfolding entries_from
+at-end target section at h = ends record_at (section_from target section at) (omega (arith, length-drop at section))
+
+pub at-fault : (target : Target) (section : List ℕ) (at : ℕ) (fault : Fault) → at < length section → record_at (section_from target section at) ≡ Err fault → entries_from target section at ≡ Err fault ∷ []
+unfolding entries_from
+at-fault target section at fault h is = stops record_at (section_from target section at) fault (omega (arith, length-drop at section)) is
+
+pub at-record : (target : Target) (section : List ℕ) (at next : ℕ) (x : Record) → record_at (section_from target section at) ≡ Ok (x, section_from target section next) → entries_from target section at ≡ Ok x ∷ entries_from target section next
+unfolding entries_from
+at-record target section at next x is = goes-on record_at records-forward (section_from target section at) x (section_from target section next) is

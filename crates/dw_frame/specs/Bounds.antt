@@ -1,0 +1,48 @@
+-- Where things stand in their program or section.
+use Rattle.std.specs.Prelude.{◌≤◌, ◌<◌, ◌+◌, ◌≡◌, ℕ, List, [], ◌∷◌, length, Result, Ok, Err}
+use Rattle.std.specs.List.{AllByRecursion}
+use Rattle.dw_bytes.specs.declared.target.Target.{Target}
+use Rattle.dw_bytes.specs.declared.fault.Fault.{Fault}
+use Rattle.dw_bytes.specs.Reading.{Reading}
+use Rattle.dw_frame.specs.Instructions.{Instruction}
+use Rattle.dw_frame.specs.Records.{Cie, Fde, Record, common, description}
+use Rattle.dw_frame.specs.Sections.{top_of}
+
+-- An instruction begins in its program. A fault may stand at its end, too.
+abbrev pub StandsIn : Reading → Result (ℕ × Instruction) Fault → Type 0
+StandsIn r (Ok item) = (r.position ≤ item.0) × (item.0 < r.position + length r.rest)
+StandsIn r (Err fault) = (r.position ≤ fault.at) × (fault.at ≤ r.position + length r.rest)
+
+-- The program of a record lies behind its offset, inside a section of so many bytes, and is of the same target.
+pub record LiesIn (target : Target) (size offset : ℕ) (program : Reading) : Type 0 where
+  pub begins : offset < program.position
+  pub ends : program.position + length program.rest ≤ size
+  pub target_is : program.target ≡ target
+
+pub record IsSoundCie (target : Target) (size : ℕ) (c : Cie) : Type 0 where
+  pub program : LiesIn target size c.offset c.program
+  pub return_register : c.return_register ≤ 65535
+
+-- The CIE_pointer of an FDE stands between its offset and its program, and its addresses are addresses of the target.
+pub record IsSoundFde (target : Target) (size : ℕ) (f : Fde) : Type 0 where
+  pub program : LiesIn target size f.offset f.program
+  pub pointer_behind : f.offset < f.pointer_offset
+  pub pointer_before : f.pointer_offset < f.program.position
+  pub range : f.initial + f.range ≤ top_of target
+
+abbrev pub IsSoundRecord : Target → ℕ → Record → Type 0
+IsSoundRecord target size (common c) = IsSoundCie target size c
+IsSoundRecord target size (description f) = IsSoundFde target size f
+
+abbrev pub IsSound : Target → ℕ → Result Record Fault → Type 0
+IsSound target size (Ok r) = IsSoundRecord target size r
+IsSound target size (Err fault) = fault.at ≤ size
+
+abbrev pub offset_of : Record → ℕ
+offset_of (common c) = c.offset
+offset_of (description f) = f.offset
+
+-- each begins before those behind it
+abbrev pub Ascends : List Record → Type 0
+Ascends [] = Unit {0}
+Ascends (r ∷ records) = AllByRecursion (λ s. offset_of r < offset_of s) records × Ascends records

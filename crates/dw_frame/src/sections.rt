@@ -1,0 +1,118 @@
+//! Reading the records of a section.
+
+ghost use Rattle.std.specs.Prelude.{◌≡◌, ◌≤◌, ◌<◌, ◌^◌, length, IfErr, IfOk, MatchResult, Ok, Err};
+ghost use Rattle.dw_frame.specs.Sections.{section_from, framed_at, record_at, record_from, entries_of, cie_among};
+ghost use Rattle.dw_frame.specs.Heads.{head_of};
+ghost use Rattle.dw_frame.specs.Views.{reading_of, reading_from, record_of, found_cie};
+
+use crate::entry::{CommonInformationEntry, Entry, FrameDescriptionEntry};
+use crate::header::Header;
+use crate::parse;
+use crate::program::{self, Program};
+use crate::records::Entries;
+use dw_bytes::{Fault, Format, Target};
+
+/// The format and the body of the record at an offset of a section. The body is kept as a program is,
+/// which is what it has left behind its header.
+#[tactic(auto, unfolding(crate::specs::Sections::framed_at))]
+fn frame<'a>(section: &'a [u8], target: Target, at: u32) -> Result<(Format, Program<'a>), Fault>
+    requires inside { at ≤ length section.now }
+    requires short { length section.now < 2 ^ 32 }
+    ensures exact { MatchResult result (λ f. framed_at (section_from target section.now at) ≡ Ok ((f.0, reading_of f.1), section_from target section.now (length f.1.section.now))) (λ fault. framed_at (section_from target section.now at) ≡ Err fault) }
+    ensures target { IfOk result (λ f. f.1.target ≡ target) }
+    ensures forward { IfOk result (λ f. at < f.1.start × length f.1.section.now ≤ length section.now) }
+    ensures inside { IfErr result (λ fault. fault.at ≤ length section.now) }
+{
+    let mut cursor = program::cursor_at(section, target, at);
+    let (format, length) = cursor.initial_length()?;
+    let first = cursor.position();
+    cursor.take(length)?;
+    let end = cursor.position();
+    Ok((format, Program::new(section, first, end, target)))
+}
+
+/// A record at an offset, of its header and its program.
+fn entry_from<'a>(
+    at: u32,
+    format: Format,
+    body: u32,
+    header: Header,
+    program: Program<'a>,
+) -> Entry<'a>
+    ensures { record_of result ≡ record_from at format body (head_of header) (reading_of program.entry) }
+{
+    match header {
+        Header::Cie(header) => Entry::Cie(CommonInformationEntry {
+            offset: at,
+            format,
+            code_alignment_factor: header.code_alignment_factor,
+            data_alignment_factor: header.data_alignment_factor,
+            return_address_register: header.return_address_register,
+            program,
+        }),
+        Header::Fde(header) => Entry::Fde(FrameDescriptionEntry {
+            offset: at,
+            format,
+            cie_pointer: header.cie_pointer,
+            cie_pointer_offset: body,
+            initial_location: header.initial_location,
+            address_range: header.address_range,
+            program,
+        }),
+    }
+}
+
+/// The record at an offset of a section, and the offset behind it.
+#[tactic(auto, unfolding(crate::specs::Sections::record_at), using(crate::proofs::Framed::leaves_laws))]
+pub fn entry<'a>(section: &'a [u8], target: Target, at: u32) -> Result<(Entry<'a>, u32), Fault>
+    requires inside { at ≤ length section.now }
+    requires short { length section.now < 2 ^ 32 }
+    ensures exact { MatchResult result (λ e. record_at (section_from target section.now at) ≡ Ok (record_of e.0, section_from target section.now e.1)) (λ fault. record_at (section_from target section.now at) ≡ Err fault) }
+    ensures forward { IfOk result (λ e. at < e.1 × e.1 ≤ length section.now) }
+    ensures inside { IfErr result (λ fault. fault.at ≤ length section.now) }
+{
+    let (format, body) = frame(section, target, at)?;
+    let mut cursor = body.cursor(body.start());
+    let header = parse::header(&mut cursor, format, target)?;
+    let program = body.from(cursor.position());
+    Ok((
+        entry_from(at, format, body.start(), header, program),
+        body.end(),
+    ))
+}
+
+/// The records of a section of fewer than 2^32 bytes (DWARF 5, section 6.4.1).
+///
+/// Of each record are judged, in this order: its length (1, 3), that its body is there (1, at the
+/// body's first byte), and then the fields of its header one after the other within its body: each
+/// that it is there and in range (1, 2, at its first byte), and for a CIE its version (4), its
+/// augmentation (5), its sizes of an address (6) and of a segment selector (7) and its return address
+/// register (10), for an FDE that its range ends in the address space (11), each at that field. Its
+/// program isn't read, nor is its CIE looked for. Takes no memory.
+pub fn entries<'a>(section: &'a [u8], target: Target) -> Entries<'a>
+    requires { length section.now < 2 ^ 32 }
+    ensures { result ≡ entries_of target section.now }
+{
+    Entries::new(section, target)
+}
+
+/// The CIE at an offset of a section of fewer than 2^32 bytes, or the first fault before one is found,
+/// or none. It looks at the records in order up to that CIE, so it takes as long as there are records
+/// before it, and as there are in all where there is none. Takes no memory.
+pub fn cie_at<'a>(
+    section: &'a [u8],
+    target: Target,
+    offset: u64,
+) -> Result<Option<CommonInformationEntry<'a>>, Fault>
+    requires { length section.now < 2 ^ 32 }
+    ensures { found_cie result ≡ cie_among offset (entries_of target section.now) }
+{
+    for entry in entries(section, target) {
+        if let Entry::Cie(cie) = entry? {
+            if u64::from(cie.offset) == offset {
+                return Ok(Some(cie));
+            }
+        }
+    }
+    Ok(None)
+}

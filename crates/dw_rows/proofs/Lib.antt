@@ -1,0 +1,4 @@
+pub mod Tables
+pub mod Edits
+pub mod Stepping
+pub mod Running

@@ -1,0 +1,157 @@
+//! The rules of a row, by register.
+
+ghost use Rattle.std.specs.Prelude.{◌≡◌, ◌≢◌, ℕ, ◌+◌, ◌<◌, ◌≤◌, [], List, length, slice_get, MatchResult};
+ghost use Rattle.arrayvec.specs.ArrayVec.{array_vec_len};
+ghost use Rattle.dw_bytes.specs.declared.fault.FaultKind.{FaultKind};
+ghost use Rattle.std.specs.Bool.{OnTrue, OnFalse};
+ghost use Rattle.dw_rows.specs.Rules.{Rule, IsTable, rule_in, rule_list, rule_count, changed_at};
+ghost use Rattle.dw_rows.specs.Views.{rule_of, entries_of};
+ghost use Rattle.dw_rows.specs.Places.{place_in};
+
+use crate::row::{RegisterRule, RegisterRules};
+use arrayvec::ArrayVec;
+use dw_bytes::FaultKind;
+use std::marker::Model;
+
+/// At most this many registers of a row have a rule other than `Default`.
+pub const MAX_RULES: usize = 128;
+
+/// A register and its rule.
+#[derive(Clone, Copy, Debug)]
+pub struct RuleEntry {
+    pub register: u16,
+    pub rule: RegisterRule,
+}
+
+impl Default for RuleEntry {
+    fn default() -> Self {
+        RuleEntry {
+            register: 0,
+            rule: RegisterRule::Default,
+        }
+    }
+}
+
+/// The rules other than `Default`, by ascending registers.
+#[derive(Debug, Drop)]
+pub struct RegisterRuleMap {
+    entries: ArrayVec<RuleEntry, MAX_RULES>,
+}
+
+impl Model for RegisterRuleMap {
+    ghost use Rattle.std.specs.Prelude.{ℕ, List};
+    ghost use Rattle.dw_rows.specs.Rules.{Rule, IsTable};
+
+    ghost Value = { List (ℕ × Rule) };
+
+    ghost use Rattle.dw_rows.specs.Views.{entries_of};
+
+    ghost view = { λ m. entries_of m.entries.items };
+
+    ghost invariant = { λ m. IsTable 0 (entries_of m.entries.items) };
+}
+
+impl RegisterRuleMap {
+    /// No rule but `Default`.
+    pub fn new() -> Self
+        ensures { result ≡ [] }
+    {
+        RegisterRuleMap {
+            entries: ArrayVec::new(),
+        }
+    }
+
+    /// The rule of a register.
+    pub fn register(&self, number: u16) -> RegisterRule
+        ensures { rule_of result ≡ rule_in self.now number }
+    {
+        rule_of_register(self.entries.as_slice(), number)
+    }
+
+    /// The same rules again. Its cost is that of the rules that are there.
+    pub fn copy(&self) -> Self
+        ensures { result ≡ self.now }
+    {
+        let mut entries = ArrayVec::new();
+        let _ = entries.try_extend_from_slice(self.entries.as_slice());
+        RegisterRuleMap { entries }
+    }
+
+    /// Gives a register a rule. It is refused where there would be too many rules.
+    pub fn set(&mut self, number: u16, rule: RegisterRule) -> Result<(), FaultKind>
+        ensures { MatchResult result
+            (λ _. (self.new ≡ rule_list (changed_at (rule_in self.old) number (rule_of rule))) × (length self.new ≤ MAX_RULES))
+            (λ kind. (kind ≡ FaultKind.TooManyRules) × (MAX_RULES < rule_count (changed_at (rule_in self.old) number (rule_of rule)))) }
+    {
+        if put_rule(&mut self.entries, number, rule) {
+            Ok(())
+        } else {
+            Err(FaultKind::TooManyRules)
+        }
+    }
+
+    /// The rules other than `Default`.
+    pub fn iter(&self) -> RegisterRules<'_>
+        ensures { result ≡ self.now }
+    {
+        RegisterRules::new(self.entries.as_slice())
+    }
+}
+
+/// The rule of a register.
+fn rule_of_register(entries: &[RuleEntry], register: u16) -> RegisterRule
+    ensures { rule_of result ≡ rule_in (entries_of entries.now) register }
+{
+    for entry in entries {
+        if entry.register == register {
+            return entry.rule;
+        }
+    }
+    RegisterRule::Default
+}
+
+/// How many entries are below the register.
+fn place_of(entries: &[RuleEntry], register: u16) -> usize
+    ensures value { result ≡ place_in register (entries_of entries.now) }
+    ensures within { result ≤ length entries.now }
+{
+    for (place, entry) in entries.iter().enumerate() {
+        if entry.register >= register {
+            return place;
+        }
+    }
+    entries.len()
+}
+
+/// Gives the register the rule `Default`.
+fn clear_rule(table: &mut ArrayVec<RuleEntry, MAX_RULES>, register: u16)
+    requires { IsTable 0 (entries_of table.old.items) }
+    ensures table { IsTable 0 (entries_of table.new.items) }
+    ensures rules { entries_of table.new.items ≡ rule_list (changed_at (rule_in (entries_of table.old.items)) register Rule.default) }
+{
+    let place = place_of(table.as_slice(), register);
+    if place < table.len() && table.as_slice()[place].register == register {
+        table.remove(place);
+    }
+}
+
+/// Gives the register the rule. Only where there is no room for it, it answers `false`.
+fn put_rule(table: &mut ArrayVec<RuleEntry, MAX_RULES>, register: u16, rule: RegisterRule) -> bool
+    requires { IsTable 0 (entries_of table.old.items) }
+    ensures table { IsTable 0 (entries_of table.new.items) }
+    ensures rules { OnTrue result (entries_of table.new.items ≡ rule_list (changed_at (rule_in (entries_of table.old.items)) register (rule_of rule))) }
+    ensures few { length (entries_of table.new.items) ≤ MAX_RULES }
+    ensures full { OnFalse result (MAX_RULES < rule_count (changed_at (rule_in (entries_of table.old.items)) register (rule_of rule))) }
+{
+    clear_rule(table, register);
+    let full = table.is_full();
+    if let RegisterRule::Default = rule {
+        return true;
+    }
+    if full {
+        return false;
+    }
+    let place = place_of(table.as_slice(), register);
+    table.insert(place, RuleEntry { register, rule });
+    true
+}
