@@ -2,3 +2,11 @@ pub mod Tables
 pub mod Edits
 pub mod Stepping
 pub mod Running
+mod Search
+mod Sweeps
+mod Indexes
+mod Elements
+mod Faults
+mod Clashes
+mod Parts
+mod SectionOrder

@@ -7,3 +7,5 @@ pub mod Judgement
 pub mod UnwindRows
 pub mod Machine
 pub mod Actions
+pub mod Section
+pub mod Overlap

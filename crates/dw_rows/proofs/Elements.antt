@@ -1,0 +1,75 @@
+-- Places of a list and of what its elements stand for.
+use Rattle.std.proofs.Common.{◌≡◌, ℕ, zero, suc, ◌<◌, ◌≤◌, List, [], ◌∷◌, length, get_or, map, filter, Contains, Bool, true, false, refl, sym, ap, ◌∙◌, subst, arith, if◌then◌else◌}
+use Rattle.std.specs.List.{AllByRecursion}
+use Rattle.std.specs.List.Sorted.{IsNonDecreasingBy}
+use Rattle.dw_rows.specs.Overlap.{IsAscending}
+use Rattle.std.proofs.lemmas.List.{get_or-map, length-map}
+use Rattle.std.proofs.Math.ListN.{get_or-map as at_default}
+use Rattle.dw_frame.specs.Records.{Fde}
+use Rattle.dw_frame.specs.Views.{fde_of}
+use Rattle.dw_frame.specs.declared.entry.FrameDescriptionEntry.{FrameDescriptionEntry}
+
+-- what stands at a place of the list is what its element stands for
+pub placed-map : {X Y : Type 0} (f : X → Y) (xs : List X) (i : ℕ) (x : X) → get_or xs i x ≡ x → get_or (map f xs) i (f x) ≡ f x
+placed-map f [] i x e = refl
+placed-map f (y ∷ xs) zero x e = ap f e
+placed-map f (y ∷ xs) (suc i) x e = placed-map f xs i x e
+
+-- filtering by what elements stand for
+pub filter-map : {X Y : Type 0} (f : X → Y) (p : Y → Bool) (xs : List X) → map f (filter (λ x. p (f x)) xs) ≡ filter p (map f xs)
+filter-map f p [] = refl
+filter-map f p (x ∷ xs) = elim (p (f x)) as (λ b. map f (if b then (x ∷ filter (λ y. p (f y)) xs) else filter (λ y. p (f y)) xs) ≡ (if b then (f x ∷ filter p (map f xs)) else filter p (map f xs))) [ true ↦ ap (λ l. f x ∷ l) (filter-map f p xs) | false ↦ filter-map f p xs ]
+
+-- an element of the list, to be its default
+some-element : {X : Type 0} (xs : List X) (i : ℕ) → i < length xs → X
+some-element [] i h = absurd (omega arith)
+some-element (x ∷ xs) i h = x
+
+-- sorted by a key of what elements stand for
+pub sorted-map : {X Y : Type 0} (f : X → Y) (key : Y → ℕ) (xs : List X) → IsNonDecreasingBy (λ x. key (f x)) xs → IsNonDecreasingBy key (map f xs)
+sorted-map f key xs sorted i j e le lt =
+    let long = length-map xs f in
+    let j_in : j < length xs = omega arith in
+    let i_in : i < length xs = omega arith in
+    let d = some-element xs j j_in in
+    let at_i = get_or-map f xs i d e i_in in
+    let at_j = get_or-map f xs j d e j_in in
+    let h = sorted i j d le j_in in
+    subst (λ v. key v ≤ key (get_or (map f xs) j e)) (sym at_i) (subst (λ v. key (f (get_or xs i d)) ≤ key v) (sym at_j) h)
+
+-- the offset at a place, at any default
+pub offset-at : (xs : List FrameDescriptionEntry) (i : ℕ) (x : FrameDescriptionEntry) (d : Fde) → i < length xs → (get_or (map fde_of xs) i d).offset ≡ (get_or xs i x).offset
+offset-at xs i x d i_in = ap (λ (f : Fde). f.offset) (get_or-map fde_of xs i x d i_in)
+
+-- sorted by a key of what elements stand for, read the other way
+pub sorted-back : {X Y : Type 0} (f : X → Y) (key : Y → ℕ) (xs : List X) → IsNonDecreasingBy key (map f xs) → IsNonDecreasingBy (λ x. key (f x)) xs
+sorted-back f key xs sorted i j d le lt =
+    let long = length-map xs f in
+    let h = sorted i j (f d) le (omega arith) in
+    subst (λ v. key v ≤ key (f (get_or xs j d))) (at_default f xs i d) (subst (λ v. key (get_or (map f xs) i (f d)) ≤ key v) (at_default f xs j d) h)
+
+-- where FDEs begin above an address from a place on, so does what they stand for
+pub above-map : (xs : List FrameDescriptionEntry) (place a : ℕ) → ((k : ℕ) (e : FrameDescriptionEntry) → place ≤ k → k < length xs → a < (get_or xs k e).initial_location) → (k : ℕ) (d : Fde) → place ≤ k → k < length (map fde_of xs) → a < (get_or (map fde_of xs) k d).initial
+above-map xs place a above k d le lt =
+    let long = length-map xs fde_of in
+    let k_in : k < length xs = omega arith in
+    let e = some-element xs k k_in in
+    subst (λ v. a < v.initial) (sym (get_or-map fde_of xs k e d k_in)) (above k e le k_in)
+
+-- an element, and what it stands for
+pub contains-map : {X Y : Type 0} (f : X → Y) (xs : List X) (x : X) → Contains xs x → Contains (map f xs) (f x)
+contains-map f xs x (k, lt, is) = let long = length-map xs f in (k, omega arith, placed-map f xs k x is)
+
+pub contained-map : {X Y : Type 0} (f : X → Y) (xs : List X) (y : Y) → Contains (map f xs) y → (x : X) × Contains xs x × (f x ≡ y)
+contained-map f [] y (k, lt, is) = absurd (omega arith)
+contained-map f (x ∷ xs) y (zero, lt, is) = (x, (zero, omega arith, refl), is)
+contained-map f (x ∷ xs) y (suc k, lt, is) = let rest = contained-map f xs y (k, omega arith, is) in (rest.0, (suc rest.1.0, omega (arith, rest.1.1), rest.1.2), rest.2)
+
+all-back : {X Y : Type 0} (f : X → Y) (at : Y → ℕ) (n : ℕ) (xs : List X) → AllByRecursion (λ y. n < at y) (map f xs) → AllByRecursion (λ x. n < at (f x)) xs
+all-back f at n [] all = tt
+all-back f at n (x ∷ xs) all = (all.0, all-back f at n xs all.1)
+
+-- in order, by what elements stand for
+pub ascending-back : {X Y : Type 0} (f : X → Y) (at : Y → ℕ) (xs : List X) → IsAscending at (map f xs) → IsAscending (λ x. at (f x)) xs
+ascending-back f at [] up = tt
+ascending-back f at (x ∷ xs) up = (all-back f at (at (f x)) xs up.0, ascending-back f at xs up.1)

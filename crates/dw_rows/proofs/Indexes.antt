@@ -1,0 +1,126 @@
+-- The index: filtered and sorted.
+use Rattle.std.proofs.Common.{◌≡◌, ◌≢◌, ℕ, zero, suc, ◌+◌, ◌-◌, ◌<◌, ◌≤◌, List, [], ◌∷◌, length, get_or, Contains, refl, sym, ap, subst, ◌∙◌, arith, inl, inr, ◌⊎◌, ◌==◌, Bool, true, false, nat_lt, ltb-true, lt-ltb, filter, if◌then◌else◌}
+use Rattle.std.specs.List.{AllByRecursion, swap}
+use Rattle.std.specs.List.Sorted.{IsPermutation, IsNonDecreasingBy}
+use Rattle.std.proofs.lemmas.List.{get_or_default}
+use Rattle.std.proofs.lemmas.List.Edits.{swapped_from_swap, length-swap, Swapped}
+use Rattle.std.proofs.lemmas.List.Elements.{All-filter, All-contains_itself, All-contains, filter_passes}
+use Rattle.std.proofs.lemmas.List.Sorted.{IsPermutation-keeps, IsPermutation-sym, Contains-permutation}
+use Rattle.std.proofs.lemmas.Bool.Decides.{nat_tests}
+use Rattle.dw_rows.specs.Section.{Covers, CoversOnce}
+use Rattle.dw_rows.specs.Overlap.{IsAscending, fde_offset, initial_of, IsIndexOf}
+use Rattle.dw_frame.specs.Records.{Fde}
+use Rattle.dw_rows.proofs.Search.{ascending-at, squeeze, three_ways}
+use Rattle.std.proofs.lemmas.Bool.{cases_lt}
+
+-- no two places have one offset
+abbrev pub AreDistinct : List Fde → Type 0
+AreDistinct xs = (i j : ℕ) (d : Fde) → i < length xs → j < length xs → (get_or xs i d).offset ≡ (get_or xs j d).offset → i ≡ j
+
+distinct-ascending : (xs : List Fde) → IsAscending fde_offset xs → AreDistinct xs
+distinct-ascending xs up i j d i_in j_in same =
+    let low : ¬ (i < j) = λ lt. let h = ascending-at fde_offset xs up i j d lt j_in in omega (arith, h, same) in
+    let high : ¬ (j < i) = λ lt. let h = ascending-at fde_offset xs up j i d lt i_in in omega (arith, h, same) in
+    squeeze i j low high
+
+-- where a place of the swapped list stood
+abbrev stood : ℕ → ℕ → ℕ → ℕ
+stood a b m = if m == a then b else (if m == b then a else m)
+
+stood-distinct : (a b i j : ℕ) → stood a b i ≡ stood a b j → i ≡ j
+stood-distinct a b i j same = grind (arith, nat_tests)
+
+stood-below : (a b m n : ℕ) → a < n → b < n → m < n → stood a b m < n
+stood-below a b m n a_in b_in m_in = grind (arith, nat_tests)
+
+equal_or_not : (m n : ℕ) → (m ≡ n) ⊎ (m ≢ n)
+equal_or_not m n = elim (three_ways m n) [ inl lt ↦ inr (omega arith) | inr rest ↦ elim rest [ inl e ↦ inl e | inr gt ↦ inr (omega arith) ] ]
+
+stood-first : (a b m : ℕ) → m ≡ a → stood a b m ≡ b
+stood-first a b m e = grind (arith, nat_tests)
+
+stood-second : (a b m : ℕ) → m ≢ a → m ≡ b → stood a b m ≡ a
+stood-second a b m n e = grind (arith, nat_tests)
+
+stood-else : (a b m : ℕ) → m ≢ a → m ≢ b → stood a b m ≡ m
+stood-else a b m n n' = grind (arith, nat_tests)
+
+swapped-at : (xs ys : List Fde) (a b m : ℕ) (d : Fde) → Swapped (λ i. get_or xs i d) (λ i. get_or ys i d) a b → get_or ys m d ≡ get_or xs (stood a b m) d
+swapped-at xs ys a b m d s =
+    elim (equal_or_not m a) [
+      | inl e ↦ ap (λ n. get_or ys n d) e ∙ (s.0 ∙ sym (ap (λ n. get_or xs n d) (stood-first a b m e)))
+      | inr n ↦ elim (equal_or_not m b) [
+        | inl e ↦ ap (λ n. get_or ys n d) e ∙ (s.1 ∙ sym (ap (λ n. get_or xs n d) (stood-second a b m n e)))
+        | inr n' ↦ s.2 m n n' ∙ sym (ap (λ n. get_or xs n d) (stood-else a b m n n'))
+      ]
+    ]
+
+distinct-swap : (xs : List Fde) (a b : ℕ) → a < length xs → b < length xs → AreDistinct xs → AreDistinct (swap xs a b)
+distinct-swap xs a b a_in b_in distinct i j d i_in j_in same =
+    let moved = λ (m : ℕ). swapped-at xs (swap xs a b) a b m d (swapped_from_swap xs (swap xs a b) a b d a_in b_in refl) in
+    let long = length-swap xs a b in
+    stood-distinct a b i j (distinct (stood a b i) (stood a b j) d (stood-below a b i _ a_in b_in (omega (arith, long))) (stood-below a b j _ a_in b_in (omega (arith, long))) (ap fde_offset (sym (moved i)) ∙ (same ∙ ap fde_offset (moved j))))
+
+distinct-permuted : (xs ys : List Fde) → IsPermutation xs ys → AreDistinct xs → AreDistinct ys
+distinct-permuted xs ys moved distinct = IsPermutation-keeps xs AreDistinct distinct distinct-swap ys moved
+
+all-filter : (P : Fde → Type 0) (p : Fde → Bool) (xs : List Fde) → AllByRecursion P xs → AllByRecursion P (filter p xs)
+all-filter P p [] all = tt
+all-filter P p (x ∷ xs) all = elim (p x) as (λ b. AllByRecursion P (if b then (x ∷ filter p xs) else filter p xs)) [ true ↦ (all.0, all-filter P p xs all.1) | false ↦ all-filter P p xs all.1 ]
+
+ascending-filter : (p : Fde → Bool) (xs : List Fde) → IsAscending fde_offset xs → IsAscending fde_offset (filter p xs)
+ascending-filter p [] up = tt
+ascending-filter p (x ∷ xs) up = elim (p x) as (λ b. IsAscending fde_offset (if b then (x ∷ filter p xs) else filter p xs)) [ true ↦ (all-filter (λ y. x.offset < y.offset) p xs up.0, ascending-filter p xs up.1) | false ↦ ascending-filter p xs up.1 ]
+
+Contains-cons : (x y : Fde) (xs : List Fde) → Contains xs y → Contains (x ∷ xs) y
+Contains-cons x y xs (k, k_in, k_is) = (suc k, omega arith, k_is)
+
+contains-filter : (p : Fde → Bool) (xs : List Fde) (f : Fde) → Contains xs f → p f ≡ true → Contains (filter p xs) f
+contains-filter p [] f (k, k_in, k_is) passes = absurd (omega arith)
+contains-filter p (x ∷ xs) f (zero, k_in, k_is) passes =
+    let yes : p x ≡ true = ap p k_is ∙ passes in
+    subst (λ b. Contains (if b then (x ∷ filter p xs) else filter p xs) f) (sym yes) (zero, omega arith, k_is)
+contains-filter p (x ∷ xs) f (suc k, k_in, k_is) passes =
+    let rest : Contains (filter p xs) f = contains-filter p xs f (k, omega arith, k_is) passes in
+    elim (p x) as (λ b. Contains (if b then (x ∷ filter p xs) else filter p xs) f) [ true ↦ Contains-cons x f (filter p xs) rest | false ↦ rest ]
+
+abbrev pub is_some_fde : Fde → Bool
+is_some_fde f = nat_lt 0 f.range
+
+pub indexed : (fdes index : List Fde) → IsAscending fde_offset fdes → IsPermutation (filter is_some_fde fdes) index → IsNonDecreasingBy initial_of index → IsIndexOf fdes index
+indexed fdes index up moved sorted =
+    let kept = filter is_some_fde fdes in
+    let back : (f : Fde) → Contains index f → Contains kept f = λ f h. Contains-permutation index kept f (IsPermutation-sym kept index moved) h in
+    record {
+      from = λ f h. All-contains (Contains fdes) kept f (All-filter is_some_fde (Contains fdes) fdes (All-contains_itself fdes)) (back f h);
+      to = λ f h some. Contains-permutation kept index f moved (contains-filter is_some_fde fdes f h (lt-ltb _ _ some));
+      ordered = record {
+        some = λ f h. ltb-true _ _ (All-contains (λ x. is_some_fde x ≡ true) kept f (filter_passes is_some_fde fdes) (back f h));
+        distinct = distinct-permuted kept index moved (distinct-ascending kept (ascending-filter is_some_fde fdes up));
+        sorted = sorted;
+      };
+    }
+
+-- where the last FDE that begins at or below an address ends before it, none covers it
+pub not-covered : (fdes index : List Fde) → IsIndexOf fdes index → (place a : ℕ) (x : Fde) → CoversOnce fdes → 0 < place → place ≤ length index → get_or index (place - 1) x ≡ x → x.initial ≤ a → ((k : ℕ) (d : Fde) → place ≤ k → k < length index → a < (get_or index k d).initial) → x.initial + x.range ≤ a → (f : Fde) → Contains fdes f → ¬ Covers f a
+not-covered fdes index is place a x once some in_range x_is low above short f f_in covered =
+    let ordered = is.ordered in
+    let (k, k_in, k_is) = is.to f f_in (omega (arith, covered.0, covered.1)) in
+    elim (cases_lt k place) [
+      | inr le ↦ let h : a < f.initial = subst (λ v. a < v.initial) k_is (above k f le k_in) in omega (arith, h, covered.0)
+      | inl not_above ↦
+          let at_x : get_or index (place - 1) f ≡ x = get_or_default index (place - 1) f x (omega arith) ∙ x_is in
+          let f_low : f.initial ≤ x.initial = subst (λ v. f.initial ≤ v.initial) at_x (subst (λ v. v.initial ≤ (get_or index (place - 1) f).initial) k_is (ordered.sorted k (place - 1) f (omega arith) (omega arith))) in
+          let x_in : Contains index x = (place - 1, omega arith, x_is) in
+          let x_some : 0 < x.range = ordered.some x x_in in
+          let same : f ≡ x = once x.initial f x f_in (is.from x x_in) (f_low, omega (arith, covered.1)) (omega arith, omega arith) in
+          let end : f.initial + f.range ≡ x.initial + x.range = ap (λ v. v.initial + v.range) same in
+          omega (arith, end, covered.1)
+    ]
+
+-- where each FDE begins above an address, none covers it
+pub none-covered : (fdes index : List Fde) → IsIndexOf fdes index → (a : ℕ) → ((k : ℕ) (d : Fde) → k < length index → a < (get_or index k d).initial) → (f : Fde) → Contains fdes f → ¬ Covers f a
+none-covered fdes index is a above f f_in covered =
+    let (k, k_in, k_is) = is.to f f_in (omega (arith, covered.0, covered.1)) in
+    let h : a < f.initial = subst (λ v. a < v.initial) k_is (above k f k_in) in
+    omega (arith, h, covered.0)

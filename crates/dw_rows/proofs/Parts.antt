@@ -1,0 +1,47 @@
+-- The parts of a section's judgement.
+use Rattle.std.proofs.Common.{◌≡◌, ℕ, List, Option, Some, None, Contains, Bool, true, false, refl, sym, ap, ◌∙◌, if◌then◌else◌}
+use Rattle.std.specs.Prelude.{is_some}
+use Rattle.dw_bytes.specs.declared.fault.Fault.{Fault}
+use Rattle.dw_frame.specs.Records.{Cie, Fde}
+use Rattle.dw_rows.specs.Judgement.{or_else, cie_fault}
+use Rattle.dw_rows.specs.Section.{first_fault, cie_at, pointer_fault, program_fault, overlap_fault, programs_fault, parts_fault, CoversOnce}
+use Rattle.dw_rows.specs.Overlap.{IsAscending, fde_offset}
+use Rattle.dw_rows.proofs.Faults.{none-each}
+use Rattle.dw_rows.proofs.Clashes.{once-covered}
+
+pub or_else-none : {A : Type 0} (a b : Option A) → or_else a b ≡ None → (a ≡ None) × (b ≡ None)
+or_else-none None b e = (refl, e)
+or_else-none (Some x) b e = let clash : Some x ≡ None = e in cc
+
+-- each part has no fault
+pub record PartsPass (cies : List Cie) (fdes : List Fde) : Type 0 where
+  pub pointers : first_fault (pointer_fault cies) fdes ≡ None
+  pub cie_programs : first_fault cie_fault cies ≡ None
+  pub fde_programs : first_fault (program_fault cies) fdes ≡ None
+  pub overlap : first_fault (overlap_fault fdes) fdes ≡ None
+
+pub parts-pass : (cies : List Cie) (fdes : List Fde) → parts_fault cies fdes ≡ None → PartsPass cies fdes
+unfolding parts_fault
+parts-pass cies fdes none =
+    let last = or_else-none (programs_fault cies fdes) (first_fault (overlap_fault fdes) fdes) none in
+    let pointers = or_else-none (first_fault (pointer_fault cies) fdes) (or_else (first_fault cie_fault cies) (first_fault (program_fault cies) fdes)) last.0 in
+    let programs = or_else-none (first_fault cie_fault cies) (first_fault (program_fault cies) fdes) pointers.1 in
+    record { pointers = pointers.0; cie_programs = programs.0; fde_programs = programs.1; overlap = last.1 }
+
+pub pass-parts : (cies : List Cie) (fdes : List Fde) → PartsPass cies fdes → parts_fault cies fdes ≡ None
+unfolding parts_fault
+pass-parts cies fdes h = rw (h.pointers, h.cie_programs, h.fde_programs, h.overlap) refl
+
+found-by : (o : Option Cie) (fault : Fault) → (if is_some o then None else Some fault) ≡ None → (c : Cie) × (o ≡ Some c)
+found-by (Some c) fault e = (c, refl)
+found-by None fault e = let clash : Some fault ≡ None = e in cc
+
+-- the CIE that an FDE points to
+pub pointed : (cies : List Cie) (f : Fde) → pointer_fault cies f ≡ None → (c : Cie) × (cie_at cies f.cie_pointer ≡ Some c)
+pointed cies f none = found-by (cie_at cies f.cie_pointer) _ none
+
+pub pointed-in : (cies : List Cie) (fdes : List Fde) → parts_fault cies fdes ≡ None → (f : Fde) → Contains fdes f → (c : Cie) × (cie_at cies f.cie_pointer ≡ Some c)
+pointed-in cies fdes none f among = pointed cies f (none-each (pointer_fault cies) fdes (parts-pass cies fdes none).pointers f among)
+
+pub covers-once-in : (cies : List Cie) (fdes : List Fde) → IsAscending fde_offset fdes → parts_fault cies fdes ≡ None → CoversOnce fdes
+covers-once-in cies fdes up none = once-covered fdes up (parts-pass cies fdes none).overlap

@@ -1,0 +1,73 @@
+-- FDEs in order of offset, and in order of address. No contract of a public call speaks of these.
+use Rattle.std.specs.Prelude.{◌≡◌, ℕ, ◌+◌, ◌<◌, ◌≤◌, None, List, [], ◌∷◌, length, Contains, slice_index_or}
+use Rattle.std.specs.List.{AllByRecursion}
+use Rattle.std.specs.List.Sorted.{IsNonDecreasingBy}
+use Rattle.dw_frame.specs.Records.{Cie, Fde}
+use Rattle.dw_frame.specs.Sections.{top_of}
+use Rattle.dw_rows.specs.Section.{Frame, SharesAddress, frame_fault}
+
+-- each begins before those after it
+abbrev pub IsAscending : {X : Type 0} → (X → ℕ) → List X → Type 0
+IsAscending at [] = Unit {0}
+IsAscending at (x ∷ xs) = AllByRecursion (λ y. at x < at y) xs × IsAscending at xs
+
+abbrev pub fde_offset : Fde → ℕ
+fde_offset f = f.offset
+
+abbrev pub cie_offset : Cie → ℕ
+cie_offset c = c.offset
+
+abbrev pub initial_of : Fde → ℕ
+initial_of f = f.initial
+
+-- x is the first in order of offset that fails
+pub record IsFirst {X : Type 0} (at : X → ℕ) (Passes Fails : X → Type 0) (xs : List X) (x : X) : Type 0 where
+  pub among : Contains xs x
+  pub fails : Fails x
+  pub before : (y : X) → Contains xs y → at y < at x → Passes y
+
+-- no FDE that begins earlier shares an address with this one
+abbrev pub IsApart : List Fde → Fde → Type 0
+IsApart fdes g = (f : Fde) → Contains fdes f → f.offset < g.offset → ¬ SharesAddress f g
+
+abbrev pub Overlaps : List Fde → Fde → Type 0
+Overlaps fdes g = (f : Fde) × Contains fdes f × (f.offset < g.offset) × SharesAddress f g
+
+abbrev pub AreApart : List Fde → Type 0
+AreApart fdes = (f : Fde) → Contains fdes f → IsApart fdes f
+
+abbrev pub IsFirstOverlap : List Fde → Fde → Type 0
+IsFirstOverlap fdes g = IsFirst fde_offset (IsApart fdes) (Overlaps fdes) fdes g
+
+-- among the FDEs up to an offset: two that share an address, or none
+pub record ClashWithin (fdes : List Fde) (last : ℕ) : Type 0 where
+  pub f : Fde
+  pub g : Fde
+  pub f_in : Contains fdes f
+  pub g_in : Contains fdes g
+  pub order : f.offset < g.offset
+  pub within : g.offset ≤ last
+  pub shared : SharesAddress f g
+
+abbrev pub ApartWithin : List Fde → ℕ → Type 0
+ApartWithin fdes last = (f g : Fde) → Contains fdes f → Contains fdes g → f.offset < g.offset → g.offset ≤ last → ¬ SharesAddress f g
+
+-- FDEs that cover an address each, in order of address, none of them twice
+pub record IsOrdered (index : List Fde) : Type 0 where
+  pub some : (f : Fde) → Contains index f → 0 < f.range
+  pub distinct : (i j : ℕ) (d : Fde) → i < length index → j < length index → (slice_index_or index i d).offset ≡ (slice_index_or index j d).offset → i ≡ j
+  pub sorted : IsNonDecreasingBy initial_of index
+
+-- the FDEs that cover an address, in order of address
+pub record IsIndexOf (fdes index : List Fde) : Type 0 where
+  pub from : (f : Fde) → Contains index f → Contains fdes f
+  pub to : (f : Fde) → Contains fdes f → 0 < f.range → Contains index f
+  pub ordered : IsOrdered index
+
+-- what a checked section keeps
+pub record IsKept (s : Frame) (index : List Fde) : Type 0 where
+  pub cies_up : IsAscending cie_offset s.cies
+  pub fdes_up : IsAscending fde_offset s.fdes
+  pub good : frame_fault s ≡ None
+  pub index_of : IsIndexOf s.fdes index
+  pub fits : (f : Fde) → Contains s.fdes f → f.initial + f.range ≤ top_of s.target

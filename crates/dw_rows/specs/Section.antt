@@ -1,0 +1,110 @@
+-- A whole `.debug_frame` section: what is right in it, and its first fault (DWARF 5, section 6.4.1).
+use Rattle.std.specs.Prelude.{◌≡◌, ℕ, ◌+◌, ◌<◌, ◌≤◌, ◌==◌, ◌&&◌, nat_lt, Bool, if◌then◌else◌, Option, Some, None, is_some, Result, Ok, Err, List, [], ◌∷◌, Contains, find}
+use Rattle.std.specs.List.{filter_map, list_any}
+use Rattle.dw_bytes.specs.declared.target.Target.{Target}
+use Rattle.dw_bytes.specs.declared.fault.Fault.{Fault}
+use Rattle.dw_bytes.specs.declared.fault.FaultKind.TheVariants.{NoSuchCie, Overlap}
+use Rattle.dw_bytes.specs.Answers.{values_in, fault_in}
+use Rattle.dw_frame.specs.Records.{Cie, Fde, Record, common, description}
+use Rattle.dw_frame.specs.Sections.{entries_of}
+use Rattle.dw_rows.specs.Rules.{Row}
+use Rattle.dw_rows.specs.Judgement.{or_else, cie_fault, fde_fault}
+use Rattle.dw_rows.specs.UnwindRows.{rows_of}
+
+-- The records of a section, the CIEs and the FDEs apart, each in the order of the section.
+pub record Frame : Type 0 where
+  pub target : Target
+  pub cies : List Cie
+  pub fdes : List Fde
+
+abbrev pub common_in : Record → Option Cie
+common_in (common c) = Some c
+common_in (description f) = None
+
+abbrev pub description_in : Record → Option Fde
+description_in (common c) = None
+description_in (description f) = Some f
+
+abbrev pub frame_from : Target → List Record → Frame
+frame_from target records = record { target = target; cies = filter_map common_in records; fdes = filter_map description_in records }
+
+-- what is read of a section before its first fault
+abbrev pub frame_of : Target → List ℕ → Frame
+frame_of target section = frame_from target (values_in (entries_of target section))
+
+-- ---- what FDEs cover
+
+abbrev pub Covers : Fde → ℕ → Type 0
+Covers f a = (f.initial ≤ a) × (a < f.initial + f.range)
+
+abbrev pub SharesAddress : Fde → Fde → Type 0
+SharesAddress f g = (a : ℕ) × Covers f a × Covers g a
+
+-- no address is covered by two
+abbrev pub CoversOnce : List Fde → Type 0
+CoversOnce fdes = (a : ℕ) (f g : Fde) → Contains fdes f → Contains fdes g → Covers f a → Covers g a → f ≡ g
+
+-- the FDE that covers an address, which is the only one, or that none does
+abbrev pub IsCoverOf : List Fde → ℕ → Option Fde → Type 0
+IsCoverOf fdes a None = (f : Fde) → Contains fdes f → ¬ Covers f a
+IsCoverOf fdes a (Some f) = Contains fdes f × Covers f a × ((g : Fde) → Contains fdes g → Covers g a → g ≡ f)
+
+-- ---- the first fault, of records that were read
+
+-- the fault of the first element that has one
+abbrev pub first_fault : {X : Type 0} → (X → Option Fault) → List X → Option Fault
+first_fault test [] = None
+first_fault test (x ∷ xs) = or_else (test x) (first_fault test xs)
+
+-- the CIE at an offset
+abbrev pub cie_at : List Cie → ℕ → Option Cie
+cie_at cies at = find (λ c. c.offset == at) cies
+
+-- an FDE's CIE_pointer is the offset of a CIE
+abbrev pub pointer_fault : List Cie → Fde → Option Fault
+pointer_fault cies f = if is_some (cie_at cies f.cie_pointer) then None else Some (record { kind = NoSuchCie; at = f.pointer_offset })
+
+abbrev pub fault_behind : Option Cie → Fde → Option Fault
+fault_behind None f = None
+fault_behind (Some c) f = fde_fault c f
+
+-- an FDE's program is good behind its CIE's
+abbrev pub program_fault : List Cie → Fde → Option Fault
+program_fault cies f = fault_behind (cie_at cies f.cie_pointer) f
+
+-- both cover some address: each begins before the other ends, and neither is empty
+abbrev pub shares : Fde → Fde → Bool
+shares f g = nat_lt 0 f.range && nat_lt 0 g.range && nat_lt f.initial (g.initial + g.range) && nat_lt g.initial (f.initial + f.range)
+
+-- no FDE before this one shares an address with it
+abbrev pub overlap_fault : List Fde → Fde → Option Fault
+overlap_fault fdes g = if list_any (λ f. nat_lt f.offset g.offset && shares f g) fdes then Some (record { kind = Overlap; at = g.offset }) else None
+
+-- all CIE_pointers, then the CIEs' programs, then the FDEs' programs
+abbrev pub programs_fault : List Cie → List Fde → Option Fault
+programs_fault cies fdes = or_else (first_fault (pointer_fault cies) fdes) (or_else (first_fault cie_fault cies) (first_fault (program_fault cies) fdes))
+
+-- and then the addresses
+unfoldable pub parts_fault : List Cie → List Fde → Option Fault
+parts_fault cies fdes = or_else (programs_fault cies fdes) (first_fault (overlap_fault fdes) fdes)
+
+abbrev pub frame_fault : Frame → Option Fault
+frame_fault s = parts_fault s.cies s.fdes
+
+-- the first fault of a section: of its records, or else of what was read
+unfoldable pub section_fault : Target → List ℕ → Option Fault
+section_fault target section = or_else (fault_in (entries_of target section)) (frame_fault (frame_of target section))
+
+-- ---- rows
+
+-- the CIE of an FDE
+abbrev pub cie_in : Frame → Fde → Option Cie
+cie_in s f = cie_at s.cies f.cie_pointer
+
+abbrev pub rows_behind : Option Cie → Fde → List Row
+rows_behind None f = []
+rows_behind (Some c) f = rows_of c f
+
+-- the rows of an FDE
+abbrev pub rows_in : Frame → Fde → List Row
+rows_in s f = rows_behind (cie_in s f) f

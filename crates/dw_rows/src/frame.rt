@@ -1,0 +1,220 @@
+//! A checked section.
+
+ghost use Rattle.std.specs.Prelude.{◌≡◌, ◌<◌, ◌^◌, ◌⊎◌, None, Some, Contains, length, map, option_map, MatchResult, IfOk, IfErr};
+ghost use Rattle.dw_frame.specs.Sections.{entries_of};
+ghost use Rattle.dw_frame.specs.Views.{cie_of, fde_of};
+ghost use Rattle.dw_bytes.specs.Answers.{Judges, Answers, fault_in};
+ghost use Rattle.dw_rows.specs.Section.{IsCoverOf, first_fault, overlap_fault, programs_fault, parts_fault, frame_fault, section_fault, frame_of, cie_in};
+ghost use Rattle.dw_rows.specs.Overlap.{IsAscending, cie_offset, fde_offset, IsIndexOf};
+
+use crate::index::{covering, first_overlap, index_of};
+use crate::machine::Machine;
+use crate::section::{check_cies, check_fdes, check_pointers, find_cie};
+use dw_bytes::{Fault, FaultKind, Target};
+use dw_frame::{CommonInformationEntry, Entry, FrameDescriptionEntry, entries};
+use std::alloc::Global;
+use std::marker::Model;
+
+/// A section that was checked: each FDE has its CIE, each program is good, and no address is covered by two FDEs.
+#[derive(Drop)]
+pub struct CheckedFrame<'a> {
+    target: Target,
+    cies: Vec<CommonInformationEntry<'a>>,
+    fdes: Vec<FrameDescriptionEntry<'a>>,
+    /// The FDEs that cover an address, in order of address.
+    index: Vec<FrameDescriptionEntry<'a>>,
+}
+
+impl<'a> Model for CheckedFrame<'a> {
+    ghost use Rattle.std.specs.Prelude.{map};
+    ghost use Rattle.dw_frame.specs.Views.{cie_of, fde_of};
+    ghost use Rattle.dw_rows.specs.Section.{Frame};
+    ghost use Rattle.dw_rows.specs.Overlap.{IsKept};
+
+    ghost Value = { Frame };
+
+    ghost view = { λ c. record { target = c.target; cies = map cie_of c.cies.items; fdes = map fde_of c.fdes.items } };
+
+    ghost invariant = { λ c. IsKept (record { target = c.target; cies = map cie_of c.cies.items; fdes = map fde_of c.fdes.items }) (map fde_of c.index.items) };
+}
+
+const MEMORY: Fault = Fault {
+    kind: FaultKind::Memory,
+    at: 0,
+};
+
+/// The records of a section, the CIEs and the FDEs apart. One pass.
+fn records_of<'a>(
+    alloc: Global,
+    section: &'a [u8],
+    target: Target,
+) -> Result<
+    (
+        Vec<CommonInformationEntry<'a>>,
+        Vec<FrameDescriptionEntry<'a>>,
+    ),
+    Fault,
+>
+    requires { length section.now < 2 ^ 32 }
+    ensures read { Answers (fault_in (entries_of target section.now)) result }
+    ensures cies { IfOk result (λ records. map cie_of records.0.items ≡ (frame_of target section.now).cies) }
+    ensures fdes { IfOk result (λ records. map fde_of records.1.items ≡ (frame_of target section.now).fdes) }
+{
+    let mut cies = Vec::new(alloc);
+    let mut fdes = Vec::new(alloc);
+    for entry in entries(section, target) {
+        match entry {
+            Ok(Entry::Cie(cie)) => {
+                if cies.push(cie).is_err() {
+                    return Err(MEMORY);
+                }
+            }
+            Ok(Entry::Fde(fde)) => {
+                if fdes.push(fde).is_err() {
+                    return Err(MEMORY);
+                }
+            }
+            Err(fault) => return Err(fault),
+        }
+    }
+    Ok((cies, fdes))
+}
+
+/// No address may be covered by two FDEs.
+fn check_overlap(
+    fdes: &[FrameDescriptionEntry<'_>],
+    index: &[FrameDescriptionEntry<'_>],
+) -> Result<(), Fault>
+    requires fdes { IsAscending fde_offset (map fde_of fdes.now) }
+    requires index { IsIndexOf (map fde_of fdes.now) (map fde_of index.now) }
+    ensures { Judges (first_fault (overlap_fault (map fde_of fdes.now)) (map fde_of fdes.now)) result }
+{
+    match first_overlap(fdes, index) {
+        Some(fde) => Err(Fault {
+            kind: FaultKind::Overlap,
+            at: fde.offset,
+        }),
+        None => Ok(()),
+    }
+}
+
+/// Judges the records part by part, in order, and gives the FDEs in order of address.
+#[tactic(auto, unfolding(crate::specs::Section::parts_fault))]
+fn check_parts<'a>(
+    alloc: Global,
+    cies: &[CommonInformationEntry<'a>],
+    fdes: &[FrameDescriptionEntry<'a>],
+) -> Result<Vec<FrameDescriptionEntry<'a>>, Fault>
+    requires cies { IsAscending cie_offset (map cie_of cies.now) }
+    requires fdes { IsAscending fde_offset (map fde_of fdes.now) }
+    ensures answer { Answers (parts_fault (map cie_of cies.now) (map fde_of fdes.now)) result }
+    ensures index { IfOk result (λ index. IsIndexOf (map fde_of fdes.now) (map fde_of index.items)) }
+{
+    match check_programs(cies, fdes) {
+        Ok(()) => {}
+        Err(fault) => return Err(fault),
+    }
+    let index = match index_of(alloc, fdes) {
+        Ok(index) => index,
+        Err(_) => return Err(MEMORY),
+    };
+    match check_overlap(fdes, &index) {
+        Ok(()) => Ok(index),
+        Err(fault) => Err(fault),
+    }
+}
+
+/// Judges what comes before the addresses: the CIE_pointers, and the programs.
+fn check_programs(
+    cies: &[CommonInformationEntry<'_>],
+    fdes: &[FrameDescriptionEntry<'_>],
+) -> Result<(), Fault>
+    requires { IsAscending cie_offset (map cie_of cies.now) }
+    ensures { Judges (programs_fault (map cie_of cies.now) (map fde_of fdes.now)) result }
+{
+    match check_pointers(cies, fdes) {
+        Ok(()) => {}
+        Err(fault) => return Err(fault),
+    }
+    let mut machine = Machine::new();
+    match check_cies(&mut machine, cies) {
+        Ok(()) => {}
+        Err(fault) => return Err(fault),
+    }
+    check_fdes(&mut machine, cies, fdes)
+}
+
+/// Checks a section of fewer than 2^32 bytes: its records, the CIE_pointer of each FDE, the programs of the CIEs, those of
+/// the FDEs, and that no address is covered twice. The first fault in that order is the answer.
+#[tactic(auto, unfolding(crate::specs::Section::section_fault))]
+pub fn check_frame<'a>(
+    alloc: Global,
+    section: &'a [u8],
+    target: Target,
+) -> Result<CheckedFrame<'a>, Fault>
+    requires { length section.now < 2 ^ 32 }
+    ensures answer { Answers (section_fault target section.now) result }
+    ensures frame { IfOk result (λ frame. frame ≡ frame_of target section.now) }
+{
+    let (cies, fdes) = match records_of(alloc, section, target) {
+        Ok(records) => records,
+        Err(fault) => return Err(fault),
+    };
+    match check_parts(alloc, &cies, &fdes) {
+        Ok(index) => Ok(CheckedFrame {
+            target,
+            cies,
+            fdes,
+            index,
+        }),
+        Err(fault) => Err(fault),
+    }
+}
+
+impl<'a> CheckedFrame<'a> {
+    /// The target that the section was read under.
+    pub fn target(&self) -> Target
+        ensures { result ≡ self.now.target }
+    {
+        self.target
+    }
+
+    /// All CIEs, in the order of the section.
+    pub fn cies(&self) -> &[CommonInformationEntry<'a>]
+        ensures { map cie_of result.now ≡ self.now.cies }
+    {
+        self.cies.as_slice()
+    }
+
+    /// All FDEs, in the order of the section.
+    pub fn fdes(&self) -> &[FrameDescriptionEntry<'a>]
+        ensures { map fde_of result.now ≡ self.now.fdes }
+    {
+        self.fdes.as_slice()
+    }
+
+    /// The FDE that covers an address: the only one that does, found by halving.
+    pub fn fde_for_address(&self, address: u64) -> Option<FrameDescriptionEntry<'a>>
+        ensures { IsCoverOf self.now.fdes address (option_map fde_of result) }
+    {
+        covering(&self.fdes, &self.index, address)
+    }
+
+    /// The CIE of one of the FDEs, found by halving.
+    pub fn cie_of(&self, fde: &FrameDescriptionEntry<'a>) -> CommonInformationEntry<'a>
+        requires { Contains self.now.fdes (fde_of fde.now) }
+        ensures { cie_in self.now (fde_of fde.now) ≡ Some (cie_of result) }
+    {
+        match find_cie(&self.cies, fde.cie_pointer) {
+            Some(cie) => cie,
+            None => unreachable!(),
+        }
+    }
+
+    /// What was checked.
+    pub fn is_checked(&self)
+        ensures { frame_fault self.now ≡ None }
+    {
+        let _count = self.cies.len();
+    }
+}
