@@ -2,3 +2,5 @@ pub mod Tables
 pub mod Edits
 pub mod Stepping
 pub mod Running
+pub mod Tests
+pub mod Walking

@@ -7,3 +7,4 @@ pub mod Judgement
 pub mod UnwindRows
 pub mod Machine
 pub mod Actions
+pub mod Walks

@@ -6,6 +6,7 @@ mod check;
 mod machine;
 mod map;
 mod row;
+mod walk;
 
 pub use check::{check_cie, check_fde};
 pub use machine::MAX_REMEMBERED;
