@@ -4,3 +4,4 @@ pub mod Stepping
 pub mod Running
 pub mod Tests
 pub mod Walking
+pub mod Coming

@@ -3,12 +3,16 @@
 
 mod action;
 mod check;
+mod lookup;
 mod machine;
 mod map;
 mod row;
+mod row_iter;
 mod walk;
 
 pub use check::{check_cie, check_fde};
+pub use lookup::{row_at, rows};
 pub use machine::MAX_REMEMBERED;
 pub use map::MAX_RULES;
 pub use row::{CfaRule, RegisterRule, RegisterRules, UnwindTableRow};
+pub use row_iter::Rows;

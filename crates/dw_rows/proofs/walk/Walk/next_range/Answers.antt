@@ -2,7 +2,7 @@ use Rattle.std.proofs.Common.{◌≡◌, ℕ, ◌≤◌, ◌<◌, List, ◌∷�
 use Rattle.dw_frame.specs.Records.{Cie, Fde}
 use Rattle.dw_rows.specs.Effects.{Effect}
 use Rattle.dw_rows.specs.Walks.{IsWalk, IsAt, Passes}
-use Rattle.dw_rows.proofs.Walking.{Stays, Read, walk-read, stays-first, stays-on, passes-on, passes-end, walk-within}
+use Rattle.dw_rows.proofs.Walking.{Stays, Read, walk-read, stays-first, stays-on, passes-on, passes-end, no-more, walk-within}
 use Rattle.dw_rows.proofs.walk.Walk.next_range.Goals as goal
 
 pub returns-then-start-end : goal.returns-then-start-end
@@ -38,3 +38,11 @@ returns-then-start-self c cie fde first h =
     let all = c.in_default.ensures.steps in
     let on : c.loop-item.self.machine.location < c.loop-item.self.end = omega (arith, i.here, c.if-start-self.true) in
     rw (i.here, c.finish.ensures) (passes-end cie fde first c.args.self.now c.loop-item.self c.next.new.self t all.0 all.1 on)
+
+pub returns : goal.returns
+returns c cie fde first h =
+    let i = c.loop-item.invariant in
+    let t = i.stays cie fde first h in
+    let all = c.in_default.ensures.steps in
+    let on : c.loop-item.self.end ≤ c.loop-item.self.machine.location = omega (arith, i.here, c.if-start-self.false) in
+    no-more cie fde first c.args.self.now c.loop-item.self c.next.new.self t all.0 all.1 on
