@@ -10,3 +10,6 @@ mod Faults
 mod Clashes
 mod Parts
 mod SectionOrder
+pub mod Tests
+pub mod Walking
+pub mod Coming

@@ -9,3 +9,4 @@ pub mod Machine
 pub mod Actions
 pub mod Section
 pub mod Overlap
+pub mod Walks

@@ -5,13 +5,18 @@ mod action;
 mod check;
 mod frame;
 mod index;
+mod lookup;
 mod machine;
 mod map;
 mod row;
+mod row_iter;
 mod section;
+mod walk;
 
 pub use check::{check_cie, check_fde};
 pub use frame::{CheckedFrame, check_frame};
+pub use lookup::{row_at, rows};
 pub use machine::MAX_REMEMBERED;
 pub use map::MAX_RULES;
 pub use row::{CfaRule, RegisterRule, RegisterRules, UnwindTableRow};
+pub use row_iter::Rows;

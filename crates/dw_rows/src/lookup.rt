@@ -1,0 +1,45 @@
+//! The rows of an FDE whose program is good.
+
+ghost use Rattle.std.specs.Prelude.{◌≡◌, ◌+◌, ◌<◌, ◌≤◌, ◌↔◌, None, IsSome, find};
+ghost use Rattle.dw_frame.specs.Views.{cie_of, fde_of};
+ghost use Rattle.dw_rows.specs.Judgement.{cie_fault, fde_fault};
+ghost use Rattle.dw_rows.specs.UnwindRows.{rows_of, has_address};
+
+use crate::row::UnwindTableRow;
+use crate::row_iter::Rows;
+use crate::walk::Walk;
+use dw_frame::{CommonInformationEntry, FrameDescriptionEntry};
+
+/// The rows of an FDE, in the order of their addresses (DWARF 5, section 6.4.1). Its program and its
+/// CIE's must be good. It takes no memory.
+pub fn rows<'a>(cie: &CommonInformationEntry<'a>, fde: &FrameDescriptionEntry<'a>) -> Rows<'a>
+    requires cie { cie_fault (cie_of cie.now) ≡ None }
+    requires fde { fde_fault (cie_of cie.now) (fde_of fde.now) ≡ None }
+    ensures { result ≡ rows_of (cie_of cie.now) (fde_of fde.now) }
+{
+    Rows::new(cie, fde)
+}
+
+/// The row of an FDE that has an address, if the FDE covers it. The program and its CIE's must be good.
+/// It runs the program up to that row, and takes no memory.
+pub fn row_at(
+    cie: &CommonInformationEntry<'_>,
+    fde: &FrameDescriptionEntry<'_>,
+    address: u64,
+) -> Option<UnwindTableRow>
+    requires cie { cie_fault (cie_of cie.now) ≡ None }
+    requires fde { fde_fault (cie_of cie.now) (fde_of fde.now) ≡ None }
+    ensures row { result ≡ find (has_address address) (rows_of (cie_of cie.now) (fde_of fde.now)) }
+    ensures covered { IsSome result ↔ ((fde.now.initial_location ≤ address) × (address < fde.now.initial_location + fde.now.address_range)) }
+{
+    if address < fde.initial_location {
+        return None;
+    }
+    let mut walk = Walk::new(cie, fde);
+    while let Some((start, end)) = walk.next_range() {
+        if address < end {
+            return Some(walk.machine.row(start, end));
+        }
+    }
+    None
+}
