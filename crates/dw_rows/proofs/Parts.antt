@@ -3,10 +3,10 @@ use Rattle.std.proofs.Common.{◌≡◌, ℕ, List, Option, Some, None, Contains
 use Rattle.std.specs.Prelude.{is_some}
 use Rattle.dw_bytes.specs.declared.fault.Fault.{Fault}
 use Rattle.dw_frame.specs.Records.{Cie, Fde}
-use Rattle.dw_rows.specs.Judgement.{or_else, cie_fault}
-use Rattle.dw_rows.specs.Section.{first_fault, cie_at, pointer_fault, program_fault, overlap_fault, programs_fault, parts_fault, CoversOnce}
+use Rattle.dw_rows.specs.Judgement.{or_else, cie_fault, fde_fault}
+use Rattle.dw_rows.specs.Section.{first_fault, cie_at, pointer_fault, program_fault, fault_behind, overlap_fault, programs_fault, parts_fault, CoversOnce}
 use Rattle.dw_rows.specs.Overlap.{IsAscending, fde_offset}
-use Rattle.dw_rows.proofs.Faults.{none-each}
+use Rattle.dw_rows.proofs.Faults.{none-each, at-found}
 use Rattle.dw_rows.proofs.Clashes.{once-covered}
 
 pub or_else-none : {A : Type 0} (a b : Option A) → or_else a b ≡ None → (a ≡ None) × (b ≡ None)
@@ -45,3 +45,11 @@ pointed-in cies fdes none f among = pointed cies f (none-each (pointer_fault cie
 
 pub covers-once-in : (cies : List Cie) (fdes : List Fde) → IsAscending fde_offset fdes → parts_fault cies fdes ≡ None → CoversOnce fdes
 covers-once-in cies fdes up none = once-covered fdes up (parts-pass cies fdes none).overlap
+
+-- the programs of an FDE and of its CIE are good
+pub good-behind : (cies : List Cie) (fdes : List Fde) → parts_fault cies fdes ≡ None → (f : Fde) → Contains fdes f → (c : Cie) → cie_at cies f.cie_pointer ≡ Some c → (cie_fault c ≡ None) × (fde_fault c f ≡ None)
+good-behind cies fdes none f among c is =
+    let parts = parts-pass cies fdes none in
+    let found = at-found cies f.cie_pointer c is in
+    let behind = none-each (program_fault cies) fdes parts.fde_programs f among in
+    (none-each cie_fault cies parts.cie_programs c found.0, ap (λ o. fault_behind o f) (sym is) ∙ behind)

@@ -9,7 +9,7 @@ use Rattle.dw_frame.specs.Records.{Cie, Fde, Record, common, description}
 use Rattle.dw_frame.specs.Sections.{entries_of}
 use Rattle.dw_rows.specs.Rules.{Row}
 use Rattle.dw_rows.specs.Judgement.{or_else, cie_fault, fde_fault}
-use Rattle.dw_rows.specs.UnwindRows.{rows_of}
+use Rattle.dw_rows.specs.UnwindRows.{rows_of, has_address}
 
 -- The records of a section, the CIEs and the FDEs apart, each in the order of the section.
 pub record Frame : Type 0 where
@@ -108,3 +108,8 @@ rows_behind (Some c) f = rows_of c f
 -- the rows of an FDE
 abbrev pub rows_in : Frame → Fde → List Row
 rows_in s f = rows_behind (cie_in s f) f
+
+-- the row of an address: that of the FDE that covers it which has the address, or that no FDE covers it
+abbrev pub IsRowFor : Frame → ℕ → Option Row → Type 0
+IsRowFor s a None = (f : Fde) → Contains s.fdes f → ¬ Covers f a
+IsRowFor s a (Some row) = (f : Fde) × Contains s.fdes f × Covers f a × (find (has_address a) (rows_in s f) ≡ Some row)

@@ -4,11 +4,15 @@ ghost use Rattle.std.specs.Prelude.{◌≡◌, ◌<◌, ◌^◌, ◌⊎◌, None
 ghost use Rattle.dw_frame.specs.Sections.{entries_of};
 ghost use Rattle.dw_frame.specs.Views.{cie_of, fde_of};
 ghost use Rattle.dw_bytes.specs.Answers.{Judges, Answers, fault_in};
-ghost use Rattle.dw_rows.specs.Section.{IsCoverOf, first_fault, overlap_fault, programs_fault, parts_fault, frame_fault, section_fault, frame_of, cie_in};
+ghost use Rattle.dw_rows.specs.Judgement.{cie_fault, fde_fault};
+ghost use Rattle.dw_rows.specs.Section.{IsCoverOf, first_fault, overlap_fault, programs_fault, parts_fault, frame_fault, section_fault, frame_of, cie_in, rows_in, IsRowFor};
 ghost use Rattle.dw_rows.specs.Overlap.{IsAscending, cie_offset, fde_offset, IsIndexOf};
 
 use crate::index::{covering, first_overlap, index_of};
+use crate::lookup::{row_at, rows};
 use crate::machine::Machine;
+use crate::row::UnwindTableRow;
+use crate::row_iter::Rows;
 use crate::section::{check_cies, check_fdes, check_pointers, find_cie};
 use dw_bytes::{Fault, FaultKind, Target};
 use dw_frame::{CommonInformationEntry, Entry, FrameDescriptionEntry, entries};
@@ -200,15 +204,37 @@ impl<'a> CheckedFrame<'a> {
         covering(&self.fdes, &self.index, address)
     }
 
-    /// The CIE of one of the FDEs, found by halving.
+    /// The CIE of one of the FDEs, found by halving. Both have good programs.
     pub fn cie_of(&self, fde: &FrameDescriptionEntry<'a>) -> CommonInformationEntry<'a>
         requires { Contains self.now.fdes (fde_of fde.now) }
-        ensures { cie_in self.now (fde_of fde.now) ≡ Some (cie_of result) }
+        ensures cie { cie_in self.now (fde_of fde.now) ≡ Some (cie_of result) }
+        ensures cie_program { cie_fault (cie_of result) ≡ None }
+        ensures fde_program { fde_fault (cie_of result) (fde_of fde.now) ≡ None }
     {
         match find_cie(&self.cies, fde.cie_pointer) {
             Some(cie) => cie,
             None => unreachable!(),
         }
+    }
+
+    /// The rows of one of the FDEs, in the order of their addresses. Each call runs the program again as the rows are
+    /// asked for, and takes no memory.
+    pub fn rows(&self, fde: &FrameDescriptionEntry<'a>) -> Rows<'a>
+        requires { Contains self.now.fdes (fde_of fde.now) }
+        ensures { result ≡ rows_in self.now (fde_of fde.now) }
+    {
+        let cie = self.cie_of(fde);
+        rows(&cie, fde)
+    }
+
+    /// The row of an address, or none where no FDE covers it. It takes no memory: the FDE is found by halving, and its
+    /// program is run up to that row.
+    pub fn row_for_address(&self, address: u64) -> Option<UnwindTableRow>
+        ensures { IsRowFor self.now address result }
+    {
+        let fde = self.fde_for_address(address)?;
+        let cie = self.cie_of(&fde);
+        row_at(&cie, &fde, address)
     }
 
     /// What was checked.

@@ -3,7 +3,8 @@ use Rattle.dw_frame.specs.Records.{Cie}
 use Rattle.dw_frame.specs.Views.{cie_of, fde_of}
 use Rattle.dw_frame.specs.declared.entry.CommonInformationEntry.{CommonInformationEntry}
 use Rattle.dw_rows.specs.Section.{Frame, cie_at}
-use Rattle.dw_rows.proofs.Parts.{pointed-in}
+use Rattle.dw_rows.specs.Judgement.{cie_fault, fde_fault}
+use Rattle.dw_rows.proofs.Parts.{pointed-in, good-behind}
 use Rattle.dw_rows.proofs.frame.CheckedFrame.cie_of.Goals as goal
 
 pub unreachable-requires : goal.unreachable-requires
@@ -17,3 +18,25 @@ unreachable-requires c =
     let nothing : Option Cie = None in
     let clash : nothing ≡ Some pointed.0 = c.in-None.ensures ∙ (same ∙ pointed.1) in
     cc
+
+-- both programs are good, whatever CIE was found
+both-good : goal.In-Some → Type 0
+both-good c = (cie_fault (cie_of c.in-Some.cie) ≡ None) × (fde_fault (cie_of c.in-Some.cie) (fde_of c.args.fde.now) ≡ None)
+
+good : (c : goal.In-Some) → both-good c
+unfolding both-good
+good c =
+    let fde = fde_of c.args.fde.now in
+    let cies = map cie_of c.self.inside.cies.items in
+    let fdes = map fde_of c.self.inside.fdes.items in
+    let among : Contains fdes fde = subst (λ (s : Frame). Contains s.fdes fde) (sym c.self.view_is) c.requires in
+    let same : cie_at (map cie_of c.deref.result.now) fde.cie_pointer ≡ cie_at cies fde.cie_pointer = ap (λ (l : List CommonInformationEntry). cie_at (map cie_of l) fde.cie_pointer) c.deref.ensures.value in
+    good-behind cies fdes c.self.invariant.good fde among (cie_of c.in-Some.cie) (sym same ∙ sym c.in-Some.ensures)
+
+pub returns-clause-cie_program : goal.returns-clause-cie_program
+unfolding both-good
+returns-clause-cie_program c = (good c).0
+
+pub returns-clause-fde_program : goal.returns-clause-fde_program
+unfolding both-good
+returns-clause-fde_program c = (good c).1
