@@ -5,3 +5,4 @@ pub mod Running
 pub mod Tests
 pub mod Walking
 pub mod Coming
+pub mod Covering
