@@ -13,3 +13,4 @@ mod SectionOrder
 pub mod Tests
 pub mod Walking
 pub mod Coming
+pub mod Covering

@@ -1,0 +1,96 @@
+-- The rows of a program lie one behind another, and cover what the FDE covers.
+use Rattle.std.proofs.Common.{◌≡◌, ℕ, ◌+◌, ◌<◌, ◌≤◌, Bool, true, false, cond, List, [], ◌∷◌, ◌++◌, refl, sym, ap, ◌∙◌, arith, ltb, leb, inl, inr, Option, Some, None, Result, Ok, Err, subst, ◌↔◌, IsSome, is_some}
+use Rattle.std.proofs.lemmas.Bool.{cases_lt, lt-ltb, le-ltb}
+use Rattle.std.proofs.lemmas.Bool.Decides.{nat_tests}
+use Rattle.std.specs.Prelude.{◌&&◌, find}
+use Rattle.dw_bytes.specs.declared.fault.Fault.{Fault}
+use Rattle.dw_frame.specs.Instructions.{Instruction}
+use Rattle.dw_frame.specs.Records.{Cie, Fde}
+use Rattle.dw_frame.specs.Codes.{instructions_of}
+use Rattle.dw_rows.specs.Rules.{Row}
+use Rattle.dw_rows.specs.Effects.{Effect, effect_of, effects_of}
+use Rattle.dw_rows.specs.Meaning.{Start, location_of}
+use Rattle.dw_rows.specs.Judgement.{refusal_at, or_else, standing_at, fde_start, fde_fault_from, fde_fault}
+use Rattle.dw_rows.specs.UnwindRows.{row_up_to, rows_up_to, rows_after, rows_of, has_address, Cover}
+use Rattle.dw_rows.proofs.Tests.{passed-from}
+use Rattle.dw_rows.proofs.Walking.{or_else-none, standing_at-none, forward}
+
+cover-up : (s : Start) (before : List Effect) (to : ℕ) (rows : List Row) (end : ℕ) → location_of s before ≤ to → Cover to rows end → Cover (location_of s before) (rows_up_to s before to ++ rows) end
+cover-up s before to rows end le h = elim (cases_lt (location_of s before) to) [
+  | inl lt ↦ rw (lt-ltb (location_of s before) to lt) (refl, lt, h)
+  | inr ge ↦ let same : to ≡ location_of s before = omega arith in rw (le-ltb (location_of s before) to ge) (subst (λ n. Cover n rows end) same h)
+]
+
+pub cover-after : (c : Cie) (f : Fde) (before : List Effect) (items : List (Result (ℕ × Instruction) Fault)) → location_of (fde_start c f) before ≤ f.initial + f.range → fde_fault_from c f before items ≡ None →
+    Cover (location_of (fde_start c f) before) (rows_after (fde_start c f) before (effects_of c items)) (f.initial + f.range)
+cover-after c f before [] le none =
+    let s = fde_start c f in
+    elim (cases_lt (location_of s before) s.end) [
+      | inl lt ↦ rw (lt-ltb (location_of s before) s.end lt) (refl, lt, refl)
+      | inr ge ↦ rw (le-ltb (location_of s before) s.end ge) (omega arith)
+    ]
+cover-after c f before (Err fault ∷ items) le none = let no : Some fault ≡ None = none in cc
+cover-after c f before (Ok item ∷ items) le none =
+    let s = fde_start c f in
+    let x = effect_of c item.1 in
+    let both = or_else-none (standing_at item.0 (refusal_at s before x)) (fde_fault_from c f (x ∷ before) items) none in
+    let fine : refusal_at s before x ≡ None = standing_at-none item.0 _ both.0 in
+    let past = (passed-from s before x fine).past in
+    let within : location_of s (x ∷ before) ≤ s.end = grind (arith, nat_tests) in
+    cover-up s before (location_of s (x ∷ before)) _ (f.initial + f.range) (forward s before x fine) (cover-after c f (x ∷ before) items within both.1)
+
+pub cover-rows : (c : Cie) (f : Fde) → fde_fault c f ≡ None → Cover f.initial (rows_of c f) (f.initial + f.range)
+unfolding fde_fault rows_of
+cover-rows c f none = cover-after c f [] (instructions_of f.program) (omega arith) none
+
+-- ---- which row has an address
+
+pub cover-le : (from to : ℕ) (rows : List Row) → Cover from rows to → from ≤ to
+cover-le from to [] h = omega (arith, h)
+cover-le from to (row ∷ rows) h = let k : row.end ≤ to = cover-le row.end to rows h.2 in omega (arith, h.0, h.1)
+
+not-here-below : (a : ℕ) (row : Row) → a < row.start → has_address a row ≡ false
+not-here-below a row h = let no : leb row.start a ≡ false = grind (arith, nat_tests) in rw no refl
+
+pub not-here-above : (a : ℕ) (row : Row) → row.end ≤ a → has_address a row ≡ false
+not-here-above a row h = let no : ltb a row.end ≡ false = le-ltb a row.end h in elim (leb row.start a) as (λ b. (b && ltb a row.end) ≡ false) [ true ↦ no | false ↦ refl ]
+
+pub here : (a : ℕ) (row : Row) → row.start ≤ a → a < row.end → has_address a row ≡ true
+here a row h k = let yes : leb row.start a ≡ true = grind (arith, nat_tests) in rw (yes, lt-ltb a row.end k) refl
+
+pub find-below : (a from to : ℕ) (rows : List Row) → Cover from rows to → a < from → find (has_address a) rows ≡ None
+find-below a from to [] h l = refl
+find-below a from to (row ∷ rows) h l =
+    let k : find (has_address a) rows ≡ None = find-below a row.end to rows h.2 (omega (arith, h.0, h.1)) in
+    rw (not-here-below a row (omega (arith, h.0))) k
+
+pub find-above : (a from to : ℕ) (rows : List Row) → Cover from rows to → to ≤ a → find (has_address a) rows ≡ None
+find-above a from to [] h l = refl
+find-above a from to (row ∷ rows) h l =
+    let k : find (has_address a) rows ≡ None = find-above a row.end to rows h.2 l in
+    let le : row.end ≤ to = cover-le row.end to rows h.2 in
+    rw (not-here-above a row (omega arith)) k
+
+pub find-some : (a from to : ℕ) (rows : List Row) → Cover from rows to → from ≤ a → a < to → IsSome (find (has_address a) rows)
+find-some a from to [] h l g = absurd (omega (arith, h))
+find-some a from to (row ∷ rows) h l g = elim (cases_lt a row.end) [
+  | inl in_row ↦ rw (here a row (omega (arith, h.0)) in_row) refl
+  | inr beyond ↦ rw (not-here-above a row beyond) (find-some a row.end to rows h.2 beyond g)
+]
+
+none-some : {A : Type 0} (o : Option A) → o ≡ None → IsSome o → ⊥
+none-some None e h = cc
+none-some (Some x) e h = cc
+
+pub find-covered : (a from to : ℕ) (rows : List Row) → Cover from rows to → IsSome (find (has_address a) rows) ↔ ((from ≤ a) × (a < to))
+find-covered a from to rows h = (
+  (λ some. (elim (cases_lt a from) [ inl below ↦ absurd (none-some _ (find-below a from to rows h below) some) | inr ok ↦ ok ], elim (cases_lt a to) [ inl ok ↦ ok | inr above ↦ absurd (none-some _ (find-above a from to rows h above) some) ])),
+  (λ k. find-some a from to rows h k.0 k.1),
+)
+
+-- the same of what was found
+pub covered-found : (c : Cie) (f : Fde) (a : ℕ) (found : Option Row) → fde_fault c f ≡ None → found ≡ find (has_address a) (rows_of c f) → IsSome found ↔ ((f.initial ≤ a) × (a < f.initial + f.range))
+covered-found c f a found none e = rw e (find-covered a f.initial (f.initial + f.range) (rows_of c f) (cover-rows c f none))
+
+pub not-found-below : (c : Cie) (f : Fde) (a : ℕ) → fde_fault c f ≡ None → a < f.initial → find (has_address a) (rows_of c f) ≡ None
+not-found-below c f a none h = find-below a f.initial (f.initial + f.range) (rows_of c f) (cover-rows c f none) h
