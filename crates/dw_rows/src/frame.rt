@@ -1,7 +1,8 @@
 //! A checked section.
 
-ghost use Rattle.std.specs.Prelude.{◌≡◌, ◌<◌, ◌^◌, ◌⊎◌, None, Some, Contains, length, map, option_map, MatchResult, IfOk, IfErr};
-ghost use Rattle.dw_frame.specs.Sections.{entries_of};
+ghost use Rattle.std.specs.Prelude.{◌≡◌, ◌+◌, ◌<◌, ◌≤◌, ◌^◌, None, Some, Contains, length, map, option_map, IfOk};
+ghost use Rattle.dw_frame.specs.Records.{Fde};
+ghost use Rattle.dw_frame.specs.Sections.{entries_of, top_of};
 ghost use Rattle.dw_frame.specs.Views.{cie_of, fde_of};
 ghost use Rattle.dw_bytes.specs.Answers.{Judges, Answers, fault_in};
 ghost use Rattle.dw_rows.specs.Judgement.{cie_fault, fde_fault};
@@ -190,9 +191,11 @@ impl<'a> CheckedFrame<'a> {
         self.cies.as_slice()
     }
 
-    /// All FDEs, in the order of the section.
+    /// All FDEs, in the order of the section. No fault is left in them, and their addresses are addresses of the target.
     pub fn fdes(&self) -> &[FrameDescriptionEntry<'a>]
-        ensures { map fde_of result.now ≡ self.now.fdes }
+        ensures fdes { map fde_of result.now ≡ self.now.fdes }
+        ensures checked { frame_fault self.now ≡ None }
+        ensures fit { (f : Fde) → Contains self.now.fdes f → f.initial + f.range ≤ top_of self.now.target }
     {
         self.fdes.as_slice()
     }
@@ -235,12 +238,5 @@ impl<'a> CheckedFrame<'a> {
         let fde = self.fde_for_address(address)?;
         let cie = self.cie_of(&fde);
         row_at(&cie, &fde, address)
-    }
-
-    /// What was checked.
-    pub fn is_checked(&self)
-        ensures { frame_fault self.now ≡ None }
-    {
-        let _count = self.cies.len();
     }
 }
