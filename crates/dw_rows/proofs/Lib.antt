@@ -6,3 +6,6 @@ pub mod Tests
 pub mod Walking
 pub mod Coming
 pub mod Covering
+pub mod Matching
+pub mod Beginnings
+pub mod Meanings

@@ -8,3 +8,5 @@ pub mod UnwindRows
 pub mod Machine
 pub mod Actions
 pub mod Walks
+pub mod Good
+pub mod Clauses
