@@ -9,3 +9,4 @@ pub mod Covering
 pub mod Matching
 pub mod Beginnings
 pub mod Meanings
+pub mod Goods
