@@ -14,3 +14,7 @@ pub mod Tests
 pub mod Walking
 pub mod Coming
 pub mod Covering
+pub mod Matching
+pub mod Beginnings
+pub mod Meanings
+pub mod Goods

@@ -10,3 +10,5 @@ pub mod Actions
 pub mod Section
 pub mod Overlap
 pub mod Walks
+pub mod Good
+pub mod Clauses
