@@ -1,0 +1,384 @@
+ghost use Rattle.std.specs.Prelude.{◌<◌, ◌^◌, length};
+
+use super::*;
+use dw_bytes::{AddressSize, Fault, FaultKind, Format, Order, Target};
+use std::alloc::Global;
+use std::test::Fail;
+
+const LITTLE: Target = Target {
+    order: Order::Little,
+    address_size: AddressSize::Eight,
+};
+
+const BIG: Target = Target {
+    order: Order::Big,
+    address_size: AddressSize::Four,
+};
+
+/// A CIE and an FDE of a small function: the first of the worked examples.
+const FUNCTION: [u8; 56] = [
+    0x14, 0, 0, 0, 0xff, 0xff, 0xff, 0xff, 4, 0, 8, 0, 1, 0x78, 0x10, 0x0c, 7, 8, 0x90, 1, 0, 0, 0,
+    0, 0x1c, 0, 0, 0, 0, 0, 0, 0, 0, 0x10, 0, 0, 0, 0, 0, 0, 0x20, 0, 0, 0, 0, 0, 0, 0, 0x41, 0x0e,
+    0x10, 0x86, 2, 0x43, 0x0d, 6,
+];
+
+/// The first fault of the records of a section, and where it stands.
+fn first_fault(section: &[u8], target: Target) -> Option<(FaultKind, u32)>
+    requires { length section.now < 2 ^ 32 }
+{
+    for entry in entries(section, target) {
+        if let Err(fault) = entry {
+            return Some((fault.kind, fault.at));
+        }
+    }
+    None
+}
+
+/// The first fault of the programs of the FDEs of a section.
+fn first_program_fault(section: &[u8], target: Target) -> Option<(FaultKind, u32)>
+    requires { length section.now < 2 ^ 32 }
+{
+    for entry in entries(section, target) {
+        if let Ok(Entry::Fde(fde)) = entry {
+            for item in fde.program.instructions() {
+                if let Err(fault) = item {
+                    return Some((fault.kind, fault.at));
+                }
+            }
+        }
+    }
+    None
+}
+
+/// The instruction that is all of a program, as text.
+fn shown(alloc: Global, bytes: &[u8]) -> Result<String, Fail> {
+    let end = u32::try_from(bytes.len()).ok().ok_or("a length")?;
+    let program = Program::new(bytes, 0, end, BIG);
+    let (found, next) = instruction(&program, 0).ok().ok_or("an instruction")?;
+    if next != end {
+        return Err(Fail::from("the next instruction is elsewhere"));
+    }
+    Ok(format!(in alloc; "{found:?}")?)
+}
+
+/// The fault of an instruction whose last byte isn't there.
+fn cut_short(bytes: &[u8]) -> Option<(FaultKind, u32)> {
+    let length = u32::try_from(bytes.len()).ok()?;
+    let end = length.checked_sub(1)?;
+    let fault = instruction(&Program::new(bytes, 0, end, BIG), 0).err()?;
+    Some((fault.kind, fault.at))
+}
+
+#[test]
+fn every_instruction(rt: HostRuntime) -> Result<(), Fail> {
+    // The bytes, where the last field begins, and the instruction.
+    let lines: [(&[u8], u32, &[u8]); 26] = [
+        (&[0x7f], 0, b"AdvanceLoc { delta: 63 }"),
+        (
+            &[0x86, 0x82, 1],
+            1,
+            b"Offset { register: 6, factored_offset: 130 }",
+        ),
+        (&[0xff], 0, b"Restore { register: 63 }"),
+        (&[0], 0, b"Nop"),
+        (&[1, 0, 1, 2, 3], 1, b"SetLoc { address: 66051 }"),
+        (&[2, 0xff], 1, b"AdvanceLoc1 { delta: 255 }"),
+        (&[3, 1, 2], 1, b"AdvanceLoc2 { delta: 258 }"),
+        (&[4, 1, 0, 0, 2], 1, b"AdvanceLoc4 { delta: 16777218 }"),
+        (
+            &[5, 0xff, 0xff, 3, 9],
+            4,
+            b"OffsetExtended { register: 65535, factored_offset: 9 }",
+        ),
+        (&[6, 5], 1, b"RestoreExtended { register: 5 }"),
+        (&[7, 5], 1, b"Undefined { register: 5 }"),
+        (&[8, 5], 1, b"SameValue { register: 5 }"),
+        (&[9, 5, 6], 2, b"Register { register: 5, source: 6 }"),
+        (&[0x0a], 0, b"RememberState"),
+        (&[0x0b], 0, b"RestoreState"),
+        (&[0x0c, 7, 8], 2, b"DefCfa { register: 7, offset: 8 }"),
+        (&[0x0d, 7], 1, b"DefCfaRegister { register: 7 }"),
+        (&[0x0e, 8], 1, b"DefCfaOffset { offset: 8 }"),
+        (
+            &[0x0f, 1, 0x96],
+            2,
+            b"DefCfaExpression { expression: Expression { bytes: [150], target: Target { order: Big, address_size: Four } } }",
+        ),
+        (
+            &[0x10, 5, 0],
+            2,
+            b"Expression { register: 5, expression: Expression { bytes: [], target: Target { order: Big, address_size: Four } } }",
+        ),
+        (
+            &[0x11, 6, 0x7e],
+            2,
+            b"OffsetExtendedSf { register: 6, factored_offset: -2 }",
+        ),
+        (
+            &[0x12, 6, 0x7e],
+            2,
+            b"DefCfaSf { register: 6, factored_offset: -2 }",
+        ),
+        (&[0x13, 0x7e], 1, b"DefCfaOffsetSf { factored_offset: -2 }"),
+        (
+            &[0x14, 6, 2],
+            2,
+            b"ValOffset { register: 6, factored_offset: 2 }",
+        ),
+        (
+            &[0x15, 6, 0x7f],
+            2,
+            b"ValOffsetSf { register: 6, factored_offset: -1 }",
+        ),
+        (
+            &[0x16, 6, 2, 0x30, 0x9f],
+            3,
+            b"ValExpression { register: 6, expression: Expression { bytes: [48, 159], target: Target { order: Big, address_size: Four } } }",
+        ),
+    ];
+    for (bytes, last, wanted) in lines {
+        assert_eq!(rt; shown(rt.alloc(), bytes)?.as_bytes(), wanted);
+        let fault = Some((FaultKind::Truncated, last));
+        assert_eq!(rt; cut_short(bytes), fault, "{bytes:?}");
+    }
+    Ok(())
+}
+
+#[test]
+fn instructions_end_after_a_fault(rt: HostRuntime) {
+    let cases: [(&[u8], FaultKind, u32); 4] = [
+        (&[5, 0x80, 0x80, 4, 1, 0], FaultKind::RegisterNumber, 0),
+        (&[0, 0x17, 0], FaultKind::UnknownInstruction, 1),
+        (&[0, 0x3f], FaultKind::UnknownInstruction, 1),
+        (
+            &[
+                0x0e, 0x80, 0x80, 0x80, 0x80, 0x80, 0x80, 0x80, 0x80, 0x80, 2,
+            ],
+            FaultKind::LebRange,
+            1,
+        ),
+    ];
+    for (bytes, kind, at) in cases {
+        let mut instructions = Program::new(bytes, 0, bytes.len() as u32, LITTLE).instructions();
+        let mut found = None;
+        for item in &mut instructions {
+            found = item.err().map(|fault| (fault.kind, fault.at));
+        }
+        assert_eq!(rt; found, Some((kind, at)));
+        assert!(rt; instructions.next().is_none());
+    }
+}
+
+/// A CIE and an FDE in the 64-bit format, of little order.
+const LONG: [u8; 80] = [
+    0xff, 0xff, 0xff, 0xff, 0x14, 0, 0, 0, 0, 0, 0, 0, 0xff, 0xff, 0xff, 0xff, 0xff, 0xff, 0xff,
+    0xff, 4, 0, 8, 0, 1, 0x78, 0x10, 0x0c, 7, 8, 0x90, 1, 0xff, 0xff, 0xff, 0xff, 0x24, 0, 0, 0, 0,
+    0, 0, 0, 0, 0, 0, 0, 0, 0, 0, 0, 0, 0x10, 0, 0, 0, 0, 0, 0, 0x20, 0, 0, 0, 0, 0, 0, 0, 0x41,
+    0x0e, 0x10, 0x86, 2, 0x43, 0x0d, 6, 0, 0, 0, 0,
+];
+
+/// A CIE and an FDE of big order and with addresses of four bytes.
+const SMALL: [u8; 44] = [
+    0, 0, 0, 0x10, 0xff, 0xff, 0xff, 0xff, 4, 0, 4, 0, 4, 0x7c, 0x0e, 0x0c, 0x0d, 0, 0, 0, 0, 0, 0,
+    0x14, 0, 0, 0, 0, 0, 0, 0x80, 0, 0, 0, 0, 0x10, 0x42, 0x0e, 8, 0x8e, 1, 0, 0, 0,
+];
+
+/// What a record's header says, and where its program begins and ends.
+fn header_of(entry: &Entry<'_>) -> (u32, Format, u64, i64, u64, u32, u32) {
+    match entry {
+        Entry::Cie(cie) => (
+            cie.offset,
+            cie.format,
+            cie.code_alignment_factor,
+            cie.data_alignment_factor,
+            u64::from(cie.return_address_register),
+            cie.program.start(),
+            cie.program.end(),
+        ),
+        Entry::Fde(fde) => (
+            fde.offset,
+            fde.format,
+            fde.cie_pointer,
+            i64::from(fde.cie_pointer_offset),
+            fde.initial_location + fde.address_range,
+            fde.program.start(),
+            fde.program.end(),
+        ),
+    }
+}
+
+#[test]
+fn records_of_both_formats_and_orders(rt: HostRuntime) -> Result<(), Fail> {
+    let cases: [(&[u8], Target, Format, [(u32, u64, i64, u64, u32, u32); 2]); 3] = [
+        (
+            &FUNCTION,
+            LITTLE,
+            Format::Dwarf32,
+            [(0, 1, -8, 16, 15, 24), (24, 0, 28, 0x1020, 48, 56)],
+        ),
+        (
+            &LONG,
+            LITTLE,
+            Format::Dwarf64,
+            [(0, 1, -8, 16, 27, 32), (32, 0, 44, 0x1020, 68, 80)],
+        ),
+        (
+            &SMALL,
+            BIG,
+            Format::Dwarf32,
+            [(0, 4, -4, 14, 15, 20), (20, 0, 24, 0x8010, 36, 44)],
+        ),
+    ];
+    for (section, target, format, wanted) in cases {
+        let mut records = entries(section, target);
+        for (offset, first, second, third, start, end) in wanted {
+            let entry = records.next().ok_or("a record")?.ok().ok_or("no fault")?;
+            assert_eq!(rt;
+                header_of(&entry),
+                (offset, format, first, second, third, start, end)
+            );
+        }
+        assert!(rt; records.next().is_none());
+        assert_eq!(rt; first_program_fault(section, target), None);
+    }
+    Ok(())
+}
+
+#[test]
+fn sections_cut_short(rt: HostRuntime) {
+    for end in 0..=FUNCTION.len() {
+        let wanted = match end {
+            0 | 24 | 56 => None,
+            1..=3 => Some((FaultKind::Truncated, 0)),
+            4..=23 => Some((FaultKind::Truncated, 4)),
+            25..=27 => Some((FaultKind::Truncated, 24)),
+            _ => Some((FaultKind::Truncated, 28)),
+        };
+        assert_eq!(rt; first_fault(&FUNCTION[..end], LITTLE), wanted, "{end}");
+    }
+}
+
+/// A CIE and an FDE in the 64-bit format, of big order and with addresses of four bytes.
+const LONG_BIG: [u8; 55] = [
+    0xff, 0xff, 0xff, 0xff, 0, 0, 0, 0, 0, 0, 0, 0x0f, 0xff, 0xff, 0xff, 0xff, 0xff, 0xff, 0xff,
+    0xff, 4, 0, 4, 0, 4, 0x7c, 0x0e, 0xff, 0xff, 0xff, 0xff, 0, 0, 0, 0, 0, 0, 0, 0x10, 0, 0, 0, 0,
+    0, 0, 0, 0, 0, 0, 0x80, 0, 0, 0, 0, 0x10,
+];
+
+#[test]
+fn bodies_cut_short(rt: HostRuntime) -> Result<(), Fail> {
+    // The section, its target, where the record begins, where the last byte of its length stands in
+    // it, and where the length and each field of its header end.
+    let headers: [(&[u8], Target, usize, usize, &[usize]); 8] = [
+        (&FUNCTION, LITTLE, 0, 0, &[4, 8, 9, 10, 11, 12, 13, 14, 15]),
+        (&FUNCTION, LITTLE, 24, 0, &[4, 8, 16, 24]),
+        (&LONG, LITTLE, 0, 4, &[12, 20, 21, 22, 23, 24, 25, 26, 27]),
+        (&LONG, LITTLE, 32, 4, &[12, 20, 28, 36]),
+        (&SMALL, BIG, 0, 3, &[4, 8, 9, 10, 11, 12, 13, 14, 15]),
+        (&SMALL, BIG, 20, 3, &[4, 8, 12, 16]),
+        (&LONG_BIG, BIG, 0, 11, &[12, 20, 21, 22, 23, 24, 25, 26, 27]),
+        (&LONG_BIG, BIG, 27, 11, &[12, 20, 24, 28]),
+    ];
+    for (section, target, start, low, fields) in headers {
+        let head = *fields.first().ok_or("a field")?;
+        let mut field = head;
+        for next in fields {
+            for end in field..*next {
+                let mut bytes = [0; 40];
+                for (byte, given) in bytes.iter_mut().zip(&section[start..]) {
+                    *byte = *given;
+                }
+                let size = u8::try_from(end.saturating_sub(head));
+                if let (Some(byte), Ok(size)) = (bytes.get_mut(low), size) {
+                    *byte = size;
+                }
+                let cut = bytes.get(..end).ok_or("a record")?;
+                let wanted = Some((FaultKind::Truncated, field as u32));
+                assert_eq!(rt; first_fault(cut, target), wanted, "{end}");
+            }
+            field = *next;
+        }
+    }
+    Ok(())
+}
+
+#[test]
+fn headers_out_of_range(rt: HostRuntime) {
+    let changes: [(usize, u8, FaultKind, u32); 8] = [
+        (0, 0x15, FaultKind::Truncated, 29),
+        (0, 0xff, FaultKind::Truncated, 4),
+        (8, 5, FaultKind::Version, 8),
+        (9, 0x7a, FaultKind::Augmentation, 9),
+        (10, 4, FaultKind::AddressSize, 10),
+        (11, 1, FaultKind::SegmentSize, 11),
+        (3, 0xff, FaultKind::Truncated, 4),
+        (27, 0xff, FaultKind::Truncated, 28),
+    ];
+    for (place, value, kind, at) in changes {
+        let mut bytes = FUNCTION;
+        bytes[place] = value;
+        assert_eq!(rt; first_fault(&bytes, LITTLE), Some((kind, at)), "{place}");
+    }
+    let sections: [(&[u8], Target, FaultKind, u32); 5] = [
+        (
+            &[0xf0, 0xff, 0xff, 0xff],
+            LITTLE,
+            FaultKind::ReservedLength,
+            0,
+        ),
+        (&[0xff, 0xff, 0xff, 0xfe], BIG, FaultKind::ReservedLength, 0),
+        (
+            &[
+                13, 0, 0, 0, 0xff, 0xff, 0xff, 0xff, 4, 0, 8, 0, 1, 0x78, 0x80, 0x80, 4,
+            ],
+            LITTLE,
+            FaultKind::RegisterNumber,
+            14,
+        ),
+        (
+            &[
+                0, 0, 0, 12, 0, 0, 0, 0, 0xff, 0xff, 0xff, 0xf0, 0, 0, 0, 0x10,
+            ],
+            BIG,
+            FaultKind::RangePastTop,
+            12,
+        ),
+        (
+            &[
+                20, 0, 0, 0, 0, 0, 0, 0, 0xf0, 0xff, 0xff, 0xff, 0xff, 0xff, 0xff, 0xff, 0x10, 0,
+                0, 0, 0, 0, 0, 0,
+            ],
+            LITTLE,
+            FaultKind::RangePastTop,
+            16,
+        ),
+    ];
+    for (section, target, kind, at) in sections {
+        assert_eq!(rt; first_fault(section, target), Some((kind, at)));
+    }
+}
+
+#[test]
+fn the_last_address(rt: HostRuntime) {
+    let section = [
+        0, 0, 0, 12, 0, 0, 0, 0, 0xff, 0xff, 0xff, 0xf0, 0, 0, 0, 0x0f,
+    ];
+    assert_eq!(rt; first_fault(&section, BIG), None);
+}
+
+#[test]
+fn cies_by_offset(rt: HostRuntime) {
+    // What has the CIE's offset, no CIE, or where the fault stands.
+    let cases: [(usize, u64, Result<Option<u32>, u32>); 5] = [
+        (56, 0, Ok(Some(0))),
+        (56, 24, Ok(None)),
+        (56, 1 << 32, Ok(None)),
+        (40, 0, Ok(Some(0))),
+        (40, 24, Err(28)),
+    ];
+    for (end, offset, wanted) in cases {
+        let found = cie_at(&FUNCTION[..end], LITTLE, offset);
+        let found = found.map(|cie| cie.map(|cie| cie.offset));
+        assert_eq!(rt; found.map_err(|fault| fault.at), wanted);
+    }
+}
