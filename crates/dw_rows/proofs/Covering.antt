@@ -49,7 +49,7 @@ pub cover-le : (from to : ℕ) (rows : List Row) → Cover from rows to → from
 cover-le from to [] h = omega (arith, h)
 cover-le from to (row ∷ rows) h = let k : row.end ≤ to = cover-le row.end to rows h.2 in omega (arith, h.0, h.1)
 
-not-here-below : (a : ℕ) (row : Row) → a < row.start → has_address a row ≡ false
+pub not-here-below : (a : ℕ) (row : Row) → a < row.start → has_address a row ≡ false
 not-here-below a row h = let no : leb row.start a ≡ false = grind (arith, nat_tests) in rw no refl
 
 pub not-here-above : (a : ℕ) (row : Row) → row.end ≤ a → has_address a row ≡ false

@@ -18,3 +18,5 @@ pub mod Matching
 pub mod Beginnings
 pub mod Meanings
 pub mod Goods
+pub mod Programs
+pub mod RowsOf

@@ -5,6 +5,7 @@ mod action;
 mod check;
 mod frame;
 mod index;
+pub mod laws;
 mod lookup;
 mod machine;
 mod map;

@@ -1,0 +1,5 @@
+use Rattle.dw_rows.proofs.RowsOf.{rows-of-good}
+use Rattle.dw_rows.proofs.laws.rows_are_those_of_addresses.Goals as goal
+
+pub returns : goal.returns
+returns c = rows-of-good

@@ -1,0 +1,48 @@
+//! What the definitions say, in the standard's words: functions that do nothing, each with the law as
+//! its contract.
+
+ghost use Rattle.std.specs.Prelude.{◌≡◌, ℕ, ◌+◌, ◌<◌, ◌≤◌, ◌↔◌, List, length, Option, Some, None, slice_get, filter, [], ◌∷◌};
+ghost use Rattle.dw_frame.specs.Records.{Cie, Fde};
+ghost use Rattle.dw_rows.specs.Rules.{Rule, Cfa, Row, IsTable, rule_in, rule_list};
+ghost use Rattle.dw_rows.specs.Effects.{Effect, pops};
+ghost use Rattle.dw_rows.specs.Meaning.{Start};
+ghost use Rattle.dw_rows.specs.Judgement.{cie_fault, fde_fault};
+ghost use Rattle.dw_rows.specs.UnwindRows.{rows_of, has_address, Cover};
+ghost use Rattle.dw_rows.specs.Good.{rule_after, cfa_after, Match, IsGoodCieProgram, IsGoodFdeProgram};
+ghost use Rattle.dw_rows.specs.Clauses.{AreRules, AreRowsOf};
+
+/// The rules after each instruction are those that the instruction gives, a restore_state those before
+/// its match. No others are.
+pub fn rules_by_instruction()
+    ensures meet { (s : Start) (program : List Effect) → AreRules s program (rule_after s program) (cfa_after s program) }
+    ensures only { (s : Start) (program : List Effect) (rule : ℕ → ℕ → Rule) (cfa : ℕ → Option Cfa) → AreRules s program rule cfa →
+        ((j : ℕ) → slice_get program j ≡ Some pops → (i : ℕ) × Match program i j) →
+        (k : ℕ) → k ≤ length program → ((r : ℕ) → rule k r ≡ rule_after s program k r) × (cfa k ≡ cfa_after s program k) }
+{}
+
+/// A CIE's program has no fault exactly where it is good, and neither has an FDE's behind a good CIE's.
+pub fn good_programs_have_no_fault()
+    ensures cie { (cie : Cie) → (cie_fault cie ≡ None) ↔ IsGoodCieProgram cie }
+    ensures fde { (cie : Cie) (fde : Fde) → cie_fault cie ≡ None → (fde_fault cie fde ≡ None) ↔ IsGoodFdeProgram cie fde }
+{}
+
+/// The rows of an FDE whose program is good are the rows of the addresses that it covers: each has the
+/// rules behind the longest beginning of the program whose location is no higher, and all covered
+/// addresses with that beginning.
+pub fn rows_are_those_of_addresses()
+    ensures { (cie : Cie) (fde : Fde) → (good : IsGoodFdeProgram cie fde) → AreRowsOf cie fde good (rows_of cie fde) }
+{}
+
+/// The rows of an FDE whose program is good lie one behind another and cover what it covers, and each
+/// covered address has one.
+pub fn rows_cover()
+    ensures cover { (cie : Cie) (fde : Fde) → fde_fault cie fde ≡ None → Cover fde.initial (rows_of cie fde) (fde.initial + fde.range) }
+    ensures one { (cie : Cie) (fde : Fde) (address : ℕ) → fde_fault cie fde ≡ None → fde.initial ≤ address → address < fde.initial + fde.range → (row : Row) × (filter (has_address address) (rows_of cie fde) ≡ row ∷ []) }
+{}
+
+/// A list of rules by ascending registers and the function that it stands for say the same.
+pub fn rule_lists_are_rules()
+    ensures list { (entries : List (ℕ × Rule)) → IsTable 0 entries → rule_list (rule_in entries) ≡ entries }
+    ensures rules { (rules : ℕ → Rule) (r : ℕ) → r < 65536 → rule_in (rule_list rules) r ≡ rules r }
+    ensures table { (rules : ℕ → Rule) → IsTable 0 (rule_list rules) }
+{}
