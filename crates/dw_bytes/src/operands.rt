@@ -1,6 +1,6 @@
 //! Operands that have to be in a range. Where they aren't, the fault stands at the code that they follow.
 
-ghost use Rattle.std.specs.Prelude.{◌≡◌, ◌≤◌};
+ghost use Rattle.std.specs.Prelude.{◌≡◌, ◌<◌, ◌≤◌, ◌^◌, length, IfOk};
 ghost use Rattle.dw_bytes.specs.Reading.{GoesOn};
 ghost use Rattle.dw_bytes.specs.Readers.{Parses, ParsesBy, IsRefusedWithin};
 ghost use Rattle.dw_bytes.specs.Operands.{unsigned, signed, register_number, read_size, piece_size, block, in_range, one_at, two_at};
@@ -107,6 +107,7 @@ pub fn register_and_signed(cursor: &mut Cursor<'_>, at: u32) -> Result<(u16, i64
 pub fn register_and_block<'a>(cursor: &mut Cursor<'a>, at: u32) -> Result<(u16, &'a [u8]), Fault>
     requires { at ≤ cursor.old.position }
     ensures exact { ParsesBy (λ v. (v.0, v.1.now)) (two_at at register_number block) cursor.old result cursor.new }
+    ensures short { IfOk result (λ v. length v.1.now < 2 ^ 32) }
     ensures within { IsRefusedWithin cursor.old result }
     ensures goes_on { GoesOn cursor.old cursor.new }
 {
@@ -119,6 +120,7 @@ pub fn register_and_block<'a>(cursor: &mut Cursor<'a>, at: u32) -> Result<(u16, 
 /// The bytes of a block, which has their count as unsigned LEB128 before them.
 pub fn block<'a>(cursor: &mut Cursor<'a>, at: u32) -> Result<&'a [u8], Fault>
     ensures exact { ParsesBy (λ bytes. bytes.now) (one_at at block) cursor.old result cursor.new }
+    ensures short { IfOk result (λ bytes. length bytes.now < 2 ^ 32) }
     ensures within { IsRefusedWithin cursor.old result }
     ensures goes_on { GoesOn cursor.old cursor.new }
 {
