@@ -74,7 +74,10 @@ pub fn two_registers(cursor: &mut Cursor<'_>, at: u32) -> Result<(u16, u16), Fau
     let target = cursor.target();
     let first = cursor.uleb()?;
     let second = cursor.uleb()?;
-    Ok((number_of_register(first, at, target)?, number_of_register(second, at, target)?))
+    Ok((
+        number_of_register(first, at, target)?,
+        number_of_register(second, at, target)?,
+    ))
 }
 
 /// A register and an unsigned number.
@@ -151,7 +154,10 @@ pub fn two_piece_sizes(cursor: &mut Cursor<'_>, at: u32) -> Result<(u32, u32), F
     let target = cursor.target();
     let size = cursor.uleb()?;
     let offset = cursor.uleb()?;
-    Ok((size_of_piece(size, at, target)?, size_of_piece(offset, at, target)?))
+    Ok((
+        size_of_piece(size, at, target)?,
+        size_of_piece(offset, at, target)?,
+    ))
 }
 
 /// The size of a read in one byte: 1, 2, 4 or 8 and at most that of an address, else `BadSize` at the code.
