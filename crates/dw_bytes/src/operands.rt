@@ -1,6 +1,6 @@
 //! Operands that have to be in a range. Where they aren't, the fault stands at the code that they follow.
 
-ghost use Rattle.std.specs.Prelude.{◌≡◌, ◌≤◌};
+ghost use Rattle.std.specs.Prelude.{◌≡◌, ◌<◌, ◌≤◌, ◌^◌, length, IfOk};
 ghost use Rattle.dw_bytes.specs.Reading.{GoesOn};
 ghost use Rattle.dw_bytes.specs.Readers.{Parses, ParsesBy, IsRefusedWithin};
 ghost use Rattle.dw_bytes.specs.Operands.{unsigned, signed, register_number, read_size, piece_size, block, in_range, one_at, two_at};
@@ -74,7 +74,10 @@ pub fn two_registers(cursor: &mut Cursor<'_>, at: u32) -> Result<(u16, u16), Fau
     let target = cursor.target();
     let first = cursor.uleb()?;
     let second = cursor.uleb()?;
-    Ok((number_of_register(first, at, target)?, number_of_register(second, at, target)?))
+    Ok((
+        number_of_register(first, at, target)?,
+        number_of_register(second, at, target)?,
+    ))
 }
 
 /// A register and an unsigned number.
@@ -107,6 +110,7 @@ pub fn register_and_signed(cursor: &mut Cursor<'_>, at: u32) -> Result<(u16, i64
 pub fn register_and_block<'a>(cursor: &mut Cursor<'a>, at: u32) -> Result<(u16, &'a [u8]), Fault>
     requires { at ≤ cursor.old.position }
     ensures exact { ParsesBy (λ v. (v.0, v.1.now)) (two_at at register_number block) cursor.old result cursor.new }
+    ensures short { IfOk result (λ v. length v.1.now < 2 ^ 32) }
     ensures within { IsRefusedWithin cursor.old result }
     ensures goes_on { GoesOn cursor.old cursor.new }
 {
@@ -119,6 +123,7 @@ pub fn register_and_block<'a>(cursor: &mut Cursor<'a>, at: u32) -> Result<(u16, 
 /// The bytes of a block, which has their count as unsigned LEB128 before them.
 pub fn block<'a>(cursor: &mut Cursor<'a>, at: u32) -> Result<&'a [u8], Fault>
     ensures exact { ParsesBy (λ bytes. bytes.now) (one_at at block) cursor.old result cursor.new }
+    ensures short { IfOk result (λ bytes. length bytes.now < 2 ^ 32) }
     ensures within { IsRefusedWithin cursor.old result }
     ensures goes_on { GoesOn cursor.old cursor.new }
 {
@@ -149,7 +154,10 @@ pub fn two_piece_sizes(cursor: &mut Cursor<'_>, at: u32) -> Result<(u32, u32), F
     let target = cursor.target();
     let size = cursor.uleb()?;
     let offset = cursor.uleb()?;
-    Ok((size_of_piece(size, at, target)?, size_of_piece(offset, at, target)?))
+    Ok((
+        size_of_piece(size, at, target)?,
+        size_of_piece(offset, at, target)?,
+    ))
 }
 
 /// The size of a read in one byte: 1, 2, 4 or 8 and at most that of an address, else `BadSize` at the code.

@@ -1,6 +1,5 @@
 pub mod Records
 pub mod Instructions
-pub mod Operands
 pub mod Codes
 pub mod Sections
 pub mod Bounds

@@ -8,7 +8,6 @@ mod entry;
 mod header;
 mod instructions;
 pub mod laws;
-mod operands;
 mod parse;
 mod program;
 mod records;

@@ -11,3 +11,6 @@ pub use decode::decode_one;
 pub use expression::Expression;
 pub use list::operations;
 pub use operation::Operation;
+
+#[cfg(test)]
+mod tests;
