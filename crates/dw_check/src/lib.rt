@@ -1,0 +1,12 @@
+//! The texts of a checked section: what is asked for, and where its text goes.
+#![tactic(auto)]
+
+mod asked;
+mod command_line;
+mod hexed;
+mod sink;
+mod words;
+
+pub use asked::{End, Request, Task, Usage};
+pub use sink::{Sink, Stopped, Through};
+pub use words::request;
