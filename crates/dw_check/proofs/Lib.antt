@@ -1,3 +1,4 @@
 pub mod Growth
+pub mod Padded
 pub mod Shown
 pub mod Simple

@@ -4,6 +4,9 @@
 mod asked;
 mod command_line;
 mod hexed;
+mod lines;
+mod names;
+mod numbers;
 mod sink;
 mod words;
 
