@@ -8,7 +8,7 @@ use Rattle.dw_bytes.specs.declared.fault.FaultKind.{FaultKind}
 use Rattle.dw_bytes.specs.declared.target.AddressSize.{AddressSize}
 use Rattle.dw_bytes.specs.declared.target.AddressSize.TheVariants.{Four, Eight}
 use Rattle.dw_frame.specs.Records.{Cie, Fde}
-use Rattle.dw_rows.specs.Rules.{Rule, Cfa, Row, default, undefined, same_value, offset, val_offset, register, expression, val_expression, register_and_offset, cfa_expression, rule_list}
+use Rattle.dw_rows.specs.Rules.{Rule, Cfa, Row, default, undefined, same_value, offset, val_offset, register, expression, val_expression, register_and_offset, cfa_expression}
 use Rattle.dw_check.specs.Names.{name_of}
 use Rattle.dw_check.specs.declared.lines.Place.{Place}
 use Rattle.dw_check.specs.declared.lines.Place.TheVariants.{Frame, Lists, Expression}
@@ -100,4 +100,9 @@ register_text (r, rule) = codes " r" ++ decimal r ++ codes "=" ++ rule_text rule
 
 unfoldable pub row_line : AddressSize → Row → List ℕ
 row_line size row = codes "row " ++ range_text size row.start row.end ++ codes " cfa=" ++ cfa_text row.cfa
-    ++ flat_map register_text (rule_list row.rules) ++ codes "\n"
+    ++ flat_map register_text row.rules ++ codes "\n"
+
+-- the addresses of a row are ones of this size
+pub record Fits (size : AddressSize) (row : Row) : Type 0 where
+  pub start : row.start < 16 ^ digits_of size
+  pub end : row.end < 16 ^ digits_of size
