@@ -1,5 +1,5 @@
 -- The texts that a run writes, a definition a form of line.
-use Rattle.std.specs.Prelude.{ℕ, zero, suc, ◌+◌, ◌/◌, ◌%◌, ◌<◌, ◌^◌, ℤ, pos, negsuc, Bool, true, false, if◌then◌else◌, nat_lt, List, [], ◌∷◌, ◌++◌, Option, Some, None, Result, Ok, Err, codes, decimal}
+use Rattle.std.specs.Prelude.{ℕ, zero, suc, ◌+◌, ◌/◌, ◌%◌, ◌<◌, ◌^◌, ℤ, pos, negsuc, if◌then◌else◌, nat_lt, List, [], ◌∷◌, ◌++◌, Option, Some, None, codes, decimal}
 use Rattle.std.specs.List.{flat_map}
 use Rattle.hex.specs.Hex.{encode_lower}
 use Rattle.dw_bytes.specs.Faults.{number_of}
@@ -9,9 +9,10 @@ use Rattle.dw_bytes.specs.declared.target.AddressSize.{AddressSize}
 use Rattle.dw_bytes.specs.declared.target.AddressSize.TheVariants.{Four, Eight}
 use Rattle.dw_frame.specs.Records.{Cie, Fde}
 use Rattle.dw_rows.specs.Rules.{Rule, Cfa, Row, default, undefined, same_value, offset, val_offset, register, expression, val_expression, register_and_offset, cfa_expression}
+use Rattle.dw_rows.specs.Section.{Frame, cie_in, rows_in}
 use Rattle.dw_check.specs.Names.{name_of}
 use Rattle.dw_check.specs.declared.lines.Place.{Place}
-use Rattle.dw_check.specs.declared.lines.Place.TheVariants.{Frame, Lists, Expression}
+use Rattle.dw_check.specs.declared.lines.Place.TheVariants as places
 
 -- ---- numbers
 
@@ -52,9 +53,9 @@ signed_text (negsuc n) = codes "-" ++ decimal (suc n)
 -- ---- a refusal
 
 abbrev pub place_text : Place → List ℕ
-place_text Frame = codes "frame"
-place_text Lists = codes "lists"
-place_text Expression = codes "expression"
+place_text places.Frame = codes "frame"
+place_text places.Lists = codes "lists"
+place_text places.Expression = codes "expression"
 
 -- the number and the name of what is wrong
 unfoldable pub kind_text : FaultKind → List ℕ
@@ -102,7 +103,23 @@ unfoldable pub row_line : AddressSize → Row → List ℕ
 row_line size row = codes "row " ++ range_text size row.start row.end ++ codes " cfa=" ++ cfa_text row.cfa
     ++ flat_map register_text row.rules ++ codes "\n"
 
+-- the addresses of an FDE are ones of this size
+abbrev pub FitsFde : AddressSize → Fde → Type 0
+FitsFde size fde = fde.initial + fde.range < 16 ^ digits_of size
+
 -- the addresses of a row are ones of this size
 pub record Fits (size : AddressSize) (row : Row) : Type 0 where
   pub start : row.start < 16 ^ digits_of size
   pub end : row.end < 16 ^ digits_of size
+
+-- the line of an FDE and those of its rows; an FDE of a checked section has a CIE
+abbrev pub lines_of : AddressSize → Option Cie → Fde → List Row → List ℕ
+lines_of size (Some cie) fde rows = fde_line size cie fde ++ flat_map (row_line size) rows
+lines_of size None fde rows = []
+
+unfoldable pub fde_text : Frame → Fde → List ℕ
+fde_text frame fde = lines_of frame.target.address_size (cie_in frame fde) fde (rows_in frame fde)
+
+-- the FDEs of a section and their rows, in the order of the section
+unfoldable pub frame_text : Frame → List ℕ
+frame_text frame = flat_map (fde_text frame) frame.fdes

@@ -1,6 +1,6 @@
 //! What a command line asks for, and how that ends.
 
-ghost use Rattle.std.specs.Prelude.{◌≡◌, map};
+ghost use Rattle.std.specs.Prelude.{◌≡◌, length, map};
 ghost use Rattle.std.specs.String.{string_bytes};
 ghost use Rattle.dw_check.specs.Asked.{Asked};
 ghost use Rattle.dw_check.specs.Statuses.{status_of_usage, status_of_end};
@@ -39,7 +39,8 @@ impl Model for Request {
 impl Request {
     /// The names of the files that `run` wants the contents of, in that order.
     pub fn files(&self) -> &[String]
-        ensures { map (λ s. string_bytes s) result.now ≡ self.now.files }
+        ensures names { map (λ s. string_bytes s) result.now ≡ self.now.files }
+        ensures count { length result.now ≡ length self.now.files }
     {
         self.files.as_slice()
     }

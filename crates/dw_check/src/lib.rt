@@ -7,9 +7,15 @@ mod hexed;
 mod lines;
 mod names;
 mod numbers;
+mod output;
+mod runs;
 mod sink;
 mod words;
 
 pub use asked::{End, Request, Task, Usage};
+pub use runs::run;
 pub use sink::{Sink, Stopped, Through};
 pub use words::request;
+
+#[cfg(test)]
+mod tests;

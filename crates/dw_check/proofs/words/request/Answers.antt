@@ -1,7 +1,6 @@
-use Rattle.std.proofs.Common.{◌≡◌, ◌∙◌, [], ap, ap₂, sym, map, rules, subst, List}
-use Rattle.std.specs.Prelude.{IfOk, IfErr}
+use Rattle.std.proofs.Common.{◌≡◌, ◌∙◌, ap, ap₂, sym, map, rules, subst}
 use Rattle.std.specs.String.{string_bytes}
-use Rattle.clap.specs.Words.{HasKind, Text, app_of, fault_of, is_simple, is_simple_and_free, subcommand_of, subcommand_rows_of}
+use Rattle.clap.specs.Words.{HasKind, fault_of, is_simple, is_simple_and_free, subcommand_of, subcommand_rows_of}
 use Rattle.dw_check.specs.Commands.{dwcheck, Fits}
 use Rattle.dw_check.proofs.Shown.{answered, refused}
 use Rattle.dw_check.proofs.Simple.{is_simple_dwcheck, is_free_dwcheck}
