@@ -1,0 +1,43 @@
+-- The addresses of a checked section are ones of its target.
+use Rattle.std.proofs.Common.{◌≡◌, ℕ, ◌+◌, ◌*◌, ◌-◌, ◌^◌, ◌<◌, ◌≤◌, List, [], ◌∷◌, ap, sym, ◌∙◌, subst, arith}
+use Rattle.std.specs.Prelude.{Some, None}
+use Rattle.std.specs.List.{All}
+use Rattle.std.proofs.lemmas.List.Elements.{All-nil, All-cons}
+use Rattle.dw_bytes.specs.declared.target.Target.{Target}
+use Rattle.dw_bytes.specs.declared.target.AddressSize.{AddressSize}
+use Rattle.dw_bytes.specs.declared.target.AddressSize.TheVariants.{Four, Eight}
+use Rattle.dw_bytes.specs.Spelling.{bytes_of_address}
+use Rattle.dw_frame.specs.Records.{Cie, Fde}
+use Rattle.dw_frame.specs.Sections.{top_of}
+use Rattle.dw_rows.specs.Rules.{Row}
+use Rattle.dw_rows.specs.Judgement.{fde_fault}
+use Rattle.dw_rows.specs.UnwindRows.{Cover, rows_of}
+use Rattle.dw_rows.specs.Section.{Frame, cie_in, rows_in, rows_behind}
+use Rattle.dw_rows.proofs.Covering.{cover-rows}
+use Rattle.dw_check.specs.Text.{Fits, digits_of}
+
+below : (size : AddressSize) (n : ℕ) → n ≤ 2 ^ (8 * bytes_of_address size) - 1 → n < 16 ^ digits_of size
+below Four n h = omega arith
+below Eight n h = omega arith
+
+-- an address of a target has so many digits
+pub below_top : (target : Target) (size : AddressSize) (n : ℕ) → size ≡ target.address_size → n ≤ top_of target → n < 16 ^ digits_of size
+below_top target size n e h = subst (λ s. n < 16 ^ digits_of s) (sym e) (below target.address_size n h)
+
+-- rows up to an address begin and end at addresses
+cover_fits : (size : AddressSize) (from to : ℕ) (rows : List Row) → Cover from rows to → to < 16 ^ digits_of size
+    → (from < 16 ^ digits_of size) × All (λ row. Fits size row) rows
+cover_fits size from to [] h k = (subst (λ n. n < 16 ^ digits_of size) (sym h) k, All-nil (λ row. Fits size row))
+cover_fits size from to (row ∷ rows) h k =
+    let later = cover_fits size row.end to rows h.2 k in
+    let start : row.start < 16 ^ digits_of size = omega (arith, h.1, later.0) in
+    (subst (λ n. n < 16 ^ digits_of size) h.0 start, All-cons (λ r. Fits size r) row rows (record { start = start; end = later.0 }) later.1)
+
+-- the rows of an FDE of a checked section
+pub rows_fit : (frame : Frame) (size : AddressSize) (cie : Cie) (fde : Fde) (rows : List Row)
+    → size ≡ frame.target.address_size → cie_in frame fde ≡ Some cie → fde_fault cie fde ≡ None → rows ≡ rows_in frame fde
+    → fde.initial + fde.range ≤ top_of frame.target → All (λ row. Fits size row) rows
+rows_fit frame size cie fde rows z e none d h =
+    let found : rows ≡ rows_of cie fde = d ∙ ap (λ o. rows_behind o fde) e in
+    subst (λ l. All (λ row. Fits size row) l) (sym found)
+    (cover_fits size fde.initial (fde.initial + fde.range) (rows_of cie fde) (cover-rows cie fde none) (below_top frame.target size (fde.initial + fde.range) z h)).1

@@ -1,0 +1,47 @@
+-- One text written behind another.
+use Rattle.std.proofs.Common.{◌≡◌, ℕ, List, ◌++◌, subst, sym}
+use Rattle.std.specs.Prelude.{Option, Some, Result, Ok, Err}
+use Rattle.std.specs.Result.{IsErr}
+use Rattle.std.specs.List.{flat_map}
+use Rattle.std.specs.Io.KnownBytes.{Appends}
+use Rattle.dw_bytes.specs.declared.target.AddressSize.{AddressSize}
+use Rattle.dw_frame.specs.Records.{Cie, Fde}
+use Rattle.dw_rows.specs.Rules.{Row}
+use Rattle.dw_rows.specs.Section.{Frame, cie_in, rows_in}
+use Rattle.dw_check.specs.Taken.{AppendsFront}
+use Rattle.dw_check.specs.Text.{fde_line, row_line, lines_of, fde_text}
+use Rattle.dw_check.specs.Written.{Writes}
+use Rattle.dw_check.specs.declared.output.ReportFault.{ReportFault}
+use Rattle.dw_check.proofs.Growth.{appends_more, front_more, front_wider}
+
+-- all of one, and then what the second call wrote
+pub writes_then : (a b c : Option (List ℕ)) (r : Result (Unit {0}) ReportFault) (x y : List ℕ) → Appends a b x → Writes b c r y → Writes a c r (x ++ y)
+writes_then a b c (Ok _) x y h k = appends_more a b c x y h k
+writes_then a b c (Err _) x y h k = front_more a b c x y h k
+
+-- a call that failed wrote a beginning
+pub writes_front : (a b : Option (List ℕ)) (r : Result (Unit {0}) ReportFault) (x : List ℕ) → IsErr r → AppendsFront a b x → Writes a b r x
+writes_front a b (Ok _) x failed h = cc
+writes_front a b (Err _) x failed h = h
+
+-- the line of an FDE, and then what is written of its rows
+pub fde_then : (frame : Frame) (size : AddressSize) (cie : Cie) (fde : Fde) (rows : List Row) (a b c : Option (List ℕ)) (r : Result (Unit {0}) ReportFault)
+    → size ≡ frame.target.address_size → cie_in frame fde ≡ Some cie → rows ≡ rows_in frame fde
+    → Appends a b (fde_line size cie fde) → Writes b c r (flat_map (row_line size) rows) → Writes a c r (fde_text frame fde)
+unfolding fde_text
+fde_then frame size cie fde rows a b c r z e d h k =
+    let both : Writes a c r (lines_of size (Some cie) fde rows) = writes_then a b c r (fde_line size cie fde) (flat_map (row_line size) rows) h k in
+    subst (λ s. Writes a c r (lines_of s (cie_in frame fde) fde (rows_in frame fde))) z
+    (subst (λ o. Writes a c r (lines_of size o fde (rows_in frame fde))) (sym e)
+    (subst (λ l. Writes a c r (lines_of size (Some cie) fde l)) d both))
+
+-- a beginning of the line of an FDE
+pub fde_front : (frame : Frame) (size : AddressSize) (cie : Cie) (fde : Fde) (a b : Option (List ℕ)) (r : Result (Unit {0}) ReportFault)
+    → size ≡ frame.target.address_size → cie_in frame fde ≡ Some cie → IsErr r → AppendsFront a b (fde_line size cie fde) → Writes a b r (fde_text frame fde)
+unfolding fde_text
+fde_front frame size cie fde a b r z e failed h =
+    let rest : List ℕ = flat_map (row_line size) (rows_in frame fde) in
+    let both : Writes a b r (lines_of size (Some cie) fde (rows_in frame fde)) =
+    writes_front a b r (fde_line size cie fde ++ rest) failed (front_wider a b (fde_line size cie fde) rest h) in
+    subst (λ s. Writes a b r (lines_of s (cie_in frame fde) fde (rows_in frame fde))) z
+    (subst (λ o. Writes a b r (lines_of size o fde (rows_in frame fde))) (sym e) both)

@@ -1,0 +1,19 @@
+use Rattle.std.proofs.Common.{ap}
+use Rattle.dw_check.proofs.Addresses.{below_top, rows_fit}
+use Rattle.dw_check.proofs.Writing.{fde_then, fde_front}
+use Rattle.dw_check.proofs.output.write_fde_and_rows.Goals as goal
+
+pub write_fde-requires-clause-fits : goal.write_fde-requires-clause-fits
+write_fde-requires-clause-fits g c = below_top c.args.frame.now.target _ _ (ap (λ t. t.address_size) c.target-size.ensures) c.requires.fits
+
+pub write_rows-requires-clause-fit : goal.write_rows-requires-clause-fit
+write_rows-requires-clause-fit g c =
+    rows_fit c.args.frame.now _ _ _ _ (ap (λ t. t.address_size) c.target-size.ensures) c.cie_of-cie.ensures.cie c.cie_of-cie.ensures.fde_program c.rows.ensures c.requires.fits
+
+pub returns-in_err-write_fde-clause-written : goal.returns-in_err-write_fde-clause-written
+returns-in_err-write_fde-clause-written g c =
+    fde_front c.args.frame.now _ _ _ _ _ _ (ap (λ t. t.address_size) c.target-size.ensures) c.cie_of-cie.ensures.cie c.from_residual.ensures.0 c.in_err-write_fde.ensures.written
+
+pub returns-clause-written : goal.returns-clause-written
+returns-clause-written g c =
+    fde_then c.args.frame.now _ _ _ _ _ _ _ _ (ap (λ t. t.address_size) c.target-size.ensures) c.cie_of-cie.ensures.cie c.rows.ensures c.in_ok-write_fde.ensures.written c.write_rows.ensures.written

@@ -1,0 +1,82 @@
+-- The command line: its subcommands with their flags and words, and what its matches ask for.
+use Rattle.std.specs.Prelude.{◌≡◌, Bool, true, false, if◌then◌else◌, List, [], ◌∷◌, Option, Some, None, option_and_then, Result, Ok, Err, codes}
+use Rattle.std.specs.Option.{option_map_or, IsSomeAnd}
+use Rattle.std.specs.Str.{bytes_eq}
+use Rattle.clap.specs.declared.builder.ArgAction.TheVariants.{SetTrue}
+use Rattle.clap.specs.declared.error.ErrorKind.{ErrorKind}
+use Rattle.clap.specs.declared.error.ErrorKind.TheVariants.{OutOfMemory}
+use Rattle.clap.specs.Simple.{on_top}
+use Rattle.clap.specs.Words.{App, Kinds, Row, Rule, Text, fault_of, first_of, new_app, new_rule, subcommand_of, with_rule, with_subcommand}
+use Rattle.dw_bytes.specs.declared.target.Target.{Target}
+use Rattle.dw_bytes.specs.declared.target.Order.TheVariants.{Little, Big}
+use Rattle.dw_bytes.specs.declared.target.AddressSize.TheVariants.{Four, Eight}
+use Rattle.dw_check.specs.Asked.{Asked}
+use Rattle.dw_check.specs.declared.asked.Task.TheVariants.{Rows}
+use Rattle.dw_check.specs.declared.asked.Usage.{Usage}
+use Rattle.dw_check.specs.declared.asked.Usage.TheVariants.{Line, BadArgument, Memory}
+
+-- ---- the command line, in clap's words
+
+-- a flag by its long name
+abbrev pub flag_rule : Text → Rule
+flag_rule name = record (new_rule name) { long = Some name; action = Some SetTrue }
+
+-- a word that has to be there
+abbrev pub word_rule : Text → Rule
+word_rule name = record (new_rule name) { required = true }
+
+abbrev pub with_flags : App → App
+with_flags app = with_rule (with_rule (with_rule app (flag_rule (codes "big"))) (flag_rule (codes "addr4"))) (flag_rule (codes "hex"))
+
+abbrev pub with_word : App → Text → App
+with_word app name = with_rule app (word_rule name)
+
+abbrev pub rows_app : App
+rows_app = with_word (with_flags (new_app (codes "rows"))) (codes "FRAME")
+
+-- The whole command line. One of its subcommands has to be named.
+abbrev pub dwcheck : App
+dwcheck = on_top (λ s. record s { subcommand_required = true }) (with_subcommand (new_app (codes "dwcheck")) rows_app.top)
+
+-- ---- what the arguments of a subcommand ask for
+
+-- a flag was given
+abbrev pub flag_of : Text → List Row → Bool
+flag_of name rows = option_map_or (λ text. bytes_eq text (codes "true")) (first_of name rows) false
+
+-- little-endian with addresses of eight bytes, unless flags say otherwise
+abbrev pub target_of : List Row → Target
+target_of rows = record {
+  order = (if flag_of (codes "big") rows then Big else Little);
+  address_size = (if flag_of (codes "addr4") rows then Four else Eight);
+}
+
+-- the request of a subcommand with these arguments
+abbrev pub asked_by : Text → List Row → Option Asked
+asked_by name rows =
+    if bytes_eq name (codes "rows")
+    then option_and_then (λ frame. Some (record { task = Rows; target = target_of rows; hex = flag_of (codes "hex") rows; files = frame ∷ [] })) (first_of (codes "FRAME") rows)
+    else None
+
+-- An argument of a subcommand is none of those that its place takes. Those of `rows` are names of files.
+abbrev pub RefusesArgument : Text → List Row → Type 0
+RefusesArgument name rows = ⊥
+
+-- ---- what an answer has to be
+
+-- What an answer has to be where the words have these faults and these matches.
+abbrev pub Fits : Kinds → Option (Text × List Row) → Result Asked Usage → Type 0
+Fits faults matches (Ok asked) = (faults ≡ []) × IsSomeAnd matches (λ (name, rows). asked_by name rows ≡ Some asked)
+Fits faults matches (Err BadArgument) = (faults ≡ []) × IsSomeAnd matches (λ (name, rows). RefusesArgument name rows)
+Fits faults matches (Err (Line _)) = faults ≡ [] → ⊥
+Fits faults matches (Err Memory) = Unit {0}
+
+-- what an answer to these words has to be, by what clap promises of them
+abbrev pub Answers : List Text → Result Asked Usage → Type 0
+Answers words r = Fits (fault_of dwcheck words) (subcommand_of dwcheck words) r
+
+-- want of memory, or the text of an error that is none
+abbrev pub IsUsageOf : ErrorKind → Usage → Type 0
+IsUsageOf kind (Line _) = kind ≡ OutOfMemory → ⊥
+IsUsageOf kind BadArgument = ⊥
+IsUsageOf kind Memory = Unit {0}

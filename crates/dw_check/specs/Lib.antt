@@ -1,0 +1,9 @@
+pub mod Asked
+pub mod Commands
+pub mod Hexed
+pub mod Names
+pub mod Runs
+pub mod Statuses
+pub mod Taken
+pub mod Text
+pub mod Written

@@ -1,0 +1,19 @@
+-- The exit statuses.
+use Rattle.std.specs.Prelude.{ℕ}
+use Rattle.dw_check.specs.declared.asked.Usage.{Usage}
+use Rattle.dw_check.specs.declared.asked.Usage.TheVariants as usages
+use Rattle.dw_check.specs.declared.asked.End.{End}
+use Rattle.dw_check.specs.declared.asked.End.TheVariants as ends
+
+abbrev pub status_of_usage : Usage → ℕ
+status_of_usage (usages.Line _) = 2
+status_of_usage usages.BadArgument = 2
+status_of_usage usages.Memory = 3
+
+abbrev pub status_of_end : End → ℕ
+status_of_end ends.Done = 0
+status_of_end ends.Refused = 1
+status_of_end (ends.BadHex _) = 3
+status_of_end (ends.StateLine _) = 2
+status_of_end ends.Memory = 3
+status_of_end ends.Output = 3

@@ -1,0 +1,125 @@
+-- The texts that a run writes, a definition a form of line.
+use Rattle.std.specs.Prelude.{ℕ, zero, suc, ◌+◌, ◌/◌, ◌%◌, ◌<◌, ◌^◌, ℤ, pos, negsuc, if◌then◌else◌, nat_lt, List, [], ◌∷◌, ◌++◌, Option, Some, None, codes, decimal}
+use Rattle.std.specs.List.{flat_map}
+use Rattle.hex.specs.Hex.{encode_lower}
+use Rattle.dw_bytes.specs.Faults.{number_of}
+use Rattle.dw_bytes.specs.declared.fault.Fault.{Fault}
+use Rattle.dw_bytes.specs.declared.fault.FaultKind.{FaultKind}
+use Rattle.dw_bytes.specs.declared.target.AddressSize.{AddressSize}
+use Rattle.dw_bytes.specs.declared.target.AddressSize.TheVariants.{Four, Eight}
+use Rattle.dw_frame.specs.Records.{Cie, Fde}
+use Rattle.dw_rows.specs.Rules.{Rule, Cfa, Row, default, undefined, same_value, offset, val_offset, register, expression, val_expression, register_and_offset, cfa_expression}
+use Rattle.dw_rows.specs.Section.{Frame, cie_in, rows_in}
+use Rattle.dw_check.specs.Names.{name_of}
+use Rattle.dw_check.specs.declared.lines.Place.{Place}
+use Rattle.dw_check.specs.declared.lines.Place.TheVariants as places
+
+-- ---- numbers
+
+-- the digit for d
+abbrev pub digit : ℕ → ℕ
+digit d = if nat_lt d 10 then 48 + d else 87 + d
+
+-- the last k hex digits of n, the most significant first
+unfoldable pub hex_digits : ℕ → ℕ → List ℕ
+hex_digits zero n = []
+hex_digits (suc k) n = hex_digits k (n / 16) ++ digit (n % 16) ∷ []
+
+-- n in k hex digits
+abbrev pub hex_number : ℕ → ℕ → List ℕ
+hex_number k n = codes "0x" ++ hex_digits k n
+
+-- an offset in a section or in an expression
+abbrev pub offset_text : ℕ → List ℕ
+offset_text n = hex_number 8 n
+
+-- how many hex digits an address has
+abbrev pub digits_of : AddressSize → ℕ
+digits_of Four = 8
+digits_of Eight = 16
+
+abbrev pub address_text : AddressSize → ℕ → List ℕ
+address_text size n = hex_number (digits_of size) n
+
+-- the addresses from start to before end
+unfoldable pub range_text : AddressSize → ℕ → ℕ → List ℕ
+range_text size start end = address_text size start ++ codes ".." ++ address_text size end
+
+-- a whole number behind its sign, 0 as well
+abbrev pub signed_text : ℤ → List ℕ
+signed_text (pos n) = codes "+" ++ decimal n
+signed_text (negsuc n) = codes "-" ++ decimal (suc n)
+
+-- ---- a refusal
+
+abbrev pub place_text : Place → List ℕ
+place_text places.Frame = codes "frame"
+place_text places.Lists = codes "lists"
+place_text places.Expression = codes "expression"
+
+-- the number and the name of what is wrong
+unfoldable pub kind_text : FaultKind → List ℕ
+kind_text kind = decimal (number_of kind) ++ codes " " ++ name_of kind
+
+unfoldable pub refused_line : Place → Fault → List ℕ
+refused_line place fault = codes "refused " ++ kind_text fault.kind ++ codes " " ++ place_text place
+    ++ codes " " ++ offset_text fault.at ++ codes "\n"
+
+-- ---- an FDE and its rows (DWARF 5, section 6.4.1)
+
+-- the records of an FDE and of its CIE
+unfoldable pub records_text : Cie → Fde → List ℕ
+records_text cie fde = codes "fde " ++ offset_text fde.offset ++ codes " cie " ++ offset_text cie.offset
+
+unfoldable pub fde_line : AddressSize → Cie → Fde → List ℕ
+fde_line size cie fde = records_text cie fde ++ codes " " ++ range_text size fde.initial (fde.initial + fde.range)
+    ++ codes " ra r" ++ decimal cie.return_register ++ codes "\n"
+
+-- an expression is its bytes
+unfoldable pub expression_text : List ℕ → List ℕ
+expression_text bytes = codes "expr(" ++ encode_lower bytes ++ codes ")"
+
+-- A row that is shown has a rule for the CFA.
+abbrev pub cfa_text : Option Cfa → List ℕ
+cfa_text (Some (register_and_offset r n)) = codes "r" ++ decimal r ++ signed_text n
+cfa_text (Some (cfa_expression bytes)) = expression_text bytes
+cfa_text None = []
+
+-- what the caller's register is; default isn't shown
+abbrev pub rule_text : Rule → List ℕ
+rule_text default = []
+rule_text undefined = codes "u"
+rule_text same_value = codes "s"
+rule_text (offset n) = codes "[c" ++ signed_text n ++ codes "]"
+rule_text (val_offset n) = codes "c" ++ signed_text n
+rule_text (register r) = codes "r" ++ decimal r
+rule_text (expression bytes) = codes "[" ++ expression_text bytes ++ codes "]"
+rule_text (val_expression bytes) = expression_text bytes
+
+abbrev pub register_text : ℕ × Rule → List ℕ
+register_text (r, rule) = codes " r" ++ decimal r ++ codes "=" ++ rule_text rule
+
+unfoldable pub row_line : AddressSize → Row → List ℕ
+row_line size row = codes "row " ++ range_text size row.start row.end ++ codes " cfa=" ++ cfa_text row.cfa
+    ++ flat_map register_text row.rules ++ codes "\n"
+
+-- the addresses of an FDE are ones of this size
+abbrev pub FitsFde : AddressSize → Fde → Type 0
+FitsFde size fde = fde.initial + fde.range < 16 ^ digits_of size
+
+-- the addresses of a row are ones of this size
+pub record Fits (size : AddressSize) (row : Row) : Type 0 where
+  pub start : row.start < 16 ^ digits_of size
+  pub end : row.end < 16 ^ digits_of size
+
+-- the line of an FDE and those of its rows; an FDE of a checked section has a CIE
+abbrev pub lines_of : AddressSize → Option Cie → Fde → List Row → List ℕ
+lines_of size (Some cie) fde rows = fde_line size cie fde ++ flat_map (row_line size) rows
+lines_of size None fde rows = []
+
+unfoldable pub fde_text : Frame → Fde → List ℕ
+fde_text frame fde = lines_of frame.target.address_size (cie_in frame fde) fde (rows_in frame fde)
+
+-- the FDEs of a section and their rows, in the order of the section
+unfoldable pub frame_text : Frame → List ℕ
+frame_text frame = flat_map (fde_text frame) frame.fdes

@@ -1,0 +1,17 @@
+-- What a call that writes a text has written.
+use Rattle.std.specs.Prelude.{ℕ, Bool, true, false, List, Option, Result, Ok, Err}
+use Rattle.std.specs.Io.KnownBytes.{Appends}
+use Rattle.dw_check.specs.Taken.{AppendsFront}
+use Rattle.dw_check.specs.declared.output.ReportFault.{ReportFault}
+use Rattle.dw_check.specs.declared.output.ReportFault.TheVariants.{Memory, Write}
+
+-- A call that answers this wrote the text, or a beginning of it.
+abbrev pub Writes : Option (List ℕ) → Option (List ℕ) → Result (Unit {0}) ReportFault → List ℕ → Type 0
+Writes old new (Ok _) text = Appends old new text
+Writes old new (Err _) text = AppendsFront old new text
+
+-- a call that answers this left the sink stopped
+abbrev pub is_write : Result (Unit {0}) ReportFault → Bool
+is_write (Ok _) = false
+is_write (Err Memory) = false
+is_write (Err Write) = true

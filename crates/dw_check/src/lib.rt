@@ -1,0 +1,21 @@
+//! The texts of a checked section: what is asked for, and where its text goes.
+#![tactic(auto)]
+
+mod asked;
+mod command_line;
+mod hexed;
+mod lines;
+mod names;
+mod numbers;
+mod output;
+mod runs;
+mod sink;
+mod words;
+
+pub use asked::{End, Request, Task, Usage};
+pub use runs::run;
+pub use sink::{Sink, Stopped, Through};
+pub use words::request;
+
+#[cfg(test)]
+mod tests;

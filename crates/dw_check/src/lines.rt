@@ -1,0 +1,155 @@
+//! Lines of text, in a line that is used again.
+
+ghost use Rattle.std.specs.Prelude.{◌≡◌, ◌++◌, ◌+◌, ◌^◌, ◌<◌, Some, OnOk};
+ghost use Rattle.std.specs.List.{flat_map};
+ghost use Rattle.std.specs.String.{string_bytes};
+ghost use Rattle.dw_frame.specs.Views.{cie_of, fde_of};
+ghost use Rattle.dw_rows.specs.Views.{rule_of, cfa_rule_of};
+ghost use Rattle.dw_check.specs.Text.{place_text, kind_text, refused_line, records_text, fde_line, cfa_text, rule_text, register_text, row_line, digits_of, Fits};
+
+use crate::names::name;
+use crate::numbers::{push_offset, push_range, push_signed};
+use dw_bytes::{AddressSize, Fault, FaultKind};
+use dw_frame::{CommonInformationEntry, FrameDescriptionEntry};
+use dw_rows::{CfaRule, RegisterRule, RegisterRules, UnwindTableRow};
+use std::alloc::AllocError;
+
+/// What the offset of a refusal counts in.
+#[derive(Clone, Copy, Debug, PartialEq, Eq)]
+pub(crate) enum Place {
+    Frame,
+    Lists,
+    Expression,
+}
+
+impl Place {
+    fn text(self) -> &'static str
+        ensures { result.now ≡ place_text self }
+    {
+        match self {
+            Place::Frame => "frame",
+            Place::Lists => "lists",
+            Place::Expression => "expression",
+        }
+    }
+}
+
+#[tactic(auto, unfolding(crate::specs::Text::kind_text))]
+fn push_kind(line: &mut String, kind: FaultKind) -> Result<(), AllocError>
+    ensures { OnOk result (string_bytes line.new ≡ string_bytes line.old ++ kind_text kind) }
+{
+    let number = kind.number();
+    let name = name(kind);
+    write!(line, "{number} {name}")
+}
+
+/// The line of a refusal.
+#[tactic(auto, unfolding(crate::specs::Text::refused_line))]
+pub(crate) fn push_refused(line: &mut String, place: Place, fault: Fault) -> Result<(), AllocError>
+    ensures { OnOk result (string_bytes line.new ≡ string_bytes line.old ++ refused_line place fault) }
+{
+    line.push_str("refused ")?;
+    push_kind(line, fault.kind)?;
+    let place = place.text();
+    write!(line, " {place} ")?;
+    push_offset(line, fault.at)?;
+    line.push_str("\n")
+}
+
+#[tactic(auto, unfolding(crate::specs::Text::records_text))]
+fn push_records(
+    line: &mut String,
+    cie: &CommonInformationEntry<'_>,
+    fde: &FrameDescriptionEntry<'_>,
+) -> Result<(), AllocError>
+    ensures { OnOk result (string_bytes line.new ≡ string_bytes line.old ++ records_text (cie_of cie.now) (fde_of fde.now)) }
+{
+    line.push_str("fde ")?;
+    push_offset(line, fde.offset)?;
+    line.push_str(" cie ")?;
+    push_offset(line, cie.offset)
+}
+
+/// The line of an FDE.
+#[tactic(auto, unfolding(crate::specs::Text::fde_line))]
+pub(crate) fn push_fde(
+    line: &mut String,
+    size: AddressSize,
+    cie: &CommonInformationEntry<'_>,
+    fde: &FrameDescriptionEntry<'_>,
+) -> Result<(), AllocError>
+    requires { fde.now.initial_location + fde.now.address_range < 16 ^ digits_of size }
+    ensures { OnOk result (string_bytes line.new ≡ string_bytes line.old ++ fde_line size (cie_of cie.now) (fde_of fde.now)) }
+{
+    let end = fde.initial_location + fde.address_range;
+    push_records(line, cie, fde)?;
+    line.push_str(" ")?;
+    push_range(line, size, fde.initial_location, end)?;
+    let register = cie.return_address_register;
+    write!(line, " ra r{register}\n")
+}
+
+fn push_cfa(line: &mut String, rule: CfaRule) -> Result<(), AllocError>
+    ensures { OnOk result (string_bytes line.new ≡ string_bytes line.old ++ cfa_text (Some (cfa_rule_of rule))) }
+{
+    match rule {
+        CfaRule::RegisterAndOffset { register, offset } => {
+            write!(line, "r{register}")?;
+            push_signed(line, offset)
+        }
+    }
+}
+
+fn push_rule(line: &mut String, rule: RegisterRule) -> Result<(), AllocError>
+    ensures { OnOk result (string_bytes line.new ≡ string_bytes line.old ++ rule_text (rule_of rule)) }
+{
+    match rule {
+        RegisterRule::Default => Ok(()),
+        RegisterRule::Undefined => line.push_str("u"),
+        RegisterRule::SameValue => line.push_str("s"),
+        RegisterRule::Offset(offset) => {
+            line.push_str("[c")?;
+            push_signed(line, offset)?;
+            line.push_str("]")
+        }
+        RegisterRule::ValOffset(offset) => {
+            line.push_str("c")?;
+            push_signed(line, offset)
+        }
+        RegisterRule::Register(register) => write!(line, "r{register}"),
+    }
+}
+
+fn push_register(line: &mut String, register: u16, rule: RegisterRule) -> Result<(), AllocError>
+    ensures { OnOk result (string_bytes line.new ≡ string_bytes line.old ++ register_text (register, rule_of rule)) }
+{
+    write!(line, " r{register}=")?;
+    push_rule(line, rule)
+}
+
+fn push_rules(line: &mut String, rules: RegisterRules<'_>) -> Result<(), AllocError>
+    ensures { OnOk result (string_bytes line.new ≡ string_bytes line.old ++ flat_map register_text rules.entry) }
+{
+    for (register, rule) in rules {
+        push_register(line, register, rule)?;
+    }
+    Ok(())
+}
+
+/// The line of a row.
+#[tactic(auto, unfolding(crate::specs::Text::row_line))]
+pub(crate) fn push_row(
+    line: &mut String,
+    size: AddressSize,
+    row: &UnwindTableRow,
+) -> Result<(), AllocError>
+    requires { Fits size row.now }
+    ensures { OnOk result (string_bytes line.new ≡ string_bytes line.old ++ row_line size row.now) }
+{
+    line.push_str("row ")?;
+    push_range(line, size, row.start_address(), row.end_address())?;
+    line.push_str(" cfa=")?;
+    push_cfa(line, row.cfa())?;
+    push_rules(line, row.rules())?;
+    line.push_str("\n")
+}

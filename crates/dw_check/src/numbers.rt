@@ -1,0 +1,71 @@
+//! Numbers as text, at the end of a line that is used again.
+
+ghost use Rattle.std.specs.Prelude.{◌≡◌, ◌++◌, ◌^◌, ◌<◌, OnOk, codes};
+ghost use Rattle.std.specs.String.{string_bytes};
+ghost use Rattle.dw_check.specs.Text.{hex_number, offset_text, digits_of, address_text, range_text, signed_text};
+
+use dw_bytes::AddressSize;
+use std::alloc::AllocError;
+
+/// An offset in a section or in an expression.
+pub(crate) fn push_offset(line: &mut String, offset: u32) -> Result<(), AllocError>
+    ensures { OnOk result (string_bytes line.new ≡ string_bytes line.old ++ offset_text offset) }
+{
+    write!(line, "0x{offset:08x}")
+}
+
+fn push_short(line: &mut String, address: u64) -> Result<(), AllocError>
+    requires { address < 2 ^ 32 }
+    ensures { OnOk result (string_bytes line.new ≡ string_bytes line.old ++ hex_number 8 address) }
+{
+    write!(line, "0x{address:08x}")
+}
+
+fn push_long(line: &mut String, address: u64) -> Result<(), AllocError>
+    ensures { OnOk result (string_bytes line.new ≡ string_bytes line.old ++ hex_number 16 address) }
+{
+    write!(line, "0x{address:016x}")
+}
+
+/// An address.
+pub(crate) fn push_address(
+    line: &mut String,
+    size: AddressSize,
+    address: u64,
+) -> Result<(), AllocError>
+    requires { address < 16 ^ digits_of size }
+    ensures { OnOk result (string_bytes line.new ≡ string_bytes line.old ++ address_text size address) }
+{
+    match size {
+        AddressSize::Four => push_short(line, address),
+        AddressSize::Eight => push_long(line, address),
+    }
+}
+
+/// The addresses from `start` to before `end`.
+#[tactic(auto, unfolding(crate::specs::Text::range_text))]
+pub(crate) fn push_range(
+    line: &mut String,
+    size: AddressSize,
+    start: u64,
+    end: u64,
+) -> Result<(), AllocError>
+    requires start { start < 16 ^ digits_of size }
+    requires end { end < 16 ^ digits_of size }
+    ensures { OnOk result (string_bytes line.new ≡ string_bytes line.old ++ range_text size start end) }
+{
+    push_address(line, size, start)?;
+    line.push_str("..")?;
+    push_address(line, size, end)
+}
+
+/// A number behind its sign.
+pub(crate) fn push_signed(line: &mut String, number: i64) -> Result<(), AllocError>
+    ensures { OnOk result (string_bytes line.new ≡ string_bytes line.old ++ signed_text number) }
+{
+    if number < 0 {
+        write!(line, "{number}")
+    } else {
+        write!(line, "+{number}")
+    }
+}

@@ -1,0 +1,108 @@
+//! A destination for bytes that can stop.
+
+ghost use Rattle.std.specs.Prelude.{◌≡◌, ℕ, ◌≤◌, Bool, List, Option, true, false, take, length, MatchResult, OnOk, OnErr, IfOk};
+ghost use Rattle.std.specs.Io.KnownBytes.{Appends, Keeps};
+ghost use Rattle.dw_check.specs.Taken.{AppendsFront, stops, writer_of, has_failed};
+
+use std::io::Write;
+
+/// The sink takes no more.
+#[derive(Clone, Copy, Debug, PartialEq, Eq)]
+pub struct Stopped;
+
+/// A destination for bytes.
+pub trait Sink {
+    /// The bytes taken so far, where they are known.
+    ghost taken: { Self → Option (List ℕ) };
+
+    /// Whether it has stopped.
+    ghost has_stopped: { Self → Bool };
+
+    /// Whether it has stopped.
+    fn stopped(&self) -> bool
+        ensures { result ≡ has_stopped self.now };
+
+    /// Takes the beginning whose length it answers. It stops exactly where it fails, taking nothing, or
+    /// takes nothing of a piece that isn't empty.
+    fn write(&mut self, bytes: &[u8]) -> Result<usize, Stopped>
+        requires { has_stopped self.old ≡ false }
+        ensures bound { IfOk result (λ n. n ≤ length bytes.now) }
+        ensures taken { MatchResult result
+            (λ n. Appends (taken self.old) (taken self.new) (take n bytes.now))
+            (λ _. Keeps (taken self.old) (taken self.new)) }
+        ensures stops { has_stopped self.new ≡ stops result (length bytes.now) };
+}
+
+/// The sink over one of std's writers. It has stopped once the writer has failed, an interrupted write
+/// included.
+#[derive(Drop)]
+pub struct Through<W: Write> {
+    inner: W,
+    has_failed: bool,
+}
+
+impl<W: Write> Through<W> {
+    /// A sink that hasn't stopped.
+    pub fn new(inner: W) -> Self
+        ensures inner { writer_of result ≡ inner }
+        ensures runs { has_failed result ≡ false }
+    {
+        Through {
+            inner,
+            has_failed: false,
+        }
+    }
+
+    /// The writer.
+    pub fn into_inner(self) -> W
+        ensures { result ≡ writer_of self }
+    {
+        let Through {
+            inner,
+            has_failed: _,
+        } = self;
+        inner
+    }
+}
+
+impl<W: Write> Sink for Through<W> {
+    ghost taken = { λ t. W.contents t.inner };
+
+    ghost has_stopped = { λ t. t.has_failed };
+
+    fn stopped(&self) -> bool {
+        self.has_failed
+    }
+
+    fn write(&mut self, bytes: &[u8]) -> Result<usize, Stopped> {
+        match self.inner.write(bytes) {
+            Ok(n) => {
+                self.has_failed = n == 0 && bytes.len() != 0;
+                Ok(n)
+            }
+            Err(_) => {
+                self.has_failed = true;
+                Err(Stopped)
+            }
+        }
+    }
+}
+
+/// Hands the bytes on until all are taken or the sink has stopped.
+pub(crate) fn put<S: Sink>(sink: &mut S, bytes: &[u8]) -> Result<(), Stopped>
+    requires { S.has_stopped sink.old ≡ false }
+    ensures all { OnOk result (Appends (S.taken sink.old) (S.taken sink.new) bytes.now) }
+    ensures runs { OnOk result (S.has_stopped sink.new ≡ false) }
+    ensures front { OnErr result (AppendsFront (S.taken sink.old) (S.taken sink.new) bytes.now) }
+    ensures stopped { OnErr result (S.has_stopped sink.new ≡ true) }
+{
+    let mut done = 0;
+    while done < bytes.len() {
+        let n = sink.write(&bytes[done..])?;
+        if n == 0 {
+            return Err(Stopped);
+        }
+        done += n;
+    }
+    Ok(())
+}

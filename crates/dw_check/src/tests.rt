@@ -1,0 +1,306 @@
+//! Worked rows through `request` and `run`, and sinks that take little and stop.
+
+ghost use Rattle.std.specs.Prelude.{◌≡◌, length};
+
+use super::*;
+use std::alloc::Global;
+use std::io;
+use std::io::{Error, ErrorKind, Write};
+use std::test::Fail;
+
+/// A CIE of 24 bytes.
+const C1: &str = "14000000 ffffffff 04 00 08 00 01 78 10 0c0708 9001 00000000";
+
+/// The same with nops for instructions.
+const C1_NOPS: &str = "14000000 ffffffff 04 00 08 00 01 78 10 000000 0000 00000000";
+
+/// The head of an FDE of 32 bytes.
+const H1: &str = "1c000000 00000000 0010000000000000 2000000000000000";
+
+const FDE: &str = "fde 0x00000018 cie 0x00000000 0x0000000000001000..0x0000000000001020 ra r16\n";
+
+const ROWS: &str = "\
+row 0x0000000000001000..0x0000000000001001 cfa=r7+8 r16=[c-8]
+row 0x0000000000001001..0x0000000000001004 cfa=r7+16 r6=[c-16] r16=[c-8]
+row 0x0000000000001004..0x0000000000001020 cfa=r6+16 r6=[c-16] r16=[c-8]
+";
+
+/// The request of these words.
+fn asked(alloc: Global, words: &[&str]) -> Result<Result<Request, Usage>, Fail> {
+    let mut list: Vec<String> = Vec::new(alloc);
+    for word in words {
+        list.push(String::from_str(alloc, word)?)?;
+    }
+    Ok(request(alloc, list))
+}
+
+/// How a run of these words ends with this content of its file, and what it writes.
+fn shown(alloc: Global, words: &[&str], content: &[u8]) -> Result<(End, Vec<u8>), Fail> {
+    let request = asked(alloc, words)?.ok().ok_or("a request")?;
+    let files = vec![in alloc; Vec::from_slice(alloc, content)?]?;
+    let files = files.as_slice();
+    if files.len() != request.files().len() {
+        return Err("one file".into());
+    }
+    let mut sink = Through::new(Vec::new(alloc));
+    let end = run(alloc, &request, files, &mut sink);
+    Ok((end, sink.into_inner()))
+}
+
+/// Sections as hex text, and the texts of their rows.
+#[test]
+fn rows_of_sections(rt: HostRuntime) -> Result<(), Fail> {
+    for (parts, lines) in [
+        ([C1, H1, "41 0e10 8602 43 0d06"], [FDE, ROWS]),
+        (
+            [C1, H1, "0a 0e10 41 0b 000000"],
+            [
+                FDE,
+                "row 0x0000000000001000..0x0000000000001001 cfa=r7+16 r16=[c-8]\n\
+                 row 0x0000000000001001..0x0000000000001020 cfa=r7+8 r16=[c-8]\n",
+            ],
+        ),
+        (
+            [C1, H1, "60 00 00 00 00 00 00 00"],
+            [
+                FDE,
+                "row 0x0000000000001000..0x0000000000001020 cfa=r7+8 r16=[c-8]\n",
+            ],
+        ),
+        (
+            [C1, H1, "090305 0806 140702"],
+            [
+                FDE,
+                "row 0x0000000000001000..0x0000000000001020 cfa=r7+8 r3=r5 r6=s r7=c-16 r16=[c-8]\n",
+            ],
+        ),
+        (
+            [C1, H1, "0710 41 d0 00000000"],
+            [
+                FDE,
+                "row 0x0000000000001000..0x0000000000001001 cfa=r7+8 r16=u\n\
+                 row 0x0000000000001001..0x0000000000001020 cfa=r7+8 r16=[c-8]\n",
+            ],
+        ),
+    ] {
+        let text = format!(in rt.alloc(); "{}\n\t{}\r\n{}\n", parts[0], parts[1], parts[2])?;
+        let (end, written) = shown(
+            rt.alloc(),
+            &["dwcheck", "rows", "--hex", "f"],
+            text.as_bytes(),
+        )?;
+        let wanted = format!(in rt.alloc(); "{}{}", lines[0], lines[1])?;
+        assert_eq!(rt; end, End::Done);
+        assert_eq!(rt; written.as_slice(), wanted.as_bytes());
+    }
+    Ok(())
+}
+
+#[test]
+fn refusals(rt: HostRuntime) -> Result<(), Fail> {
+    for (parts, line) in [
+        (
+            [C1, H1, "61 00000000000000"],
+            "refused 15 LocationPastEnd frame 0x00000030\n",
+        ),
+        (
+            [C1_NOPS, H1, "41 0c0708 00000000"],
+            "refused 22 NoCfa frame 0x00000030\n",
+        ),
+        (
+            [
+                C1,
+                "1c000000 04000000 0010000000000000 2000000000000000",
+                "0000000000000000",
+            ],
+            "refused 9 NoSuchCie frame 0x0000001c\n",
+        ),
+        (
+            ["f0ffffff", "", ""],
+            "refused 3 ReservedLength frame 0x00000000\n",
+        ),
+        (
+            [C1, H1, "0b 00000000000000"],
+            "refused 16 RestoreWithoutRemember frame 0x00000030\n",
+        ),
+        (
+            [C1, H1, "0a 00000000000000"],
+            "refused 17 Unrestored frame 0x00000038\n",
+        ),
+    ] {
+        let text = format!(in rt.alloc(); "{}{}{}", parts[0], parts[1], parts[2])?;
+        let (end, written) = shown(
+            rt.alloc(),
+            &["dwcheck", "rows", "--hex", "f"],
+            text.as_bytes(),
+        )?;
+        assert_eq!(rt; end, End::Refused);
+        assert_eq!(rt; written.as_slice(), line.as_bytes());
+    }
+    Ok(())
+}
+
+/// The first row's section, cut at each length.
+#[test]
+fn cut_sections(rt: HostRuntime) -> Result<(), Fail> {
+    let text = format!(in rt.alloc(); "{C1}{H1} 41 0e10 8602 43 0d06")?;
+    let digits: Vec<u8> = text.bytes().filter(|b| *b != b' ').collect(rt.alloc())?;
+    assert_eq!(rt; digits.len(), 112);
+    for n in 0..57usize {
+        let at = match n {
+            0 | 24 | 56 => None,
+            1..=3 => Some(0u32),
+            4..=23 => Some(4),
+            25..=27 => Some(24),
+            _ => Some(28),
+        };
+        let (end, written) = shown(
+            rt.alloc(),
+            &["dwcheck", "rows", "--hex", "f"],
+            &digits[..2 * n],
+        )?;
+        match at {
+            Some(at) => {
+                let line = format!(in rt.alloc(); "refused 1 Truncated frame 0x{at:08x}\n")?;
+                assert_eq!(rt; end, End::Refused);
+                assert_eq!(rt; written.as_slice(), line.as_bytes());
+            }
+            None => {
+                assert_eq!(rt; end, End::Done);
+                assert_eq!(rt; written.is_empty(), n < 56);
+            }
+        }
+    }
+    Ok(())
+}
+
+/// A big-endian section with addresses of four bytes, and raw bytes.
+#[test]
+fn flags(rt: HostRuntime) -> Result<(), Fail> {
+    let text = "00000010 ffffffff 04 00 04 00 04 7c 0e 0c0d00 0000 \
+                00000014 00000000 00008000 00000010 42 0e08 8e01 000000";
+    let (end, written) = shown(
+        rt.alloc(),
+        &["dwcheck", "rows", "--big", "--addr4", "--hex", "f"],
+        text.as_bytes(),
+    )?;
+    assert_eq!(rt; end, End::Done);
+    assert_eq!(rt;
+        written.as_slice(),
+        "fde 0x00000014 cie 0x00000000 0x00008000..0x00008010 ra r14\n\
+          row 0x00008000..0x00008008 cfa=r13+0\n\
+          row 0x00008008..0x00008010 cfa=r13+8 r14=[c-4]\n"
+            .as_bytes()
+    );
+    let (end, written) = shown(
+        rt.alloc(),
+        &["dwcheck", "rows", "f"],
+        &[0xf0, 0xff, 0xff, 0xff],
+    )?;
+    assert_eq!(rt; end, End::Refused);
+    assert_eq!(rt;
+        written.as_slice(),
+        "refused 3 ReservedLength frame 0x00000000\n".as_bytes()
+    );
+    for text in ["0", "0g", "12 3", "00\u{b}"] {
+        let (end, written) = shown(
+            rt.alloc(),
+            &["dwcheck", "rows", "--hex", "f"],
+            text.as_bytes(),
+        )?;
+        assert_eq!(rt; end, End::BadHex(0));
+        assert_eq!(rt; end.status(), 3);
+        assert_eq!(rt; written.len(), 0);
+    }
+    Ok(())
+}
+
+#[test]
+fn words_that_ask_for_nothing(rt: HostRuntime) -> Result<(), Fail> {
+    for words in [
+        &["dwcheck"] as &[&str],
+        &["dwcheck", "rows"],
+        &["dwcheck", "rows", "a", "b"],
+        &["dwcheck", "rows", "--what", "a"],
+        &["dwcheck", "rows", "--hex", "--hex", "a"],
+        &["dwcheck", "--hex", "rows", "a"],
+        &["dwcheck", "columns", "a"],
+        &["dwcheck", "rows", "--help"],
+    ] {
+        let Err(usage) = asked(rt.alloc(), words)? else {
+            return Err("a request".into());
+        };
+        assert!(rt; matches!(usage, Usage::Line(_)));
+        assert_eq!(rt; usage.status(), 2);
+    }
+    Ok(())
+}
+
+/// A writer over an array that takes at most so many bytes a call, and fails after so many calls.
+struct Little {
+    bytes: [u8; 512],
+    len: usize,
+    most: usize,
+    calls: usize,
+}
+
+impl Write for Little {
+    fn write(&mut self, piece: &[u8]) -> io::Result<usize> {
+        if self.calls == 0 {
+            return Err(Error::from(ErrorKind::Other));
+        }
+        self.calls -= 1;
+        let room = 512usize.saturating_sub(self.len);
+        let n = piece.len().min(self.most).min(room);
+        for byte in &piece[..n] {
+            if self.len < 512 {
+                self.bytes[self.len] = *byte;
+                self.len += 1;
+            }
+        }
+        Ok(n)
+    }
+
+    fn flush(&mut self) -> io::Result<()> {
+        Ok(())
+    }
+}
+
+#[test]
+fn sinks_that_stop(rt: HostRuntime) -> Result<(), Fail> {
+    let request = asked(rt.alloc(), &["dwcheck", "rows", "--hex", "f"])?
+        .ok()
+        .ok_or("a request")?;
+    let text = format!(in rt.alloc(); "{C1}{H1} 41 0e10 8602 43 0d06")?;
+    let files = vec![in rt.alloc(); Vec::from_slice(rt.alloc(), text.as_bytes())?]?;
+    let files = files.as_slice();
+    assert!(rt; files.len() == request.files().len());
+    let whole = format!(in rt.alloc(); "{FDE}{ROWS}")?;
+    for (most, calls, len, end) in [
+        (1usize, 1000usize, whole.len(), End::Done),
+        (7, 1000, whole.len(), End::Done),
+        (50, 3, 126, End::Output),
+        (500, 0, 0, End::Output),
+        (0, 1, 0, End::Output),
+    ] {
+        let mut sink = Through::new(Little {
+            bytes: [0; 512],
+            len: 0,
+            most,
+            calls,
+        });
+        assert_eq!(rt; run(rt.alloc(), &request, files, &mut sink), end);
+        assert_eq!(rt; sink.stopped(), end == End::Output);
+        let Little {
+            bytes,
+            len: taken,
+            most: _,
+            calls: _,
+        } = sink.into_inner();
+        assert_eq!(rt; taken, len);
+        for (a, b) in bytes.iter().take(len).zip(whole.as_bytes()) {
+            assert_eq!(rt; *a, *b);
+        }
+    }
+    Ok(())
+}

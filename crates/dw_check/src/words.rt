@@ -1,0 +1,116 @@
+//! What a command line asks for.
+
+ghost use Rattle.std.specs.Prelude.{◌≡◌, ◌⊎◌, IfOk, IfErr, map, option_map};
+ghost use Rattle.std.specs.Option.{IsSomeAnd};
+ghost use Rattle.std.specs.String.{string_bytes};
+ghost use Rattle.clap.specs.Words.{found_of, rows_of, first_of, kind_of, subcommand_rows_of};
+ghost use Rattle.dw_check.specs.Commands.{flag_of, target_of, asked_by, RefusesArgument, IsUsageOf, Answers};
+ghost use Rattle.dw_check.specs.declared.asked.Usage.TheVariants.{Memory, BadArgument};
+
+use crate::asked::{Request, Task, Usage};
+use crate::command_line::whole_command;
+use clap::error::ErrorKind;
+use clap::{ArgMatches, Error};
+use dw_bytes::{AddressSize, Order, Target};
+use std::alloc::Global;
+
+/// The first value of an argument.
+fn text_of<'a>(matches: &ArgMatches<'a>, name: &str) -> Option<&'a str>
+    ensures { option_map (λ s. s.now) result ≡ first_of name.now (rows_of (found_of matches.now)) }
+{
+    matches.get_str(name)
+}
+
+/// Whether a flag was given.
+fn has_flag(matches: &ArgMatches<'_>, name: &str) -> bool
+    ensures { result ≡ flag_of name.now (rows_of (found_of matches.now)) }
+{
+    match text_of(matches, name) {
+        Some(text) => text == "true",
+        None => false,
+    }
+}
+
+/// The target that the flags name.
+fn target_of(matches: &ArgMatches<'_>) -> Target
+    ensures { result ≡ target_of (rows_of (found_of matches.now)) }
+{
+    let order = if has_flag(matches, "big") {
+        Order::Big
+    } else {
+        Order::Little
+    };
+    let address_size = if has_flag(matches, "addr4") {
+        AddressSize::Four
+    } else {
+        AddressSize::Eight
+    };
+    Target {
+        order,
+        address_size,
+    }
+}
+
+/// The name of a file. clap has seen to it that the word is there.
+fn file_of(alloc: Global, matches: &ArgMatches<'_>, name: &str) -> Result<String, Usage>
+    ensures ok { IfOk result (λ s. first_of name.now (rows_of (found_of matches.now)) ≡ Some (string_bytes s)) }
+    ensures err { IfErr result (λ e. e ≡ Memory) }
+{
+    match text_of(matches, name) {
+        Some(text) => Ok(String::from_str(alloc, text)?),
+        None => Err(Usage::Memory),
+    }
+}
+
+/// The request of a subcommand. The arms that answer `Memory` without asking for any are never reached:
+/// clap takes no other subcommand, and none without its words.
+fn request_of(alloc: Global, name: &str, matches: &ArgMatches<'_>) -> Result<Request, Usage>
+    ensures ok { IfOk result (λ r. asked_by name.now (rows_of (found_of matches.now)) ≡ Some r) }
+    ensures err { IfErr result (λ e. (e ≡ Memory) ⊎ ((e ≡ BadArgument) × RefusesArgument name.now (rows_of (found_of matches.now)))) }
+{
+    if name != "rows" {
+        return Err(Usage::Memory);
+    }
+    Ok(Request {
+        task: Task::Rows,
+        target: target_of(matches),
+        hex: has_flag(matches, "hex"),
+        files: vec![in alloc; file_of(alloc, matches, "FRAME")?]?,
+    })
+}
+
+/// The request of the subcommand that the matches have.
+fn answer_of(alloc: Global, matches: &ArgMatches<'_>) -> Result<Request, Usage>
+    ensures ok { IfOk result (λ r. IsSomeAnd (subcommand_rows_of matches.now) (λ (name, rows). asked_by name rows ≡ Some r)) }
+    ensures err { IfErr result (λ e. (e ≡ Memory) ⊎ ((e ≡ BadArgument) × IsSomeAnd (subcommand_rows_of matches.now) (λ (name, rows). RefusesArgument name rows))) }
+{
+    match matches.subcommand() {
+        Some((name, inner)) => request_of(alloc, name, inner),
+        None => Err(Usage::Memory),
+    }
+}
+
+/// The answer to what clap refuses.
+fn usage_of(alloc: Global, error: Error) -> Usage
+    ensures { IsUsageOf (kind_of error) result }
+{
+    if error.kind() == ErrorKind::OutOfMemory {
+        return Usage::Memory;
+    }
+    match error.to_string(alloc) {
+        Ok(text) => Usage::Line(text),
+        Err(_) => Usage::Memory,
+    }
+}
+
+/// What the words ask for, the program's name first among them. It is `Line` exactly where clap refuses
+/// the words, and `BadArgument` exactly where a word is none of those that its place takes, memory aside.
+pub fn request(alloc: Global, words: Vec<String>) -> Result<Request, Usage>
+    ensures { Answers (map (λ w. string_bytes w) words.items) result }
+{
+    let command = whole_command(alloc)?;
+    match command.try_get_matches_from(words.as_slice()) {
+        Ok(matches) => answer_of(alloc, &matches),
+        Err(error) => Err(usage_of(alloc, error)),
+    }
+}

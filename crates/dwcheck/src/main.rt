@@ -1,0 +1,137 @@
+//! The program: its words and files, standard output and standard error, and its exit status.
+#![tactic(auto)]
+
+ghost use Rattle.std.specs.Prelude.{◌≡◌, length, vec_len, IfOk};
+ghost use Rattle.dw_check.specs.Runs.{IsPlaceIn};
+
+use dw_check::{End, Request, Through, Usage};
+use std::alloc::{AllocError, AllocFailed};
+use std::io::{BufWriter, ErrorKind, Write};
+use std::process::ExitCode;
+use std::rt::{Env, Files};
+use std::{env, fs, io};
+
+/// How the program ends.
+#[derive(Debug, Drop)]
+enum Ending {
+    /// The words ask for nothing.
+    Usage(Usage),
+    /// This file can't be read.
+    CannotRead(String),
+    /// This file is to be hex text and isn't.
+    NotHex(String),
+    /// The run ended so otherwise.
+    Run(End),
+}
+
+impl Ending {
+    /// The exit status.
+    fn status(&self) -> u8 {
+        match self {
+            Ending::Usage(usage) => usage.status(),
+            Ending::CannotRead(_) | Ending::NotHex(_) => 3,
+            Ending::Run(end) => end.status(),
+        }
+    }
+}
+
+impl From<Usage> for Ending {
+    fn from(usage: Usage) -> Self {
+        Ending::Usage(usage)
+    }
+}
+
+impl From<AllocError> for Ending {
+    fn from(_: AllocError) -> Self {
+        Ending::Run(End::Memory)
+    }
+}
+
+impl<T: Drop> From<AllocFailed<T>> for Ending {
+    fn from(_: AllocFailed<T>) -> Self {
+        Ending::Run(End::Memory)
+    }
+}
+
+/// The words of the command line, or the program's name alone where the machine hands in none.
+fn words_of(rt: &(impl Env + AllocGlobal)) -> Result<Vec<String>, Ending> {
+    let Ok(given) = env::args(rt) else {
+        return Err(Ending::Run(End::Memory));
+    };
+    let mut words: Vec<String> = given.collect(rt.alloc())?;
+    if words.is_empty() {
+        words.push(String::from_str(rt.alloc(), "dwcheck")?)?;
+    }
+    Ok(words)
+}
+
+/// The bytes of a file.
+fn content_of(rt: &(impl Files + AllocGlobal), name: &String) -> Result<Vec<u8>, Ending> {
+    match fs::read(rt, name.as_str()) {
+        Ok(bytes) => Ok(bytes),
+        Err(e) if e.kind() == ErrorKind::OutOfMemory => Err(Ending::Run(End::Memory)),
+        Err(_) => Err(Ending::CannotRead(name.clone()?)),
+    }
+}
+
+/// The bytes of each file.
+fn contents_of(rt: &(impl Files + AllocGlobal), names: &[String]) -> Result<Vec<Vec<u8>>, Ending>
+    ensures { IfOk result (λ contents. vec_len contents ≡ length names.now) }
+{
+    let mut contents = Vec::new(rt.alloc());
+    for name in names {
+        contents.push(content_of(rt, name)?)?;
+    }
+    Ok(contents)
+}
+
+/// Runs the request over standard output.
+fn run(rt: &(impl Print + AllocGlobal), request: &Request, files: &[Vec<u8>]) -> End
+    requires { length files.now ≡ length request.now.files }
+    ensures { IsPlaceIn (length request.now.files) result }
+{
+    let Ok(out) = BufWriter::new(rt.alloc(), io::writer(rt)) else {
+        return End::Memory;
+    };
+    let mut sink = Through::new(out);
+    let end = dw_check::run(rt.alloc(), request, files, &mut sink);
+    let flushed = sink.into_inner().flush();
+    match (end, flushed) {
+        (End::Done | End::Refused, Err(_)) => End::Output,
+        (end, _) => end,
+    }
+}
+
+/// Does what the words ask for.
+fn work(rt: &(impl Env + Files + Print + AllocGlobal)) -> Result<Ending, Ending> {
+    let request = dw_check::request(rt.alloc(), words_of(rt)?)?;
+    let files = contents_of(rt, request.files())?;
+    match run(rt, &request, files.as_slice()) {
+        End::BadHex(place) => Ok(Ending::NotHex(request.files()[place].clone()?)),
+        end => Ok(Ending::Run(end)),
+    }
+}
+
+/// The line on standard error.
+fn explain(rt: &impl Eprint, ending: &Ending) -> io::Result<()> {
+    match ending {
+        Ending::Usage(Usage::Line(text)) => eprint!(rt; "{text}"),
+        Ending::Usage(Usage::BadArgument) => eprintln!(rt; "dwcheck: bad argument"),
+        Ending::CannotRead(name) => eprintln!(rt; "dwcheck: cannot read {name}"),
+        Ending::NotHex(name) => eprintln!(rt; "dwcheck: not hex: {name}"),
+        Ending::Run(End::StateLine(n)) => eprintln!(rt; "dwcheck: state line {n}"),
+        Ending::Usage(Usage::Memory) | Ending::Run(End::Memory) => {
+            eprintln!(rt; "dwcheck: out of memory")
+        }
+        Ending::Run(End::Output) => eprintln!(rt; "dwcheck: cannot write"),
+        Ending::Run(End::Done | End::Refused | End::BadHex(_)) => Ok(()),
+    }
+}
+
+fn main(rt: HostRuntime) -> ExitCode {
+    let ending = match work(&rt) {
+        Ok(ending) | Err(ending) => ending,
+    };
+    let _ = explain(&rt, &ending);
+    ExitCode::from(ending.status())
+}
