@@ -20,3 +20,4 @@ pub mod Meanings
 pub mod Goods
 pub mod Programs
 pub mod RowsOf
+mod WellFormedSections

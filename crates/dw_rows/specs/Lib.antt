@@ -12,3 +12,4 @@ pub mod Overlap
 pub mod Walks
 pub mod Good
 pub mod Clauses
+pub mod WellFormed

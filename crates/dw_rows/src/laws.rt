@@ -10,6 +10,9 @@ ghost use Rattle.dw_rows.specs.Judgement.{cie_fault, fde_fault};
 ghost use Rattle.dw_rows.specs.UnwindRows.{rows_of, has_address, Cover};
 ghost use Rattle.dw_rows.specs.Good.{rule_after, cfa_after, Match, IsGoodCieProgram, IsGoodFdeProgram};
 ghost use Rattle.dw_rows.specs.Clauses.{AreRules, AreRowsOf};
+ghost use Rattle.dw_bytes.specs.declared.target.Target.{Target};
+ghost use Rattle.dw_rows.specs.Section.{section_fault};
+ghost use Rattle.dw_rows.specs.WellFormed.{IsWellFormed};
 
 /// The rules after each instruction are those that the instruction gives, a restore_state those before
 /// its match. No others are.
@@ -45,4 +48,10 @@ pub fn rule_lists_are_rules()
     ensures list { (entries : List (ℕ × Rule)) → IsTable 0 entries → rule_list (rule_in entries) ≡ entries }
     ensures rules { (rules : ℕ → Rule) (r : ℕ) → r < 65536 → rule_in (rule_list rules) r ≡ rules r }
     ensures table { (rules : ℕ → Rule) → IsTable 0 (rule_list rules) }
+{}
+
+/// A section has no fault exactly where it is well formed: a concatenation of records whose CIE_pointers point to CIEs,
+/// with good programs, and no address covered by two FDEs.
+pub fn sections_without_fault_are_well_formed()
+    ensures { (target : Target) (section : List ℕ) → (section_fault target section ≡ None) ↔ IsWellFormed target section }
 {}

@@ -1,0 +1,24 @@
+-- A section that is right, in the standard's words (DWARF 5, section 6.4.1).
+use Rattle.std.specs.Prelude.{◌≡◌, ℕ, List, Contains}
+use Rattle.std.specs.List.{filter_map}
+use Rattle.dw_bytes.specs.declared.target.Target.{Target}
+use Rattle.dw_frame.specs.Records.{Cie, Fde, Record}
+use Rattle.dw_frame.specs.Sections.{AreRecords}
+use Rattle.dw_rows.specs.Good.{IsGoodCieProgram, IsGoodFdeProgram}
+use Rattle.dw_rows.specs.Section.{common_in, description_in, CoversOnce}
+
+abbrev pub cies_among : List Record → List Cie
+cies_among records = filter_map common_in records
+
+abbrev pub fdes_among : List Record → List Fde
+fdes_among records = filter_map description_in records
+
+-- The bytes are the spellings of records without a gap; each CIE_pointer is the offset of a CIE; all programs are good, those
+-- of FDEs behind their CIE's; and no address is covered by two FDEs.
+pub record IsWellFormed (target : Target) (section : List ℕ) : Type 0 where
+  pub records : List Record
+  pub spelled : AreRecords target 0 section records
+  pub pointers : (f : Fde) → Contains (fdes_among records) f → (c : Cie) × Contains (cies_among records) c × (c.offset ≡ f.cie_pointer)
+  pub cie_programs : (c : Cie) → Contains (cies_among records) c → IsGoodCieProgram c
+  pub fde_programs : (f : Fde) (c : Cie) → Contains (fdes_among records) f → Contains (cies_among records) c → c.offset ≡ f.cie_pointer → IsGoodFdeProgram c f
+  pub once : CoversOnce (fdes_among records)
