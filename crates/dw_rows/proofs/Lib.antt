@@ -21,3 +21,4 @@ pub mod Goods
 pub mod Programs
 pub mod RowsOf
 mod WellFormedSections
+pub mod Stacks

@@ -1,5 +1,6 @@
 pub mod Rules
 pub mod Views
+pub mod Kept
 pub mod Places
 pub mod Effects
 pub mod Meaning

@@ -9,15 +9,17 @@ pub mod laws;
 mod lookup;
 mod machine;
 mod map;
+mod remembered;
 mod row;
 mod row_iter;
+mod row_rules;
 mod section;
 mod walk;
 
 pub use check::{check_cie, check_fde};
 pub use frame::{CheckedFrame, check_frame};
 pub use lookup::{row_at, rows};
-pub use machine::MAX_REMEMBERED;
 pub use map::MAX_RULES;
+pub use remembered::MAX_REMEMBERED;
 pub use row::{CfaRule, RegisterRule, RegisterRules, UnwindTableRow};
 pub use row_iter::Rows;

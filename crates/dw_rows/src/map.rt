@@ -77,6 +77,14 @@ impl RegisterRuleMap {
         RegisterRuleMap { entries }
     }
 
+    /// Takes on other rules. Its cost is that of the rules that are there and of those that come.
+    pub fn copy_from(&mut self, other: &RegisterRuleMap)
+        ensures { self.new ≡ other.now }
+    {
+        self.entries.clear();
+        let _ = self.entries.try_extend_from_slice(other.entries.as_slice());
+    }
+
     /// Gives a register a rule. It is refused where there would be too many rules.
     pub fn set(&mut self, number: u16, rule: RegisterRule) -> Result<(), FaultKind>
         ensures { MatchResult result

@@ -1,0 +1,26 @@
+use Rattle.std.proofs.Common.{arith, ◌<◌, ◌≡◌, length, List, sym, ap, ◌∙◌, ◌∷◌}
+use Rattle.std.proofs.Math.ListN.{set}
+use Rattle.dw_rows.specs.declared.remembered.TheConstants.{MAX_REMEMBERED}
+use Rattle.dw_rows.specs.Kept.{Kept}
+use Rattle.dw_rows.specs.Places.{kept_in}
+use Rattle.dw_rows.proofs.Stacks.{stack-length, stack-pushed, kept-pushed}
+use Rattle.dw_rows.proofs.remembered.Remembered.push.Goals as goal
+
+pub offset_bounds-self-inside-self-inside : goal.offset_bounds-self-inside-self-inside
+offset_bounds-self-inside-self-inside c = omega (arith, c.self.invariant.within)
+
+pub listed : goal.listed
+listed c = omega (arith, stack-length c.self.inside.depth c.self.inside.rows c.self.invariant, ap (λ (l : List Kept). length l) c.self.view_is, c.requires, c.self.invariant.full)
+
+pub bounds-self-inside-self-inside : goal.bounds-self-inside-self-inside
+bounds-self-inside-self-inside c = omega (arith, stack-length c.self.inside.depth c.self.inside.rows c.self.invariant, ap (λ (l : List Kept). length l) c.self.view_is, c.requires)
+
+pub invariant_of-self : goal.invariant_of-self
+invariant_of-self c =
+    let room : c.self.inside.depth < MAX_REMEMBERED = omega (arith, stack-length c.self.inside.depth c.self.inside.rows c.self.invariant, ap (λ (l : List Kept). length l) c.self.view_is, c.requires) in
+    stack-pushed c.self.inside.depth c.self.inside.rows c.copy.result room c.self.invariant
+
+pub returns : goal.returns
+returns c =
+    let room : c.self.inside.depth < MAX_REMEMBERED = omega (arith, stack-length c.self.inside.depth c.self.inside.rows c.self.invariant, ap (λ (l : List Kept). length l) c.self.view_is, c.requires) in
+    kept-pushed c.self.inside.depth c.self.inside.rows c.copy.result room c.self.invariant ∙ ap (λ (k : Kept). k ∷ kept_in c.self.inside.depth c.self.inside.rows) c.copy.ensures ∙ ap (λ (l : List Kept). c.args.rules.now ∷ l) c.self.view_is

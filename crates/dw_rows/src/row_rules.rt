@@ -1,0 +1,95 @@
+//! The rules of a row together.
+
+use crate::map::RegisterRuleMap;
+use crate::row::{CfaRule, RegisterRule};
+use dw_bytes::FaultKind;
+use std::marker::Model;
+
+/// The rules of a row.
+#[derive(Drop)]
+pub struct RowRules {
+    cfa: Option<CfaRule>,
+    rules: RegisterRuleMap,
+}
+
+impl Model for RowRules {
+    ghost use Rattle.dw_rows.specs.Kept.{Kept};
+
+    ghost Value = { Kept };
+
+    ghost use Rattle.std.specs.Option.{option_map};
+    ghost use Rattle.dw_rows.specs.Views.{cfa_rule_of};
+
+    ghost view = { λ r. record { cfa = option_map cfa_rule_of r.cfa; rules = r.rules } };
+}
+
+impl RowRules {
+    ghost use Rattle.std.specs.Prelude.{◌≡◌, None, Some, []};
+    ghost use Rattle.std.specs.Option.{option_map};
+    ghost use Rattle.dw_rows.specs.Rules.{rule_in};
+    ghost use Rattle.dw_rows.specs.Views.{rule_of, cfa_rule_of};
+    ghost use Rattle.dw_rows.specs.Machine.{Sets};
+
+    /// No rules.
+    pub fn new() -> Self
+        ensures { result ≡ record { cfa = None; rules = [] } }
+    {
+        RowRules {
+            cfa: None,
+            rules: RegisterRuleMap::new(),
+        }
+    }
+
+    /// The same rules again.
+    pub fn copy(&self) -> Self
+        ensures { result ≡ self.now }
+    {
+        RowRules {
+            cfa: self.cfa,
+            rules: self.rules.copy(),
+        }
+    }
+
+    /// Takes on other rules.
+    pub fn copy_from(&mut self, other: &RowRules)
+        ensures { self.new ≡ other.now }
+    {
+        self.cfa = other.cfa;
+        self.rules.copy_from(&other.rules);
+    }
+
+    /// The CFA's rule.
+    pub fn cfa(&self) -> Option<CfaRule>
+        ensures { self.now.cfa ≡ option_map cfa_rule_of result }
+    {
+        self.cfa
+    }
+
+    /// Gives the CFA a rule.
+    pub fn set_cfa(&mut self, cfa: CfaRule)
+        ensures { self.new ≡ record { cfa = Some (cfa_rule_of cfa); rules = self.old.rules } }
+    {
+        self.cfa = Some(cfa);
+    }
+
+    /// The rules of registers.
+    pub fn register_rules(&self) -> &RegisterRuleMap
+        ensures { result.now ≡ self.now.rules }
+    {
+        &self.rules
+    }
+
+    /// The rule of a register.
+    pub fn register(&self, number: u16) -> RegisterRule
+        ensures { rule_of result ≡ rule_in self.now.rules number }
+    {
+        self.rules.register(number)
+    }
+
+    /// Gives a register a rule.
+    pub fn set(&mut self, register: u16, rule: RegisterRule) -> Result<(), FaultKind>
+        ensures { Sets self.old register (rule_of rule) result self.new }
+    {
+        self.rules.set(register, rule)
+    }
+}
