@@ -47,7 +47,7 @@ framed-found r format body after is =
       position = bytes.position ∙ ap (λ (t : List ℕ). a.0.1.position + length t) (sym value);
       target = bytes.target ∙ size.target;
     } in
-    subst (λ (p : (Format × Reading) × Reading). IsFramed r p.0.0 p.0.1 p.1) same here
+    subst (λ (p : (Format × Reading) × Reading). IsFramed r p.0.0 p.0.1 p.1) {x = ((a.0.0.0, body_of a.0.1 b.0.0), b.0.1)} {y = ((format, body), after)} same here
 
 pub framed-only : (r : Reading) (format : Format) (body after : Reading) → IsFramed r format body after → framed_at r ≡ Ok ((format, body), after)
 unfolding framed_at

@@ -7,7 +7,6 @@ ghost use Rattle.dw_frame.specs.Views.{reading_of, reading_from, record_of, foun
 
 use crate::entry::{CommonInformationEntry, Entry, FrameDescriptionEntry};
 use crate::header::Header;
-use crate::parse;
 use crate::program::{self, Program};
 use crate::records::Entries;
 use dw_bytes::{Fault, Format, Target};
@@ -73,8 +72,8 @@ pub fn entry<'a>(section: &'a [u8], target: Target, at: u32) -> Result<(Entry<'a
 {
     let (format, body) = frame(section, target, at)?;
     let mut cursor = body.cursor(body.start());
-    let header = parse::header(&mut cursor, format, target)?;
-    let program = body.from(cursor.position());
+    let header = Header::read(&mut cursor, format, target)?;
+    let program = body.from_offset(cursor.position());
     Ok((
         entry_from(at, format, body.start(), header, program),
         body.end(),
