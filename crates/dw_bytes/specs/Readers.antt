@@ -48,3 +48,8 @@ Parses read old result new = ParsesBy (λ v. v) read old result new
 abbrev pub IsRefusedWithin : {X : Type 0} → Reading → Result X Fault → Type 0
 IsRefusedWithin r (Ok x) = Unit {0}
 IsRefusedWithin r (Err fault) = fault.at ≤ r.position + length r.rest
+
+-- A call that answers with a value and the offset behind it read as read says from an offset on.
+abbrev pub ReadsFrom : {X Y : Type 0} → (X → Y) → (Reading → Result (Y × Reading) Fault) → (ℕ → Reading) → ℕ → Result (X × ℕ) Fault → Type 0
+ReadsFrom view read from at (Ok found) = read (from at) ≡ Ok (view found.0, from found.1)
+ReadsFrom view read from at (Err fault) = read (from at) ≡ Err fault

@@ -11,7 +11,7 @@ use Rattle.dw_bytes.specs.Reading.{Reading, Next, IsExact, ◌>>=◌, take_at, i
 use Rattle.dw_bytes.proofs.Readers.{bind-ok, ok-is, same-reading, length-exact, take-exact}
 use Rattle.dw_bytes.proofs.Sequences.{ReadsEach, Forward, forward, goes-on, stops, ends, all-read, sequence-exact}
 use Rattle.dw_frame.specs.Records.{Record}
-use Rattle.dw_frame.specs.Sections.{IsRecord, AreRecords, record_from, header_at, body_of, framed_at, record_at, section_from, entries_from, entries_of}
+use Rattle.dw_frame.specs.Sections.{Header, IsRecord, AreRecords, record_from, header_at, body_of, framed_at, record_at, section_from, entries_from, entries_of}
 use Rattle.dw_frame.proofs.Headers.{header-exact}
 
 -- ---- a length and its body
@@ -28,26 +28,33 @@ pub record IsFramed (r : Reading) (format : Format) (body after : Reading) : Typ
 abbrev framed : Format → Reading → Reading → Result ((Format × Reading) × Reading) Fault
 framed format body after = Ok ((format, body), after)
 
+framed-same : (r : Reading) (f g : Format) (x y a b : Reading) → framed f x a ≡ framed g y b → IsFramed r f x a → IsFramed r g y b
+framed-same r f g x y a b is h =
+    let same : ((f, x), a) ≡ ((g, y), b) = ok-is {A = Format × Reading} ((f, x), a) ((g, y), b) is in
+    subst (λ (p : (Format × Reading) × Reading). IsFramed r p.0.0 p.0.1 p.1) same h
+
+framed-parts : (r mid after : Reading) (format : Format) (n : ℕ) (bytes : List ℕ) → initial_length_at r ≡ Ok ((format, n), mid) → take_at n mid ≡ Ok (bytes, after) → IsFramed r format (body_of mid bytes) after
+framed-parts r mid after format n bytes first second =
+    let size = (length-exact r.target r refl).found (format, n) mid first in
+    let body = (take-exact r.target n mid size.target).found bytes after second in
+    let value : bytes ≡ body.bytes = body.spelled.value in
+    let count : length bytes ≡ n = ap length value ∙ body.spelled.count in
+    record {
+      front = size.bytes;
+      length_is = subst (λ k. Length r.target.order size.bytes (format, k)) (sym count) size.spelled;
+      parts = size.parts ∙ ap (λ (t : List ℕ). size.bytes ++ t) (body.parts ∙ ap (λ (t : List ℕ). t ++ after.rest) (sym value));
+      body_position = size.position;
+      body_target = size.target;
+      position = body.position ∙ ap (λ (t : List ℕ). mid.position + length t) (sym value);
+      target = body.target ∙ size.target;
+    }
+
 pub framed-found : (r : Reading) (format : Format) (body after : Reading) → framed_at r ≡ Ok ((format, body), after) → IsFramed r format body after
 unfolding framed_at
 framed-found r format body after is =
     let a = bind-ok (initial_length_at r) (λ size. take_at size.0.1 size.1 >>= λ bytes. framed size.0.0 (body_of size.1 bytes.0) bytes.1) ((format, body), after) is in
     let b = bind-ok (take_at a.0.0.1 a.0.1) (λ bytes. framed a.0.0.0 (body_of a.0.1 bytes.0) bytes.1) ((format, body), after) a.2 in
-    let size = (length-exact r.target r refl).found a.0.0 a.0.1 a.1 in
-    let bytes = (take-exact r.target a.0.0.1 a.0.1 size.target).found b.0.0 b.0.1 b.1 in
-    let same : ((a.0.0.0, body_of a.0.1 b.0.0), b.0.1) ≡ ((format, body), after) = ok-is {A = Format × Reading} ((a.0.0.0, body_of a.0.1 b.0.0), b.0.1) ((format, body), after) b.2 in
-    let value : b.0.0 ≡ bytes.bytes = bytes.spelled.value in
-    let count : length b.0.0 ≡ a.0.0.1 = ap length value ∙ bytes.spelled.count in
-    let here : IsFramed r a.0.0.0 (body_of a.0.1 b.0.0) b.0.1 = record {
-      front = size.bytes;
-      length_is = subst (λ n. Length r.target.order size.bytes (a.0.0.0, n)) (sym count) size.spelled;
-      parts = size.parts ∙ ap (λ (t : List ℕ). size.bytes ++ t) (bytes.parts ∙ ap (λ (t : List ℕ). t ++ b.0.1.rest) (sym value));
-      body_position = size.position;
-      body_target = size.target;
-      position = bytes.position ∙ ap (λ (t : List ℕ). a.0.1.position + length t) (sym value);
-      target = bytes.target ∙ size.target;
-    } in
-    subst (λ (p : (Format × Reading) × Reading). IsFramed r p.0.0 p.0.1 p.1) same here
+    framed-same r a.0.0.0 format (body_of a.0.1 b.0.0) body b.0.1 after b.2 (framed-parts r a.0.1 b.0.1 a.0.0.0 a.0.0.1 b.0.0 a.1 b.1)
 
 pub framed-only : (r : Reading) (format : Format) (body after : Reading) → IsFramed r format body after → framed_at r ≡ Ok ((format, body), after)
 unfolding framed_at
@@ -62,39 +69,42 @@ framed-only r format body after h =
 abbrev finish : Record × Reading → Result (Record × Reading) Fault
 finish x = Ok x
 
+record-same : (r : Reading) (x y : Record) (a b : Reading) → finish (x, a) ≡ finish (y, b) → Next (IsRecord r.target r.position) r x a → Next (IsRecord r.target r.position) r y b
+record-same r x y a b is h =
+    let same : (x, a) ≡ (y, b) = ok-is {A = Record} (x, a) (y, b) is in
+    subst (λ (p : Record × Reading). Next (IsRecord r.target r.position) r p.0 p.1) same h
+
+record-parts : (r body program after : Reading) (format : Format) (h : Header) → IsFramed r format body after → header_at r.target format body ≡ Ok (h, program) → Next (IsRecord r.target r.position) r (record_from r.position format body.position h program) after
+record-parts r body program after format h frame read =
+    let header = (header-exact r.target format body frame.body_target).found h program read in
+    let begins : program.position ≡ r.position + length frame.front + length header.bytes = omega (arith, header.position, frame.body_position) in
+    let here : Reading = record { target = r.target; position = r.position + length frame.front + length header.bytes; rest = program.rest } in
+    let program_is : program ≡ here = same-reading program here (header.target ∙ frame.body_target) begins refl in
+    record {
+      bytes = frame.front ++ body.rest;
+      spelled = record {
+        format = format;
+        header = h;
+        front = frame.front;
+        fields = header.bytes;
+        program = program.rest;
+        parts = ap (λ (t : List ℕ). frame.front ++ t) header.parts;
+        length_is = subst (λ (t : List ℕ). Length r.target.order frame.front (format, length t)) header.parts frame.length_is;
+        header_is = header.spelled;
+        record_is = ap (λ n. record_from r.position format n h program) frame.body_position ∙ ap (λ (p : Reading). record_from r.position format (r.position + length frame.front) h p) program_is;
+      };
+      parts = frame.parts ∙ sym (append_assoc frame.front body.rest after.rest);
+      position = omega (arith, frame.position, frame.body_position, length-append frame.front body.rest);
+      target = frame.target;
+    }
+
 pub record-found : (r : Reading) (x : Record) (after : Reading) → record_at r ≡ Ok (x, after) → Next (IsRecord r.target r.position) r x after
 unfolding record_at
 record-found r x after is =
     let a = bind-ok (framed_at r) (λ f. header_at r.target f.0.0 f.0.1 >>= λ h. finish (record_from r.position f.0.0 f.0.1.position h.0 h.1, f.1)) (x, after) is in
-    let format = a.0.0.0 in
-    let body = a.0.0.1 in
-    let end = a.0.1 in
-    let b = bind-ok (header_at r.target format body) (λ h. finish (record_from r.position format body.position h.0 h.1, end)) (x, after) a.2 in
-    let frame = framed-found r format body end a.1 in
-    let header = (header-exact r.target format body frame.body_target).found b.0.0 b.0.1 b.1 in
-    let program = b.0.1 in
-    let same : (record_from r.position format body.position b.0.0 program, end) ≡ (x, after) = ok-is {A = Record} (record_from r.position format body.position b.0.0 program, end) (x, after) b.2 in
-    let rest = program.rest in
-    let program_is : program ≡ record { target = r.target; position = r.position + length frame.front + length header.bytes; rest = rest } =
-    same-reading program (record { target = r.target; position = r.position + length frame.front + length header.bytes; rest = rest }) (header.target ∙ frame.body_target) (omega (arith, header.position, frame.body_position)) refl in
-    let here : Next (IsRecord r.target r.position) r (record_from r.position format body.position b.0.0 program) end = record {
-      bytes = frame.front ++ body.rest;
-      spelled = record {
-        format = format;
-        header = b.0.0;
-        front = frame.front;
-        fields = header.bytes;
-        program = rest;
-        parts = ap (λ (t : List ℕ). frame.front ++ t) header.parts;
-        length_is = subst (λ (t : List ℕ). Length r.target.order frame.front (format, length t)) header.parts frame.length_is;
-        header_is = header.spelled;
-        record_is = ap (λ n. record_from r.position format n b.0.0 program) frame.body_position ∙ ap (λ (p : Reading). record_from r.position format (r.position + length frame.front) b.0.0 p) program_is;
-      };
-      parts = frame.parts ∙ sym (append_assoc frame.front body.rest end.rest);
-      position = omega (arith, frame.position, frame.body_position, length-append frame.front body.rest);
-      target = frame.target;
-    } in
-    subst (λ (p : Record × Reading). Next (IsRecord r.target r.position) r p.0 p.1) same here
+    let b = bind-ok (header_at r.target a.0.0.0 a.0.0.1) (λ h. finish (record_from r.position a.0.0.0 a.0.0.1.position h.0 h.1, a.0.1)) (x, after) a.2 in
+    let frame = framed-found r a.0.0.0 a.0.0.1 a.0.1 a.1 in
+    record-same r (record_from r.position a.0.0.0 a.0.0.1.position b.0.0 b.0.1) x a.0.1 after b.2 (record-parts r a.0.0.1 b.0.1 a.0.1 a.0.0.0 b.0.0 frame b.1)
 
 pub record-only : (r : Reading) (x : Record) (after : Reading) → Next (IsRecord r.target r.position) r x after → record_at r ≡ Ok (x, after)
 unfolding record_at

@@ -2,87 +2,115 @@
 
 use dw_ops::Expression;
 
-/// A call frame instruction, its operands as they are spelled (DWARF 5, sections 6.4.2 and 7.24).
+/// A call frame instruction, its operands as they are spelled (DWARF 5, sections 6.4.2 and 7.24): a
+/// delta is to be multiplied by the code alignment factor of the CIE, and a factored offset by its data
+/// alignment factor. Offsets are in bytes, and register numbers are those of the rules' columns.
 #[derive(Clone, Copy, Debug)]
 pub enum CallFrameInstruction<'a> {
+    /// The location moves on by a delta of six bits.
     AdvanceLoc {
         delta: u8,
     },
+    /// A register of six bits is saved at an offset from the CFA.
     Offset {
         register: u16,
         factored_offset: u64,
     },
+    /// A register of six bits has the rule again that the CIE gave it.
     Restore {
         register: u16,
     },
+    /// Nothing.
     Nop,
+    /// The location becomes an address.
     SetLoc {
         address: u64,
     },
+    /// The location moves on by a delta of one byte.
     AdvanceLoc1 {
         delta: u8,
     },
+    /// The location moves on by a delta of two bytes.
     AdvanceLoc2 {
         delta: u16,
     },
+    /// The location moves on by a delta of four bytes.
     AdvanceLoc4 {
         delta: u32,
     },
+    /// A register is saved at an offset from the CFA.
     OffsetExtended {
         register: u16,
         factored_offset: u64,
     },
+    /// A register has the rule again that the CIE gave it.
     RestoreExtended {
         register: u16,
     },
+    /// A register has no content that can be known.
     Undefined {
         register: u16,
     },
+    /// A register has the content that it had.
     SameValue {
         register: u16,
     },
+    /// A register's content is in another one.
     Register {
         register: u16,
         source: u16,
     },
+    /// The rules are remembered.
     RememberState,
+    /// The rules that were remembered last come back.
     RestoreState,
+    /// The CFA is a register and an offset.
     DefCfa {
         register: u16,
         offset: u64,
     },
+    /// The CFA's register is another one.
     DefCfaRegister {
         register: u16,
     },
+    /// The CFA's offset is another one.
     DefCfaOffset {
         offset: u64,
     },
+    /// The CFA is what an expression gives.
     DefCfaExpression {
         expression: Expression<'a>,
     },
+    /// A register is saved at the address that an expression gives.
     Expression {
         register: u16,
         expression: Expression<'a>,
     },
+    /// A register is saved at a signed offset from the CFA.
     OffsetExtendedSf {
         register: u16,
         factored_offset: i64,
     },
+    /// The CFA is a register and a signed offset.
     DefCfaSf {
         register: u16,
         factored_offset: i64,
     },
+    /// The CFA's offset is another, signed one.
     DefCfaOffsetSf {
         factored_offset: i64,
     },
+    /// A register's content is the CFA and an offset.
     ValOffset {
         register: u16,
         factored_offset: u64,
     },
+    /// A register's content is the CFA and a signed offset.
     ValOffsetSf {
         register: u16,
         factored_offset: i64,
     },
+    /// A register's content is what an expression gives.
     ValExpression {
         register: u16,
         expression: Expression<'a>,

@@ -45,6 +45,8 @@ pub struct FrameDescriptionEntry<'a> {
 /// A record of a section.
 #[derive(Clone, Copy, Debug)]
 pub enum Entry<'a> {
+    /// A common information entry.
     Cie(CommonInformationEntry<'a>),
+    /// A frame description entry.
     Fde(FrameDescriptionEntry<'a>),
 }

@@ -2,6 +2,8 @@
 
 ghost use Rattle.std.specs.Prelude.{◌+◌, ◌<◌, ◌^◌};
 
+use dw_bytes::{AddressSize, Cursor, Fault, FaultKind, Format, Target};
+
 /// What stands between the length of a CIE and its program.
 #[derive(Clone, Copy, Debug)]
 pub struct CieHeader {
@@ -24,4 +26,115 @@ pub struct FdeHeader {
 pub enum Header {
     Cie(CieHeader),
     Fde(FdeHeader),
+}
+
+impl CieHeader {
+    ghost use Rattle.dw_bytes.specs.Reading.{GoesOn};
+    ghost use Rattle.dw_bytes.specs.Readers.{ParsesBy, Parses, IsRefusedWithin};
+    ghost use Rattle.dw_frame.specs.Sections.{byte_at, cie_header_at};
+    ghost use Rattle.dw_frame.specs.Heads.{cie_head};
+
+    /// A byte that can have one value alone.
+    fn byte(cursor: &mut Cursor<'_>, value: u8, kind: FaultKind) -> Result<u8, Fault>
+        ensures exact { Parses (byte_at kind value) cursor.old result cursor.new }
+        ensures within { IsRefusedWithin cursor.old result }
+        ensures goes_on { GoesOn cursor.old cursor.new }
+    {
+        let at = cursor.position();
+        let byte = cursor.u8()?;
+        if byte == value {
+            Ok(byte)
+        } else {
+            Err(Fault { kind, at })
+        }
+    }
+
+    /// What is behind the id of a CIE.
+    fn read(cursor: &mut Cursor<'_>, target: Target) -> Result<Self, Fault>
+        ensures exact { ParsesBy cie_head (cie_header_at target) cursor.old result cursor.new }
+        ensures within { IsRefusedWithin cursor.old result }
+        ensures goes_on { GoesOn cursor.old cursor.new }
+    {
+        let address_size = match target.address_size {
+            AddressSize::Four => 4,
+            AddressSize::Eight => 8,
+        };
+        Self::byte(cursor, 4, FaultKind::Version)?;
+        Self::byte(cursor, 0, FaultKind::Augmentation)?;
+        Self::byte(cursor, address_size, FaultKind::AddressSize)?;
+        Self::byte(cursor, 0, FaultKind::SegmentSize)?;
+        let code_alignment_factor = cursor.uleb()?;
+        let data_alignment_factor = cursor.sleb()?;
+        let at = cursor.position();
+        let Ok(return_address_register) = u16::try_from(cursor.uleb()?) else {
+            return Err(Fault {
+                kind: FaultKind::RegisterNumber,
+                at,
+            });
+        };
+        Ok(CieHeader {
+            code_alignment_factor,
+            data_alignment_factor,
+            return_address_register,
+        })
+    }
+}
+
+impl FdeHeader {
+    ghost use Rattle.dw_bytes.specs.Reading.{GoesOn};
+    ghost use Rattle.dw_bytes.specs.Readers.{ParsesBy, IsRefusedWithin};
+    ghost use Rattle.dw_frame.specs.Sections.{fde_header_at};
+    ghost use Rattle.dw_frame.specs.Heads.{fde_head};
+
+    /// What is behind the CIE_pointer of an FDE.
+    fn read(cursor: &mut Cursor<'_>, target: Target, cie_pointer: u64) -> Result<Self, Fault>
+        ensures exact { ParsesBy fde_head (fde_header_at target cie_pointer) cursor.old result cursor.new }
+        ensures within { IsRefusedWithin cursor.old result }
+        ensures goes_on { GoesOn cursor.old cursor.new }
+    {
+        let top = match target.address_size {
+            AddressSize::Four => 0xffff_ffff,
+            AddressSize::Eight => u64::MAX,
+        };
+        let initial_location = cursor.address()?;
+        let at = cursor.position();
+        let address_range = cursor.address()?;
+        match initial_location.checked_add(address_range) {
+            Some(end) if end <= top => Ok(FdeHeader {
+                cie_pointer,
+                initial_location,
+                address_range,
+            }),
+            _ => Err(Fault {
+                kind: FaultKind::RangePastTop,
+                at,
+            }),
+        }
+    }
+}
+
+impl Header {
+    ghost use Rattle.dw_bytes.specs.Reading.{GoesOn};
+    ghost use Rattle.dw_bytes.specs.Readers.{ParsesBy, IsRefusedWithin};
+    ghost use Rattle.dw_frame.specs.Sections.{header_at};
+    ghost use Rattle.dw_frame.specs.Heads.{head_of};
+
+    /// The header of a record in its format, from the first byte of the record's body on.
+    #[tactic(auto, unfolding(crate::specs::Sections::header_at))]
+    pub fn read(cursor: &mut Cursor<'_>, format: Format, target: Target) -> Result<Self, Fault>
+        ensures exact { ParsesBy head_of (header_at target format) cursor.old result cursor.new }
+        ensures within { IsRefusedWithin cursor.old result }
+        ensures goes_on { GoesOn cursor.old cursor.new }
+    {
+        let cie_id = match format {
+            Format::Dwarf32 => 0xffff_ffff,
+            Format::Dwarf64 => u64::MAX,
+        };
+        let id = cursor.offset(format)?;
+        if id == cie_id {
+            Ok(Header::Cie(CieHeader::read(cursor, target)?))
+        } else {
+            Ok(Header::Fde(FdeHeader::read(cursor, target, id)?))
+        }
+    }
 }

@@ -8,7 +8,6 @@ mod entry;
 mod header;
 mod instructions;
 pub mod laws;
-mod parse;
 mod program;
 mod records;
 mod sections;

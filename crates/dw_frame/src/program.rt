@@ -58,7 +58,7 @@ impl<'a> Program<'a> {
     }
 
     /// What is left of it from one of its offsets on.
-    pub(crate) fn from(&self, at: u32) -> Program<'a>
+    pub(crate) fn from_offset(&self, at: u32) -> Program<'a>
         requires { at ≤ length self.now.section.now }
         ensures { reading_of result ≡ reading_from self.now at }
     {

@@ -1,13 +1,13 @@
 //! Reading the records of a section.
 
 ghost use Rattle.std.specs.Prelude.{◌≡◌, ◌≤◌, ◌<◌, ◌^◌, length, IfErr, IfOk, MatchResult, Ok, Err};
+ghost use Rattle.dw_bytes.specs.Readers.{ReadsFrom};
 ghost use Rattle.dw_frame.specs.Sections.{section_from, framed_at, record_at, record_from, entries_of, cie_among};
 ghost use Rattle.dw_frame.specs.Heads.{head_of};
 ghost use Rattle.dw_frame.specs.Views.{reading_of, reading_from, record_of, found_cie};
 
 use crate::entry::{CommonInformationEntry, Entry, FrameDescriptionEntry};
 use crate::header::Header;
-use crate::parse;
 use crate::program::{self, Program};
 use crate::records::Entries;
 use dw_bytes::{Fault, Format, Target};
@@ -67,14 +67,14 @@ fn entry_from<'a>(
 pub fn entry<'a>(section: &'a [u8], target: Target, at: u32) -> Result<(Entry<'a>, u32), Fault>
     requires inside { at ≤ length section.now }
     requires short { length section.now < 2 ^ 32 }
-    ensures exact { MatchResult result (λ e. record_at (section_from target section.now at) ≡ Ok (record_of e.0, section_from target section.now e.1)) (λ fault. record_at (section_from target section.now at) ≡ Err fault) }
+    ensures exact { ReadsFrom record_of record_at (section_from target section.now) at result }
     ensures forward { IfOk result (λ e. at < e.1 × e.1 ≤ length section.now) }
     ensures inside { IfErr result (λ fault. fault.at ≤ length section.now) }
 {
     let (format, body) = frame(section, target, at)?;
     let mut cursor = body.cursor(body.start());
-    let header = parse::header(&mut cursor, format, target)?;
-    let program = body.from(cursor.position());
+    let header = Header::read(&mut cursor, format, target)?;
+    let program = body.from_offset(cursor.position());
     Ok((
         entry_from(at, format, body.start(), header, program),
         body.end(),

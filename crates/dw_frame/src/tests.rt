@@ -245,6 +245,42 @@ fn records_of_both_formats_and_orders(rt: HostRuntime) -> Result<(), Fail> {
 }
 
 #[test]
+fn a_register_above_the_last(rt: HostRuntime) {
+    let mut section = FUNCTION;
+    section[48..].copy_from_slice(&[5, 0x80, 0x80, 4, 1, 0, 0, 0]);
+    assert_eq!(rt; first_fault(&section, LITTLE), None);
+    assert_eq!(rt;
+        first_program_fault(&section, LITTLE),
+        Some((FaultKind::RegisterNumber, 48))
+    );
+}
+
+#[test]
+fn sizes_of_any_number_of_bytes(rt: HostRuntime) {
+    let mut section = [0; 25];
+    section[..24].copy_from_slice(&FUNCTION[..24]);
+    section[0] = 0x15;
+    let mut records = entries(&section, LITTLE);
+    assert!(rt; matches!(records.next(), Some(Ok(Entry::Cie(_)))));
+    assert!(rt; records.next().is_none());
+}
+
+/// An FDE in the 32-bit format behind a CIE in the 64-bit one.
+#[test]
+fn formats_side_by_side(rt: HostRuntime) -> Result<(), Fail> {
+    let mut section = [0; 64];
+    section[..32].copy_from_slice(&LONG[..32]);
+    section[32..].copy_from_slice(&FUNCTION[24..]);
+    let entry = entries(&section, LITTLE).nth(1).ok_or("a record")?;
+    let entry = entry.ok().ok_or("no fault")?;
+    assert_eq!(rt;
+        header_of(&entry),
+        (32, Format::Dwarf32, 0, 36, 0x1020, 56, 64)
+    );
+    Ok(())
+}
+
+#[test]
 fn sections_cut_short(rt: HostRuntime) {
     for end in 0..=FUNCTION.len() {
         let wanted = match end {
