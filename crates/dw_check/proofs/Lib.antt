@@ -1,8 +1,10 @@
-pub mod Addresses
 pub mod Growth
+pub mod Lookups
 pub mod Padded
+pub mod Parsed
 pub mod Replies
 pub mod Sent
 pub mod Shown
 pub mod Simple
+pub mod Within
 pub mod Writing

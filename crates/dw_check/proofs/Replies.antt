@@ -11,13 +11,14 @@ use Rattle.dw_bytes.specs.declared.fault.FaultKind.TheVariants.{SectionTooLong}
 use Rattle.dw_bytes.specs.declared.fault.FaultKind.TheVariants as kinds
 use Rattle.dw_rows.specs.Section.{section_fault, frame_of}
 use Rattle.dw_bytes.specs.Answers.{memory}
-use Rattle.dw_check.specs.Text.{frame_text, refused_line}
+use Rattle.dw_check.specs.Text.{refused_line}
 use Rattle.dw_check.specs.Written.{Writes, is_write}
-use Rattle.dw_check.specs.Runs.{Reply, text, refusal, rows_reply, text_unless, Ends, IsPlaceIn, end_of}
+use Rattle.dw_check.specs.Runs.{Reply, text, refusal, task_text, task_reply, text_unless, Ends, IsPlaceIn, end_of}
 use Rattle.dw_check.specs.declared.lines.Place.{Place}
 use Rattle.dw_check.specs.declared.lines.Place.TheVariants.{Frame}
 use Rattle.dw_check.specs.declared.output.ReportFault.{ReportFault}
 use Rattle.dw_check.specs.declared.output.ReportFault.TheVariants.{Memory, Write}
+use Rattle.dw_check.specs.declared.asked.Task.{Task}
 use Rattle.dw_check.specs.declared.asked.End.{End}
 use Rattle.dw_check.specs.declared.asked.End.TheVariants as ends
 
@@ -35,29 +36,29 @@ ends_refusal reply place fault old new stopped (Ok _) e h k = subst (λ x. Ends 
 ends_refusal reply place fault old new stopped (Err Memory) e h k = subst (λ x. Ends x old new stopped ends.Memory) (sym e) (h, k)
 ends_refusal reply place fault old new stopped (Err Write) e h k = subst (λ x. Ends x old new stopped ends.Output) (sym e) (h, k)
 
--- ---- what rows come to
+-- ---- what a task comes to
 
 short : (section : List ℕ) (some : Option Fault) (long : Option Fault) → length section < 2 ^ 32 → (if nat_lt (length section) (2 ^ 32) then some else long) ≡ some
 short section some long h = rw (lt-ltb (length section) (2 ^ 32) h)
 
-pub rows_text : (target : Target) (section : List ℕ) → length section < 2 ^ 32 → section_fault target section ≡ None
-    → rows_reply target section ≡ text (frame_text (frame_of target section))
-unfolding rows_reply
-rows_text target section h e =
-    ap (λ f. text_unless f Frame (frame_text (frame_of target section))) (short section _ _ h ∙ e)
+pub task_done : (task : Task) (target : Target) (section : List ℕ) → length section < 2 ^ 32 → section_fault target section ≡ None
+    → task_reply task target section ≡ text (task_text task (frame_of target section))
+unfolding task_reply
+task_done task target section h e =
+    ap (λ f. text_unless f Frame (task_text task (frame_of target section))) (short section _ _ h ∙ e)
 
-pub rows_refusal : (target : Target) (section : List ℕ) (fault : Fault) → length section < 2 ^ 32 → section_fault target section ≡ Some fault
-    → rows_reply target section ≡ refusal Frame fault
-unfolding rows_reply
-rows_refusal target section fault h e =
-    ap (λ f. text_unless f Frame (frame_text (frame_of target section))) (short section _ _ h ∙ e)
+pub task_refused : (task : Task) (target : Target) (section : List ℕ) (fault : Fault) → length section < 2 ^ 32 → section_fault target section ≡ Some fault
+    → task_reply task target section ≡ refusal Frame fault
+unfolding task_reply
+task_refused task target section fault h e =
+    ap (λ f. text_unless f Frame (task_text task (frame_of target section))) (short section _ _ h ∙ e)
 
-pub rows_too_long : (target : Target) (section : List ℕ) → 2 ^ 32 ≤ length section
-    → rows_reply target section ≡ refusal Frame (record { kind = SectionTooLong; at = 0 })
-unfolding rows_reply
-rows_too_long target section h =
+pub task_too_long : (task : Task) (target : Target) (section : List ℕ) → 2 ^ 32 ≤ length section
+    → task_reply task target section ≡ refusal Frame (record { kind = SectionTooLong; at = 0 })
+unfolding task_reply
+task_too_long task target section h =
     let e : nat_lt (length section) (2 ^ 32) ≡ false = grind (arith, nat_tests) in
-    ap (λ (b : Bool). text_unless (if b then section_fault target section else Some (record { kind = SectionTooLong; at = 0 })) Frame (frame_text (frame_of target section))) e
+    ap (λ (b : Bool). text_unless (if b then section_fault target section else Some (record { kind = SectionTooLong; at = 0 })) Frame (task_text task (frame_of target section))) e
 
 -- a fault that isn't want of memory is the section's
 pub real_fault : (f : Fault) (found : Option Fault) → false ≡ sameb the_type f.kind kinds.Memory → (f ≡ memory) ⊎ (found ≡ Some f) → found ≡ Some f

@@ -1,6 +1,6 @@
 -- One text written behind another.
-use Rattle.std.proofs.Common.{◌≡◌, ℕ, List, ◌++◌, subst, sym}
-use Rattle.std.specs.Prelude.{Option, Some, Result, Ok, Err}
+use Rattle.std.proofs.Common.{◌≡◌, ℕ, List, ◌++◌, ap, subst, sym, ◌∙◌}
+use Rattle.std.specs.Prelude.{Option, Some, None, Result, Ok, Err, codes}
 use Rattle.std.specs.Result.{IsErr}
 use Rattle.std.specs.List.{flat_map}
 use Rattle.std.specs.Io.KnownBytes.{Appends}
@@ -9,7 +9,7 @@ use Rattle.dw_frame.specs.Records.{Cie, Fde}
 use Rattle.dw_rows.specs.Rules.{Row}
 use Rattle.dw_rows.specs.Section.{Frame, cie_in, rows_in}
 use Rattle.dw_check.specs.Taken.{AppendsFront}
-use Rattle.dw_check.specs.Text.{fde_line, row_line, lines_of, fde_text}
+use Rattle.dw_check.specs.Text.{fde_line, row_line, lines_of, fde_text, row_of, found_text, lookup_text}
 use Rattle.dw_check.specs.Written.{Writes}
 use Rattle.dw_check.specs.declared.output.ReportFault.{ReportFault}
 use Rattle.dw_check.proofs.Growth.{appends_more, front_more, front_wider}
@@ -45,3 +45,17 @@ fde_front frame size cie fde a b r z e failed h =
     writes_front a b r (fde_line size cie fde ++ rest) failed (front_wider a b (fde_line size cie fde) rest h) in
     subst (λ s. Writes a b r (lines_of s (cie_in frame fde) fde (rows_in frame fde))) z
     (subst (λ o. Writes a b r (lines_of size o fde (rows_in frame fde))) (sym e) both)
+
+-- ---- the row of an address
+
+-- its line, where it is there
+pub row_written : (frame : Frame) (address : ℕ) (size : AddressSize) (row : Row) (a b : Option (List ℕ)) (r : Result (Unit {0}) ReportFault)
+    → size ≡ frame.target.address_size → Some row ≡ row_of frame address → Writes a b r (row_line size row) → Writes a b r (lookup_text frame address)
+unfolding lookup_text
+row_written frame address size row a b r z e h =
+    subst (λ s. Writes a b r (found_text s (row_of frame address))) z (subst (λ o. Writes a b r (found_text size o)) e h)
+
+-- that there is none
+pub none_text : (frame : Frame) (address : ℕ) (bytes : List ℕ) → None ≡ row_of frame address → bytes ≡ codes "none\n" → bytes ≡ lookup_text frame address
+unfolding lookup_text
+none_text frame address bytes e d = d ∙ ap (found_text frame.target.address_size) e

@@ -1,5 +1,5 @@
 -- The command line: its subcommands with their flags and words, and what its matches ask for.
-use Rattle.std.specs.Prelude.{◌≡◌, Bool, true, false, if◌then◌else◌, List, [], ◌∷◌, Option, Some, None, option_and_then, Result, Ok, Err, codes}
+use Rattle.std.specs.Prelude.{◌≡◌, Bool, true, false, if◌then◌else◌, List, [], ◌∷◌, ℕ, Option, Some, None, option_map, option_and_then, Result, Ok, Err, codes}
 use Rattle.std.specs.Option.{option_map_or, IsSomeAnd}
 use Rattle.std.specs.Str.{bytes_eq}
 use Rattle.clap.specs.declared.builder.ArgAction.TheVariants.{SetTrue}
@@ -10,8 +10,10 @@ use Rattle.clap.specs.Words.{App, Kinds, Row, Rule, Text, fault_of, first_of, ne
 use Rattle.dw_bytes.specs.declared.target.Target.{Target}
 use Rattle.dw_bytes.specs.declared.target.Order.TheVariants.{Little, Big}
 use Rattle.dw_bytes.specs.declared.target.AddressSize.TheVariants.{Four, Eight}
+use Rattle.dw_check.specs.Addresses.{address_of}
 use Rattle.dw_check.specs.Asked.{Asked}
-use Rattle.dw_check.specs.declared.asked.Task.TheVariants.{Rows}
+use Rattle.dw_check.specs.declared.asked.Task.{Task}
+use Rattle.dw_check.specs.declared.asked.Task.TheVariants as tasks
 use Rattle.dw_check.specs.declared.asked.Usage.{Usage}
 use Rattle.dw_check.specs.declared.asked.Usage.TheVariants.{Line, BadArgument, Memory}
 
@@ -34,9 +36,12 @@ with_word app name = with_rule app (word_rule name)
 abbrev pub rows_app : App
 rows_app = with_word (with_flags (new_app (codes "rows"))) (codes "FRAME")
 
+abbrev pub row_app : App
+row_app = with_word (with_word (with_flags (new_app (codes "row"))) (codes "FRAME")) (codes "ADDRESS")
+
 -- The whole command line. One of its subcommands has to be named.
 abbrev pub dwcheck : App
-dwcheck = on_top (λ s. record s { subcommand_required = true }) (with_subcommand (new_app (codes "dwcheck")) rows_app.top)
+dwcheck = on_top (λ s. record s { subcommand_required = true }) (with_subcommand (with_subcommand (new_app (codes "dwcheck")) rows_app.top) row_app.top)
 
 -- ---- what the arguments of a subcommand ask for
 
@@ -51,29 +56,40 @@ target_of rows = record {
   address_size = (if flag_of (codes "addr4") rows then Four else Eight);
 }
 
+-- a request with these flags, over the file of this name
+abbrev pub asked_of : List Row → Task → Text → Asked
+asked_of rows task file = record { task = task; target = target_of rows; hex = flag_of (codes "hex") rows; files = file ∷ [] }
+
+abbrev pub rows_asked : List Row → Option Asked
+rows_asked rows = option_map (asked_of rows tasks.Rows) (first_of (codes "FRAME") rows)
+
+-- the address that was given
+abbrev pub address_asked : List Row → Option ℕ
+address_asked rows = option_and_then (address_of (target_of rows)) (first_of (codes "ADDRESS") rows)
+
+abbrev pub row_asked : List Row → Option Asked
+row_asked rows = option_and_then (λ address. option_map (asked_of rows (tasks.Row address)) (first_of (codes "FRAME") rows)) (address_asked rows)
+
 -- the request of a subcommand with these arguments
 abbrev pub asked_by : Text → List Row → Option Asked
-asked_by name rows =
-    if bytes_eq name (codes "rows")
-    then option_and_then (λ frame. Some (record { task = Rows; target = target_of rows; hex = flag_of (codes "hex") rows; files = frame ∷ [] })) (first_of (codes "FRAME") rows)
-    else None
+asked_by name rows = if bytes_eq name (codes "rows") then rows_asked rows else (if bytes_eq name (codes "row") then row_asked rows else None)
 
--- An argument of a subcommand is none of those that its place takes. Those of `rows` are names of files.
+-- An argument of a subcommand is none of those that its place takes: an address isn't one of the target.
 abbrev pub RefusesArgument : Text → List Row → Type 0
-RefusesArgument name rows = ⊥
+RefusesArgument name rows = (bytes_eq name (codes "row") ≡ true) × IsSomeAnd (first_of (codes "ADDRESS") rows) (λ text. address_of (target_of rows) text ≡ None)
 
 -- ---- what an answer has to be
 
 -- What an answer has to be where the words have these faults and these matches.
-abbrev pub Fits : Kinds → Option (Text × List Row) → Result Asked Usage → Type 0
-Fits faults matches (Ok asked) = (faults ≡ []) × IsSomeAnd matches (λ (name, rows). asked_by name rows ≡ Some asked)
-Fits faults matches (Err BadArgument) = (faults ≡ []) × IsSomeAnd matches (λ (name, rows). RefusesArgument name rows)
-Fits faults matches (Err (Line _)) = faults ≡ [] → ⊥
-Fits faults matches (Err Memory) = Unit {0}
+abbrev pub AsksBy : Kinds → Option (Text × List Row) → Result Asked Usage → Type 0
+AsksBy faults matches (Ok asked) = (faults ≡ []) × IsSomeAnd matches (λ (name, rows). asked_by name rows ≡ Some asked)
+AsksBy faults matches (Err BadArgument) = (faults ≡ []) × IsSomeAnd matches (λ (name, rows). RefusesArgument name rows)
+AsksBy faults matches (Err (Line _)) = faults ≡ [] → ⊥
+AsksBy faults matches (Err Memory) = Unit {0}
 
 -- what an answer to these words has to be, by what clap promises of them
-abbrev pub Answers : List Text → Result Asked Usage → Type 0
-Answers words r = Fits (fault_of dwcheck words) (subcommand_of dwcheck words) r
+abbrev pub AsksFor : List Text → Result Asked Usage → Type 0
+AsksFor words r = AsksBy (fault_of dwcheck words) (subcommand_of dwcheck words) r
 
 -- want of memory, or the text of an error that is none
 abbrev pub IsUsageOf : ErrorKind → Usage → Type 0

@@ -1,3 +1,4 @@
+pub mod Addresses
 pub mod Asked
 pub mod Commands
 pub mod Hexed

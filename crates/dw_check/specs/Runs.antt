@@ -6,15 +6,15 @@ use Rattle.hex.specs.Hex.{decode_of}
 use Rattle.dw_bytes.specs.declared.target.Target.{Target}
 use Rattle.dw_bytes.specs.declared.fault.Fault.{Fault}
 use Rattle.dw_bytes.specs.declared.fault.FaultKind.TheVariants.{SectionTooLong}
-use Rattle.dw_rows.specs.Section.{section_fault, frame_of}
+use Rattle.dw_rows.specs.Section.{Frame, section_fault, frame_of}
 use Rattle.dw_check.specs.Asked.{Asked}
 use Rattle.dw_check.specs.Hexed.{without_blanks}
 use Rattle.dw_check.specs.Taken.{AppendsFront}
-use Rattle.dw_check.specs.Text.{refused_line, frame_text}
+use Rattle.dw_check.specs.Text.{refused_line, frame_text, lookup_text}
 use Rattle.dw_check.specs.declared.lines.Place.{Place}
-use Rattle.dw_check.specs.declared.lines.Place.TheVariants.{Frame}
+use Rattle.dw_check.specs.declared.lines.Place.TheVariants as places
 use Rattle.dw_check.specs.declared.asked.Task.{Task}
-use Rattle.dw_check.specs.declared.asked.Task.TheVariants.{Rows}
+use Rattle.dw_check.specs.declared.asked.Task.TheVariants.{Rows, Row}
 use Rattle.dw_check.specs.declared.output.ReportFault.{ReportFault}
 use Rattle.dw_check.specs.declared.output.ReportFault.TheVariants as faults
 use Rattle.dw_check.specs.declared.asked.End.{End}
@@ -46,13 +46,14 @@ abbrev pub text_unless : Option Fault → Place → List ℕ → Reply
 text_unless (Some fault) place bytes = refusal place fault
 text_unless None place bytes = text bytes
 
--- the FDEs of a frame section and their rows
-unfoldable pub rows_reply : Target → List ℕ → Reply
-rows_reply target section = text_unless (frame_fault target section) Frame (frame_text (frame_of target section))
+-- what a task writes of a frame section without a fault
+abbrev pub task_text : Task → Frame → List ℕ
+task_text Rows frame = frame_text frame
+task_text (Row address) frame = lookup_text frame address
 
 -- what a task comes to with its section
-abbrev pub task_reply : Task → Target → List ℕ → Reply
-task_reply Rows target section = rows_reply target section
+unfoldable pub task_reply : Task → Target → List ℕ → Reply
+task_reply task target section = text_unless (frame_fault target section) places.Frame (task_text task (frame_of target section))
 
 -- the reply to the bytes of the file at a place, if it has bytes
 abbrev pub reply_to : (List ℕ → Reply) → ℕ → Option (List ℕ) → Reply

@@ -15,6 +15,8 @@ use std::marker::Model;
 pub enum Task {
     /// Each FDE of a frame section and its rows.
     Rows,
+    /// The row of an address in a frame section.
+    Row { address: u64 },
 }
 
 /// What a command line asks for.

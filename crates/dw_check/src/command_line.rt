@@ -3,7 +3,7 @@
 ghost use Rattle.std.specs.Prelude.{◌≡◌, IfOk, false, codes};
 ghost use Rattle.clap.specs.Words.{with_subcommand, app_of, rule_of};
 ghost use Rattle.clap.specs.declared.builder.Command.TheViews.{out-Command as fields_of};
-ghost use Rattle.dw_check.specs.Commands.{flag_rule, word_rule, with_flags, with_word, rows_app, dwcheck};
+ghost use Rattle.dw_check.specs.Commands.{flag_rule, word_rule, with_flags, with_word, rows_app, row_app, dwcheck};
 
 use clap::{Arg, ArgAction, Command};
 use std::alloc::{AllocError, Global};
@@ -62,6 +62,15 @@ fn rows_command<'a>(alloc: Global) -> Result<Command<'a>, AllocError>
     with_word(alloc, command, "FRAME")
 }
 
+fn row_command<'a>(alloc: Global) -> Result<Command<'a>, AllocError>
+    ensures app { IfOk result (λ c. app_of c ≡ row_app) }
+    ensures local { IfOk result (λ c. (fields_of c).has_globals ≡ false) }
+{
+    let command = with_flags(alloc, Command::new(alloc, "row"))?;
+    let command = with_word(alloc, command, "FRAME")?;
+    with_word(alloc, command, "ADDRESS")
+}
+
 /// The whole command line. One of its subcommands has to be named.
 pub(crate) fn whole_command<'a>(alloc: Global) -> Result<Command<'a>, AllocError>
     ensures app { IfOk result (λ c. app_of c ≡ dwcheck) }
@@ -69,5 +78,6 @@ pub(crate) fn whole_command<'a>(alloc: Global) -> Result<Command<'a>, AllocError
 {
     let command = Command::new(alloc, "dwcheck");
     let command = with_command(command, rows_command(alloc)?)?;
+    let command = with_command(command, row_command(alloc)?)?;
     Ok(command.subcommand_required(true))
 }

@@ -1,6 +1,7 @@
 //! The texts of a checked section: what is asked for, and where its text goes.
 #![tactic(auto)]
 
+mod addresses;
 mod asked;
 mod command_line;
 mod hexed;

@@ -1,15 +1,16 @@
 //! Requests carried out.
 
 ghost use Rattle.std.specs.Prelude.{◌≡◌, false, length, map};
-ghost use Rattle.dw_check.specs.Runs.{Ends, IsPlaceIn, end_of, rows_reply, task_reply, reply_of};
+ghost use Rattle.dw_check.specs.Runs.{Ends, IsPlaceIn, end_of, task_text, task_reply, reply_of};
+ghost use Rattle.dw_check.specs.Written.{Writes, is_write};
 
 use crate::asked::{End, Request, Task};
 use crate::hexed::{HexFault, bytes_of_hex};
 use crate::lines::Place;
-use crate::output::{ReportFault, write_frame, write_refused};
+use crate::output::{ReportFault, write_frame, write_lookup, write_refused};
 use crate::sink::Sink;
 use dw_bytes::{Fault, FaultKind, Target};
-use dw_rows::check_frame;
+use dw_rows::{CheckedFrame, check_frame};
 use std::alloc::Global;
 
 /// Sections of this many bytes or more are refused.
@@ -27,11 +28,28 @@ fn ended(written: Result<(), ReportFault>, end: End) -> End
     }
 }
 
-/// Writes the rows of a frame section.
-fn run_rows<S: Sink>(alloc: Global, target: Target, section: &[u8], sink: &mut S) -> End
+/// Writes what a task asks of a checked section.
+fn write_task<S: Sink>(
+    line: &mut String,
+    task: Task,
+    frame: &CheckedFrame<'_>,
+    sink: &mut S,
+) -> Result<(), ReportFault>
+    requires { S.has_stopped sink.old ≡ false }
+    ensures written { Writes (S.taken sink.old) (S.taken sink.new) result (task_text task frame.now) }
+    ensures stops { S.has_stopped sink.new ≡ is_write result }
+{
+    match task {
+        Task::Rows => write_frame(line, frame, sink),
+        Task::Row { address } => write_lookup(line, frame, address, sink),
+    }
+}
+
+/// Does with a section what is asked for.
+fn run_task<S: Sink>(alloc: Global, task: Task, target: Target, section: &[u8], sink: &mut S) -> End
     requires { S.has_stopped sink.old ≡ false }
     ensures place { IsPlaceIn 0 result }
-    ensures ends { Ends (rows_reply target section.now) (S.taken sink.old) (S.taken sink.new) (S.has_stopped sink.new) result }
+    ensures ends { Ends (task_reply task target section.now) (S.taken sink.old) (S.taken sink.new) (S.has_stopped sink.new) result }
 {
     let mut line = String::new(alloc);
     if section.len() >= SECTION_LIMIT {
@@ -45,23 +63,12 @@ fn run_rows<S: Sink>(alloc: Global, target: Target, section: &[u8], sink: &mut S
         );
     }
     match check_frame(alloc, section, target) {
-        Ok(frame) => ended(write_frame(&mut line, &frame, sink), End::Done),
+        Ok(frame) => ended(write_task(&mut line, task, &frame, sink), End::Done),
         Err(fault) if fault.kind == FaultKind::Memory => End::Memory,
         Err(fault) => ended(
             write_refused(&mut line, Place::Frame, fault, sink),
             End::Refused,
         ),
-    }
-}
-
-/// Does with a section what is asked for.
-fn run_task<S: Sink>(alloc: Global, task: Task, target: Target, section: &[u8], sink: &mut S) -> End
-    requires { S.has_stopped sink.old ≡ false }
-    ensures place { IsPlaceIn 0 result }
-    ensures ends { Ends (task_reply task target section.now) (S.taken sink.old) (S.taken sink.new) (S.has_stopped sink.new) result }
-{
-    match task {
-        Task::Rows => run_rows(alloc, target, section, sink),
     }
 }
 

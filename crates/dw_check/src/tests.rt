@@ -215,6 +215,61 @@ fn flags(rt: HostRuntime) -> Result<(), Fail> {
     Ok(())
 }
 
+/// The rows of the first section, by address.
+#[test]
+fn rows_by_address(rt: HostRuntime) -> Result<(), Fail> {
+    let text = format!(in rt.alloc(); "{C1}{H1} 41 0e10 8602 43 0d06")?;
+    let mut rows = ROWS.lines();
+    let first = rows.next().ok_or("a row")?;
+    let third = rows.nth(1).ok_or("a row")?;
+    for (address, line) in [
+        ("0xfff", "none"),
+        ("0x1000", first),
+        ("0x000000000000101F", third),
+        ("0x1020", "none"),
+    ] {
+        let words = ["dwcheck", "row", "--hex", "f", address];
+        let (end, written) = shown(rt.alloc(), &words, text.as_bytes())?;
+        let wanted = format!(in rt.alloc(); "{line}\n")?;
+        assert_eq!(rt; end, End::Done);
+        assert_eq!(rt; written.as_slice(), wanted.as_bytes());
+    }
+    let words = ["dwcheck", "row", "f", "0x0"];
+    let (end, written) = shown(rt.alloc(), &words, &[0xf0, 0xff, 0xff, 0xff])?;
+    assert_eq!(rt; end, End::Refused);
+    assert_eq!(rt;
+        written.as_slice(),
+        "refused 3 ReservedLength frame 0x00000000\n".as_bytes()
+    );
+    Ok(())
+}
+
+#[test]
+fn bad_addresses(rt: HostRuntime) -> Result<(), Fail> {
+    for words in [
+        ["dwcheck", "row", "--hex", "f", "1000"],
+        ["dwcheck", "row", "--hex", "f", "0x"],
+        ["dwcheck", "row", "--hex", "f", "0X10"],
+        ["dwcheck", "row", "--hex", "f", "0x+1"],
+        ["dwcheck", "row", "--hex", "f", "0x1g"],
+        ["dwcheck", "row", "--hex", "f", "0x00000000000000001"],
+        ["dwcheck", "row", "--addr4", "f", "0x100000000"],
+    ] {
+        let Err(usage) = asked(rt.alloc(), &words)? else {
+            return Err("a request".into());
+        };
+        assert!(rt; matches!(usage, Usage::BadArgument));
+        assert_eq!(rt; usage.status(), 2);
+    }
+    for words in [
+        ["dwcheck", "row", "--big", "f", "0xFFFFffffFFFFffff"],
+        ["dwcheck", "row", "--addr4", "f", "0x00000000ffffffff"],
+    ] {
+        assert!(rt; asked(rt.alloc(), &words)?.is_ok());
+    }
+    Ok(())
+}
+
 #[test]
 fn words_that_ask_for_nothing(rt: HostRuntime) -> Result<(), Fail> {
     for words in [
@@ -225,6 +280,8 @@ fn words_that_ask_for_nothing(rt: HostRuntime) -> Result<(), Fail> {
         &["dwcheck", "rows", "--hex", "--hex", "a"],
         &["dwcheck", "--hex", "rows", "a"],
         &["dwcheck", "columns", "a"],
+        &["dwcheck", "row", "a"],
+        &["dwcheck", "row", "a", "0x0", "b"],
         &["dwcheck", "rows", "--help"],
     ] {
         let Err(usage) = asked(rt.alloc(), words)? else {

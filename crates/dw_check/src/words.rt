@@ -1,12 +1,14 @@
 //! What a command line asks for.
 
-ghost use Rattle.std.specs.Prelude.{◌≡◌, ◌⊎◌, IfOk, IfErr, map, option_map};
+ghost use Rattle.std.specs.Prelude.{◌≡◌, ◌⊎◌, IfOk, IfErr, Some, None, map, option_map, codes};
 ghost use Rattle.std.specs.Option.{IsSomeAnd};
 ghost use Rattle.std.specs.String.{string_bytes};
 ghost use Rattle.clap.specs.Words.{found_of, rows_of, first_of, kind_of, subcommand_rows_of};
-ghost use Rattle.dw_check.specs.Commands.{flag_of, target_of, asked_by, RefusesArgument, IsUsageOf, Answers};
+ghost use Rattle.dw_check.specs.Addresses.{address_of};
+ghost use Rattle.dw_check.specs.Commands.{flag_of, target_of, asked_of, rows_asked, row_asked, asked_by, RefusesArgument, IsUsageOf, AsksFor};
 ghost use Rattle.dw_check.specs.declared.asked.Usage.TheVariants.{Memory, BadArgument};
 
+use crate::addresses::parse_address;
 use crate::asked::{Request, Task, Usage};
 use crate::command_line::whole_command;
 use clap::error::ErrorKind;
@@ -51,14 +53,47 @@ fn target_of(matches: &ArgMatches<'_>) -> Target
     }
 }
 
-/// The name of a file. clap has seen to it that the word is there.
-fn file_of(alloc: Global, matches: &ArgMatches<'_>, name: &str) -> Result<String, Usage>
-    ensures ok { IfOk result (λ s. first_of name.now (rows_of (found_of matches.now)) ≡ Some (string_bytes s)) }
+/// A request with the flags of a subcommand, over one file.
+fn request_with(
+    alloc: Global,
+    matches: &ArgMatches<'_>,
+    task: Task,
+    file: &str,
+) -> Result<Request, Usage>
+    ensures ok { IfOk result (λ r. r ≡ asked_of (rows_of (found_of matches.now)) task file.now) }
     ensures err { IfErr result (λ e. e ≡ Memory) }
 {
-    match text_of(matches, name) {
-        Some(text) => Ok(String::from_str(alloc, text)?),
+    Ok(Request {
+        task,
+        target: target_of(matches),
+        hex: has_flag(matches, "hex"),
+        files: vec![in alloc; String::from_str(alloc, file)?]?,
+    })
+}
+
+/// What `rows` asks for.
+fn rows_request(alloc: Global, matches: &ArgMatches<'_>) -> Result<Request, Usage>
+    ensures ok { IfOk result (λ r. rows_asked (rows_of (found_of matches.now)) ≡ Some r) }
+    ensures err { IfErr result (λ e. e ≡ Memory) }
+{
+    match text_of(matches, "FRAME") {
+        Some(file) => request_with(alloc, matches, Task::Rows, file),
         None => Err(Usage::Memory),
+    }
+}
+
+/// What `row` asks for.
+fn row_request(alloc: Global, matches: &ArgMatches<'_>) -> Result<Request, Usage>
+    ensures ok { IfOk result (λ r. row_asked (rows_of (found_of matches.now)) ≡ Some r) }
+    ensures err { IfErr result (λ e. (e ≡ Memory) ⊎ ((e ≡ BadArgument) ×
+        IsSomeAnd (first_of (codes "ADDRESS") (rows_of (found_of matches.now))) (λ text. address_of (target_of (rows_of (found_of matches.now))) text ≡ None))) }
+{
+    let (Some(file), Some(text)) = (text_of(matches, "FRAME"), text_of(matches, "ADDRESS")) else {
+        return Err(Usage::Memory);
+    };
+    match parse_address(text, target_of(matches)) {
+        Some(address) => request_with(alloc, matches, Task::Row { address }, file),
+        None => Err(Usage::BadArgument),
     }
 }
 
@@ -68,15 +103,13 @@ fn request_of(alloc: Global, name: &str, matches: &ArgMatches<'_>) -> Result<Req
     ensures ok { IfOk result (λ r. asked_by name.now (rows_of (found_of matches.now)) ≡ Some r) }
     ensures err { IfErr result (λ e. (e ≡ Memory) ⊎ ((e ≡ BadArgument) × RefusesArgument name.now (rows_of (found_of matches.now)))) }
 {
-    if name != "rows" {
-        return Err(Usage::Memory);
+    if name == "rows" {
+        return rows_request(alloc, matches);
     }
-    Ok(Request {
-        task: Task::Rows,
-        target: target_of(matches),
-        hex: has_flag(matches, "hex"),
-        files: vec![in alloc; file_of(alloc, matches, "FRAME")?]?,
-    })
+    if name == "row" {
+        return row_request(alloc, matches);
+    }
+    Err(Usage::Memory)
 }
 
 /// The request of the subcommand that the matches have.
@@ -106,7 +139,7 @@ fn usage_of(alloc: Global, error: Error) -> Usage
 /// What the words ask for, the program's name first among them. It is `Line` exactly where clap refuses
 /// the words, and `BadArgument` exactly where a word is none of those that its place takes, memory aside.
 pub fn request(alloc: Global, words: Vec<String>) -> Result<Request, Usage>
-    ensures { Answers (map (λ w. string_bytes w) words.items) result }
+    ensures { AsksFor (map (λ w. string_bytes w) words.items) result }
 {
     let command = whole_command(alloc)?;
     match command.try_get_matches_from(words.as_slice()) {

@@ -1,5 +1,5 @@
 use Rattle.std.proofs.Common.{ap}
-use Rattle.dw_check.proofs.Addresses.{below_top, rows_fit}
+use Rattle.dw_check.proofs.Within.{below_top, rows_fit}
 use Rattle.dw_check.proofs.Writing.{fde_then, fde_front}
 use Rattle.dw_check.proofs.output.write_fde_and_rows.Goals as goal
 

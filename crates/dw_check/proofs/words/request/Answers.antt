@@ -1,7 +1,7 @@
 use Rattle.std.proofs.Common.{◌≡◌, ◌∙◌, ap, ap₂, sym, map, rules, subst}
 use Rattle.std.specs.String.{string_bytes}
 use Rattle.clap.specs.Words.{HasKind, fault_of, is_simple, is_simple_and_free, subcommand_of, subcommand_rows_of}
-use Rattle.dw_check.specs.Commands.{dwcheck, Fits}
+use Rattle.dw_check.specs.Commands.{dwcheck, AsksBy}
 use Rattle.dw_check.proofs.Shown.{answered, refused}
 use Rattle.dw_check.proofs.Simple.{is_simple_dwcheck, is_free_dwcheck}
 use Rattle.dw_check.proofs.words.request.Goals as goal
@@ -12,7 +12,7 @@ returns-in-Ok c =
     let words : map (λ w. string_bytes w) c.as_slice.result.now ≡ map (λ w. string_bytes w) c.args.words.items = search rules in
     let none = sym (ap₂ fault_of app words) ∙ c.in-Ok.ensures.kinds (ap is_simple_and_free app ∙ is_free_dwcheck) in
     let same = (c.in-Ok.ensures.matches (ap is_simple app ∙ is_simple_dwcheck)).1 ∙ ap₂ subcommand_of app words in
-    subst (λ m. Fits (fault_of dwcheck (map (λ w. string_bytes w) c.args.words.items)) m c.answer_of.result) same
+    subst (λ m. AsksBy (fault_of dwcheck (map (λ w. string_bytes w) c.args.words.items)) m c.answer_of.result) same
     (answered _ (subcommand_rows_of c.in-Ok.matches) c.answer_of.result none c.answer_of.ensures.ok c.answer_of.ensures.err)
 
 pub returns : goal.returns

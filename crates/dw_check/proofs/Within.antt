@@ -33,11 +33,16 @@ cover_fits size from to (row ∷ rows) h k =
     let start : row.start < 16 ^ digits_of size = omega (arith, h.1, later.0) in
     (subst (λ n. n < 16 ^ digits_of size) h.0 start, All-cons (λ r. Fits size r) row rows (record { start = start; end = later.0 }) later.1)
 
+-- the rows of an FDE whose program is good
+pub good_rows_fit : (target : Target) (size : AddressSize) (cie : Cie) (fde : Fde) → size ≡ target.address_size → fde_fault cie fde ≡ None
+    → fde.initial + fde.range ≤ top_of target → All (λ row. Fits size row) (rows_of cie fde)
+good_rows_fit target size cie fde z none h =
+    (cover_fits size fde.initial (fde.initial + fde.range) (rows_of cie fde) (cover-rows cie fde none) (below_top target size (fde.initial + fde.range) z h)).1
+
 -- the rows of an FDE of a checked section
 pub rows_fit : (frame : Frame) (size : AddressSize) (cie : Cie) (fde : Fde) (rows : List Row)
     → size ≡ frame.target.address_size → cie_in frame fde ≡ Some cie → fde_fault cie fde ≡ None → rows ≡ rows_in frame fde
     → fde.initial + fde.range ≤ top_of frame.target → All (λ row. Fits size row) rows
 rows_fit frame size cie fde rows z e none d h =
     let found : rows ≡ rows_of cie fde = d ∙ ap (λ o. rows_behind o fde) e in
-    subst (λ l. All (λ row. Fits size row) l) (sym found)
-    (cover_fits size fde.initial (fde.initial + fde.range) (rows_of cie fde) (cover-rows cie fde none) (below_top frame.target size (fde.initial + fde.range) z h)).1
+    subst (λ l. All (λ row. Fits size row) l) (sym found) (good_rows_fit frame.target size cie fde z none h)

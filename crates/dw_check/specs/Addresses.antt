@@ -1,0 +1,21 @@
+-- Addresses on the command line.
+use Rattle.std.specs.Prelude.{◌&&◌, ℕ, nat_lt, nat_le, if◌then◌else◌, List, length, take, drop, Option, Some, None, option_and_then, codes}
+use Rattle.std.specs.List.{list_all}
+use Rattle.std.specs.Char.{digit_value}
+use Rattle.std.specs.Str.{bytes_eq}
+use Rattle.std.specs.Str.Parse.{digits_value}
+use Rattle.dw_bytes.specs.declared.target.Target.{Target}
+use Rattle.dw_frame.specs.Sections.{top_of}
+
+-- the number that 1 to 16 hex digits of either case spell
+abbrev pub hex_of : List ℕ → Option ℕ
+hex_of ds = if nat_lt 0 (length ds) && nat_le (length ds) 16 && list_all (λ c. nat_lt (digit_value c) 16) ds
+    then Some (digits_value 16 ds) else None
+
+-- a number that is at most another
+abbrev pub at_most : ℕ → ℕ → Option ℕ
+at_most top n = if nat_le n top then Some n else None
+
+-- the address of a target that `0x` and hex digits spell
+abbrev pub address_of : Target → List ℕ → Option ℕ
+address_of target text = if bytes_eq (take 2 text) (codes "0x") then option_and_then (at_most (top_of target)) (hex_of (drop 2 text)) else None
