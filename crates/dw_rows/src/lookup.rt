@@ -41,7 +41,9 @@ pub fn row_at<'a>(
     let mut instructions = begin(&mut machine, cie, fde);
     while let Some((start, end)) = next_range(&mut machine, &mut instructions, cie, limit) {
         if address < end {
-            return Some(machine.row(start, end));
+            let mut row = UnwindTableRow::empty();
+            machine.write_row(start, end, &mut row);
+            return Some(row);
         }
     }
     None

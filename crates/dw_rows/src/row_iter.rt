@@ -39,7 +39,8 @@ impl<'a> Model for Rows<'a> {
 }
 
 impl<'a> Rows<'a> {
-    ghost use Rattle.std.specs.Prelude.{◌≡◌, None};
+    ghost use Rattle.std.specs.Prelude.{◌≡◌, None, [], ◌∷◌};
+    ghost use Rattle.std.specs.Bool.{OnTrue, OnFalse};
     ghost use Rattle.dw_frame.specs.Views.{cie_of, fde_of};
     ghost use Rattle.dw_rows.specs.Judgement.{cie_fault, fde_fault};
     ghost use Rattle.dw_rows.specs.UnwindRows.{rows_of};
@@ -72,6 +73,23 @@ impl<'a> Rows<'a> {
         self.fde = *fde;
         self.given = 0;
     }
+
+    /// Writes the next row into the place of another, if there is one, and answers whether there was. Only
+    /// the rules that are there are copied, so one place serves for many rows.
+    pub fn next_into(&mut self, row: &mut UnwindTableRow) -> bool
+        ensures some { OnTrue result (self.old ≡ row.new ∷ self.new) }
+        ensures none { OnFalse result ((self.old ≡ []) × (self.new ≡ []) × (row.new ≡ row.old)) }
+    {
+        let limit = self.fde.initial_location + self.fde.address_range;
+        match next_range(&mut self.machine, &mut self.instructions, &self.cie, limit) {
+            Some((start, end)) => {
+                self.given += 1;
+                self.machine.write_row(start, end, row);
+                true
+            }
+            None => false,
+        }
+    }
 }
 
 impl<'a> Iterator for Rows<'a> {
@@ -84,10 +102,12 @@ impl<'a> Iterator for Rows<'a> {
     ghost remaining = { item_count (λ rows. rows) };
 
     fn next(&mut self) -> Option<UnwindTableRow> {
-        let limit = self.fde.initial_location + self.fde.address_range;
-        let (start, end) = next_range(&mut self.machine, &mut self.instructions, &self.cie, limit)?;
-        self.given += 1;
-        Some(self.machine.row(start, end))
+        let mut row = UnwindTableRow::empty();
+        if self.next_into(&mut row) {
+            Some(row)
+        } else {
+            None
+        }
     }
 }
 

@@ -10,15 +10,15 @@ use Rattle.dw_rows.proofs.lookup.row_at.Goals as goal
 pub returns-then-address-fde-clause-row : goal.returns-then-address-fde-clause-row
 returns-then-address-fde-clause-row c = sym (not-found-below (cie_of c.args.cie.now) (fde_of c.args.fde.now) c.args.address c.requires.fde c.if-address-fde.true)
 
-pub row-requires : goal.row-requires
-row-requires c = seeks-cfa (cie_of c.args.cie.now) (fde_of c.args.fde.now) c.args.address (record { cie = cie_of c.args.cie.now; end = c.args.fde.now.initial_location + c.args.fde.now.address_range; machine = c.loop-start.machine; instructions = c.loop-start.instructions }) (record { cie = cie_of c.args.cie.now; end = c.args.fde.now.initial_location + c.args.fde.now.address_range; machine = c.next_range.new.machine; instructions = c.next_range.new.instructions }) c.in-Some.start c.in-Some.end c.loop-start.invariant.seeks c.in-Some.ensures
+pub write_row-requires : goal.write_row-requires
+write_row-requires c = seeks-cfa (cie_of c.args.cie.now) (fde_of c.args.fde.now) c.args.address (record { cie = cie_of c.args.cie.now; end = c.args.fde.now.initial_location + c.args.fde.now.address_range; machine = c.loop-start.machine; instructions = c.loop-start.instructions }) (record { cie = cie_of c.args.cie.now; end = c.args.fde.now.initial_location + c.args.fde.now.address_range; machine = c.next_range.new.machine; instructions = c.next_range.new.instructions }) c.in-Some.start c.in-Some.end c.loop-start.invariant.seeks c.in-Some.ensures
 
 pub returns-then-address-end : goal.returns-then-address-end
 returns-then-address-end c =
     let cie = cie_of c.args.cie.now in
     let fde = fde_of c.args.fde.now in
-    let found : find (has_address c.args.address) (rows_of cie fde) ≡ Some c.row.result = seeks-found cie fde c.args.address (record { cie = cie_of c.args.cie.now; end = c.args.fde.now.initial_location + c.args.fde.now.address_range; machine = c.loop-start.machine; instructions = c.loop-start.instructions }) (record { cie = cie_of c.args.cie.now; end = c.args.fde.now.initial_location + c.args.fde.now.address_range; machine = c.next_range.new.machine; instructions = c.next_range.new.instructions }) c.in-Some.start c.in-Some.end c.loop-start.invariant.seeks c.in-Some.ensures c.if-address-end.true ∙ ap Some (sym c.row.ensures) in
-    record { row = sym found; covered = covered-found cie fde c.args.address (Some c.row.result) c.requires.fde (sym found) }
+    let found : find (has_address c.args.address) (rows_of cie fde) ≡ Some c.write_row.new.row = seeks-found cie fde c.args.address (record { cie = cie_of c.args.cie.now; end = c.args.fde.now.initial_location + c.args.fde.now.address_range; machine = c.loop-start.machine; instructions = c.loop-start.instructions }) (record { cie = cie_of c.args.cie.now; end = c.args.fde.now.initial_location + c.args.fde.now.address_range; machine = c.next_range.new.machine; instructions = c.next_range.new.instructions }) c.in-Some.start c.in-Some.end c.loop-start.invariant.seeks c.in-Some.ensures c.if-address-end.true ∙ ap Some (sym c.write_row.ensures) in
+    record { row = sym found; covered = covered-found cie fde c.args.address (Some c.write_row.new.row) c.requires.fde (sym found) }
 
 pub loop-start-smaller : goal.loop-start-smaller
 loop-start-smaller c = seeks-nearer (cie_of c.args.cie.now) (fde_of c.args.fde.now) c.args.address (record { cie = cie_of c.args.cie.now; end = c.args.fde.now.initial_location + c.args.fde.now.address_range; machine = c.loop-start.machine; instructions = c.loop-start.instructions }) (record { cie = cie_of c.args.cie.now; end = c.args.fde.now.initial_location + c.args.fde.now.address_range; machine = c.next_range.new.machine; instructions = c.next_range.new.instructions }) c.in-Some.start c.in-Some.end c.loop-start.invariant.seeks c.in-Some.ensures
