@@ -5,9 +5,10 @@ ghost use Rattle.dw_frame.specs.Views.{cie_of, fde_of};
 ghost use Rattle.dw_rows.specs.Judgement.{cie_fault, fde_fault};
 ghost use Rattle.dw_rows.specs.UnwindRows.{rows_of, has_address};
 
+use crate::machine::Machine;
 use crate::row::UnwindTableRow;
 use crate::row_iter::Rows;
-use crate::walk::Walk;
+use crate::walk::{begin, next_range};
 use dw_frame::{CommonInformationEntry, FrameDescriptionEntry};
 
 /// The rows of an FDE, in the order of their addresses (DWARF 5, section 6.4.1). Its program and its
@@ -22,9 +23,9 @@ pub fn rows<'a>(cie: &CommonInformationEntry<'a>, fde: &FrameDescriptionEntry<'a
 
 /// The row of an FDE that has an address, if the FDE covers it. The program and its CIE's must be good.
 /// It runs the program up to that row, and takes no memory.
-pub fn row_at(
-    cie: &CommonInformationEntry<'_>,
-    fde: &FrameDescriptionEntry<'_>,
+pub fn row_at<'a>(
+    cie: &CommonInformationEntry<'a>,
+    fde: &FrameDescriptionEntry<'a>,
     address: u64,
 ) -> Option<UnwindTableRow>
     requires cie { cie_fault (cie_of cie.now) ≡ None }
@@ -35,10 +36,14 @@ pub fn row_at(
     if address < fde.initial_location {
         return None;
     }
-    let mut walk = Walk::new(cie, fde);
-    while let Some((start, end)) = walk.next_range() {
+    let limit = fde.initial_location + fde.address_range;
+    let mut machine = Machine::new();
+    let mut instructions = begin(&mut machine, cie, fde);
+    while let Some((start, end)) = next_range(&mut machine, &mut instructions, cie, limit) {
         if address < end {
-            return Some(walk.machine.row(start, end));
+            let mut row = UnwindTableRow::empty();
+            machine.write_row(start, end, &mut row);
+            return Some(row);
         }
     }
     None

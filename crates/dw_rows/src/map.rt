@@ -77,6 +77,13 @@ impl RegisterRuleMap {
         RegisterRuleMap { entries }
     }
 
+    /// Drops all rules but `Default`.
+    pub fn clear(&mut self)
+        ensures { self.new ≡ [] }
+    {
+        self.entries.clear();
+    }
+
     /// Takes on other rules. Its cost is that of the rules that are there and of those that come.
     pub fn copy_from(&mut self, other: &RegisterRuleMap)
         ensures { self.new ≡ other.now }

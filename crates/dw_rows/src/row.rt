@@ -1,7 +1,7 @@
 //! Rows and their rules.
 
-ghost use Rattle.std.specs.Prelude.{◌≡◌, Some};
-ghost use Rattle.dw_rows.specs.Rules.{rule_in};
+ghost use Rattle.std.specs.Prelude.{◌≡◌, Some, [], pos};
+ghost use Rattle.dw_rows.specs.Rules.{Cfa, rule_in};
 ghost use Rattle.dw_rows.specs.Views.{rule_of, cfa_rule_of, numbered_rule_of};
 
 use crate::map::{RegisterRuleMap, RuleEntry};
@@ -52,16 +52,29 @@ impl Model for UnwindTableRow {
 }
 
 impl UnwindTableRow {
-    /// The row of these addresses with these rules.
-    pub(crate) fn new(start: u64, end: u64, cfa: CfaRule, rules: RegisterRuleMap) -> Self
-        ensures { result ≡ record { start = start; end = end; cfa = Some (cfa_rule_of cfa); rules = rules } }
+    /// A row of no address, as a place for others: `Rows::next_into` writes a row there.
+    pub fn empty() -> Self
+        ensures { result ≡ record { start = 0; end = 0; cfa = Some (Cfa.register_and_offset 0 (pos 0)); rules = [] } }
     {
         UnwindTableRow {
-            start,
-            end,
-            cfa,
-            rules,
+            start: 0,
+            end: 0,
+            cfa: CfaRule::RegisterAndOffset {
+                register: 0,
+                offset: 0,
+            },
+            rules: RegisterRuleMap::new(),
         }
+    }
+
+    /// Becomes the row of these addresses with these rules.
+    pub(crate) fn set(&mut self, start: u64, end: u64, cfa: CfaRule, rules: &RegisterRuleMap)
+        ensures { self.new ≡ record { start = start; end = end; cfa = Some (cfa_rule_of cfa); rules = rules.now } }
+    {
+        self.start = start;
+        self.end = end;
+        self.cfa = cfa;
+        self.rules.copy_from(rules);
     }
 
     /// The first address that it covers.

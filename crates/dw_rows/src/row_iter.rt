@@ -5,9 +5,10 @@ ghost use Rattle.dw_frame.specs.Views.{cie_of, fde_of};
 ghost use Rattle.dw_rows.specs.Judgement.{cie_fault, fde_fault};
 ghost use Rattle.dw_rows.specs.UnwindRows.{rows_of};
 
+use crate::machine::Machine;
 use crate::row::UnwindTableRow;
-use crate::walk::Walk;
-use dw_frame::{CommonInformationEntry, FrameDescriptionEntry};
+use crate::walk::{begin, next_range};
+use dw_frame::{CommonInformationEntry, FrameDescriptionEntry, Instructions};
 use std::iter::FusedIterator;
 use std::marker::Model;
 
@@ -15,13 +16,15 @@ use std::marker::Model;
 /// again, and takes no memory.
 #[derive(Drop)]
 pub struct Rows<'a> {
-    walk: Walk<'a>,
+    cie: CommonInformationEntry<'a>,
     fde: FrameDescriptionEntry<'a>,
+    machine: Machine,
+    instructions: Instructions<'a>,
     given: u64,
 }
 
 impl<'a> Model for Rows<'a> {
-    ghost use Rattle.std.specs.Prelude.{List, drop};
+    ghost use Rattle.std.specs.Prelude.{List, drop, ◌+◌};
     ghost use Rattle.dw_rows.specs.Rules.{Row};
 
     ghost Value = { List Row };
@@ -30,13 +33,14 @@ impl<'a> Model for Rows<'a> {
     ghost use Rattle.dw_rows.specs.UnwindRows.{rows_of};
     ghost use Rattle.dw_rows.specs.Walks.{IsReady};
 
-    ghost view = { λ r. drop r.given (rows_of (cie_of r.walk.cie) (fde_of r.fde)) };
+    ghost view = { λ r. drop r.given (rows_of (cie_of r.cie) (fde_of r.fde)) };
 
-    ghost invariant = { λ r. IsReady (cie_of r.walk.cie) (fde_of r.fde) r.walk r.given };
+    ghost invariant = { λ r. IsReady (cie_of r.cie) (fde_of r.fde) (record { cie = cie_of r.cie; end = r.fde.initial_location + r.fde.address_range; machine = r.machine; instructions = r.instructions }) r.given };
 }
 
 impl<'a> Rows<'a> {
-    ghost use Rattle.std.specs.Prelude.{◌≡◌, None};
+    ghost use Rattle.std.specs.Prelude.{◌≡◌, None, [], ◌∷◌};
+    ghost use Rattle.std.specs.Bool.{OnTrue, OnFalse};
     ghost use Rattle.dw_frame.specs.Views.{cie_of, fde_of};
     ghost use Rattle.dw_rows.specs.Judgement.{cie_fault, fde_fault};
     ghost use Rattle.dw_rows.specs.UnwindRows.{rows_of};
@@ -47,10 +51,43 @@ impl<'a> Rows<'a> {
         requires fde { fde_fault (cie_of cie.now) (fde_of fde.now) ≡ None }
         ensures { result ≡ rows_of (cie_of cie.now) (fde_of fde.now) }
     {
+        let mut machine = Machine::new();
+        let instructions = begin(&mut machine, cie, fde);
         Rows {
-            walk: Walk::new(cie, fde),
+            cie: *cie,
             fde: *fde,
+            machine,
+            instructions,
             given: 0,
+        }
+    }
+
+    /// Begins with the rows of another FDE, in the same place. Its program and its CIE's must be good.
+    pub fn restart(&mut self, cie: &CommonInformationEntry<'a>, fde: &FrameDescriptionEntry<'a>)
+        requires cie { cie_fault (cie_of cie.now) ≡ None }
+        requires fde { fde_fault (cie_of cie.now) (fde_of fde.now) ≡ None }
+        ensures { self.new ≡ rows_of (cie_of cie.now) (fde_of fde.now) }
+    {
+        self.instructions = begin(&mut self.machine, cie, fde);
+        self.cie = *cie;
+        self.fde = *fde;
+        self.given = 0;
+    }
+
+    /// Writes the next row into the place of another, if there is one, and answers whether there was. Only
+    /// the rules that are there are copied, so one place serves for many rows.
+    pub fn next_into(&mut self, row: &mut UnwindTableRow) -> bool
+        ensures some { OnTrue result (self.old ≡ row.new ∷ self.new) }
+        ensures none { OnFalse result ((self.old ≡ []) × (self.new ≡ []) × (row.new ≡ row.old)) }
+    {
+        let limit = self.fde.initial_location + self.fde.address_range;
+        match next_range(&mut self.machine, &mut self.instructions, &self.cie, limit) {
+            Some((start, end)) => {
+                self.given += 1;
+                self.machine.write_row(start, end, row);
+                true
+            }
+            None => false,
         }
     }
 }
@@ -65,9 +102,12 @@ impl<'a> Iterator for Rows<'a> {
     ghost remaining = { item_count (λ rows. rows) };
 
     fn next(&mut self) -> Option<UnwindTableRow> {
-        let (start, end) = self.walk.next_range()?;
-        self.given += 1;
-        Some(self.walk.machine.row(start, end))
+        let mut row = UnwindTableRow::empty();
+        if self.next_into(&mut row) {
+            Some(row)
+        } else {
+            None
+        }
     }
 }
 

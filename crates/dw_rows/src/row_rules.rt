@@ -50,6 +50,14 @@ impl RowRules {
         }
     }
 
+    /// Drops all rules.
+    pub fn clear(&mut self)
+        ensures { self.new ≡ record { cfa = None; rules = [] } }
+    {
+        self.cfa = None;
+        self.rules.clear();
+    }
+
     /// Takes on other rules.
     pub fn copy_from(&mut self, other: &RowRules)
         ensures { self.new ≡ other.now }

@@ -7,7 +7,7 @@ ghost use Rattle.dw_rows.specs.Judgement.{cie_fault, fde_fault};
 ghost use Rattle.dw_rows.specs.Section.{cie_at, first_fault, pointer_fault, program_fault};
 ghost use Rattle.dw_rows.specs.Overlap.{IsAscending, cie_offset};
 
-use crate::check::{check_program, first_rules};
+use crate::check::{check_program, run_cie};
 use crate::machine::Machine;
 use dw_bytes::{Fault, FaultKind};
 use dw_frame::{CommonInformationEntry, FrameDescriptionEntry};
@@ -50,8 +50,8 @@ pub fn check_cies(machine: &mut Machine, cies: &[CommonInformationEntry<'_>]) ->
     ensures { Judges (first_fault cie_fault (map cie_of cies.now)) result }
 {
     for cie in cies {
-        match first_rules(machine, cie) {
-            Ok(_) => {}
+        match run_cie(machine, cie) {
+            Ok(()) => {}
             Err(fault) => return Err(fault),
         }
     }
@@ -67,8 +67,8 @@ fn check_behind(
     requires { cie_fault (cie_of cie.now) ≡ None }
     ensures { Judges (fde_fault (cie_of cie.now) (fde_of fde.now)) result }
 {
-    match first_rules(machine, cie) {
-        Ok(first) => check_program(machine, &first, cie, fde),
+    match run_cie(machine, cie) {
+        Ok(()) => check_program(machine, cie, fde),
         Err(fault) => Err(fault),
     }
 }

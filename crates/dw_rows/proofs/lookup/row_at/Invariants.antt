@@ -6,9 +6,9 @@ use Rattle.dw_rows.proofs.lookup.row_at.Given as goal
 
 abbrev pub invariant-loop-start : goal.invariant-loop-start
 invariant-loop-start l = record {
-  walk : IsWalk l.walk;
-  seeks : Seeks (cie_of l.fn.cie) (fde_of l.fn.fde) l.address l.walk;
+  walk : IsWalk (record { cie = cie_of l.cie; end = l.limit; machine = l.machine; instructions = l.instructions });
+  seeks : Seeks (cie_of l.cie) (fde_of l.fn.fde) l.address (record { cie = cie_of l.cie; end = l.limit; machine = l.machine; instructions = l.instructions });
 }
 
 abbrev pub decreases-loop-start : goal.decreases-loop-start
-decreases-loop-start l = l.walk.end - l.walk.machine.location
+decreases-loop-start l = l.limit - l.machine.location
