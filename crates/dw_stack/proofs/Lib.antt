@@ -1,0 +1,6 @@
+pub mod Places
+pub mod Lists
+pub mod Routes
+pub mod Describes
+pub mod Judging
+pub mod Walks

@@ -1,0 +1,13 @@
+//! The certificate of expressions over all paths (DWARF 5, sections 2.5 and 2.6): their stacks are never too low and
+//! never too high, whatever the branches do.
+#![tactic(auto)]
+
+mod arrivals;
+mod effect;
+mod judge;
+mod state;
+mod step;
+mod target;
+
+pub use judge::{MAX_HEIGHT, MAX_PIECES};
+pub use state::{Kind, Mode, State};
