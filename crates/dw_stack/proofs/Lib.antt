@@ -4,3 +4,4 @@ pub mod Routes
 pub mod Describes
 pub mod Judging
 pub mod Walks
+pub mod Verdicts
