@@ -5,3 +5,4 @@ pub mod Describes
 pub mod Judging
 pub mod Walks
 pub mod Verdicts
+pub mod Spelled

@@ -152,7 +152,7 @@ target_within ops len k n (Some z) (Some m) is e = let same = same_Some m n e in
 true_from : (b c : Bool) → b ≡ c → IsTrue b → IsTrue c
 true_from b c e t = subst (λ (x : Bool). IsTrue x) e t
 
-length-passed : (old new : List Arrival) (i : ℕ) (out : Outgoing) → PassesOn old i out new → length new ≡ length old
+pub length-passed : (old new : List Arrival) (i : ℕ) (out : Outgoing) → PassesOn old i out new → length new ≡ length old
 length-passed old new i out p = length_target out.target p.mid new out.state p.target ∙ length_next out.falls old p.mid (i + 1) out.state p.next
 
 module _ (kind : Kind) (ops : List Placed) (len : ℕ) (laid : IsLaidOut ops len) (given : Option (List State)) (i pieces : ℕ) (h : StackState) (out : Outgoing) (lt : i < length ops) (j : Judged kind ops len i pieces h out) where

@@ -5,6 +5,7 @@
 mod arrivals;
 mod effect;
 mod judge;
+mod pass;
 mod state;
 mod step;
 mod target;
