@@ -6,3 +6,4 @@ pub mod Judging
 pub mod Walks
 pub mod Verdicts
 pub mod Spelled
+pub mod Runs
