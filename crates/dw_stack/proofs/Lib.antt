@@ -7,3 +7,5 @@ pub mod Walks
 pub mod Verdicts
 pub mod Spelled
 pub mod Runs
+pub mod Stable
+pub mod Whole

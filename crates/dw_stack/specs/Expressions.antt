@@ -45,8 +45,8 @@ IsOtherCount target bytes (Some given) = length given ≡ length (operations_in 
 abbrev pub IsFaultOf : Kind → Target → List ℕ → Option (List State) → Fault → Type 0
 IsFaultOf kind target bytes given f =
     (reading_fault target bytes ≡ Some f)
-    ⊎ ((reading_fault target bytes ≡ None) × (IsOtherCount target bytes given × (f ≡ record { kind = CertLength; at = 0 })))
-    ⊎ ((reading_fault target bytes ≡ None) × ((IsOtherCount target bytes given → ⊥) × IsFirstFault kind (operations_in target bytes) (length bytes) given f.kind f.at))
+    ⊎ ((reading_fault target bytes ≡ None) × IsOtherCount target bytes given × (f ≡ record { kind = CertLength; at = 0 }))
+    ⊎ ((reading_fault target bytes ≡ None) × (IsOtherCount target bytes given → ⊥) × IsFirstFault kind (operations_in target bytes) (length bytes) given f.kind f.at)
 
 -- what a checked expression is to a caller
 pub record Checked : Type 0 where
@@ -61,3 +61,14 @@ pub record IsChecked (c : Checked) : Type 0 where
   pub good : IsGoodExpression c.kind c.target c.bytes
   pub depth : IsDepthOf c.kind c.target c.bytes c.depth
   pub count : c.count ≡ length (operations_in c.target c.bytes)
+
+-- it is of this kind, this target and these bytes
+pub record IsOf (kind : Kind) (target : Target) (bytes : List ℕ) (c : Checked) : Type 0 where
+  pub kind_is : c.kind ≡ kind
+  pub target_is : c.target ≡ target
+  pub bytes_are : c.bytes ≡ bytes
+
+-- the given states, if there are some, are the right ones
+abbrev pub Knows : Kind → Target → List ℕ → Option (List State) → Type 0
+Knows kind target bytes None = Unit {0}
+Knows kind target bytes (Some given) = AreStatesOf kind target bytes given

@@ -7,3 +7,4 @@ pub mod Arrivals
 pub mod Machine
 pub mod Expressions
 pub mod Views
+pub mod Certificates

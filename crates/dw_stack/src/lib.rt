@@ -3,12 +3,20 @@
 #![tactic(auto)]
 
 mod arrivals;
+mod certificate;
+
+mod checked;
 mod effect;
 mod judge;
 mod pass;
 mod state;
 mod step;
 mod target;
+mod verify;
 
+pub use certificate::Certificate;
+
+pub use checked::CheckedExpression;
 pub use judge::{MAX_HEIGHT, MAX_PIECES};
 pub use state::{Kind, Mode, State};
+pub use verify::{CertFault, certify, recheck};
