@@ -28,3 +28,8 @@ pub fn operations_come_in_order()
     ensures fault { (r : Reading) (fault : Fault) → 0 < length r.rest → operation_at r ≡ Err fault → operations_of r ≡ Err fault ∷ [] }
     ensures nothing { (r : Reading) → length r.rest ≡ 0 → operations_of r ≡ [] }
 {}
+
+/// An operation has a byte at least.
+pub fn no_operation_is_empty()
+    ensures { (target : Target) (bytes : List ℕ) (i : Operation) → Spells target bytes i → 0 < length bytes }
+{}

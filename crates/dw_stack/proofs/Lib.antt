@@ -1,0 +1,11 @@
+pub mod Places
+pub mod Lists
+pub mod Routes
+pub mod Describes
+pub mod Judging
+pub mod Walks
+pub mod Verdicts
+pub mod Spelled
+pub mod Runs
+pub mod Stable
+pub mod Whole

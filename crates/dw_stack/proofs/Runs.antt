@@ -1,0 +1,263 @@
+-- Each run of a good expression follows a path.
+use Rattle.std.proofs.Common.{◌≡◌, ℕ, ℤ, negsuc, zero, suc, ◌+◌, ◌-◌, ◌≤◌, ◌⊎◌, Bool, true, false, not, eqb, List, [], ◌∷◌, ◌++◌, length, take, Option, Some, None, Result, Ok, Err, refl, sym, ap, ◌∙◌, subst, inl, inr, arith, IsTrue, length-append, length-take}
+use Rattle.std.specs.Prelude.{slice_get, MatchBool, ◌==◌}
+use Rattle.std.proofs.lemmas.Option.{slice_get_within, slice_get_cases}
+use Rattle.dw_ops.specs.Operations.{Operation, bra, skip, reg, regx, implicit_value, stack_value, piece, bit_piece}
+use Rattle.dw_stack.specs.declared.effect.Role.{Role}
+use Rattle.dw_stack.specs.declared.effect.Role.TheVariants as role
+use Rattle.dw_stack.specs.declared.effect.StackEffect.{StackEffect}
+use Rattle.dw_stack.specs.declared.state.StackState.{StackState}
+use Rattle.dw_stack.specs.declared.state.Kind.{Kind}
+use Rattle.dw_stack.specs.declared.state.Kind.TheVariants.{FrameCfa, FrameRegister, Location}
+use Rattle.dw_stack.specs.declared.state.Mode.{Mode}
+use Rattle.dw_stack.specs.declared.state.Mode.TheVariants as mode
+use Rattle.dw_stack.specs.Effects.{effect_of}
+use Rattle.dw_stack.specs.States.{start_of, next_mode, height_after, state_after, StandsAlone, HasResult}
+use Rattle.dw_stack.specs.Paths.{Placed, place, IsLaidOut, aim, aimed, target_of, Leads, Edge, Reaches, IsGood, IsDepth}
+use Rattle.dw_stack.specs.Machine.{Whereabouts, InRegister, HasValue, HasBytes, Extent, Piece, Configuration, Trouble, Meaning, entry, named, jumps, extent_of, location_of, stack_after, pieces_after, CanDo, Meets, Step, Stops, Run, Starts, PendingIs, has_pieces, Agrees, Ended, GoesOn, RunsWell}
+use Rattle.dw_stack.proofs.Places.{place_of_some, place_past, place_inj}
+use Rattle.dw_stack.proofs.Routes.{reach_from, extend, at_start, reached_place, edge_lands}
+
+-- per operation: what it names is what its role says
+pending_is : (op : Operation) (s : List ℕ) (p : Option Whereabouts) (h : ℕ) (b : Bool) → p ≡ named op s → PendingIs (next_mode (effect_of op).role h b).mode p (next_mode (effect_of op).role h b).height
+pending_is (reg r) s p h b e = (r, e)
+pending_is (regx r) s p h b e = (r, e)
+pending_is (implicit_value bytes) s p h b e = (HasBytes bytes, e)
+pending_is stack_value s p h b e = (HasValue (entry s 0), e)
+pending_is (piece n) s p h b e = (e, refl)
+pending_is (bit_piece n m) s p h b e = (e, refl)
+pending_is _ s p h b e = e
+
+-- per operation: where it jumps it has a jump, and else it falls through
+branches : (op : Operation) (s : List ℕ) → MatchBool (jumps op s) ((z : ℤ) × ((effect_of op).jump ≡ Some z)) (IsTrue (effect_of op).falls)
+branches (bra z) s = either (not (eqb (entry s 0) 0))
+  where
+    either : (b : Bool) → MatchBool b ((y : ℤ) × ((effect_of (bra z)).jump ≡ Some y)) (IsTrue true)
+    either true = (z, refl)
+    either false = refl
+branches (skip z) s = (z, refl)
+branches _ s = refl
+
+-- the rest goes by roles
+height_behind : (r : Role) (new rest : List ℕ) (b : Bool) → length (stack_after r new rest) ≡ (next_mode r (length rest + length new) b).height
+height_behind role.Piece new rest b = refl
+height_behind role.Plain new rest b = let e = length-append rest new in omega (arith, e)
+height_behind role.Register new rest b = let e = length-append rest new in omega (arith, e)
+height_behind role.Bytes new rest b = let e = length-append rest new in omega (arith, e)
+height_behind role.Top new rest b = let e = length-append rest new in omega (arith, e)
+
+parts_push : (parts : List Piece) (p : Piece) → has_pieces (parts ++ p ∷ []) ≡ true
+parts_push [] p = refl
+parts_push (q ∷ parts) p = refl
+
+pieced_behind : (r : Role) (h : ℕ) (b : Bool) (parts : List Piece) (p : Piece) → b ≡ has_pieces parts → (next_mode r h b).pieced ≡ has_pieces (pieces_after r parts p)
+pieced_behind role.Piece h b parts p e = sym (parts_push parts p)
+pieced_behind role.Plain h b parts p e = e
+pieced_behind role.Register h b parts p e = e
+pieced_behind role.Bytes h b parts p e = e
+pieced_behind role.Top h b parts p e = e
+
+-- one step leads from agreement to agreement
+agrees_after : (m : Meaning) (ops : List Placed) (len : ℕ) (s : StackState) (c d : Configuration) (t : Step m ops len c d) → Agrees s c → Agrees (state_after (effect_of t.meets.placed.1) s) d
+agrees_after m ops len s c d t a = record {
+  height = ap length t.stack ∙ height_behind e.role t.new (take (length c.stack - e.takes) c.stack) s.pieced ∙ ap (λ (n : ℕ). (next_mode e.role n s.pieced).height) counts;
+  pending = pending_is op c.stack d.pending (s.height - e.takes + e.adds) s.pieced t.pending;
+  pieces = pieced_behind e.role (s.height - e.takes + e.adds) s.pieced c.pieces (record { location = location_of c.stack c.pending; size = extent_of op }) a.pieces ∙ ap has_pieces (sym t.pieces);
+}
+  where
+    op : Operation
+    op = t.meets.placed.1
+
+    e : StackEffect
+    e = effect_of t.meets.placed.1
+
+    counts : length (take (length c.stack - (effect_of t.meets.placed.1).takes) c.stack) + length t.new ≡ s.height - (effect_of t.meets.placed.1).takes + (effect_of t.meets.placed.1).adds
+    counts =
+        let l = length-take (length c.stack - (effect_of t.meets.placed.1).takes) c.stack in
+        let fair = m.fair t.meets.placed.1 c.stack t.new t.meets.entries t.answered in
+        omega (arith, l, fair, a.height)
+
+-- where the roles agree with the state, the step is there
+can_do : (r : Role) (m : Mode) (h n : ℕ) (p : Option Whereabouts) → n ≡ h → StandsAlone r m h → PendingIs m p h → CanDo r n p
+can_do role.Piece mode.Stack h n None e alone is = omega (arith, alone, e)
+can_do role.Piece mode.AfterPiece h n None e alone is = let z = is.1 in omega (arith, z, e)
+can_do role.Piece mode.Register h n None e alone is = omega (arith, alone, e)
+can_do role.Piece mode.Value h n None e alone is = omega (arith, alone, e)
+can_do role.Piece mode.Stack h n (Some p) e alone is = absurd (cc)
+can_do role.Piece mode.AfterPiece h n (Some p) e alone is = let no_p = is.0 in absurd (cc)
+can_do role.Piece mode.Register h n (Some p) e alone is = e ∙ alone
+can_do role.Piece mode.Value h n (Some p) e alone is = e ∙ alone
+can_do role.Register mode.Stack h n None e alone is = e ∙ alone
+can_do role.Register mode.AfterPiece h n None e alone is = e ∙ alone
+can_do role.Bytes mode.Stack h n None e alone is = e ∙ alone
+can_do role.Bytes mode.AfterPiece h n None e alone is = e ∙ alone
+can_do role.Plain mode.Stack h n None e alone is = tt
+can_do role.Plain mode.AfterPiece h n None e alone is = tt
+can_do role.Top mode.Stack h n None e alone is = tt
+can_do role.Top mode.AfterPiece h n None e alone is = tt
+can_do r mode.Stack h n (Some p) e alone is = absurd (cc)
+can_do r mode.AfterPiece h n (Some p) e alone is = let no_p = is.0 in absurd (cc)
+can_do r mode.Register h n p e alone is = absurd alone
+can_do r mode.Value h n p e alone is = absurd alone
+
+module _ (kind : Kind) (ops : List Placed) (len : ℕ) (laid : IsLaidOut ops len) (good : IsGood kind ops len) where
+  leads_there : (k b : ℕ) (x : Placed) (j : Bool) → slice_get ops k ≡ Some x → MatchBool j ((z : ℤ) × ((effect_of x.1).jump ≡ Some z)) (IsTrue (effect_of x.1).falls) → MatchBool j (target_of ops len k (effect_of x.1) ≡ Some b) (b ≡ place ops len (k + 1)) → Leads ops len k (effect_of x.1) b
+  leads_there k b x true stands br to = inr (to, good.targets k b x stands to)
+  leads_there k b x false stands br to = inl (br, to)
+
+  -- a step goes along an edge
+  pub step_edge : (m : Meaning) (s : StackState) (c d : Configuration) (t : Step m ops len c d) → Edge ops len c.offset s d.offset (state_after (effect_of t.meets.placed.1) s)
+  step_edge m s c d t = record {
+    number = t.meets.number;
+    placed = t.meets.placed;
+    stands = t.meets.stands;
+    from = t.meets.from;
+    leads = leads_there t.meets.number d.offset t.meets.placed (jumps t.meets.placed.1 c.stack) t.meets.stands (branches t.meets.placed.1 c.stack) t.to;
+    state = refl;
+  }
+
+  -- where a run stands
+  Stands : Configuration → Type 0
+  Stands c = (s : StackState) × Reaches kind ops len c.offset s × Agrees s c
+
+  run_follows : (m : Meaning) (n : ℕ) (c d : Configuration) → Stands c → Run m ops len n c d → Stands d
+  unfolding Stands
+  run_follows m zero c d r run = subst (λ (e : Configuration). (s : StackState) × Reaches kind ops len e.offset s × Agrees s e) run r
+  run_follows m (suc n) c d r run =
+      let t = run.1 in
+      let after = state_after (effect_of t.meets.placed.1) r.0 in
+      run_follows m n run.0 d (after, extend kind ops len c.offset r.0 run.0.offset after r.1 (step_edge m r.0 c run.0 t), agrees_after m ops len r.0 c run.0 t r.2) run.2
+
+  starts : (c : Configuration) → Starts kind c → Stands c
+  unfolding Stands
+  starts c s = (
+    start_of kind,
+    reach_from kind ops len 0 c.offset (start_of kind) (start_of kind) (sym s.offset) refl (at_start kind ops len),
+    record {
+      height = s.stack;
+      pending = plain kind c.pending s.pending;
+      pieces = unpieced kind c.pieces s.pieces;
+    },
+  )
+    where
+      plain : (k : Kind) (p : Option Whereabouts) → p ≡ None → PendingIs (start_of k).mode p (start_of k).height
+      plain FrameCfa p e = e
+      plain FrameRegister p e = e
+      plain Location p e = e
+
+      unpieced : (k : Kind) (ps : List Piece) → ps ≡ [] → (start_of k).pieced ≡ has_pieces ps
+      unpieced FrameCfa ps e = ap has_pieces (sym e)
+      unpieced FrameRegister ps e = ap has_pieces (sym e)
+      unpieced Location ps e = ap has_pieces (sym e)
+
+  -- each step comes to a later operation, and where a run comes to has its number
+  run_later : (m : Meaning) (n i : ℕ) (c d : Configuration) → i ≤ length ops → place ops len i ≡ c.offset → Run m ops len n c d → (j : ℕ) × (i + n ≤ j) × (j ≤ length ops) × (place ops len j ≡ d.offset)
+  run_later m zero i c d le at run = (i, omega arith, le, at ∙ ap (λ (e : Configuration). e.offset) run)
+  run_later m (suc n) i c d le at run =
+      let t = run.1 in
+      let e = step_edge m (start_of kind) c run.0 t in
+      let l = edge_lands ops len c.offset (start_of kind) run.0.offset (state_after (effect_of t.meets.placed.1) (start_of kind)) e in
+      let same : e.number ≡ i = place_inj ops len laid e.number i (omega (arith, slice_get_within ops e.number e.placed e.stands)) le (place_of_some ops len e.number e.placed e.stands ∙ e.from ∙ sym at) in
+      let later = run_later m n l.number run.0 d l.within l.there run.2 in
+      (later.0, omega (arith, later.1, l.later, same), later.2, later.3)
+
+  -- it has not come to the end where an operation stands
+  before_end : (j : ℕ) (d : Configuration) → j ≤ length ops → place ops len j ≡ d.offset → Meets ops d → j + 1 ≤ length ops
+  before_end j d le at t =
+      let within = slice_get_within ops t.number t.placed t.stands in
+      let same : t.number ≡ j = place_inj ops len laid t.number j (omega (arith, within)) le (place_of_some ops len t.number t.placed t.stands ∙ t.from ∙ sym at) in
+      omega (arith, same, within)
+
+  -- the configuration behind a step
+  behind : (x : Placed) (c : Configuration) (new : List ℕ) → ℕ → Configuration
+  behind x c new at = record {
+    offset = at;
+    stack = stack_after (effect_of x.1).role new (take (length c.stack - (effect_of x.1).takes) c.stack);
+    pending = named x.1 c.stack;
+    pieces = pieces_after (effect_of x.1).role c.pieces (record { location = location_of c.stack c.pending; size = extent_of x.1 });
+  }
+
+  goal_at : (next : ℕ) (z : ℤ) → (aim next z ≡ None) ⊎ ((t : ℕ) × (aim next z ≡ Some t))
+  goal_at next (negsuc n) = inl refl
+  goal_at next z = inr (_, refl)
+
+  -- a step from an operation that is there
+  go_to : (m : Meaning) (c : Configuration) (new : List ℕ) (t : Meets ops c) (j : Bool) → m.answer t.placed.1 c.stack ≡ Ok new → j ≡ jumps t.placed.1 c.stack → MatchBool j ((z : ℤ) × ((effect_of t.placed.1).jump ≡ Some z)) (IsTrue (effect_of t.placed.1).falls) → (e : Configuration) × Step m ops len c e
+  unfolding behind
+  go_to m c new t true answered is br =
+      elim (goal_at (place ops len (t.number + 1)) br.0) [
+        | inl back ↦ absurd (good.ahead t.number br.0 t.placed t.stands br.1 back)
+        | inr found ↦
+            let aimed_at : target_of ops len t.number (effect_of t.placed.1) ≡ Some found.0 = ap (aimed (place ops len (t.number + 1))) br.1 ∙ found.1 in
+            (behind t.placed c new found.0, record { meets = t; new = new; answered = answered; to = subst (λ (b : Bool). MatchBool b (target_of ops len t.number (effect_of t.placed.1) ≡ Some found.0) (found.0 ≡ place ops len (t.number + 1))) is aimed_at; stack = refl; pending = refl; pieces = refl })
+      ]
+  go_to m c new t false answered is br =
+      (behind t.placed c new (place ops len (t.number + 1)), record { meets = t; new = new; answered = answered; to = subst (λ (b : Bool). MatchBool b (target_of ops len t.number (effect_of t.placed.1) ≡ Some (place ops len (t.number + 1))) (place ops len (t.number + 1) ≡ place ops len (t.number + 1))) is refl; stack = refl; pending = refl; pieces = refl })
+
+  -- an operation that is there answers, or says why it doesn't
+  answer_of : (m : Meaning) (c : Configuration) (t : Meets ops c) (a : Result (List ℕ) Trouble) → m.answer t.placed.1 c.stack ≡ a → GoesOn kind m ops len c
+  answer_of m c t (Ok new) is = inr (inl (go_to m c new t (jumps t.placed.1 c.stack) is refl (branches t.placed.1 c.stack)))
+  answer_of m c t (Err why) is = inr (inr (why, record { meets = t; answered = is }))
+
+  -- where a path comes to an operation, all that it needs is there
+  pub meets_at : (c : Configuration) (s : StackState) → Reaches kind ops len c.offset s → Agrees s c → (k : ℕ) (x : Placed) → slice_get ops k ≡ Some x → x.0 ≡ c.offset → Meets ops c
+  meets_at c s there agrees k x stands at =
+      let here = reach_from kind ops len c.offset x.0 s s (sym at) refl there in
+      let needs = good.needs k x s stands here in
+      record {
+        number = k;
+        placed = x;
+        stands = stands;
+        from = at;
+        entries = omega (arith, needs, agrees.height);
+        can = can_do (effect_of x.1).role s.mode s.height (length c.stack) c.pending agrees.height (good.alone k x s stands here) agrees.pending;
+      }
+
+  -- from where a path comes, it goes on, or stops, or this is the end
+  on_from : (m : Meaning) (c : Configuration) → Stands c → GoesOn kind m ops len c
+  unfolding Stands
+  on_from m c r =
+      let p = reached_place kind ops len laid c.offset r.0 r.1 in
+      elim (slice_get_cases ops p.0).1 [
+        | inl found ↦
+            let x : Placed = found.0 in
+            let at : x.0 ≡ c.offset = sym (place_of_some ops len p.0 x found.2) ∙ p.2 in
+            let t = meets_at c r.0 r.1 r.2 p.0 x found.2 at in
+            answer_of m c t (m.answer t.placed.1 c.stack) refl
+        | inr past ↦
+            let here : c.offset ≡ len = sym p.2 ∙ place_past ops len p.0 past.0 in
+            inl (record { there = here; state = r.0; agrees = r.2; result = good.ends r.0 (reach_from kind ops len c.offset len r.0 r.0 here refl r.1) })
+      ]
+
+  -- no stack is above the depth
+  bound : (m : Meaning) (n depth : ℕ) (c d : Configuration) → IsDepth kind ops len depth → Stands c → length c.stack ≤ depth → Run m ops len n c d → length d.stack ≤ depth
+  unfolding Stands
+  bound m zero depth c d deep r le run = let same = ap (λ (e : Configuration). length e.stack) run in omega (arith, same)
+  bound m (suc n) depth c d deep r le run =
+      let t = run.1 in
+      let after = state_after (effect_of t.meets.placed.1) r.0 in
+      let agrees = agrees_after m ops len r.0 c run.0 t r.2 in
+      let below = deep.greatest (height_after (effect_of t.meets.placed.1) r.0) (inr (t.meets.number, t.meets.placed, r.0, t.meets.stands, reach_from kind ops len c.offset t.meets.placed.0 r.0 r.0 (sym t.meets.from) refl r.1, inr refl)) in
+      let low = mode_height (effect_of t.meets.placed.1).role (height_after (effect_of t.meets.placed.1) r.0) r.0.pieced in
+      bound m n depth run.0 d deep (after, extend kind ops len c.offset r.0 run.0.offset after r.1 (step_edge m r.0 c run.0 t), agrees) (omega (arith, agrees.height, below, low)) run.2
+    where
+      mode_height : (q : Role) (h : ℕ) (b : Bool) → (next_mode q h b).height ≤ h
+      mode_height role.Piece h b = omega arith
+      mode_height role.Plain h b = omega arith
+      mode_height role.Register h b = omega arith
+      mode_height role.Bytes h b = omega arith
+      mode_height role.Top h b = omega arith
+
+  pub good_runs : (depth : ℕ) → IsDepth kind ops len depth → RunsWell kind ops len depth
+  unfolding Stands
+  good_runs depth deep = record {
+    follows = λ m c d n s run. run_follows m n c d (starts c s) run;
+    bounded = λ m c d n s run. bound m n depth c d deep (starts c s) (omega (arith, s.stack, deep.greatest (start_of kind).height (inl refl))) run;
+    short = λ m c d n s run. let l = run_later m n 0 c d (omega arith) (laid.first ∙ sym s.offset) run in omega (arith, l.1, l.2);
+    stops = λ m c d n why s run stop. let l = run_later m n 0 c d (omega arith) (laid.first ∙ sym s.offset) run in let b = before_end l.0 d l.2 l.3 stop.meets in omega (arith, l.1, b);
+    goes_on = λ m c d n s run. on_from m d (run_follows m n c d (starts c s) run);
+  }
+
+  pub run_stands : (m : Meaning) (n : ℕ) (c d : Configuration) → Starts kind c → Run m ops len n c d → (s : StackState) × Reaches kind ops len d.offset s × Agrees s d
+  unfolding Stands
+  run_stands m n c d s run = run_follows m n c d (starts c s) run

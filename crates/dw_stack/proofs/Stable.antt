@@ -1,0 +1,165 @@
+-- What merely holds of a checked expression holds of it.
+use Rattle.std.proofs.Math.Logic.{∥∥₁_elim, ∥∥₁_prop}
+use mathlib.Core.HLevel.{⊥_prop}
+use Rattle.std.specs.Coded.{Coded-set, coded_ℕ, coded_bool, ×_prop, →_prop, Unit-prop, le_prop}
+use Rattle.std.proofs.Common.{◌≡◌, ℕ, zero, suc, ◌+◌, ◌<◌, ◌≤◌, ◌⊎◌, Bool, List, length, Option, Some, None, refl, sym, ap, ◌∙◌, inl, inr, arith}
+use Rattle.std.specs.Prelude.{slice_get, ◌==◌}
+use Rattle.std.proofs.lemmas.Bool.{cases_eq}
+use Rattle.dw_bytes.specs.declared.fault.Fault.{Fault}
+use Rattle.dw_bytes.specs.declared.target.Target.{Target}
+use Rattle.dw_stack.specs.declared.effect.Role.{Role}
+use Rattle.dw_stack.specs.declared.effect.Role.TheVariants as role
+use Rattle.dw_stack.specs.declared.effect.StackEffect.{StackEffect}
+use Rattle.dw_stack.specs.declared.state.Mode.{Mode}
+use Rattle.dw_stack.specs.declared.state.Mode.TheVariants as mode
+use Rattle.dw_stack.specs.declared.state.StackState.{StackState}
+use Rattle.dw_stack.specs.declared.state.Kind.{Kind}
+use Rattle.dw_stack.specs.declared.state.Kind.TheVariants.{FrameCfa, FrameRegister, Location}
+use Rattle.dw_stack.specs.Effects.{effect_of}
+use Rattle.dw_stack.specs.States.{StandsAlone, ResultOf}
+use Rattle.dw_stack.specs.Paths.{Placed, place, IsLaidOut, target_of, IsTarget, Reaches, IsAllowed, IsGood, IsDepth}
+use Rattle.dw_stack.specs.Expressions.{operations_in, reading_fault, IsGoodExpression, Checked, IsChecked}
+use Rattle.dw_stack.proofs.Places.{place_inj}
+use Rattle.dw_stack.proofs.Spelled.{spelled_of, read_of, laid_out}
+
+allowed-prop : (kind : Kind) (e : StackEffect) → IsProp (IsAllowed kind e)
+allowed-prop Location e = Unit-prop
+allowed-prop FrameCfa e = Coded-set coded_bool _ _
+allowed-prop FrameRegister e = Coded-set coded_bool _ _
+
+alone-prop : (r : Role) (m : Mode) (h : ℕ) → IsProp (StandsAlone r m h)
+alone-prop role.Piece mode.AfterPiece h = Unit-prop
+alone-prop role.Piece mode.Stack h = le_prop
+alone-prop role.Piece mode.Register h = Coded-set coded_ℕ _ _
+alone-prop role.Piece mode.Value h = Coded-set coded_ℕ _ _
+alone-prop role.Register mode.Stack h = Coded-set coded_ℕ _ _
+alone-prop role.Register mode.AfterPiece h = Coded-set coded_ℕ _ _
+alone-prop role.Register mode.Register h = ⊥_prop
+alone-prop role.Register mode.Value h = ⊥_prop
+alone-prop role.Bytes mode.Stack h = Coded-set coded_ℕ _ _
+alone-prop role.Bytes mode.AfterPiece h = Coded-set coded_ℕ _ _
+alone-prop role.Bytes mode.Register h = ⊥_prop
+alone-prop role.Bytes mode.Value h = ⊥_prop
+alone-prop role.Plain mode.Stack h = Unit-prop
+alone-prop role.Plain mode.AfterPiece h = Unit-prop
+alone-prop role.Plain mode.Register h = ⊥_prop
+alone-prop role.Plain mode.Value h = ⊥_prop
+alone-prop role.Top mode.Stack h = Unit-prop
+alone-prop role.Top mode.AfterPiece h = Unit-prop
+alone-prop role.Top mode.Register h = ⊥_prop
+alone-prop role.Top mode.Value h = ⊥_prop
+
+result-prop : (kind : Kind) (m : Mode) (empty pieced : Bool) (h : ℕ) → IsProp (ResultOf kind m empty pieced h)
+result-prop Location mode.AfterPiece empty pieced h = Unit-prop
+result-prop Location mode.Stack empty pieced h = →_prop (×_prop (Coded-set coded_bool _ _) le_prop)
+result-prop Location mode.Register empty pieced h = Coded-set coded_bool _ _
+result-prop Location mode.Value empty pieced h = Coded-set coded_bool _ _
+result-prop FrameCfa mode.Stack empty pieced h = le_prop
+result-prop FrameRegister mode.Stack empty pieced h = le_prop
+result-prop FrameCfa mode.Register empty pieced h = ⊥_prop
+result-prop FrameCfa mode.Value empty pieced h = ⊥_prop
+result-prop FrameCfa mode.AfterPiece empty pieced h = ⊥_prop
+result-prop FrameRegister mode.Register empty pieced h = ⊥_prop
+result-prop FrameRegister mode.Value empty pieced h = ⊥_prop
+result-prop FrameRegister mode.AfterPiece empty pieced h = ⊥_prop
+
+number_of : Mode → ℕ
+number_of mode.Stack = 0
+number_of mode.Register = 1
+number_of mode.Value = 2
+number_of mode.AfterPiece = 3
+
+mode_of : ℕ → Mode
+mode_of zero = mode.Stack
+mode_of (suc zero) = mode.Register
+mode_of (suc (suc zero)) = mode.Value
+mode_of _ = mode.AfterPiece
+
+mode_back : (m : Mode) → mode_of (number_of m) ≡ m
+unfolding mode_of number_of
+mode_back mode.Stack = refl
+mode_back mode.Register = refl
+mode_back mode.Value = refl
+mode_back mode.AfterPiece = refl
+
+abbrev made : ℕ → Mode → Bool → StackState
+made height m pieced = record { height = height; mode = m; pieced = pieced }
+
+-- two states are one where they merely are
+state_stable : (s t : StackState) → ∥ s ≡ t ∥₁ → s ≡ t
+state_stable s t h =
+    let height : s.height ≡ t.height = ∥∥₁_elim h (Coded-set coded_ℕ _ _) (λ e. ap (λ (x : StackState). x.height) e) in
+    let pieced : s.pieced ≡ t.pieced = ∥∥₁_elim h (Coded-set coded_bool _ _) (λ e. ap (λ (x : StackState). x.pieced) e) in
+    let number : number_of s.mode ≡ number_of t.mode = ∥∥₁_elim h (Coded-set coded_ℕ _ _) (λ e. ap (λ (x : StackState). number_of x.mode) e) in
+    let same : s.mode ≡ t.mode = sym (mode_back s.mode) ∙ (ap mode_of number ∙ mode_back t.mode) in
+    let first : made s.height s.mode s.pieced ≡ made t.height s.mode s.pieced = ap (λ (h : ℕ). made h s.mode s.pieced) height in
+    let second : made t.height s.mode s.pieced ≡ made t.height t.mode s.pieced = ap (λ (m : Mode). made t.height m s.pieced) same in
+    let third : made t.height t.mode s.pieced ≡ made t.height t.mode t.pieced = ap (λ (b : Bool). made t.height t.mode b) pieced in
+    first ∙ (second ∙ third)
+
+-- an operation, or the end, begins at t, or none does
+find_place : (ops : List Placed) (len t n : ℕ) → ((j : ℕ) × (j ≤ n) × (place ops len j ≡ t)) ⊎ ((j : ℕ) → j ≤ n → place ops len j ≡ t → ⊥)
+find_place ops len t zero = elim (cases_eq (place ops len 0) t) [
+  | inl here ↦ inl (0, omega arith, here)
+  | inr other ↦ inr (λ j le e. let first : j ≡ 0 = omega arith in other (ap (place ops len) (sym first) ∙ e))
+]
+find_place ops len t (suc n) = elim (find_place ops len t n) [
+  | inl found ↦ inl (found.0, omega (arith, found.1), found.2)
+  | inr none ↦ elim (cases_eq (place ops len (suc n)) t) [
+    | inl here ↦ inl (suc n, omega arith, here)
+    | inr other ↦ inr (λ j le e. elim (cases_eq j (suc n)) [
+      | inl last ↦ other (ap (place ops len) (sym last) ∙ e)
+      | inr before ↦ none j (omega arith) e
+    ])
+  ]
+]
+
+module _ (kind : Kind) (ops : List Placed) (len : ℕ) (laid : IsLaidOut ops len) (h : ∥ IsGood kind ops len ∥₁) where
+  target_stable : (k t : ℕ) (x : Placed) → slice_get ops k ≡ Some x → target_of ops len k (effect_of x.1) ≡ Some t → IsTarget ops len k t
+  target_stable k t x stands to = elim (find_place ops len t (length ops)) [
+    | inl found ↦ record {
+      number = found.0;
+      later = ∥∥₁_elim h le_prop (λ g.
+          let target = g.targets k t x stands to in
+          let same : target.number ≡ found.0 = place_inj ops len laid target.number found.0 target.within found.1 (target.there ∙ sym found.2) in
+          omega (arith, target.later, same));
+      within = found.1;
+      there = found.2;
+    }
+    | inr none ↦ absurd (∥∥₁_elim h ⊥_prop (λ g. let target = g.targets k t x stands to in none target.number target.within target.there))
+  ]
+
+  pub good_stable : IsGood kind ops len
+  good_stable = record {
+    allowed = λ k x stands. ∥∥₁_elim h (allowed-prop kind (effect_of x.1)) (λ g. g.allowed k x stands);
+    alone = λ k x s stands r. ∥∥₁_elim h (alone-prop (effect_of x.1).role s.mode s.height) (λ g. g.alone k x s stands r);
+    needs = λ k x s stands r. ∥∥₁_elim h le_prop (λ g. g.needs k x s stands r);
+    limit = λ k x s stands r. ∥∥₁_elim h le_prop (λ g. g.limit k x s stands r);
+    one = λ b s t r q. state_stable s t (∥∥₁_elim h ∥∥₁_prop (λ g. ∣ g.one b s t r q ∣₁));
+    each = λ k x stands. ∥∥₁_elim h ∥∥₁_prop (λ g. g.each k x stands);
+    ahead = λ k z x stands jump back. ∥∥₁_elim h ⊥_prop (λ g. g.ahead k z x stands jump back);
+    targets = λ k t x stands to. target_stable k t x stands to;
+    pieces = ∥∥₁_elim h le_prop (λ g. g.pieces);
+    ends = λ s r. ∥∥₁_elim h (result-prop kind s.mode (length ops == 0) s.pieced s.height) (λ g. g.ends s r);
+  }
+
+module _ (c : Checked) (h : ∥ IsChecked c ∥₁) where
+  read_stable : (o : Option Fault) → reading_fault c.target c.bytes ≡ o → reading_fault c.target c.bytes ≡ None
+  read_stable None is = is
+  read_stable (Some f) is = absurd (∥∥₁_elim h ⊥_prop (λ checked. let none = read_of c.target c.bytes (operations_in c.target c.bytes) checked.good.spelled in let other : None ≡ Some f = sym none ∙ is in cc))
+
+  pub checked_stable : IsChecked c
+  checked_stable =
+      let spelled = spelled_of c.target c.bytes (read_stable (reading_fault c.target c.bytes) refl) in
+      let laid = laid_out c.target c.bytes (operations_in c.target c.bytes) spelled in
+      record {
+        good = record {
+          spelled = spelled;
+          good = good_stable c.kind (operations_in c.target c.bytes) (length c.bytes) laid (∥∥₁_elim h ∥∥₁_prop (λ checked. ∣ checked.good.good ∣₁));
+        };
+        depth = record {
+          touched = ∥∥₁_elim h ∥∥₁_prop (λ checked. checked.depth.touched);
+          greatest = λ n touches. ∥∥₁_elim h le_prop (λ checked. checked.depth.greatest n touches);
+        };
+        count = ∥∥₁_elim h (Coded-set coded_ℕ _ _) (λ checked. checked.count);
+      }

@@ -1,0 +1,29 @@
+use Rattle.std.proofs.Common.{◌≡◌, ◌⊎◌, ℕ, List, Option, None, inl, inr}
+use Rattle.std.specs.Prelude.{Result, Ok, Err, IfOk, IfErr}
+use Rattle.dw_bytes.specs.declared.target.Target.{Target}
+use Rattle.dw_bytes.specs.declared.fault.Fault.{Fault}
+use Rattle.dw_bytes.specs.Answers.{memory}
+use Rattle.dw_ops.specs.Views.{bytes_of, target_of}
+use Rattle.dw_stack.specs.declared.state.Kind.{Kind}
+use Rattle.dw_stack.specs.declared.certificate.Certificate.{Certificate}
+use Rattle.dw_stack.specs.Expressions.{IsGoodExpression, RunsWellWithin, IsFaultOf, IsChecked, IsOf}
+use Rattle.dw_stack.specs.Certificates.{checked_in}
+use Rattle.dw_stack.proofs.Whole.{runs_for, good_faultless}
+use Rattle.dw_stack.proofs.verify.certify.Goals as goal
+
+runs_well : (kind : Kind) (target : Target) (bytes : List ℕ) (r : Result Certificate Fault) → IfOk r (λ c. IsChecked (checked_in c)) → IfOk r (λ c. IsOf kind target bytes (checked_in c)) → IfOk r (λ c. RunsWellWithin kind target bytes (checked_in c).depth)
+runs_well kind target bytes (Ok c) checked is = runs_for kind target bytes (checked_in c) checked is
+runs_well kind target bytes (Err f) checked is = tt
+
+only_memory : (kind : Kind) (target : Target) (bytes : List ℕ) (r : Result Certificate Fault) → IfErr r (λ f. (f ≡ memory) ⊎ IsFaultOf kind target bytes None f) → IsGoodExpression kind target bytes → IfErr r (λ f. f ≡ memory)
+only_memory kind target bytes (Ok c) fault good = tt
+only_memory kind target bytes (Err f) fault good = elim fault [
+  | inl lacks ↦ lacks
+  | inr is ↦ absurd (good_faultless kind target bytes None f tt good is)
+]
+
+pub returns-clause-runs : goal.returns-clause-runs
+returns-clause-runs c = runs_well c.args.kind (target_of c.args.expression) (bytes_of c.args.expression) c.check.result c.check.ensures.checked c.check.ensures.same
+
+pub returns-clause-only : goal.returns-clause-only
+returns-clause-only c = λ good. only_memory c.args.kind (target_of c.args.expression) (bytes_of c.args.expression) c.check.result c.check.ensures.fault good

@@ -1,0 +1,10 @@
+pub mod Effects
+pub mod States
+pub mod Paths
+pub mod Faults
+pub mod Judge
+pub mod Arrivals
+pub mod Machine
+pub mod Expressions
+pub mod Views
+pub mod Certificates

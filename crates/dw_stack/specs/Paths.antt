@@ -1,0 +1,120 @@
+-- Paths of an expression, the states on them, and what makes an expression good. Paths that go forward alone and take
+-- both ways of a branch, whatever its value, are a rule of this checker.
+use Rattle.std.specs.Prelude.{◌≡◌, ℕ, ℤ, pos, negsuc, zero, suc, ◌+◌, ◌==◌, ◌<◌, ◌≤◌, ◌⊎◌, Bool, true, false, List, [], ◌∷◌, length, take, count_by, IsTrue, Option, Some, None, slice_get}
+use Rattle.dw_ops.specs.Operations.{Operation}
+use Rattle.dw_stack.specs.declared.effect.Role.{Role}
+use Rattle.dw_stack.specs.declared.effect.Role.TheVariants as role
+use Rattle.dw_stack.specs.declared.effect.StackEffect.{StackEffect}
+use Rattle.dw_stack.specs.declared.judge.TheConstants.{MAX_HEIGHT, MAX_PIECES}
+use Rattle.dw_stack.specs.declared.state.State.{State}
+use Rattle.dw_stack.specs.declared.state.StackState.{StackState}
+use Rattle.dw_stack.specs.declared.state.Kind.{Kind}
+use Rattle.dw_stack.specs.declared.state.Kind.TheVariants.{FrameCfa, FrameRegister, Location}
+use Rattle.dw_stack.specs.Effects.{effect_of}
+use Rattle.dw_stack.specs.States.{start_of, StandsAlone, height_after, state_after, HasResult, at_offset}
+
+-- an operation with its offset
+abbrev pub Placed : Type 0
+Placed = ℕ × Operation
+
+-- where the operation numbered j begins; the length where there is none
+abbrev pub place : List Placed → ℕ → ℕ → ℕ
+place [] len j = len
+place (x ∷ xs) len zero = x.0
+place (x ∷ xs) len (suc j) = place xs len j
+
+-- the operations follow each other from offset 0 on, up to the length
+pub record IsLaidOut (ops : List Placed) (len : ℕ) : Type 0 where
+  pub first : place ops len 0 ≡ 0
+  pub each : (j : ℕ) → j < length ops → place ops len j < place ops len (j + 1)
+
+-- where a jump leads that is counted from the next operation; nowhere for one backward
+abbrev pub aim : ℕ → ℤ → Option ℕ
+aim next (pos n) = Some (next + n)
+aim next (negsuc n) = None
+
+-- the target of the operation numbered k, if it has a jump that isn't backward
+abbrev pub aimed : ℕ → Option ℤ → Option ℕ
+aimed next None = None
+aimed next (Some z) = aim next z
+
+abbrev pub target_of : List Placed → ℕ → ℕ → StackEffect → Option ℕ
+target_of ops len k e = aimed (place ops len (k + 1)) e.jump
+
+-- offset t is that of a later operation than the one numbered k, or the length
+pub record IsTarget (ops : List Placed) (len k t : ℕ) : Type 0 where
+  pub number : ℕ
+  pub later : k < number
+  pub within : number ≤ length ops
+  pub there : place ops len number ≡ t
+
+-- b may come after the operation numbered k, of this effect
+abbrev pub Leads : List Placed → ℕ → ℕ → StackEffect → ℕ → Type 0
+Leads ops len k e b = (IsTrue e.falls × (b ≡ place ops len (k + 1))) ⊎ ((target_of ops len k e ≡ Some b) × IsTarget ops len k b)
+
+-- an edge from the operation at offset a to offset b, and what it does to the state
+pub record Edge (ops : List Placed) (len a : ℕ) (s : StackState) (b : ℕ) (t : StackState) : Type 0 where
+  pub number : ℕ
+  pub placed : Placed
+  pub stands : slice_get ops number ≡ Some placed
+  pub from : placed.0 ≡ a
+  pub leads : Leads ops len number (effect_of placed.1) b
+  pub state : t ≡ state_after (effect_of placed.1) s
+
+-- from offset a and state s, over these offsets, one edge after the other, to offset b and state t
+abbrev pub Follows : List Placed → ℕ → ℕ → StackState → List ℕ → ℕ → StackState → Type 0
+Follows ops len a s [] b t = (a ≡ b) × (s ≡ t)
+Follows ops len a s (c ∷ path) b t = (r : StackState) × Edge ops len a s c r × Follows ops len c r path b t
+
+-- some path from offset 0 comes to offset b, with state s there
+pub record Reaches (kind : Kind) (ops : List Placed) (len b : ℕ) (s : StackState) : Type 0 where
+  pub path : List ℕ
+  pub follows : Follows ops len 0 (start_of kind) path b s
+
+-- the kind has this operation
+abbrev pub IsAllowed : Kind → StackEffect → Type 0
+IsAllowed Location e = Unit {0}
+IsAllowed FrameCfa e = e.framed ≡ true
+IsAllowed FrameRegister e = e.framed ≡ true
+
+abbrev pub is_piece : Role → Bool
+is_piece role.Piece = true
+is_piece _ = false
+
+-- how many of the first k operations name pieces
+abbrev pub pieces_before : List Placed → ℕ → ℕ
+pieces_before ops k = count_by (λ x. is_piece (effect_of x.1).role) (take k ops)
+
+-- each path is fine wherever it comes to, and each operation is on one
+pub record IsGood (kind : Kind) (ops : List Placed) (len : ℕ) : Type 0 where
+  pub allowed : (k : ℕ) (x : Placed) → slice_get ops k ≡ Some x → IsAllowed kind (effect_of x.1)
+  -- every path that comes to an operation meets its needs
+  pub alone : (k : ℕ) (x : Placed) (s : StackState) → slice_get ops k ≡ Some x → Reaches kind ops len x.0 s → StandsAlone (effect_of x.1).role s.mode s.height
+  pub needs : (k : ℕ) (x : Placed) (s : StackState) → slice_get ops k ≡ Some x → Reaches kind ops len x.0 s → (effect_of x.1).needs ≤ s.height
+  -- no height is above the limit
+  pub limit : (k : ℕ) (x : Placed) (s : StackState) → slice_get ops k ≡ Some x → Reaches kind ops len x.0 s → height_after (effect_of x.1) s ≤ MAX_HEIGHT
+  -- two paths to one offset, the end included, have one state
+  pub one : (b : ℕ) (s t : StackState) → Reaches kind ops len b s → Reaches kind ops len b t → s ≡ t
+  -- every operation is on a path
+  pub each : (k : ℕ) (x : Placed) → slice_get ops k ≡ Some x → ∥ ((s : StackState) × Reaches kind ops len x.0 s) ∥₁
+  -- no branch goes back, and every target is a later operation's offset, or the length
+  pub ahead : (k : ℕ) (z : ℤ) (x : Placed) → slice_get ops k ≡ Some x → (effect_of x.1).jump ≡ Some z → aim (place ops len (k + 1)) z ≡ None → ⊥
+  pub targets : (k t : ℕ) (x : Placed) → slice_get ops k ≡ Some x → target_of ops len k (effect_of x.1) ≡ Some t → IsTarget ops len k t
+  pub pieces : pieces_before ops (length ops) ≤ MAX_PIECES
+  -- every path to the end has a result
+  pub ends : (s : StackState) → Reaches kind ops len len s → HasResult kind (length ops == 0) s
+
+-- a state before each operation: the one that paths have there
+pub record AreStates (kind : Kind) (ops : List Placed) (len : ℕ) (states : List State) : Type 0 where
+  pub long : length states ≡ length ops
+  pub each : (k : ℕ) (x : Placed) (s : StackState) → slice_get ops k ≡ Some x → Reaches kind ops len x.0 s → slice_get states k ≡ Some (at_offset x.0 s)
+
+-- h is the height before or after an operation on a path, or that of the start
+abbrev pub Touches : Kind → List Placed → ℕ → ℕ → Type 0
+Touches kind ops len h =
+    (h ≡ (start_of kind).height) ⊎ ((k : ℕ) × (x : Placed) × (s : StackState) × (slice_get ops k ≡ Some x) × Reaches kind ops len x.0 s × ((h ≡ s.height) ⊎ (h ≡ height_after (effect_of x.1) s)))
+
+-- some path touches d, and none a greater height
+pub record IsDepth (kind : Kind) (ops : List Placed) (len d : ℕ) : Type 0 where
+  pub touched : ∥ Touches kind ops len d ∥₁
+  pub greatest : (h : ℕ) → Touches kind ops len h → h ≤ d

@@ -1,0 +1,75 @@
+-- The states of the stack: the height, the mode, and whether a piece came before. What they allow, and what follows
+-- (DWARF 5, section 2.6; that paths which meet agree is a rule of this checker).
+use Rattle.std.specs.Prelude.{◌≡◌, ℕ, ◌+◌, ◌-◌, ◌≤◌, Bool, true, false}
+use Rattle.dw_stack.specs.declared.effect.Role.{Role}
+use Rattle.dw_stack.specs.declared.effect.Role.TheVariants as role
+use Rattle.dw_stack.specs.declared.effect.StackEffect.{StackEffect}
+use Rattle.dw_stack.specs.declared.state.Mode.{Mode}
+use Rattle.dw_stack.specs.declared.state.Mode.TheVariants as mode
+use Rattle.dw_stack.specs.declared.state.Kind.{Kind}
+use Rattle.dw_stack.specs.declared.state.Kind.TheVariants.{FrameCfa, FrameRegister, Location}
+use Rattle.dw_stack.specs.declared.state.State.{State}
+use Rattle.dw_stack.specs.declared.state.StackState.{StackState}
+
+-- The rule of a register starts with the CFA on the stack, all else with nothing.
+abbrev pub start_of : Kind → StackState
+start_of FrameCfa = record { height = 0; mode = mode.Stack; pieced = false }
+start_of FrameRegister = record { height = 1; mode = mode.Stack; pieced = false }
+start_of Location = record { height = 0; mode = mode.Stack; pieced = false }
+
+-- Behind a register or a value only a piece may follow. What names one wants an empty stack, and a piece wants one thing
+-- alone: the register or value, an address, or nothing.
+abbrev pub StandsAlone : Role → Mode → ℕ → Type 0
+StandsAlone role.Piece mode.AfterPiece h = Unit {0}
+StandsAlone role.Piece mode.Stack h = h ≤ 1
+StandsAlone role.Piece mode.Register h = h ≡ 0
+StandsAlone role.Piece mode.Value h = h ≡ 0
+StandsAlone role.Register mode.Stack h = h ≡ 0
+StandsAlone role.Register mode.AfterPiece h = h ≡ 0
+StandsAlone role.Register mode.Register h = ⊥
+StandsAlone role.Register mode.Value h = ⊥
+StandsAlone role.Bytes mode.Stack h = h ≡ 0
+StandsAlone role.Bytes mode.AfterPiece h = h ≡ 0
+StandsAlone role.Bytes mode.Register h = ⊥
+StandsAlone role.Bytes mode.Value h = ⊥
+StandsAlone role.Plain mode.Stack h = Unit {0}
+StandsAlone role.Plain mode.AfterPiece h = Unit {0}
+StandsAlone role.Plain mode.Register h = ⊥
+StandsAlone role.Plain mode.Value h = ⊥
+StandsAlone role.Top mode.Stack h = Unit {0}
+StandsAlone role.Top mode.AfterPiece h = Unit {0}
+StandsAlone role.Top mode.Register h = ⊥
+StandsAlone role.Top mode.Value h = ⊥
+
+abbrev pub next_mode : Role → ℕ → Bool → StackState
+next_mode role.Plain h p = record { height = h; mode = mode.Stack; pieced = p }
+next_mode role.Register h p = record { height = h; mode = mode.Register; pieced = p }
+next_mode role.Bytes h p = record { height = h; mode = mode.Value; pieced = p }
+next_mode role.Top h p = record { height = h; mode = mode.Value; pieced = p }
+next_mode role.Piece h p = record { height = 0; mode = mode.AfterPiece; pieced = true }
+
+-- the height behind an operation, before a piece clears it
+abbrev pub height_after : StackEffect → StackState → ℕ
+height_after e s = s.height - e.takes + e.adds
+
+-- the state behind an operation
+abbrev pub state_after : StackEffect → StackState → StackState
+state_after e s = next_mode e.role (height_after e s) s.pieced
+
+-- The end gives a result, of an expression with or without operations.
+abbrev pub ResultOf : Kind → Mode → Bool → Bool → ℕ → Type 0
+ResultOf Location mode.AfterPiece empty pieced h = Unit {0}
+ResultOf Location mode.Stack empty pieced h = empty ≡ false → (pieced ≡ false) × (1 ≤ h)
+ResultOf Location mode.Register empty pieced h = pieced ≡ false
+ResultOf Location mode.Value empty pieced h = pieced ≡ false
+ResultOf FrameCfa mode.Stack empty pieced h = 1 ≤ h
+ResultOf FrameRegister mode.Stack empty pieced h = 1 ≤ h
+ResultOf FrameCfa _ empty pieced h = ⊥
+ResultOf FrameRegister _ empty pieced h = ⊥
+
+abbrev pub HasResult : Kind → Bool → StackState → Type 0
+HasResult kind empty s = ResultOf kind s.mode empty s.pieced s.height
+
+-- a state at an offset
+abbrev pub at_offset : ℕ → StackState → State
+at_offset at s = record { offset = at; height = s.height; mode = s.mode; pieced = s.pieced }

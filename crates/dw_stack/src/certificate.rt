@@ -1,0 +1,33 @@
+//! The certificate of an expression.
+
+use crate::checked::CheckedExpression;
+use crate::state::State;
+use smallvec::SmallVec;
+
+/// An expression that was certified, with the state before each of its operations.
+#[derive(Drop)]
+pub struct Certificate<'a> {
+    pub(crate) checked: CheckedExpression<'a>,
+    pub(crate) states: SmallVec<State, 16>,
+}
+
+impl<'a> Certificate<'a> {
+    ghost use Rattle.std.specs.Prelude.{◌≡◌};
+    ghost use Rattle.dw_stack.specs.Certificates.{checked_of, checked_in, states_in};
+
+    /// The state before each operation, in their order: the one that every path which comes there has.
+    pub fn states(&self) -> &[State]
+        ensures { result.now ≡ states_in self.now }
+    {
+        self.states.as_slice()
+    }
+
+    /// The checked expression, without the states.
+    pub fn into_checked(self) -> CheckedExpression<'a>
+        ensures { checked_of result ≡ checked_in self.entry }
+    {
+        let Certificate { checked, states } = self;
+        drop(states);
+        checked
+    }
+}

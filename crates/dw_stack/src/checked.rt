@@ -1,0 +1,70 @@
+//! A checked expression.
+
+ghost use Rattle.dw_ops.specs.Views.{bytes_of, target_of};
+ghost use Rattle.dw_stack.specs.Expressions.{IsChecked};
+
+use crate::state::Kind;
+use dw_ops::Expression;
+
+/// An expression that was found good over all paths (`certify`, `recheck`), with what was learned of it. It keeps no
+/// memory: the expression's bytes are lent.
+#[derive(Clone, Copy, Debug)]
+pub struct CheckedExpression<'a> {
+    expression: Expression<'a>,
+    kind: Kind,
+    depth: u8,
+    count: u32,
+    pub ghost checked: { ∥ IsChecked (record { kind = kind; target = target_of expression; bytes = bytes_of expression; depth = depth; count = count }) ∥₁ },
+}
+
+impl<'a> CheckedExpression<'a> {
+    ghost use Rattle.std.specs.Prelude.{◌≡◌, length};
+    ghost use Rattle.dw_stack.specs.Expressions.{IsGoodExpression, IsDepthOf, RunsWellWithin, operations_in};
+    ghost use Rattle.dw_stack.specs.Certificates.{checked_of};
+
+    /// An expression with what was learned of it.
+    pub(crate) fn new(expression: Expression<'a>, kind: Kind, depth: u8, count: u32) -> Self
+        requires { IsChecked (record { kind = kind; target = target_of expression; bytes = bytes_of expression; depth = depth; count = count }) }
+        ensures { checked_of result ≡ record { kind = kind; target = target_of expression.entry; bytes = bytes_of expression.entry; depth = depth; count = count } }
+    {
+        CheckedExpression {
+            expression,
+            kind,
+            depth,
+            count,
+        }
+    }
+
+    /// The expression that was handed in. Every path of it is fine, under its kind.
+    pub fn expression(&self) -> Expression<'a>
+        ensures bytes { bytes_of result ≡ (checked_of self.now).bytes }
+        ensures target { target_of result ≡ (checked_of self.now).target }
+        ensures good { IsGoodExpression (checked_of self.now).kind (target_of result) (bytes_of result) }
+    {
+        self.expression
+    }
+
+    /// The kind that was handed in.
+    pub fn kind(&self) -> Kind
+        ensures { result ≡ (checked_of self.now).kind }
+    {
+        self.kind
+    }
+
+    /// The greatest height on any path, the start included. No run of the expression has more entries.
+    pub fn depth(&self) -> u8
+        ensures value { result ≡ (checked_of self.now).depth }
+        ensures depth { IsDepthOf (checked_of self.now).kind (checked_of self.now).target (checked_of self.now).bytes result }
+        ensures runs { RunsWellWithin (checked_of self.now).kind (checked_of self.now).target (checked_of self.now).bytes result }
+    {
+        self.depth
+    }
+
+    /// How many operations the bytes spell. No run takes more steps.
+    pub fn operation_count(&self) -> u32
+        ensures value { result ≡ (checked_of self.now).count }
+        ensures count { result ≡ length (operations_in (checked_of self.now).target (checked_of self.now).bytes) }
+    {
+        self.count
+    }
+}

@@ -1,0 +1,148 @@
+//! What each operation needs and does.
+
+ghost use Rattle.std.specs.Prelude.{◌≡◌, ◌≤◌, true, false};
+ghost use Rattle.dw_ops.specs.Views.{operation_of};
+ghost use Rattle.dw_stack.specs.Effects.{computing, contextual, naming, effect_of};
+
+use dw_ops::Operation;
+
+/// What an operation makes of the mode.
+#[derive(Clone, Copy)]
+pub enum Role {
+    /// It computes.
+    Plain,
+    /// It names a register.
+    Register,
+    /// It names bytes.
+    Bytes,
+    /// It names the top as a value.
+    Top,
+    /// It ends a piece.
+    Piece,
+}
+
+/// What an operation needs and does, and where it may lead.
+#[derive(Clone, Copy)]
+pub struct StackEffect {
+    /// The least height.
+    pub needs: u16,
+    /// How many entries it takes off the top.
+    pub takes: u16,
+    /// How many it puts there.
+    pub adds: u16,
+    pub role: Role,
+    /// Whether the expressions of a frame have it.
+    pub framed: bool,
+    /// Whether the next operation may follow.
+    pub falls: bool,
+    /// Where it may branch, counted from the next operation.
+    pub jump: Option<i16>,
+}
+
+fn computes(needs: u16, takes: u16, adds: u16) -> StackEffect
+    ensures { result ≡ computing needs takes adds }
+{
+    StackEffect {
+        needs,
+        takes,
+        adds,
+        role: Role::Plain,
+        framed: true,
+        falls: true,
+        jump: None,
+    }
+}
+
+fn asks_context() -> StackEffect
+    ensures { result ≡ contextual }
+{
+    StackEffect {
+        framed: false,
+        ..computes(0, 0, 1)
+    }
+}
+
+fn names(role: Role, needs: u16, takes: u16) -> StackEffect
+    ensures { result ≡ naming role needs takes }
+{
+    StackEffect {
+        role,
+        framed: false,
+        ..computes(needs, takes, 0)
+    }
+}
+
+fn branches(needs: u16, falls: bool, offset: i16) -> StackEffect
+    ensures { result ≡ record (computing needs needs 0) { falls = falls; jump = Some offset } }
+{
+    StackEffect {
+        falls,
+        jump: Some(offset),
+        ..computes(needs, needs, 0)
+    }
+}
+
+/// The line of an operation.
+pub fn effect(operation: &Operation<'_>) -> StackEffect
+    ensures effect { result ≡ effect_of (operation_of operation.now) }
+    ensures fair { result.takes ≤ result.needs }
+    ensures few { result.adds ≤ 3 }
+{
+    match *operation {
+        Operation::Addr { .. } => computes(0, 0, 1),
+        Operation::Deref => computes(1, 1, 1),
+        Operation::Const1u { .. } => computes(0, 0, 1),
+        Operation::Const1s { .. } => computes(0, 0, 1),
+        Operation::Const2u { .. } => computes(0, 0, 1),
+        Operation::Const2s { .. } => computes(0, 0, 1),
+        Operation::Const4u { .. } => computes(0, 0, 1),
+        Operation::Const4s { .. } => computes(0, 0, 1),
+        Operation::Const8u { .. } => computes(0, 0, 1),
+        Operation::Const8s { .. } => computes(0, 0, 1),
+        Operation::Constu { .. } => computes(0, 0, 1),
+        Operation::Consts { .. } => computes(0, 0, 1),
+        Operation::Dup => computes(1, 0, 1),
+        Operation::Drop => computes(1, 1, 0),
+        Operation::Over => computes(2, 0, 1),
+        Operation::Pick { index } => computes(u16::from(index) + 1, 0, 1),
+        Operation::Swap => computes(2, 2, 2),
+        Operation::Rot => computes(3, 3, 3),
+        Operation::Abs => computes(1, 1, 1),
+        Operation::And => computes(2, 2, 1),
+        Operation::Div => computes(2, 2, 1),
+        Operation::Minus => computes(2, 2, 1),
+        Operation::Mod => computes(2, 2, 1),
+        Operation::Mul => computes(2, 2, 1),
+        Operation::Neg => computes(1, 1, 1),
+        Operation::Not => computes(1, 1, 1),
+        Operation::Or => computes(2, 2, 1),
+        Operation::Plus => computes(2, 2, 1),
+        Operation::PlusUconst { .. } => computes(1, 1, 1),
+        Operation::Shl => computes(2, 2, 1),
+        Operation::Shr => computes(2, 2, 1),
+        Operation::Shra => computes(2, 2, 1),
+        Operation::Xor => computes(2, 2, 1),
+        Operation::Bra { offset } => branches(1, true, offset),
+        Operation::Eq => computes(2, 2, 1),
+        Operation::Ge => computes(2, 2, 1),
+        Operation::Gt => computes(2, 2, 1),
+        Operation::Le => computes(2, 2, 1),
+        Operation::Lt => computes(2, 2, 1),
+        Operation::Ne => computes(2, 2, 1),
+        Operation::Skip { offset } => branches(0, false, offset),
+        Operation::Lit { .. } => computes(0, 0, 1),
+        Operation::Reg { .. } => names(Role::Register, 0, 0),
+        Operation::Breg { .. } => computes(0, 0, 1),
+        Operation::Regx { .. } => names(Role::Register, 0, 0),
+        Operation::Fbreg { .. } => asks_context(),
+        Operation::Bregx { .. } => computes(0, 0, 1),
+        Operation::Piece { .. } => names(Role::Piece, 0, 0),
+        Operation::DerefSize { .. } => computes(1, 1, 1),
+        Operation::Nop => computes(0, 0, 0),
+        Operation::PushObjectAddress => asks_context(),
+        Operation::CallFrameCfa => asks_context(),
+        Operation::BitPiece { .. } => names(Role::Piece, 0, 0),
+        Operation::ImplicitValue { .. } => names(Role::Bytes, 0, 0),
+        Operation::StackValue => names(Role::Top, 1, 1),
+    }
+}

@@ -1,0 +1,106 @@
+//! Judging one operation.
+
+ghost use Rattle.std.specs.Prelude.{◌≡◌, ◌<◌, ◌≤◌, length, IfOk, IfErr};
+ghost use Rattle.dw_stack.specs.Paths.{IsLaidOut};
+ghost use Rattle.dw_stack.specs.Judge.{IsEffectAt, Suits, Unsuited, Judged, Objects};
+ghost use Rattle.dw_stack.specs.Views.{listed};
+
+use crate::effect::{Role, StackEffect, effect};
+use crate::state::{Kind, StackState, next, stands_alone};
+use crate::target::place_of_jump;
+use dw_bytes::FaultKind;
+use dw_ops::Operation;
+
+/// The greatest height of a stack.
+pub const MAX_HEIGHT: u16 = 64;
+
+/// The greatest count of piece operations.
+pub const MAX_PIECES: usize = 32;
+
+/// What an operation that was judged passes on.
+#[derive(Clone, Copy)]
+pub struct Outgoing {
+    /// The state behind it.
+    pub state: StackState,
+    /// The height behind it, before a piece clears it.
+    pub height: u8,
+    /// Whether it names a piece.
+    pub piece: bool,
+    /// Whether the next operation may follow.
+    pub falls: bool,
+    /// The number of the operation that it may branch to, the count of operations for the end.
+    pub target: Option<usize>,
+}
+
+/// What the operation numbered `i` does.
+#[tactic(auto, using(crate::proofs::Lists::reads))]
+fn effect_at(operations: &[(u32, Operation<'_>)], i: usize) -> StackEffect
+    requires { i < length operations.now }
+    ensures effect { IsEffectAt (listed operations.now) i result }
+    ensures fair { result.takes ≤ result.needs }
+    ensures few { result.adds ≤ 3 }
+{
+    effect(&operations[i].1)
+}
+
+/// Whether an operation of this effect may stand at this state, behind so many pieces. The height behind it, before a
+/// piece clears it.
+fn suits(
+    kind: Kind,
+    effect: &StackEffect,
+    pieces: usize,
+    state: StackState,
+) -> Result<u8, FaultKind>
+    requires fair { effect.now.takes ≤ effect.now.needs }
+    requires few { effect.now.adds ≤ 3 }
+    ensures ok { IfOk result (Suits kind effect.now pieces state) }
+    ensures err { IfErr result (Unsuited kind effect.now pieces state) }
+{
+    let located = matches!(kind, Kind::Location);
+    if !located && !effect.framed {
+        return Err(FaultKind::NotInFrame);
+    }
+    if !stands_alone(effect.role, state) {
+        return Err(FaultKind::NotAlone);
+    }
+    if u16::from(state.height) < effect.needs {
+        return Err(FaultKind::Underflow);
+    }
+    let height = u16::from(state.height) - effect.takes + effect.adds;
+    if height > MAX_HEIGHT {
+        return Err(FaultKind::TooDeep);
+    }
+    if matches!(effect.role, Role::Piece) && pieces >= MAX_PIECES {
+        return Err(FaultKind::TooManyPieces);
+    }
+    Ok(height as u8)
+}
+
+/// Judges the operation numbered `i` at this state, behind so many pieces.
+pub fn judge(
+    kind: Kind,
+    operations: &[(u32, Operation<'_>)],
+    end: u32,
+    i: usize,
+    pieces: usize,
+    state: StackState,
+) -> Result<Outgoing, FaultKind>
+    requires laid { IsLaidOut (listed operations.now) end }
+    requires i { i < length operations.now }
+    ensures ok { IfOk result (Judged kind (listed operations.now) end i pieces state) }
+    ensures err { IfErr result (Objects kind (listed operations.now) end i pieces state) }
+{
+    let effect = effect_at(operations, i);
+    let height = suits(kind, &effect, pieces, state)?;
+    let target = match effect.jump {
+        Some(jump) => Some(place_of_jump(operations, end, i, jump)?),
+        None => None,
+    };
+    Ok(Outgoing {
+        state: next(effect.role, height, state.pieced),
+        height,
+        piece: matches!(effect.role, Role::Piece),
+        falls: effect.falls,
+        target,
+    })
+}

@@ -1,0 +1,22 @@
+//! The certificate of expressions over all paths (DWARF 5, sections 2.5 and 2.6): their stacks are never too low and
+//! never too high, whatever the branches do.
+#![tactic(auto)]
+
+mod arrivals;
+mod certificate;
+
+mod checked;
+mod effect;
+mod judge;
+mod pass;
+mod state;
+mod step;
+mod target;
+mod verify;
+
+pub use certificate::Certificate;
+
+pub use checked::CheckedExpression;
+pub use judge::{MAX_HEIGHT, MAX_PIECES};
+pub use state::{Kind, Mode, State};
+pub use verify::{CertFault, certify, recheck};

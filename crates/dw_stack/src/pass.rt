@@ -1,0 +1,102 @@
+//! The pass over the operations.
+
+ghost use Rattle.std.specs.Prelude.{◌≡◌, ◌+◌, ◌<◌, ◌^◌, ◌⊎◌, length, slice_set, replicate, OnOk, IfOk, IfErr, IfSome};
+ghost use Rattle.dw_bytes.specs.Answers.{memory};
+ghost use Rattle.dw_stack.specs.Paths.{IsLaidOut, IsGood, AreStates, IsDepth};
+ghost use Rattle.dw_stack.specs.Faults.{IsFirstFault, KnowsOnly};
+ghost use Rattle.dw_stack.specs.Arrivals.{given_of};
+ghost use Rattle.dw_stack.specs.Views.{listed};
+
+use crate::arrivals::{Arrival, state_at};
+use crate::state::{Kind, StackState, State, has_result, start};
+use crate::step::step;
+use crate::target::place_of;
+use dw_bytes::{Fault, FaultKind};
+use dw_ops::Operation;
+use smallvec::SmallVec;
+use std::alloc::Global;
+
+/// What a pass over good operations makes.
+#[derive(Drop)]
+pub struct Passed {
+    /// The state before each operation.
+    pub states: SmallVec<State, 16>,
+    /// The greatest height on any path.
+    pub depth: u8,
+}
+
+const MEMORY: Fault = Fault {
+    kind: FaultKind::Memory,
+    at: 0,
+};
+
+fn refusal(kind: FaultKind, at: u32) -> Fault
+    ensures { result ≡ record { kind = kind; at = at } }
+{
+    Fault { kind, at }
+}
+
+/// What arrives before any operation was judged: the start's state at the first place.
+fn first_arrivals(
+    alloc: Global,
+    count: usize,
+    start: StackState,
+) -> Result<SmallVec<Arrival, 17>, Fault>
+    requires { count < 2 ^ 63 }
+    ensures ok { IfOk result (λ v. v.items ≡ slice_set (replicate (count + 1) Arrival.Nothing) 0 (Arrival.One start)) }
+    ensures err { IfErr result (λ f. f ≡ memory) }
+{
+    match SmallVec::from_elem(alloc, Arrival::Nothing, count + 1) {
+        Ok(mut arrivals) => {
+            arrivals.as_mut_slice()[0] = Arrival::One(start);
+            Ok(arrivals)
+        }
+        Err(_) => Err(MEMORY),
+    }
+}
+
+/// One pass over the operations in order, which compares with the given states where there are some. Each branch looks for
+/// its target by halving: n log n for n operations. Up to 16 operations take no memory.
+#[tactic(auto, using(crate::proofs::Places::count_le))]
+pub fn pass(
+    alloc: Global,
+    kind: Kind,
+    operations: &[(u32, Operation<'_>)],
+    end: u32,
+    given: Option<&[State]>,
+) -> Result<Passed, Fault>
+    requires laid { IsLaidOut (listed operations.now) end }
+    requires given { IfSome given (λ states. length states.now ≡ length operations.now) }
+    ensures good { OnOk result (IsGood kind (listed operations.now) end) }
+    ensures states { IfOk result (λ p. AreStates kind (listed operations.now) end p.states.items) }
+    ensures depth { IfOk result (λ p. IsDepth kind (listed operations.now) end p.depth) }
+    ensures known { OnOk result (KnowsOnly kind (listed operations.now) end (given_of given.entry)) }
+    ensures first { IfErr result (λ f. (f ≡ memory) ⊎ IsFirstFault kind (listed operations.now) end (given_of given.entry) f.kind f.at) }
+{
+    let start = start(kind);
+    let mut arrivals = first_arrivals(alloc, operations.len(), start)?;
+    let mut states = SmallVec::new(alloc);
+    let mut depth = start.height;
+    let mut pieces = 0;
+    for i in 0..operations.len() {
+        match step(kind, operations, end, given, i, pieces, &mut arrivals) {
+            Ok(done) => {
+                if states.push(done.state.at(place_of(operations, end, i))).is_err() {
+                    return Err(MEMORY);
+                }
+                depth = depth.max(done.state.height).max(done.height);
+                pieces += if done.piece { 1 } else { 0 };
+            }
+            Err(kind) => return Err(refusal(kind, place_of(operations, end, i))),
+        }
+    }
+    match state_at(arrivals.as_slice(), operations.len()) {
+        Err(kind) => Err(refusal(kind, end)),
+        Ok(state) => {
+            if !has_result(kind, operations.is_empty(), state) {
+                return Err(refusal(FaultKind::EndsEmpty, end));
+            }
+            Ok(Passed { states, depth })
+        }
+    }
+}

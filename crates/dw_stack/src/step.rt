@@ -1,0 +1,63 @@
+//! One step of the pass over the operations.
+
+ghost use Rattle.std.specs.Prelude.{◌≡◌, ◌+◌, ◌<◌, length, ◌↔◌, IsTrue, IfOk, IfErr, IfSome};
+ghost use Rattle.dw_stack.specs.Paths.{IsLaidOut};
+ghost use Rattle.dw_stack.specs.Faults.{Keeps};
+ghost use Rattle.dw_stack.specs.Arrivals.{Stepped, StepObjects, given_of};
+ghost use Rattle.dw_stack.specs.Views.{listed};
+
+use crate::arrivals::{Arrival, pass_on, state_at};
+use crate::judge::judge;
+use crate::state::{Kind, StackState, State};
+use crate::target::place_of;
+use dw_bytes::FaultKind;
+use dw_ops::Operation;
+
+/// What one step learned of its operation.
+#[derive(Clone, Copy)]
+pub struct Done {
+    pub state: StackState,
+    pub height: u8,
+    pub piece: bool,
+}
+
+/// Whether the given states, if there are any, have this one at `i`.
+fn is_given(given: Option<&[State]>, i: usize, state: State) -> bool
+    requires { IfSome given (λ states. i < length states.now) }
+    ensures { IsTrue result ↔ Keeps (given_of given.entry) i state }
+{
+    match given {
+        Some(states) => states[i] == state,
+        None => true,
+    }
+}
+
+/// Judges one operation and passes its state on.
+pub fn step(
+    kind: Kind,
+    operations: &[(u32, Operation<'_>)],
+    end: u32,
+    given: Option<&[State]>,
+    i: usize,
+    pieces: usize,
+    arrivals: &mut [Arrival],
+) -> Result<Done, FaultKind>
+    requires laid { IsLaidOut (listed operations.now) end }
+    requires i { i < length operations.now }
+    requires wide { length arrivals.old ≡ length operations.now + 1 }
+    requires given { IfSome given (λ states. length states.now ≡ length operations.now) }
+    ensures ok { IfOk result (λ done. Stepped kind (listed operations.now) end (given_of given.entry) i pieces arrivals.old done arrivals.new) }
+    ensures err { IfErr result (StepObjects kind (listed operations.now) end (given_of given.entry) i pieces arrivals.old) }
+{
+    let state = state_at(arrivals, i)?;
+    if !is_given(given, i, state.at(place_of(operations, end, i))) {
+        return Err(FaultKind::CertState);
+    }
+    let out = judge(kind, operations, end, i, pieces, state)?;
+    pass_on(arrivals, i, &out);
+    Ok(Done {
+        state,
+        height: out.height,
+        piece: out.piece,
+    })
+}

@@ -1,0 +1,82 @@
+//! Where operations begin, and where branches lead.
+
+ghost use Rattle.std.specs.Prelude.{◌≡◌, ◌≢◌, ◌+◌, ◌<◌, ◌≤◌, ℕ, length, IfOk, IfErr};
+ghost use Rattle.dw_bytes.specs.declared.fault.FaultKind.{FaultKind};
+ghost use Rattle.dw_stack.specs.Paths.{IsLaidOut, place, aim};
+ghost use Rattle.dw_stack.specs.Judge.{TargetPlace, TargetObjects};
+ghost use Rattle.dw_stack.specs.Views.{listed};
+
+use dw_bytes::FaultKind;
+use dw_ops::Operation;
+
+/// Where the operation numbered `i` begins, or the end.
+#[tactic(auto, using(crate::proofs::Lists::places))]
+pub fn place_of(operations: &[(u32, Operation<'_>)], end: u32, i: usize) -> u32
+    ensures { result ≡ place (listed operations.now) end i }
+{
+    if i < operations.len() {
+        operations[i].0
+    } else {
+        end
+    }
+}
+
+/// Where a jump leads that is counted from the next operation; nowhere for one backward.
+fn aim_at(next: u32, jump: i16) -> Option<u64>
+    ensures { result ≡ aim next jump }
+{
+    if jump < 0 {
+        return None;
+    }
+    Some(u64::from(next) + jump as u64)
+}
+
+/// The number of the operation behind `from` that begins at the target, or of the end, by halving.
+#[tactic(auto, using(crate::proofs::Lists::places))]
+fn place_at(
+    operations: &[(u32, Operation<'_>)],
+    end: u32,
+    from: usize,
+    target: u64,
+) -> Result<usize, FaultKind>
+    requires laid { IsLaidOut (listed operations.now) end }
+    requires from { from < length operations.now }
+    requires ahead { place (listed operations.now) end (from + 1) ≤ target }
+    ensures ok { IfOk result (λ j. (from < j) × (j ≤ length operations.now) × (place (listed operations.now) end j ≡ target)) }
+    ensures err { IfErr result (λ e. (e ≡ FaultKind.TargetNotStart) × ((j : ℕ) → j ≤ length operations.now → place (listed operations.now) end j ≢ target)) }
+{
+    let mut low = from + 1;
+    let mut high = operations.len();
+    while low < high {
+        let middle = low + (high - low) / 2;
+        if u64::from(operations[middle].0) < target {
+            low = middle + 1;
+        } else {
+            high = middle;
+        }
+    }
+    if u64::from(place_of(operations, end, low)) == target {
+        Ok(low)
+    } else {
+        Err(FaultKind::TargetNotStart)
+    }
+}
+
+/// The number of the operation behind `from` that begins so far behind it, or of the end.
+#[tactic(auto, using(crate::proofs::Lists::places))]
+pub fn place_of_jump(
+    operations: &[(u32, Operation<'_>)],
+    end: u32,
+    from: usize,
+    jump: i16,
+) -> Result<usize, FaultKind>
+    requires laid { IsLaidOut (listed operations.now) end }
+    requires from { from < length operations.now }
+    ensures ok { IfOk result (TargetPlace (listed operations.now) end from jump) }
+    ensures err { IfErr result (TargetObjects (listed operations.now) end from jump) }
+{
+    match aim_at(place_of(operations, end, from + 1), jump) {
+        None => Err(FaultKind::Backward),
+        Some(target) => place_at(operations, end, from, target),
+    }
+}

@@ -1,0 +1,105 @@
+//! Certifying expressions.
+
+ghost use Rattle.std.specs.Prelude.{◌≡◌, ◌⊎◌, ◌↔◌, IsTrue, IfSome, length, OnOk, IfOk, IfErr, None, Some};
+ghost use Rattle.dw_bytes.specs.Answers.{memory};
+ghost use Rattle.dw_ops.specs.Views.{bytes_of, target_of};
+ghost use Rattle.dw_stack.specs.Arrivals.{given_of};
+ghost use Rattle.dw_stack.specs.Expressions.{IsGoodExpression, AreStatesOf, IsChecked, IsFaultOf, IsOf, RunsWellWithin, Knows};
+ghost use Rattle.dw_stack.specs.Certificates.{checked_of, checked_in, states_in};
+
+use crate::certificate::Certificate;
+use crate::checked::CheckedExpression;
+use crate::pass::pass;
+use crate::state::{Kind, State};
+use dw_bytes::{Fault, FaultKind};
+use dw_ops::{Expression, operations};
+use std::alloc::Global;
+
+/// Why states are refused: as `Fault`.
+pub type CertFault = Fault;
+
+/// Whether there are so many given states, if there are some.
+fn has_count(given: Option<&[State]>, count: usize) -> bool
+    ensures { IsTrue result ↔ IfSome given.entry (λ states. length states.now ≡ count) }
+{
+    match given {
+        Some(states) => states.len() == count,
+        None => true,
+    }
+}
+
+/// Reads the operations and passes over them once, with the given states if there are some.
+fn check<'a>(
+    alloc: Global,
+    expression: Expression<'a>,
+    kind: Kind,
+    given: Option<&[State]>,
+) -> Result<Certificate<'a>, Fault>
+    ensures checked { IfOk result (λ c. IsChecked (checked_in c)) }
+    ensures same { IfOk result (λ c. IsOf kind (target_of expression.entry) (bytes_of expression.entry) (checked_in c)) }
+    ensures states { IfOk result (λ c. AreStatesOf kind (target_of expression.entry) (bytes_of expression.entry) (states_in c)) }
+    ensures known { OnOk result (Knows kind (target_of expression.entry) (bytes_of expression.entry) (given_of given.entry)) }
+    ensures fault { IfErr result (λ f. (f ≡ memory) ⊎ IsFaultOf kind (target_of expression.entry) (bytes_of expression.entry) (given_of given.entry) f) }
+{
+    let operations = operations(alloc, &expression)?;
+    if !has_count(given, operations.len()) {
+        return Err(Fault {
+            kind: FaultKind::CertLength,
+            at: 0,
+        });
+    }
+    let end = expression.bytes().len() as u32;
+    let passed = pass(alloc, kind, operations.as_slice(), end, given)?;
+    let count = operations.len() as u32;
+    Ok(Certificate {
+        checked: CheckedExpression::new(expression, kind, passed.depth, count),
+        states: passed.states,
+    })
+}
+
+/// Certifies an expression: it is good over all paths, and these are the states on them.
+///
+/// A refusal is the first fault. The whole expression is read first (`dw_ops::operations`). Then the operations are judged
+/// in order of offset, each by: no path leads to it (38), paths come with two states (37), the kind doesn't have it (31),
+/// it stands beside a location that has to stand alone (39), the stack is too low (35) or gets too high (36), it is the
+/// 33rd piece (41), it branches back (33) or to where no operation begins (34). Last the end: two states (37), no result
+/// (40). `Memory` stands at 0. Time n log n in the expression's length; up to 16 operations take no memory.
+pub fn certify<'a>(
+    alloc: Global,
+    expression: Expression<'a>,
+    kind: Kind,
+) -> Result<Certificate<'a>, Fault>
+    ensures good { OnOk result (IsGoodExpression kind (target_of expression.entry) (bytes_of expression.entry)) }
+    ensures checked { IfOk result (λ c. IsChecked (checked_in c)) }
+    ensures same { IfOk result (λ c. IsOf kind (target_of expression.entry) (bytes_of expression.entry) (checked_in c)) }
+    ensures states { IfOk result (λ c. AreStatesOf kind (target_of expression.entry) (bytes_of expression.entry) (states_in c)) }
+    ensures runs { IfOk result (λ c. RunsWellWithin kind (target_of expression.entry) (bytes_of expression.entry) (checked_in c).depth) }
+    ensures fault { IfErr result (λ f. (f ≡ memory) ⊎ IsFaultOf kind (target_of expression.entry) (bytes_of expression.entry) None f) }
+    ensures only { IsGoodExpression kind (target_of expression.entry) (bytes_of expression.entry) → IfErr result (λ f. f ≡ memory) }
+{
+    check(alloc, expression, kind, None)
+}
+
+/// Takes states that anyone made: they are accepted exactly where the expression is good and they are the states on its
+/// paths, their offsets included.
+///
+/// A refusal is the first fault. The whole expression is read first; then there have to be as many states as operations
+/// (70, at 0); then all is judged as by `certify`, with one more question behind 37: the given state is the one that paths
+/// have (71, at the operation). Time and memory as `certify`.
+pub fn recheck<'a>(
+    alloc: Global,
+    expression: Expression<'a>,
+    kind: Kind,
+    states: &[State],
+) -> Result<CheckedExpression<'a>, CertFault>
+    ensures good { OnOk result (IsGoodExpression kind (target_of expression.entry) (bytes_of expression.entry)) }
+    ensures checked { IfOk result (λ c. IsChecked (checked_of c)) }
+    ensures same { IfOk result (λ c. IsOf kind (target_of expression.entry) (bytes_of expression.entry) (checked_of c)) }
+    ensures states { OnOk result (AreStatesOf kind (target_of expression.entry) (bytes_of expression.entry) states.now) }
+    ensures runs { IfOk result (λ c. RunsWellWithin kind (target_of expression.entry) (bytes_of expression.entry) (checked_of c).depth) }
+    ensures fault { IfErr result (λ f. (f ≡ memory) ⊎ IsFaultOf kind (target_of expression.entry) (bytes_of expression.entry) (Some states.now) f) }
+    ensures only { IsGoodExpression kind (target_of expression.entry) (bytes_of expression.entry) → AreStatesOf kind (target_of expression.entry) (bytes_of expression.entry) states.now → IfErr result (λ f. f ≡ memory) }
+{
+    let certificate = check(alloc, expression, kind, Some(states))?;
+    Ok(certificate.into_checked())
+}
