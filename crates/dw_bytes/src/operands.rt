@@ -1,8 +1,9 @@
-//! Operands that have to be in a range. Where they aren't, the fault stands at the code that they follow.
+//! Operands that have to be in a range. Where they aren't, the fault stands at the code that they follow, whose offset each
+//! call is given. A refused read leaves the cursor where it was.
 
 ghost use Rattle.std.specs.Prelude.{◌≡◌, ◌<◌, ◌≤◌, ◌^◌, length, IfOk};
-ghost use Rattle.dw_bytes.specs.Reading.{GoesOn};
-ghost use Rattle.dw_bytes.specs.Readers.{Parses, ParsesBy, IsRefusedWithin};
+ghost use Rattle.dw_bytes.specs.Reading.{GoesOn, Reads, ReadsBy};
+ghost use Rattle.dw_bytes.specs.Readers.{IsRefusedWithin};
 ghost use Rattle.dw_bytes.specs.Operands.{unsigned, signed, register_number, read_size, piece_size, block, in_range, one_at, two_at};
 
 use crate::cursor::Cursor;
@@ -55,119 +56,140 @@ fn size_of_read(size: u8, at: u32, target: Target) -> Result<u8, Fault>
 /// A register: unsigned LEB128, at most 65535, else `RegisterNumber` at the code.
 pub fn register(cursor: &mut Cursor<'_>, at: u32) -> Result<u16, Fault>
     requires { at ≤ cursor.old.position }
-    ensures exact { Parses (one_at at register_number) cursor.old result cursor.new }
+    ensures exact { Reads (one_at at register_number) cursor.old result cursor.new }
     ensures within { IsRefusedWithin cursor.old result }
     ensures goes_on { GoesOn cursor.old cursor.new }
 {
-    let target = cursor.target();
-    let number = cursor.uleb()?;
-    number_of_register(number, at, target)
+    let mut ahead = cursor.copy();
+    let number = ahead.uleb()?;
+    let register = number_of_register(number, at, cursor.target())?;
+    *cursor = ahead;
+    Ok(register)
 }
 
 /// Two registers.
 pub fn two_registers(cursor: &mut Cursor<'_>, at: u32) -> Result<(u16, u16), Fault>
     requires { at ≤ cursor.old.position }
-    ensures exact { Parses (two_at at register_number register_number) cursor.old result cursor.new }
+    ensures exact { Reads (two_at at register_number register_number) cursor.old result cursor.new }
     ensures within { IsRefusedWithin cursor.old result }
     ensures goes_on { GoesOn cursor.old cursor.new }
 {
     let target = cursor.target();
-    let first = cursor.uleb()?;
-    let second = cursor.uleb()?;
-    Ok((
+    let mut ahead = cursor.copy();
+    let first = ahead.uleb()?;
+    let second = ahead.uleb()?;
+    let registers = (
         number_of_register(first, at, target)?,
         number_of_register(second, at, target)?,
-    ))
+    );
+    *cursor = ahead;
+    Ok(registers)
 }
 
 /// A register and an unsigned number.
 pub fn register_and_unsigned(cursor: &mut Cursor<'_>, at: u32) -> Result<(u16, u64), Fault>
     requires { at ≤ cursor.old.position }
-    ensures exact { Parses (two_at at register_number unsigned) cursor.old result cursor.new }
+    ensures exact { Reads (two_at at register_number unsigned) cursor.old result cursor.new }
     ensures within { IsRefusedWithin cursor.old result }
     ensures goes_on { GoesOn cursor.old cursor.new }
 {
-    let target = cursor.target();
-    let number = cursor.uleb()?;
-    let value = cursor.uleb()?;
-    Ok((number_of_register(number, at, target)?, value))
+    let mut ahead = cursor.copy();
+    let number = ahead.uleb()?;
+    let value = ahead.uleb()?;
+    let register = number_of_register(number, at, cursor.target())?;
+    *cursor = ahead;
+    Ok((register, value))
 }
 
 /// A register and a signed number.
 pub fn register_and_signed(cursor: &mut Cursor<'_>, at: u32) -> Result<(u16, i64), Fault>
     requires { at ≤ cursor.old.position }
-    ensures exact { Parses (two_at at register_number signed) cursor.old result cursor.new }
+    ensures exact { Reads (two_at at register_number signed) cursor.old result cursor.new }
     ensures within { IsRefusedWithin cursor.old result }
     ensures goes_on { GoesOn cursor.old cursor.new }
 {
-    let target = cursor.target();
-    let number = cursor.uleb()?;
-    let value = cursor.sleb()?;
-    Ok((number_of_register(number, at, target)?, value))
+    let mut ahead = cursor.copy();
+    let number = ahead.uleb()?;
+    let value = ahead.sleb()?;
+    let register = number_of_register(number, at, cursor.target())?;
+    *cursor = ahead;
+    Ok((register, value))
 }
 
 /// A register and the bytes of a block.
 pub fn register_and_block<'a>(cursor: &mut Cursor<'a>, at: u32) -> Result<(u16, &'a [u8]), Fault>
     requires { at ≤ cursor.old.position }
-    ensures exact { ParsesBy (λ v. (v.0, v.1.now)) (two_at at register_number block) cursor.old result cursor.new }
+    ensures exact { ReadsBy (λ v. (v.0, v.1.now)) (two_at at register_number block) cursor.old result cursor.new }
     ensures short { IfOk result (λ v. length v.1.now < 2 ^ 32) }
     ensures within { IsRefusedWithin cursor.old result }
     ensures goes_on { GoesOn cursor.old cursor.new }
 {
-    let target = cursor.target();
-    let number = cursor.uleb()?;
-    let bytes = block(cursor, at)?;
-    Ok((number_of_register(number, at, target)?, bytes))
+    let mut ahead = cursor.copy();
+    let number = ahead.uleb()?;
+    let bytes = block(&mut ahead, at)?;
+    let register = number_of_register(number, at, cursor.target())?;
+    *cursor = ahead;
+    Ok((register, bytes))
 }
 
 /// The bytes of a block, which has their count as unsigned LEB128 before them.
 pub fn block<'a>(cursor: &mut Cursor<'a>, at: u32) -> Result<&'a [u8], Fault>
-    ensures exact { ParsesBy (λ bytes. bytes.now) (one_at at block) cursor.old result cursor.new }
+    ensures exact { ReadsBy (λ bytes. bytes.now) (one_at at block) cursor.old result cursor.new }
     ensures short { IfOk result (λ bytes. length bytes.now < 2 ^ 32) }
     ensures within { IsRefusedWithin cursor.old result }
     ensures goes_on { GoesOn cursor.old cursor.new }
 {
     let _ = at;
-    let length = cursor.uleb()?;
-    cursor.take(length)
+    let mut ahead = cursor.copy();
+    let length = ahead.uleb()?;
+    let bytes = ahead.take(length)?;
+    *cursor = ahead;
+    Ok(bytes)
 }
 
 /// The size of a piece: unsigned LEB128, at most 2^32 - 1, else `PieceSize` at the code.
 pub fn piece_size(cursor: &mut Cursor<'_>, at: u32) -> Result<u32, Fault>
     requires { at ≤ cursor.old.position }
-    ensures exact { Parses (one_at at piece_size) cursor.old result cursor.new }
+    ensures exact { Reads (one_at at piece_size) cursor.old result cursor.new }
     ensures within { IsRefusedWithin cursor.old result }
     ensures goes_on { GoesOn cursor.old cursor.new }
 {
-    let target = cursor.target();
-    let size = cursor.uleb()?;
-    size_of_piece(size, at, target)
+    let mut ahead = cursor.copy();
+    let number = ahead.uleb()?;
+    let size = size_of_piece(number, at, cursor.target())?;
+    *cursor = ahead;
+    Ok(size)
 }
 
 /// The size of a piece and an offset.
 pub fn two_piece_sizes(cursor: &mut Cursor<'_>, at: u32) -> Result<(u32, u32), Fault>
     requires { at ≤ cursor.old.position }
-    ensures exact { Parses (two_at at piece_size piece_size) cursor.old result cursor.new }
+    ensures exact { Reads (two_at at piece_size piece_size) cursor.old result cursor.new }
     ensures within { IsRefusedWithin cursor.old result }
     ensures goes_on { GoesOn cursor.old cursor.new }
 {
     let target = cursor.target();
-    let size = cursor.uleb()?;
-    let offset = cursor.uleb()?;
-    Ok((
+    let mut ahead = cursor.copy();
+    let size = ahead.uleb()?;
+    let offset = ahead.uleb()?;
+    let sizes = (
         size_of_piece(size, at, target)?,
         size_of_piece(offset, at, target)?,
-    ))
+    );
+    *cursor = ahead;
+    Ok(sizes)
 }
 
 /// The size of a read in one byte: 1, 2, 4 or 8 and at most that of an address, else `BadSize` at the code.
 pub fn read_size(cursor: &mut Cursor<'_>, at: u32) -> Result<u8, Fault>
     requires { at ≤ cursor.old.position }
-    ensures exact { Parses (one_at at read_size) cursor.old result cursor.new }
+    ensures exact { Reads (one_at at read_size) cursor.old result cursor.new }
     ensures within { IsRefusedWithin cursor.old result }
     ensures goes_on { GoesOn cursor.old cursor.new }
 {
-    let target = cursor.target();
-    let size = cursor.u8()?;
-    size_of_read(size, at, target)
+    let mut ahead = cursor.copy();
+    let number = ahead.u8()?;
+    let size = size_of_read(number, at, cursor.target())?;
+    *cursor = ahead;
+    Ok(size)
 }
