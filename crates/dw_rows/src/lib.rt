@@ -9,6 +9,7 @@ pub mod laws;
 mod lookup;
 mod machine;
 mod map;
+mod position;
 mod remembered;
 mod row;
 mod row_iter;

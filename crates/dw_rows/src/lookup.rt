@@ -4,12 +4,14 @@ ghost use Rattle.std.specs.Prelude.{◌≡◌, ◌+◌, ◌<◌, ◌≤◌, ◌�
 ghost use Rattle.dw_frame.specs.Views.{cie_of, fde_of};
 ghost use Rattle.dw_rows.specs.Judgement.{cie_fault, fde_fault};
 ghost use Rattle.dw_rows.specs.UnwindRows.{rows_of, has_address};
+ghost use Rattle.dw_rows.specs.Walks.{remembering, Seeks};
 
 use crate::machine::Machine;
+use crate::position::Position;
 use crate::row::UnwindTableRow;
 use crate::row_iter::Rows;
-use crate::walk::{begin, next_range};
-use dw_frame::{CommonInformationEntry, FrameDescriptionEntry};
+use crate::walk::{Next, begin_at, next_plain, next_range};
+use dw_frame::{CommonInformationEntry, FrameDescriptionEntry, Instructions};
 
 /// The rows of an FDE, in the order of their addresses (DWARF 5, section 6.4.1). Its program and its
 /// CIE's must be good. It takes no memory.
@@ -37,8 +39,39 @@ pub fn row_at<'a>(
         return None;
     }
     let limit = fde.initial_location + fde.address_range;
+    let mut position = Position::new();
+    let mut instructions = begin_at(&mut position, cie, fde);
+    loop {
+        match next_plain(&mut position, &mut instructions, cie, limit) {
+            Next::Row(start, end) => {
+                if address < end {
+                    let mut row = UnwindTableRow::empty();
+                    position.write_row(start, end, &mut row);
+                    return Some(row);
+                }
+            }
+            Next::Remembers => return row_behind(&position, instructions, cie, fde, address),
+            Next::End => return None,
+        }
+    }
+}
+
+/// The row that has an address, where it isn't before the remember_state at the position. Most programs
+/// have none: only here is room made for what is remembered.
+#[inline(never)]
+fn row_behind<'a>(
+    position: &Position,
+    mut instructions: Instructions<'a>,
+    cie: &CommonInformationEntry<'a>,
+    fde: &FrameDescriptionEntry<'a>,
+    address: u64,
+) -> Option<UnwindTableRow>
+    requires { Seeks (cie_of cie.now) (fde_of fde.now) address (remembering (record { cie = cie_of cie.now; end = fde.now.initial_location + fde.now.address_range; machine = position.now; instructions = instructions })) }
+    ensures { result ≡ find (has_address address) (rows_of (cie_of cie.now) (fde_of fde.now)) }
+{
+    let limit = fde.initial_location + fde.address_range;
     let mut machine = Machine::new();
-    let mut instructions = begin(&mut machine, cie, fde);
+    machine.remember_at(position);
     while let Some((start, end)) = next_range(&mut machine, &mut instructions, cie, limit) {
         if address < end {
             let mut row = UnwindTableRow::empty();

@@ -5,7 +5,7 @@ ghost use Rattle.arrayvec.specs.ArrayVec.{array_vec_len};
 ghost use Rattle.dw_bytes.specs.declared.fault.FaultKind.{FaultKind};
 ghost use Rattle.std.specs.Bool.{OnTrue, OnFalse};
 ghost use Rattle.dw_rows.specs.Rules.{Rule, IsTable, rule_in, rule_list, rule_count, changed_at};
-ghost use Rattle.dw_rows.specs.Views.{rule_of, entries_of};
+ghost use Rattle.dw_rows.specs.Views.{rule_of, rule_by, entry_of, entries_of};
 ghost use Rattle.dw_rows.specs.Places.{place_in};
 
 use crate::row::{RegisterRule, RegisterRules};
@@ -16,19 +16,68 @@ use std::marker::Model;
 /// At most this many registers of a row have a rule other than `Default`.
 pub const MAX_RULES: usize = 128;
 
-/// A register and its rule.
+/// What kind of rule a register has.
+#[derive(Clone, Copy, Debug)]
+pub enum RuleKind {
+    Default,
+    Undefined,
+    SameValue,
+    Offset,
+    ValOffset,
+    Register,
+}
+
+/// A register and its rule, in 16 bytes: the offset and the other register are there whatever the kind.
 #[derive(Clone, Copy, Debug)]
 pub struct RuleEntry {
+    pub offset: i64,
     pub register: u16,
-    pub rule: RegisterRule,
+    pub source: u16,
+    pub kind: RuleKind,
 }
 
 impl Default for RuleEntry {
     fn default() -> Self {
         RuleEntry {
+            offset: 0,
             register: 0,
-            rule: RegisterRule::Default,
+            source: 0,
+            kind: RuleKind::Default,
         }
+    }
+}
+
+/// An entry with this rule.
+fn entry(register: u16, rule: RegisterRule) -> RuleEntry
+    ensures { entry_of result ≡ (register, rule_of rule) }
+{
+    let (kind, offset, source) = match rule {
+        RegisterRule::Default => (RuleKind::Default, 0, 0),
+        RegisterRule::Undefined => (RuleKind::Undefined, 0, 0),
+        RegisterRule::SameValue => (RuleKind::SameValue, 0, 0),
+        RegisterRule::Offset(offset) => (RuleKind::Offset, offset, 0),
+        RegisterRule::ValOffset(offset) => (RuleKind::ValOffset, offset, 0),
+        RegisterRule::Register(source) => (RuleKind::Register, 0, source),
+    };
+    RuleEntry {
+        offset,
+        register,
+        source,
+        kind,
+    }
+}
+
+/// The rule of an entry.
+pub fn rule_of_entry(entry: &RuleEntry) -> RegisterRule
+    ensures { rule_of result ≡ rule_by entry.now }
+{
+    match entry.kind {
+        RuleKind::Default => RegisterRule::Default,
+        RuleKind::Undefined => RegisterRule::Undefined,
+        RuleKind::SameValue => RegisterRule::SameValue,
+        RuleKind::Offset => RegisterRule::Offset(entry.offset),
+        RuleKind::ValOffset => RegisterRule::ValOffset(entry.offset),
+        RuleKind::Register => RegisterRule::Register(entry.source),
     }
 }
 
@@ -119,7 +168,7 @@ fn rule_of_register(entries: &[RuleEntry], register: u16) -> RegisterRule
 {
     for entry in entries {
         if entry.register == register {
-            return entry.rule;
+            return rule_of_entry(entry);
         }
     }
     RegisterRule::Default
@@ -167,6 +216,6 @@ fn put_rule(table: &mut ArrayVec<RuleEntry, MAX_RULES>, register: u16, rule: Reg
         return false;
     }
     let place = place_of(table.as_slice(), register);
-    table.insert(place, RuleEntry { register, rule });
+    table.insert(place, entry(register, rule));
     true
 }

@@ -4,7 +4,7 @@ ghost use Rattle.std.specs.Prelude.{◌≡◌, Some, [], pos};
 ghost use Rattle.dw_rows.specs.Rules.{Cfa, rule_in};
 ghost use Rattle.dw_rows.specs.Views.{rule_of, cfa_rule_of, numbered_rule_of};
 
-use crate::map::{RegisterRuleMap, RuleEntry};
+use crate::map::{RegisterRuleMap, RuleEntry, rule_of_entry};
 use std::marker::Model;
 
 /// What a register of the caller is (DWARF 5, section 6.4.1). An offset counts from the CFA.
@@ -157,7 +157,7 @@ impl<'a> Iterator for RegisterRules<'a> {
             [] => None,
             [entry, rest @ ..] => {
                 self.entries = rest;
-                Some((entry.register, entry.rule))
+                Some((entry.register, rule_of_entry(entry)))
             }
         }
     }

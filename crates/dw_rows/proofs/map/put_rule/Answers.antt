@@ -23,6 +23,6 @@ returns c =
     let mid = entries_of c.clear_rule.new.table.items in
     let place : c.place_of-place.result ≡ place_in c.args.register mid = cc in
     let clears : Clears old c.args.register mid = record { table = c.clear_rule.ensures.table; rules = c.clear_rule.ensures.rules } in
-    let new : entries_of c.insert.new.self.items ≡ inserted c.args.register (rule_of c.args.rule) mid = rw (c.insert.ensures.items, place) (insert-place c.clear_rule.new.table.items c.args.register c.args.rule) in
+    let new : entries_of c.insert.new.self.items ≡ inserted c.args.register (rule_of c.args.rule) mid = rw (c.insert.ensures.items, place) (insert-place c.clear_rule.new.table.items c.args.register (rule_of c.args.rule) c.entry.result c.entry.ensures) in
     let k = puts-inserted old mid (entries_of c.insert.new.self.items) c.args.register (rule_of c.args.rule) (omega arith) (rule_of-some c.args.rule c.in_default.not-Default) clears new in
     record { table = k.table; rules = k.rules; few = let room : length c.clear_rule.new.table.items < 128 = grind (arith, common_steps) in omega (arith, c.insert.ensures.len, length-entries_of c.insert.new.self.items); full = tt }
