@@ -1,5 +1,5 @@
 -- The row of an address is that of the only FDE that covers it.
-use Rattle.std.proofs.Common.{◌≡◌, ℕ, zero, suc, ◌+◌, ◌<◌, ◌≤◌, List, [], ◌∷◌, length, get_or, ap, sym, ◌∙◌, subst, refl, arith, cond}
+use Rattle.std.proofs.Common.{◌≡◌, ℕ, zero, suc, List, [], ◌∷◌, ap, sym, ◌∙◌, subst, refl, arith, cond}
 use Rattle.std.specs.Prelude.{Bool, true, false, Option, Some, None, IfSome, find, option_and_then}
 use Rattle.std.specs.List.{All, Contains}
 use Rattle.std.proofs.lemmas.List.Elements.{All-head, All-tail}

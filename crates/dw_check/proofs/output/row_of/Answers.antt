@@ -1,6 +1,5 @@
 use Rattle.std.proofs.Common.{◌∙◌, sym, refl}
 use Rattle.dw_frame.specs.Views.{cie_of, fde_of}
-use Rattle.dw_rows.specs.UnwindRows.{rows_of}
 use Rattle.dw_check.specs.Text.{Fits}
 use Rattle.dw_check.proofs.Lookups.{no_row, its_row, row_has}
 use Rattle.dw_check.proofs.Within.{good_rows_fit}
