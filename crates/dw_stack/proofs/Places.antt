@@ -20,8 +20,6 @@ place_of_some [] len j x h = absurd (cc)
 place_of_some (y ∷ xs) len zero x h = let e : y ≡ x = cc in ap (λ (z : Placed). z.0) e
 place_of_some (y ∷ xs) len (suc j) x h = place_of_some xs len j x h
 
-
-
 module _ (ops : List Placed) (len : ℕ) (laid : IsLaidOut ops len) where
   pub place_mono : (j k : ℕ) → j < k → k ≤ length ops → place ops len j < place ops len k
   place_mono j zero lt le = absurd (omega arith)

@@ -81,7 +81,10 @@ pub fn pass(
     for i in 0..operations.len() {
         match step(kind, operations, end, given, i, pieces, &mut arrivals) {
             Ok(done) => {
-                if states.push(done.state.at(place_of(operations, end, i))).is_err() {
+                if states
+                    .push(done.state.at(place_of(operations, end, i)))
+                    .is_err()
+                {
                     return Err(MEMORY);
                 }
                 depth = depth.max(done.state.height).max(done.height);
