@@ -75,3 +75,11 @@ place_ge ops len laid (suc j) le =
 
 pub count_le : (ops : List Placed) (len : ℕ) → IsLaidOut ops len → length ops ≤ len
 count_le ops len laid = omega (arith, place_ge ops len laid (length ops) (omega arith), place_past ops len (length ops) (omega arith))
+
+-- and none begins behind the end
+pub place_le : (ops : List Placed) (len : ℕ) → IsLaidOut ops len → (j : ℕ) → place ops len j ≤ len
+place_le ops len laid j =
+    elim (cases_lt j (length ops)) [
+      | inl within ↦ omega (arith, place_mono ops len laid j (length ops) within (omega arith), place_past ops len (length ops) (omega arith))
+      | inr past ↦ omega (arith, place_past ops len j past)
+    ]

@@ -194,13 +194,19 @@ fn locations(rt: HostRuntime) {
     );
 }
 
-#[test]
-fn many_pieces(rt: HostRuntime) {
-    let alloc = rt.alloc();
+/// 33 pieces of no byte.
+fn empty_pieces() -> [u8; 66] {
     let mut bytes = [0; 66];
     for i in 0..33 {
         bytes[2 * i] = 0x93;
     }
+    bytes
+}
+
+#[test]
+fn many_pieces(rt: HostRuntime) {
+    let alloc = rt.alloc();
+    let bytes = empty_pieces();
     assert_eq!(rt; judged(alloc, &bytes[..64], Kind::Location), Ok((0, 32)));
     assert_eq!(rt;
         judged(alloc, &bytes, Kind::Location),
