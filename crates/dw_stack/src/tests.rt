@@ -194,24 +194,29 @@ fn locations(rt: HostRuntime) {
     );
 }
 
-/// 33 pieces of no byte.
-fn empty_pieces() -> [u8; 66] {
-    let mut bytes = [0; 66];
-    for i in 0..33 {
-        bytes[2 * i] = 0x93;
+/// Pieces of no byte.
+fn empty_pieces(alloc: Global, count: usize) -> Result<Vec<u8>, Fail> {
+    let mut bytes = Vec::new(alloc);
+    for _ in 0..count {
+        bytes.push(0x93)?;
+        bytes.push(0)?;
     }
-    bytes
+    Ok(bytes)
 }
 
 #[test]
-fn many_pieces(rt: HostRuntime) {
+fn many_pieces(rt: HostRuntime) -> Result<(), Fail> {
     let alloc = rt.alloc();
-    let bytes = empty_pieces();
-    assert_eq!(rt; judged(alloc, &bytes[..64], Kind::Location), Ok((0, 32)));
+    let bytes = empty_pieces(alloc, 32)?;
+    assert_eq!(rt; bytes.len(), 64);
+    assert_eq!(rt; judged(alloc, &bytes, Kind::Location), Ok((0, 32)));
+    let bytes = empty_pieces(alloc, 33)?;
+    assert_eq!(rt; bytes.len(), 66);
     assert_eq!(rt;
         judged(alloc, &bytes, Kind::Location),
         refusal(FaultKind::TooManyPieces, 64)
     );
+    Ok(())
 }
 
 #[test]
