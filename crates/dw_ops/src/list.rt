@@ -1,9 +1,9 @@
 //! All operations of an expression.
 
-ghost use Rattle.std.specs.Prelude.{◌≡◌, IfOk, map};
+ghost use Rattle.std.specs.Prelude.{◌≡◌, ◌≤◌, IfErr, IfOk, length, map};
 ghost use Rattle.dw_bytes.specs.Answers.{Answers, values_in, fault_in};
 ghost use Rattle.dw_ops.specs.Opcodes.{operations_of};
-ghost use Rattle.dw_ops.specs.Views.{reading_from, located_of};
+ghost use Rattle.dw_ops.specs.Views.{bytes_of, reading_from, located_of};
 
 use crate::decode::decode_one;
 use crate::expression::Expression;
@@ -21,6 +21,7 @@ pub fn operations<'a>(
     expression: &Expression<'a>,
 ) -> Result<SmallVec<(u32, Operation<'a>), 16>, Fault>
     ensures answer { Answers (fault_in (operations_of (reading_from expression.now 0))) result }
+    ensures inside { IfErr result (λ fault. fault.at ≤ length (bytes_of expression.now)) }
     ensures list { IfOk result (λ list. map located_of list.items ≡ values_in (operations_of (reading_from expression.now 0))) }
 {
     let mut list = SmallVec::new(alloc);

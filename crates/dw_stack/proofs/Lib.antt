@@ -9,3 +9,4 @@ pub mod Spelled
 pub mod Runs
 pub mod Stable
 pub mod Whole
+pub mod Unique

@@ -20,8 +20,6 @@ place_of_some [] len j x h = absurd (cc)
 place_of_some (y ∷ xs) len zero x h = let e : y ≡ x = cc in ap (λ (z : Placed). z.0) e
 place_of_some (y ∷ xs) len (suc j) x h = place_of_some xs len j x h
 
-
-
 module _ (ops : List Placed) (len : ℕ) (laid : IsLaidOut ops len) where
   pub place_mono : (j k : ℕ) → j < k → k ≤ length ops → place ops len j < place ops len k
   place_mono j zero lt le = absurd (omega arith)
@@ -77,3 +75,11 @@ place_ge ops len laid (suc j) le =
 
 pub count_le : (ops : List Placed) (len : ℕ) → IsLaidOut ops len → length ops ≤ len
 count_le ops len laid = omega (arith, place_ge ops len laid (length ops) (omega arith), place_past ops len (length ops) (omega arith))
+
+-- and none begins behind the end
+pub place_le : (ops : List Placed) (len : ℕ) → IsLaidOut ops len → (j : ℕ) → place ops len j ≤ len
+place_le ops len laid j =
+    elim (cases_lt j (length ops)) [
+      | inl within ↦ omega (arith, place_mono ops len laid j (length ops) within (omega arith), place_past ops len (length ops) (omega arith))
+      | inr past ↦ omega (arith, place_past ops len j past)
+    ]

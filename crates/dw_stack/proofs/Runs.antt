@@ -14,7 +14,7 @@ use Rattle.dw_stack.specs.declared.state.Mode.TheVariants as mode
 use Rattle.dw_stack.specs.Effects.{effect_of}
 use Rattle.dw_stack.specs.States.{start_of, next_mode, height_after, state_after, StandsAlone, HasResult}
 use Rattle.dw_stack.specs.Paths.{Placed, place, IsLaidOut, aim, aimed, target_of, Leads, Edge, Reaches, IsGood, IsDepth}
-use Rattle.dw_stack.specs.Machine.{Whereabouts, InRegister, HasValue, HasBytes, Extent, Piece, Configuration, Trouble, Meaning, entry, named, jumps, extent_of, location_of, stack_after, pieces_after, CanDo, Meets, Step, Stops, Run, Starts, PendingIs, has_pieces, Agrees, Ended, GoesOn, RunsWell}
+use Rattle.dw_stack.specs.Machine.{Whereabouts, InRegister, HasValue, HasBytes, Extent, Piece, Configuration, Trouble, Meaning, entry, named, jumps, extent_of, location_of, stack_after, pieces_after, CanDo, Meets, Step, Stops, Run, Starts, PendingIs, has_pieces, Agrees, Ended, GoesOn, IsOver, RunsWell}
 use Rattle.dw_stack.proofs.Places.{place_of_some, place_past, place_inj}
 use Rattle.dw_stack.proofs.Routes.{reach_from, extend, at_start, reached_place, edge_lands}
 
@@ -248,6 +248,30 @@ module _ (kind : Kind) (ops : List Placed) (len : ℕ) (laid : IsLaidOut ops len
       mode_height role.Bytes h b = omega arith
       mode_height role.Top h b = omega arith
 
+  -- one step more at the end of a run
+  run_more : (m : Meaning) (n : ℕ) (c d e : Configuration) → Run m ops len n c d → Step m ops len d e → Run m ops len (suc n) c e
+  run_more m zero c d e run t = (e, subst (λ (x : Configuration). Step m ops len x e) (sym run) t, refl)
+  run_more m (suc n) c d e run t = (run.0, run.1, run_more m n run.0 d e run.2 t)
+
+  -- with so many steps left
+  finish_in : (left : ℕ) (m : Meaning) (c : Configuration) → Starts kind c → (n : ℕ) (d : Configuration) → length ops ≤ n + left → Run m ops len n c d → Stands d → (k : ℕ) × (e : Configuration) × Run m ops len k c e × IsOver kind m ops len e
+  finish_in zero m c s n d enough run here = elim (on_from m d here) [
+    | inl over ↦ (n, d, run, inl over)
+    | inr rest ↦ elim rest [
+      | inl step ↦
+          let l = run_later m (suc n) 0 c step.0 (omega arith) (laid.first ∙ sym s.offset) (run_more m n c d step.0 run step.1) in
+          absurd (omega (arith, l.1, l.2, enough))
+      | inr stop ↦ (n, d, run, inr stop)
+    ]
+  ]
+  finish_in (suc left) m c s n d enough run here = elim (on_from m d here) [
+    | inl over ↦ (n, d, run, inl over)
+    | inr rest ↦ elim rest [
+      | inl step ↦ let more = run_more m n c d step.0 run step.1 in finish_in left m c s (suc n) step.0 (omega (arith, enough)) more (run_follows m (suc n) c step.0 (starts c s) more)
+      | inr stop ↦ (n, d, run, inr stop)
+    ]
+  ]
+
   pub good_runs : (depth : ℕ) → IsDepth kind ops len depth → RunsWell kind ops len depth
   unfolding Stands
   good_runs depth deep = record {
@@ -256,6 +280,7 @@ module _ (kind : Kind) (ops : List Placed) (len : ℕ) (laid : IsLaidOut ops len
     short = λ m c d n s run. let l = run_later m n 0 c d (omega arith) (laid.first ∙ sym s.offset) run in omega (arith, l.1, l.2);
     stops = λ m c d n why s run stop. let l = run_later m n 0 c d (omega arith) (laid.first ∙ sym s.offset) run in let b = before_end l.0 d l.2 l.3 stop.meets in omega (arith, l.1, b);
     goes_on = λ m c d n s run. on_from m d (run_follows m n c d (starts c s) run);
+    finishes = λ m c s. finish_in (length ops) m c s 0 c (omega arith) refl (starts c s);
   }
 
   pub run_stands : (m : Meaning) (n : ℕ) (c d : Configuration) → Starts kind c → Run m ops len n c d → (s : StackState) × Reaches kind ops len d.offset s × Agrees s d

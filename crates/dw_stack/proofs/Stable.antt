@@ -63,7 +63,7 @@ result-prop FrameRegister mode.Register empty pieced h = ⊥_prop
 result-prop FrameRegister mode.Value empty pieced h = ⊥_prop
 result-prop FrameRegister mode.AfterPiece empty pieced h = ⊥_prop
 
-number_of : Mode → ℕ
+pub number_of : Mode → ℕ
 number_of mode.Stack = 0
 number_of mode.Register = 1
 number_of mode.Value = 2
@@ -82,6 +82,9 @@ mode_back mode.Register = refl
 mode_back mode.Value = refl
 mode_back mode.AfterPiece = refl
 
+pub mode_stable : (m n : Mode) → number_of m ≡ number_of n → m ≡ n
+mode_stable m n is = sym (mode_back m) ∙ (ap mode_of is ∙ mode_back n)
+
 abbrev made : ℕ → Mode → Bool → StackState
 made height m pieced = record { height = height; mode = m; pieced = pieced }
 
@@ -91,7 +94,7 @@ state_stable s t h =
     let height : s.height ≡ t.height = ∥∥₁_elim h (Coded-set coded_ℕ _ _) (λ e. ap (λ (x : StackState). x.height) e) in
     let pieced : s.pieced ≡ t.pieced = ∥∥₁_elim h (Coded-set coded_bool _ _) (λ e. ap (λ (x : StackState). x.pieced) e) in
     let number : number_of s.mode ≡ number_of t.mode = ∥∥₁_elim h (Coded-set coded_ℕ _ _) (λ e. ap (λ (x : StackState). number_of x.mode) e) in
-    let same : s.mode ≡ t.mode = sym (mode_back s.mode) ∙ (ap mode_of number ∙ mode_back t.mode) in
+    let same : s.mode ≡ t.mode = mode_stable s.mode t.mode number in
     let first : made s.height s.mode s.pieced ≡ made t.height s.mode s.pieced = ap (λ (h : ℕ). made h s.mode s.pieced) height in
     let second : made t.height s.mode s.pieced ≡ made t.height t.mode s.pieced = ap (λ (m : Mode). made t.height m s.pieced) same in
     let third : made t.height t.mode s.pieced ≡ made t.height t.mode t.pieced = ap (λ (b : Bool). made t.height t.mode b) pieced in

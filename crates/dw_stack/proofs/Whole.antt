@@ -13,7 +13,7 @@ use Rattle.dw_stack.specs.Paths.{Placed, place, IsLaidOut, Reaches, IsGood, AreS
 use Rattle.dw_stack.specs.Faults.{Given, IsFirstFault, KnowsOnly}
 use Rattle.dw_stack.specs.Arrivals.{given_of}
 use Rattle.dw_stack.specs.Machine.{RunsWell}
-use Rattle.dw_stack.specs.Expressions.{operations_in, reading_fault, IsGoodExpression, AreStatesOf, RunsWellWithin, IsOtherCount, IsFaultOf, Checked, IsChecked, IsOf, Knows}
+use Rattle.dw_stack.specs.Expressions.{operations_in, reading_fault, IsGoodExpression, AreStatesOf, IsDepthOf, RunsWellWithin, IsOtherCount, IsFaultOf, Checked, IsChecked, IsOf, Knows}
 use Rattle.dw_stack.proofs.Places.{place_of_some}
 use Rattle.dw_stack.proofs.Verdicts.{good_refuses}
 use Rattle.dw_stack.proofs.Runs.{good_runs}
@@ -64,10 +64,15 @@ knows_for kind target bytes ops len None n are long count same knows = tt
 knows_for kind target bytes ops len (Some states) n are long count same knows =
     subst (λ (xs : List Placed). AreStates kind xs (length bytes) states.now) are (subst (λ (m : ℕ). AreStates kind ops m states.now) long (states_known kind ops len states.now (same ∙ count) knows))
 
+-- every run of a good expression
+pub good_expressions_run_well : (kind : Kind) (target : Target) (bytes : List ℕ) (depth : ℕ) → IsGoodExpression kind target bytes → IsDepthOf kind target bytes depth → RunsWellWithin kind target bytes depth
+good_expressions_run_well kind target bytes depth good deepest =
+    good_runs kind (operations_in target bytes) (length bytes) (laid_out target bytes (operations_in target bytes) good.spelled) good.good depth deepest
+
 -- every run of what was checked
 pub runs_for : (kind : Kind) (target : Target) (bytes : List ℕ) (c : Checked) → IsChecked c → IsOf kind target bytes c → RunsWellWithin kind target bytes c.depth
 runs_for kind target bytes c checked is =
-    let runs = good_runs c.kind (operations_in c.target c.bytes) (length c.bytes) (laid_out c.target c.bytes (operations_in c.target c.bytes) checked.good.spelled) checked.good.good c.depth checked.depth in
+    let runs = good_expressions_run_well c.kind c.target c.bytes c.depth checked.good checked.depth in
     subst (λ (k : Kind). RunsWellWithin k target bytes c.depth) is.kind_is (subst (λ (t : Target). RunsWellWithin c.kind t bytes c.depth) is.target_is (subst (λ (b : List ℕ). RunsWellWithin c.kind c.target b c.depth) is.bytes_are runs))
 
 -- a good expression has no fault, where the given states are right

@@ -4,10 +4,10 @@
 
 mod arrivals;
 mod certificate;
-
 mod checked;
 mod effect;
 mod judge;
+pub mod laws;
 mod pass;
 mod state;
 mod step;
@@ -15,8 +15,10 @@ mod target;
 mod verify;
 
 pub use certificate::Certificate;
-
 pub use checked::CheckedExpression;
 pub use judge::{MAX_HEIGHT, MAX_PIECES};
 pub use state::{Kind, Mode, State};
 pub use verify::{CertFault, certify, recheck};
+
+#[cfg(test)]
+mod tests;

@@ -1,6 +1,6 @@
 //! The pass over the operations.
 
-ghost use Rattle.std.specs.Prelude.{◌≡◌, ◌+◌, ◌<◌, ◌^◌, ◌⊎◌, length, slice_set, replicate, OnOk, IfOk, IfErr, IfSome};
+ghost use Rattle.std.specs.Prelude.{◌≡◌, ◌+◌, ◌<◌, ◌≤◌, ◌^◌, ◌⊎◌, length, slice_set, replicate, OnOk, IfOk, IfErr, IfSome};
 ghost use Rattle.dw_bytes.specs.Answers.{memory};
 ghost use Rattle.dw_stack.specs.Paths.{IsLaidOut, IsGood, AreStates, IsDepth};
 ghost use Rattle.dw_stack.specs.Faults.{IsFirstFault, KnowsOnly};
@@ -72,6 +72,7 @@ pub fn pass(
     ensures depth { IfOk result (λ p. IsDepth kind (listed operations.now) end p.depth) }
     ensures known { OnOk result (KnowsOnly kind (listed operations.now) end (given_of given.entry)) }
     ensures first { IfErr result (λ f. (f ≡ memory) ⊎ IsFirstFault kind (listed operations.now) end (given_of given.entry) f.kind f.at) }
+    ensures inside { IfErr result (λ f. f.at ≤ end) }
 {
     let start = start(kind);
     let mut arrivals = first_arrivals(alloc, operations.len(), start)?;
@@ -81,7 +82,10 @@ pub fn pass(
     for i in 0..operations.len() {
         match step(kind, operations, end, given, i, pieces, &mut arrivals) {
             Ok(done) => {
-                if states.push(done.state.at(place_of(operations, end, i))).is_err() {
+                if states
+                    .push(done.state.at(place_of(operations, end, i)))
+                    .is_err()
+                {
                     return Err(MEMORY);
                 }
                 depth = depth.max(done.state.height).max(done.height);

@@ -1,6 +1,6 @@
 //! Certifying expressions.
 
-ghost use Rattle.std.specs.Prelude.{◌≡◌, ◌⊎◌, ◌↔◌, IsTrue, IfSome, length, OnOk, IfOk, IfErr, None, Some};
+ghost use Rattle.std.specs.Prelude.{◌≡◌, ◌⊎◌, ◌≤◌, ◌↔◌, IsTrue, IfSome, length, OnOk, IfOk, IfErr, None, Some};
 ghost use Rattle.dw_bytes.specs.Answers.{memory};
 ghost use Rattle.dw_ops.specs.Views.{bytes_of, target_of};
 ghost use Rattle.dw_stack.specs.Arrivals.{given_of};
@@ -40,6 +40,7 @@ fn check<'a>(
     ensures states { IfOk result (λ c. AreStatesOf kind (target_of expression.entry) (bytes_of expression.entry) (states_in c)) }
     ensures known { OnOk result (Knows kind (target_of expression.entry) (bytes_of expression.entry) (given_of given.entry)) }
     ensures fault { IfErr result (λ f. (f ≡ memory) ⊎ IsFaultOf kind (target_of expression.entry) (bytes_of expression.entry) (given_of given.entry) f) }
+    ensures inside { IfErr result (λ f. f.at ≤ length (bytes_of expression.entry)) }
 {
     let operations = operations(alloc, &expression)?;
     if !has_count(given, operations.len()) {
@@ -75,6 +76,7 @@ pub fn certify<'a>(
     ensures states { IfOk result (λ c. AreStatesOf kind (target_of expression.entry) (bytes_of expression.entry) (states_in c)) }
     ensures runs { IfOk result (λ c. RunsWellWithin kind (target_of expression.entry) (bytes_of expression.entry) (checked_in c).depth) }
     ensures fault { IfErr result (λ f. (f ≡ memory) ⊎ IsFaultOf kind (target_of expression.entry) (bytes_of expression.entry) None f) }
+    ensures inside { IfErr result (λ f. f.at ≤ length (bytes_of expression.entry)) }
     ensures only { IsGoodExpression kind (target_of expression.entry) (bytes_of expression.entry) → IfErr result (λ f. f ≡ memory) }
 {
     check(alloc, expression, kind, None)
@@ -98,6 +100,7 @@ pub fn recheck<'a>(
     ensures states { OnOk result (AreStatesOf kind (target_of expression.entry) (bytes_of expression.entry) states.now) }
     ensures runs { IfOk result (λ c. RunsWellWithin kind (target_of expression.entry) (bytes_of expression.entry) (checked_of c).depth) }
     ensures fault { IfErr result (λ f. (f ≡ memory) ⊎ IsFaultOf kind (target_of expression.entry) (bytes_of expression.entry) (Some states.now) f) }
+    ensures inside { IfErr result (λ f. f.at ≤ length (bytes_of expression.entry)) }
     ensures only { IsGoodExpression kind (target_of expression.entry) (bytes_of expression.entry) → AreStatesOf kind (target_of expression.entry) (bytes_of expression.entry) states.now → IfErr result (λ f. f ≡ memory) }
 {
     let certificate = check(alloc, expression, kind, Some(states))?;

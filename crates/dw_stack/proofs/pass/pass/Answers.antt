@@ -19,6 +19,7 @@ use Rattle.dw_stack.specs.Faults.{IsFirstFault}
 use Rattle.dw_stack.specs.Arrivals.{given_of, arrived, Stepped, StepObjects}
 use Rattle.dw_stack.specs.Views.{listed}
 use Rattle.dw_stack.proofs.Lists.{listed_length}
+use Rattle.dw_stack.proofs.Places.{place_le}
 use Rattle.dw_stack.proofs.Walks.{Walked, length-passed, walked_start, walked_step}
 use Rattle.dw_stack.proofs.Verdicts.{step_fault, end_not_nothing, end_mismatch, end_empty, end_good, end_states, end_given, end_depth}
 use Rattle.dw_stack.proofs.pass.pass.Goals.{then-done, else-done}
@@ -134,3 +135,9 @@ pub returns-clause-known : goal.returns-clause-known
 returns-clause-known c =
     let all : c.loop-i.i ≡ length (listed c.args.operations.now) = omega (arith, listed_length c.args.operations.now, c.loop-i-test.false, c.loop-i.auto.i-end) in
     record { each = λ k x h s r. end_given c.args.kind (listed c.args.operations.now) c.args.end c.requires.laid (given_of c.args.given) c.loop-i.i all c.loop-i.states.items c.loop-i.arrivals.items c.loop-i.depth c.loop-i.pieces c.loop-i.invariant k x h s r }
+
+pub returns-in-Err-clause-inside : goal.returns-in-Err-clause-inside
+returns-in-Err-clause-inside c =
+    let le = place_le (listed c.args.operations.now) c.args.end c.requires.laid c.loop-i.i in
+    let at = ap (λ (f : Fault). f.at) c.refusal.ensures in
+    omega (arith, le, at, c.place_of-in-Err.ensures)

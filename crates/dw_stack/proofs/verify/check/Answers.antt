@@ -46,7 +46,7 @@ new-requires c =
     checked_for c.args.kind (target_of e) (bytes_of e) (listed c.as_slice.result.now) (length c.bytes.result.now) c.in_ok-operations.ensures.answer are (ap length c.bytes.ensures) c.in_ok-passed.passed.depth c.len-count.result c.in_ok-passed.ensures.good c.in_ok-passed.ensures.depth (c.len-count.ensures.value ∙ (sym (ap length c.as_slice.ensures) ∙ sym (listed_length c.as_slice.result.now)))
 
 pub returns-clause-known : goal.returns-clause-known
-returns-clause-known c = 
+returns-clause-known c =
     let e = c.args.expression in
     let are = ap listed c.as_slice.ensures ∙ c.in_ok-operations.ensures.list in
     knows_for c.args.kind (target_of e) (bytes_of e) (listed c.as_slice.result.now) (length c.bytes.result.now) c.args.given c.len.result are (ap length c.bytes.ensures) (c.len.ensures.value ∙ (sym (ap length c.as_slice.ensures) ∙ sym (listed_length c.as_slice.result.now))) (c.has_count.ensures.0 c.if-not-has_count.false) c.in_ok-passed.ensures.known
