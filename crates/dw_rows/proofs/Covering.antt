@@ -94,3 +94,16 @@ covered-found c f a found none e = rw e (find-covered a f.initial (f.initial + f
 
 pub not-found-below : (c : Cie) (f : Fde) (a : ℕ) → fde_fault c f ≡ None → a < f.initial → find (has_address a) (rows_of c f) ≡ None
 not-found-below c f a none h = find-below a f.initial (f.initial + f.range) (rows_of c f) (cover-rows c f none) h
+
+-- a row that is found among rows up to an address begins and ends by it
+pub found-by : (p : Row → Bool) (from to : ℕ) (rows : List Row) (row : Row) → Cover from rows to → find p rows ≡ Some row → (row.start ≤ to) × (row.end ≤ to)
+found-by p from to [] row covered found = cc
+found-by p from to (first ∷ rows) row covered found =
+    go (λ later. found-by p first.end to rows row covered.2 later) (p first) found
+  where
+    here : first ≡ row → (row.start ≤ to) × (row.end ≤ to)
+    here e = subst (λ (r : Row). (r.start ≤ to) × (r.end ≤ to)) e
+      (let end = cover-le first.end to rows covered.2 in (omega (arith, covered.1, end), end))
+    go : (find p rows ≡ Some row → (row.start ≤ to) × (row.end ≤ to)) → (b : Bool) → cond b (Some first) (find p rows) ≡ Some row → (row.start ≤ to) × (row.end ≤ to)
+    go next true e = here cc
+    go next false e = next e

@@ -112,4 +112,4 @@ rows_in s f = rows_behind (cie_in s f) f
 -- the row of an address: that of the FDE that covers it which has the address, or that no FDE covers it
 abbrev pub IsRowFor : Frame → ℕ → Option Row → Type 0
 IsRowFor s a None = (f : Fde) → Contains s.fdes f → ¬ Covers f a
-IsRowFor s a (Some row) = (f : Fde) × Contains s.fdes f × Covers f a × (find (has_address a) (rows_in s f) ≡ Some row)
+IsRowFor s a (Some row) = (f : Fde) × IsCoverOf s.fdes a (Some f) × (find (has_address a) (rows_in s f) ≡ Some row)

@@ -1,6 +1,6 @@
 //! A checked section.
 
-ghost use Rattle.std.specs.Prelude.{◌≡◌, ◌+◌, ◌<◌, ◌≤◌, ◌^◌, None, Some, Contains, length, map, option_map, IfOk};
+ghost use Rattle.std.specs.Prelude.{◌≡◌, ◌+◌, ◌<◌, ◌≤◌, ◌^◌, None, Some, Contains, length, map, option_map, IfOk, IfSome};
 ghost use Rattle.dw_frame.specs.Records.{Fde};
 ghost use Rattle.dw_frame.specs.Sections.{entries_of, top_of};
 ghost use Rattle.dw_frame.specs.Views.{cie_of, fde_of};
@@ -202,7 +202,8 @@ impl<'a> CheckedFrame<'a> {
 
     /// The FDE that covers an address: the only one that does, found by halving.
     pub fn fde_for_address(&self, address: u64) -> Option<FrameDescriptionEntry<'a>>
-        ensures { IsCoverOf self.now.fdes address (option_map fde_of result) }
+        ensures only { IsCoverOf self.now.fdes address (option_map fde_of result) }
+        ensures fit { IfSome result (λ fde. fde.initial_location + fde.address_range ≤ top_of self.now.target) }
     {
         covering(&self.fdes, &self.index, address)
     }
@@ -233,7 +234,8 @@ impl<'a> CheckedFrame<'a> {
     /// The row of an address, or none where no FDE covers it. It takes no memory: the FDE is found by halving, and its
     /// program is run up to that row.
     pub fn row_for_address(&self, address: u64) -> Option<UnwindTableRow>
-        ensures { IsRowFor self.now address result }
+        ensures row { IsRowFor self.now address result }
+        ensures fit { IfSome result (λ row. (row.start ≤ top_of self.now.target) × (row.end ≤ top_of self.now.target)) }
     {
         let fde = self.fde_for_address(address)?;
         let cie = self.cie_of(&fde);

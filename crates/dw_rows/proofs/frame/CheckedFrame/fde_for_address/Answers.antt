@@ -1,17 +1,31 @@
-use Rattle.std.proofs.Common.{sym, subst, List, map}
+use Rattle.std.proofs.Common.{◌+◌, ◌≤◌, ℕ, Contains, sym, subst, List, map}
+use Rattle.std.specs.Prelude.{Option, Some, None, IfSome}
 use Rattle.std.specs.Option.{option_map}
+use Rattle.dw_frame.specs.Records.{Fde}
+use Rattle.dw_frame.specs.Sections.{top_of}
 use Rattle.dw_frame.specs.Views.{cie_of, fde_of}
 use Rattle.dw_frame.specs.declared.entry.FrameDescriptionEntry.{FrameDescriptionEntry}
 use Rattle.dw_rows.specs.Section.{Frame, CoversOnce, IsCoverOf}
 use Rattle.dw_rows.proofs.Parts.{covers-once-in}
 use Rattle.dw_rows.proofs.frame.CheckedFrame.fde_for_address.Goals as goal
 
+-- the FDE that covers an address is one of those that fit
+cover-fits : (s : Frame) (a : ℕ) (o : Option FrameDescriptionEntry) → IsCoverOf s.fdes a (option_map fde_of o)
+    → ((f : Fde) → Contains s.fdes f → f.initial + f.range ≤ top_of s.target) → IfSome o (λ fde. fde.initial_location + fde.address_range ≤ top_of s.target)
+cover-fits s a None covered each = tt
+cover-fits s a (Some fde) covered each = each (fde_of fde) covered.0
+
 pub covering-requires-clause-once : goal.covering-requires-clause-once
 covering-requires-clause-once c =
     subst (λ (l : List FrameDescriptionEntry). CoversOnce (map fde_of l)) (sym c.deref.ensures.value)
     (covers-once-in (map cie_of c.self.inside.cies.items) (map fde_of c.self.inside.fdes.items) c.self.invariant.fdes_up c.self.invariant.good)
 
-pub returns : goal.returns
-returns c =
+pub returns-clause-only : goal.returns-clause-only
+returns-clause-only c =
     subst (λ (s : Frame). IsCoverOf s.fdes c.args.address (option_map fde_of c.covering.result)) c.self.view_is
     (subst (λ (l : List FrameDescriptionEntry). IsCoverOf (map fde_of l) c.args.address (option_map fde_of c.covering.result)) c.deref.ensures.value c.covering.ensures)
+
+pub returns-clause-fit : goal.returns-clause-fit
+returns-clause-fit c =
+    cover-fits c.args.self.now c.args.address c.covering.result (returns-clause-only c)
+    (subst (λ (s : Frame). (f : Fde) → Contains s.fdes f → f.initial + f.range ≤ top_of s.target) c.self.view_is c.self.invariant.fits)
