@@ -1,13 +1,12 @@
 -- The row of an address is that of the only FDE that covers it.
-use Rattle.std.proofs.Common.{◌≡◌, ℕ, zero, suc, List, [], ◌∷◌, ap, sym, ◌∙◌, subst, refl, arith, cond}
-use Rattle.std.specs.Prelude.{Bool, true, false, Option, Some, None, IfSome, find, option_and_then}
-use Rattle.std.specs.List.{All, Contains}
-use Rattle.std.proofs.lemmas.List.Elements.{All-head, All-tail}
+use Rattle.std.proofs.Common.{◌≡◌, ℕ, zero, suc, List, [], ◌∷◌, ap, sym, ◌∙◌, refl, arith, cond}
+use Rattle.std.specs.Prelude.{Bool, true, false, Option, Some, None, find, option_and_then}
+use Rattle.std.specs.List.{Contains}
 use Rattle.std.proofs.lemmas.Bool.Decides.{nat_tests}
-use Rattle.dw_frame.specs.Records.{Cie, Fde}
+use Rattle.dw_frame.specs.Records.{Fde}
 use Rattle.dw_rows.specs.Rules.{Row}
-use Rattle.dw_rows.specs.UnwindRows.{has_address, rows_of}
-use Rattle.dw_rows.specs.Section.{Frame, Covers, IsCoverOf, cie_in, rows_in, rows_behind}
+use Rattle.dw_rows.specs.UnwindRows.{has_address}
+use Rattle.dw_rows.specs.Section.{Frame, Covers, IsRowFor, rows_in}
 use Rattle.dw_check.specs.Text.{covers, row_of}
 
 -- ---- the first element that passes a test
@@ -38,15 +37,6 @@ find_only p (x ∷ xs) f at passes only =
         let other : x ≡ f → ⊥ = λ s. let wrong : true ≡ false = sym passes ∙ ap p (sym s) ∙ e in cc in
         next (behind x f xs other at)
 
--- what holds of each holds of one that is found
-find_all : {X : Type 0} (P : X → Type 0) (p : X → Bool) (xs : List X) → All P xs → IfSome (find p xs) P
-find_all P p [] each = tt
-find_all P p (x ∷ xs) each = go (find_all P p xs (All-tail P x xs each)) (p x)
-  where
-    go : IfSome (find p xs) P → (b : Bool) → IfSome (cond b (Some x) (find p xs)) P
-    go next true = All-head P x xs each
-    go next false = next
-
 -- ---- the FDE that covers an address
 
 covers_then : (a : ℕ) (f : Fde) → covers a f ≡ true → Covers f a
@@ -62,18 +52,12 @@ covers_not a f not_here = go (covers a f) refl
 covers_so : (a : ℕ) (f : Fde) → Covers f a → covers a f ≡ true
 covers_so a f here = grind (arith, nat_tests)
 
-pub no_row : (frame : Frame) (a : ℕ) → IsCoverOf frame.fdes a None → row_of frame a ≡ None
-no_row frame a none =
-    ap (option_and_then (λ fde. find (has_address a) (rows_in frame fde)))
-    (find_nothing (covers a) frame.fdes (λ f at. covers_not a f (none f at)))
-
-pub its_row : (frame : Frame) (a : ℕ) (fde : Fde) (cie : Cie) → IsCoverOf frame.fdes a (Some fde) → cie_in frame fde ≡ Some cie
-    → row_of frame a ≡ find (has_address a) (rows_of cie fde)
-its_row frame a fde cie covered found =
-    ap (option_and_then (λ f. find (has_address a) (rows_in frame f)))
-    (find_only (covers a) frame.fdes fde covered.0 (covers_so a fde covered.1) (λ g at e. covered.2 g at (covers_then a g e)))
-    ∙ ap (λ o. find (has_address a) (rows_behind o fde)) found
-
--- a row that is found among these has what they have
-pub row_has : (P : Row → Type 0) (a : ℕ) (rows : List Row) (found : Option Row) → found ≡ find (has_address a) rows → All P rows → IfSome found P
-row_has P a rows found e each = subst (λ o. IfSome o P) (sym e) (find_all P (has_address a) rows each)
+-- what a look-up answers is that row
+pub looked_up : (frame : Frame) (a : ℕ) (found : Option Row) → IsRowFor frame a found → found ≡ row_of frame a
+looked_up frame a None none =
+    sym (ap (option_and_then (λ fde. find (has_address a) (rows_in frame fde)))
+    (find_nothing (covers a) frame.fdes (λ f at. covers_not a f (none f at))))
+looked_up frame a (Some row) (fde, only, found) =
+    sym (ap (option_and_then (λ f. find (has_address a) (rows_in frame f)))
+    (find_only (covers a) frame.fdes fde only.0 (covers_so a fde only.1) (λ g at e. only.2 g at (covers_then a g e)))
+    ∙ found)

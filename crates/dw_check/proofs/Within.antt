@@ -1,6 +1,6 @@
 -- The addresses of a checked section are ones of its target.
-use Rattle.std.proofs.Common.{◌≡◌, ℕ, ◌+◌, ◌*◌, ◌-◌, ◌^◌, ◌<◌, ◌≤◌, List, [], ◌∷◌, ap, sym, ◌∙◌, subst, arith}
-use Rattle.std.specs.Prelude.{Some, None}
+use Rattle.std.proofs.Common.{◌≡◌, ℕ, ◌+◌, ◌*◌, ◌-◌, ◌^◌, ◌<◌, ◌≤◌, List, [], ◌∷◌, sym, subst, arith}
+use Rattle.std.specs.Prelude.{None}
 use Rattle.std.specs.List.{All}
 use Rattle.std.proofs.lemmas.List.Elements.{All-nil, All-cons}
 use Rattle.dw_bytes.specs.declared.target.Target.{Target}
@@ -12,7 +12,6 @@ use Rattle.dw_frame.specs.Sections.{top_of}
 use Rattle.dw_rows.specs.Rules.{Row}
 use Rattle.dw_rows.specs.Judgement.{fde_fault}
 use Rattle.dw_rows.specs.UnwindRows.{Cover, rows_of}
-use Rattle.dw_rows.specs.Section.{Frame, cie_in, rows_in, rows_behind}
 use Rattle.dw_rows.proofs.Covering.{cover-rows}
 use Rattle.dw_check.specs.Text.{Fits, digits_of}
 

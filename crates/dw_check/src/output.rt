@@ -1,10 +1,10 @@
 //! Lines handed to a sink, one after the other. What is kept is the one line.
 
-ghost use Rattle.std.specs.Prelude.{◌≡◌, ◌+◌, ◌≤◌, false, Contains, IfSome};
+ghost use Rattle.std.specs.Prelude.{◌≡◌, ◌+◌, ◌≤◌, false, Contains};
 ghost use Rattle.std.specs.List.{All, flat_map};
 ghost use Rattle.dw_frame.specs.Views.{cie_of, fde_of};
 ghost use Rattle.dw_frame.specs.Sections.{top_of};
-ghost use Rattle.dw_check.specs.Text.{FitsFde, Fits, refused_line, fde_line, row_line, fde_text, frame_text, row_of, lookup_text};
+ghost use Rattle.dw_check.specs.Text.{FitsFde, Fits, refused_line, fde_line, row_line, fde_text, frame_text, lookup_text};
 ghost use Rattle.dw_check.specs.Written.{Writes, is_write};
 ghost use Rattle.dw_check.specs.declared.output.ReportFault.TheVariants.{Memory, Write};
 
@@ -12,7 +12,7 @@ use crate::lines::{Place, push_fde, push_refused, push_row};
 use crate::sink::{Sink, Stopped, put};
 use dw_bytes::{AddressSize, Fault};
 use dw_frame::{CommonInformationEntry, FrameDescriptionEntry};
-use dw_rows::{CheckedFrame, Rows, UnwindTableRow, row_at};
+use dw_rows::{CheckedFrame, Rows, UnwindTableRow};
 use std::alloc::AllocError;
 
 /// Why a text isn't written whole.
@@ -163,18 +163,6 @@ pub(crate) fn write_frame<S: Sink>(
     Ok(())
 }
 
-/// The row of an address.
-fn row_of(frame: &CheckedFrame<'_>, address: u64) -> Option<UnwindTableRow>
-    ensures row { result ≡ row_of frame.now address }
-    ensures fits { IfSome result (λ row. Fits frame.now.target.address_size row) }
-{
-    // That addresses fit the target is a clause of this call.
-    let _fdes = frame.fdes();
-    let fde = frame.fde_for_address(address)?;
-    let cie = frame.cie_of(&fde);
-    row_at(&cie, &fde, address)
-}
-
 /// Writes the line of the row of an address, or that there is none.
 pub(crate) fn write_lookup<S: Sink>(
     line: &mut String,
@@ -186,7 +174,7 @@ pub(crate) fn write_lookup<S: Sink>(
     ensures written { Writes (S.taken sink.old) (S.taken sink.new) result (lookup_text frame.now address) }
     ensures stops { S.has_stopped sink.new ≡ is_write result }
 {
-    match row_of(frame, address) {
+    match frame.row_for_address(address) {
         Some(row) => write_row(line, frame.target().address_size, &row, sink),
         None => Ok(put(sink, "none\n".as_bytes())?),
     }

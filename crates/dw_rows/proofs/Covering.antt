@@ -103,7 +103,8 @@ found-by p from to (first ∷ rows) row covered found =
   where
     here : first ≡ row → (row.start ≤ to) × (row.end ≤ to)
     here e = subst (λ (r : Row). (r.start ≤ to) × (r.end ≤ to)) e
-      (let end = cover-le first.end to rows covered.2 in (omega (arith, covered.1, end), end))
+        (let end = cover-le first.end to rows covered.2 in (omega (arith, covered.1, end), end))
+
     go : (find p rows ≡ Some row → (row.start ≤ to) × (row.end ≤ to)) → (b : Bool) → cond b (Some first) (find p rows) ≡ Some row → (row.start ≤ to) × (row.end ≤ to)
     go next true e = here cc
     go next false e = next e
