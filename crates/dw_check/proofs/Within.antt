@@ -38,11 +38,3 @@ pub good_rows_fit : (target : Target) (size : AddressSize) (cie : Cie) (fde : Fd
     → fde.initial + fde.range ≤ top_of target → All (λ row. Fits size row) (rows_of cie fde)
 good_rows_fit target size cie fde z none h =
     (cover_fits size fde.initial (fde.initial + fde.range) (rows_of cie fde) (cover-rows cie fde none) (below_top target size (fde.initial + fde.range) z h)).1
-
--- the rows of an FDE of a checked section
-pub rows_fit : (frame : Frame) (size : AddressSize) (cie : Cie) (fde : Fde) (rows : List Row)
-    → size ≡ frame.target.address_size → cie_in frame fde ≡ Some cie → fde_fault cie fde ≡ None → rows ≡ rows_in frame fde
-    → fde.initial + fde.range ≤ top_of frame.target → All (λ row. Fits size row) rows
-rows_fit frame size cie fde rows z e none d h =
-    let found : rows ≡ rows_of cie fde = d ∙ ap (λ o. rows_behind o fde) e in
-    subst (λ l. All (λ row. Fits size row) l) (sym found) (good_rows_fit frame.target size cie fde z none h)

@@ -7,7 +7,8 @@ use Rattle.std.specs.Io.KnownBytes.{Appends}
 use Rattle.dw_bytes.specs.declared.target.AddressSize.{AddressSize}
 use Rattle.dw_frame.specs.Records.{Cie, Fde}
 use Rattle.dw_rows.specs.Rules.{Row}
-use Rattle.dw_rows.specs.Section.{Frame, cie_in, rows_in}
+use Rattle.dw_rows.specs.Section.{Frame, cie_in, rows_in, rows_behind}
+use Rattle.dw_rows.specs.UnwindRows.{rows_of}
 use Rattle.dw_check.specs.Taken.{AppendsFront}
 use Rattle.dw_check.specs.Text.{fde_line, row_line, lines_of, fde_text, row_of, found_text, lookup_text}
 use Rattle.dw_check.specs.Written.{Writes}
@@ -26,14 +27,15 @@ writes_front a b (Err _) x failed h = h
 
 -- the line of an FDE, and then what is written of its rows
 pub fde_then : (frame : Frame) (size : AddressSize) (cie : Cie) (fde : Fde) (rows : List Row) (a b c : Option (List ℕ)) (r : Result (Unit {0}) ReportFault)
-    → size ≡ frame.target.address_size → cie_in frame fde ≡ Some cie → rows ≡ rows_in frame fde
+    → size ≡ frame.target.address_size → cie_in frame fde ≡ Some cie → rows ≡ rows_of cie fde
     → Appends a b (fde_line size cie fde) → Writes b c r (flat_map (row_line size) rows) → Writes a c r (fde_text frame fde)
 unfolding fde_text
 fde_then frame size cie fde rows a b c r z e d h k =
     let both : Writes a c r (lines_of size (Some cie) fde rows) = writes_then a b c r (fde_line size cie fde) (flat_map (row_line size) rows) h k in
+    let its : rows ≡ rows_in frame fde = d ∙ ap (λ o. rows_behind o fde) (sym e) in
     subst (λ s. Writes a c r (lines_of s (cie_in frame fde) fde (rows_in frame fde))) z
     (subst (λ o. Writes a c r (lines_of size o fde (rows_in frame fde))) (sym e)
-    (subst (λ l. Writes a c r (lines_of size (Some cie) fde l)) d both))
+    (subst (λ l. Writes a c r (lines_of size (Some cie) fde l)) its both))
 
 -- a beginning of the line of an FDE
 pub fde_front : (frame : Frame) (size : AddressSize) (cie : Cie) (fde : Fde) (a b : Option (List ℕ)) (r : Result (Unit {0}) ReportFault)

@@ -94,20 +94,21 @@ fn write_row<S: Sink>(
     Ok(())
 }
 
-/// Writes the lines of rows.
+/// Writes the lines of the rows that are to come, each read into the same place.
 fn write_rows<S: Sink>(
     line: &mut String,
     size: AddressSize,
-    rows: Rows<'_>,
+    rows: &mut Rows<'_>,
+    row: &mut UnwindTableRow,
     sink: &mut S,
 ) -> Result<(), ReportFault>
-    requires fit { All (λ row. Fits size row) rows }
+    requires fit { All (λ row. Fits size row) rows.old }
     requires runs { S.has_stopped sink.old ≡ false }
-    ensures written { Writes (S.taken sink.old) (S.taken sink.new) result (flat_map (row_line size) rows.entry) }
+    ensures written { Writes (S.taken sink.old) (S.taken sink.new) result (flat_map (row_line size) rows.old) }
     ensures stops { S.has_stopped sink.new ≡ is_write result }
 {
-    for row in rows {
-        match write_row(line, size, &row, sink) {
+    'rows: while rows.next_into(row) {
+        match write_row(line, size, row, sink) {
             Ok(()) => {}
             Err(fault) => return Err(fault),
         }
@@ -115,11 +116,13 @@ fn write_rows<S: Sink>(
     Ok(())
 }
 
-/// Writes the lines of an FDE of a section and of its rows.
-fn write_fde_and_rows<S: Sink>(
+/// Writes the lines of an FDE of a section and of its rows, which are made in the places of others.
+fn write_fde_and_rows<'a, S: Sink>(
     line: &mut String,
-    frame: &CheckedFrame<'_>,
-    fde: &FrameDescriptionEntry<'_>,
+    frame: &CheckedFrame<'a>,
+    fde: &FrameDescriptionEntry<'a>,
+    rows: &mut Rows<'a>,
+    row: &mut UnwindTableRow,
     sink: &mut S,
 ) -> Result<(), ReportFault>
     requires inside { Contains frame.now.fdes (fde_of fde.now) }
@@ -131,7 +134,8 @@ fn write_fde_and_rows<S: Sink>(
     let size = frame.target().address_size;
     let cie = frame.cie_of(fde);
     write_fde(line, size, &cie, fde, sink)?;
-    write_rows(line, size, frame.rows(fde), sink)
+    rows.restart(&cie, fde);
+    write_rows(line, size, rows, row, sink)
 }
 
 /// Writes the lines of the FDEs of a section and of their rows, in the order of the section.
@@ -144,8 +148,14 @@ pub(crate) fn write_frame<S: Sink>(
     ensures written { Writes (S.taken sink.old) (S.taken sink.new) result (frame_text frame.now) }
     ensures stops { S.has_stopped sink.new ≡ is_write result }
 {
-    for fde in frame.fdes() {
-        match write_fde_and_rows(line, frame, fde, sink) {
+    let fdes = frame.fdes();
+    if fdes.is_empty() {
+        return Ok(());
+    }
+    let mut rows = frame.rows(&fdes[0]);
+    let mut row = UnwindTableRow::empty();
+    for fde in fdes {
+        match write_fde_and_rows(line, frame, fde, &mut rows, &mut row, sink) {
             Ok(()) => {}
             Err(fault) => return Err(fault),
         }

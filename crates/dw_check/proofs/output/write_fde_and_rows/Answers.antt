@@ -1,5 +1,7 @@
-use Rattle.std.proofs.Common.{ap}
-use Rattle.dw_check.proofs.Within.{below_top, rows_fit}
+use Rattle.std.proofs.Common.{ap, sym, subst}
+use Rattle.std.specs.List.{All}
+use Rattle.dw_check.specs.Text.{Fits}
+use Rattle.dw_check.proofs.Within.{below_top, good_rows_fit}
 use Rattle.dw_check.proofs.Writing.{fde_then, fde_front}
 use Rattle.dw_check.proofs.output.write_fde_and_rows.Goals as goal
 
@@ -8,12 +10,15 @@ write_fde-requires-clause-fits g c = below_top c.args.frame.now.target _ _ (ap (
 
 pub write_rows-requires-clause-fit : goal.write_rows-requires-clause-fit
 write_rows-requires-clause-fit g c =
-    rows_fit c.args.frame.now _ _ _ _ (ap (λ t. t.address_size) c.target-size.ensures) c.cie_of-cie.ensures.cie c.cie_of-cie.ensures.fde_program c.rows.ensures c.requires.fits
+    subst (λ rows. All (λ row. Fits c.target-size.result.address_size row) rows) (sym c.restart.ensures)
+    (good_rows_fit c.args.frame.now.target _ _ _ (ap (λ t. t.address_size) c.target-size.ensures) c.cie_of-cie.ensures.fde_program c.requires.fits)
 
 pub returns-in_err-write_fde-clause-written : goal.returns-in_err-write_fde-clause-written
 returns-in_err-write_fde-clause-written g c =
-    fde_front c.args.frame.now _ _ _ _ _ _ (ap (λ t. t.address_size) c.target-size.ensures) c.cie_of-cie.ensures.cie c.from_residual.ensures.0 c.in_err-write_fde.ensures.written
+    fde_front c.args.frame.now _ _ _ _ _ _ (ap (λ t. t.address_size) c.target-size.ensures) c.cie_of-cie.ensures.cie c.from_residual.ensures.0
+    c.in_err-write_fde.ensures.written
 
 pub returns-clause-written : goal.returns-clause-written
 returns-clause-written g c =
-    fde_then c.args.frame.now _ _ _ _ _ _ _ _ (ap (λ t. t.address_size) c.target-size.ensures) c.cie_of-cie.ensures.cie c.rows.ensures c.in_ok-write_fde.ensures.written c.write_rows.ensures.written
+    fde_then c.args.frame.now _ _ _ _ _ _ _ _ (ap (λ t. t.address_size) c.target-size.ensures) c.cie_of-cie.ensures.cie c.restart.ensures
+    c.in_ok-write_fde.ensures.written c.write_rows.ensures.written

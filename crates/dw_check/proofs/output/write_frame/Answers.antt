@@ -1,4 +1,5 @@
-use Rattle.std.proofs.Common.{arith, rules}
+use Rattle.std.proofs.Common.{◌≤◌, length, arith, rules}
+use Rattle.std.proofs.lemmas.Bool.Decides.{nat_tests}
 use Rattle.dw_frame.specs.Views.{fde_of}
 use Rattle.dw_check.specs.Text.{frame_text}
 use Rattle.dw_check.proofs.Sent.{sent_none, sent_next, sent_front, sent_all, sent_place, next_seen, none_seen}
@@ -7,32 +8,38 @@ use Rattle.dw_check.proofs.output.write_frame.Goals as goal
 pub loop-fde-init : goal.loop-fde-init
 loop-fde-init g c = record {
   runs = search rules;
-  sent = sent_none _ _ _ _ c.fdes-fde-items.ensures.fdes;
+  sent = sent_none _ _ _ _ c.fdes-fdes.ensures.fdes;
 }
 
 pub loop-fde-preserved : goal.loop-fde-preserved
 loop-fde-preserved g c = record {
   runs = search rules;
-  sent = sent_next _ _ _ _ _ _ _ _ (next_seen fde_of c.fdes-fde-items.result.now c.loop-fde.fde-index c.fde-item.result (omega arith) c.fde-item.is)
+  sent = sent_next _ _ _ _ _ _ _ _ (next_seen fde_of c.fdes-fdes.result.now c.loop-fde.fde-index c.fde-item.result (omega arith) c.fde-item.is)
       c.loop-fde.invariant.sent c.in-Ok.ensures.written;
 }
 
 pub write_fde_and_rows-requires-clause-inside : goal.write_fde_and_rows-requires-clause-inside
 write_fde_and_rows-requires-clause-inside g c =
-    sent_place _ _ _ _ _ _ _ (next_seen fde_of c.fdes-fde-items.result.now c.loop-fde.fde-index c.fde-item.result (omega arith) c.fde-item.is) c.loop-fde.invariant.sent
+    sent_place _ _ _ _ _ _ _ (next_seen fde_of c.fdes-fdes.result.now c.loop-fde.fde-index c.fde-item.result (omega arith) c.fde-item.is) c.loop-fde.invariant.sent
 
 pub write_fde_and_rows-requires-clause-fits : goal.write_fde_and_rows-requires-clause-fits
 write_fde_and_rows-requires-clause-fits g c =
-    c.fdes-fde-items.ensures.fit (fde_of c.fde-item.result)
-    (sent_place _ _ _ _ _ _ _ (next_seen fde_of c.fdes-fde-items.result.now c.loop-fde.fde-index c.fde-item.result (omega arith) c.fde-item.is) c.loop-fde.invariant.sent)
+    c.fdes-fdes.ensures.fit (fde_of c.fde-item.result)
+    (sent_place _ _ _ _ _ _ _ (next_seen fde_of c.fdes-fdes.result.now c.loop-fde.fde-index c.fde-item.result (omega arith) c.fde-item.is) c.loop-fde.invariant.sent)
 
 pub returns-in-Err-clause-written : goal.returns-in-Err-clause-written
 unfolding frame_text
 returns-in-Err-clause-written g c =
-    sent_front _ _ _ _ _ _ _ _ (next_seen fde_of c.fdes-fde-items.result.now c.loop-fde.fde-index c.fde-item.result (omega arith) c.fde-item.is)
+    sent_front _ _ _ _ _ _ _ _ (next_seen fde_of c.fdes-fdes.result.now c.loop-fde.fde-index c.fde-item.result (omega arith) c.fde-item.is)
     c.loop-fde.invariant.sent c.in-Err.ensures.written
 
 pub returns-clause-written : goal.returns-clause-written
 unfolding frame_text
 returns-clause-written g c =
-    sent_all _ _ _ _ _ (none_seen fde_of c.fdes-fde-items.result.now c.loop-fde.fde-index (omega arith)) c.loop-fde.invariant.sent
+    sent_all _ _ _ _ _ (none_seen fde_of c.fdes-fdes.result.now c.loop-fde.fde-index (omega arith)) c.loop-fde.invariant.sent
+
+pub returns-then-is_empty-clause-written : goal.returns-then-is_empty-clause-written
+unfolding frame_text
+returns-then-is_empty-clause-written g c =
+    let none : length c.fdes-fdes.result.now ≤ 0 = grind (arith, nat_tests) in
+    sent_all _ _ _ _ _ (none_seen fde_of c.fdes-fdes.result.now 0 none) (sent_none _ _ _ _ c.fdes-fdes.ensures.fdes)

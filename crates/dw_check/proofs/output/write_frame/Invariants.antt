@@ -7,5 +7,5 @@ use Rattle.dw_check.proofs.output.write_frame.Given as goal
 abbrev pub invariant-loop-fde : goal.invariant-loop-fde
 invariant-loop-fde g l = record {
   runs : g.S.Sink.has_stopped l.sink ≡ false;
-  sent : Sent (fde_text l.frame) l.frame.fdes (map fde_of (drop l.fde-index l.fde-items)) (g.S.Sink.taken l.fn.sink) (g.S.Sink.taken l.sink);
+  sent : Sent (fde_text l.frame) l.frame.fdes (map fde_of (drop l.fde-index l.fdes)) (g.S.Sink.taken l.fn.sink) (g.S.Sink.taken l.sink);
 }
