@@ -10,7 +10,7 @@ mod Faults
 mod Clashes
 mod Parts
 mod SectionOrder
-pub mod Tests
+pub mod Judging
 pub mod Walking
 pub mod Coming
 pub mod Covering

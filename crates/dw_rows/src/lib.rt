@@ -15,6 +15,8 @@ mod row;
 mod row_iter;
 mod row_rules;
 mod section;
+#[cfg(test)]
+mod tests;
 mod walk;
 
 pub use check::{check_cie, check_fde};

@@ -1,5 +1,5 @@
 -- From what an operation does to the judgement of the operation.
-use Rattle.std.proofs.Common.{◌≡◌, ℕ, ℤ, ◌≤◌, Bool, List, Option, Some, None, refl, sym, ap, ◌∙◌, ◌+◌, subst, arith}
+use Rattle.std.proofs.Common.{◌≡◌, ℕ, ℤ, ◌≤◌, List, Option, Some, None, sym, ap, ◌∙◌, ◌+◌, subst}
 use Rattle.dw_bytes.specs.declared.fault.FaultKind.{FaultKind}
 use Rattle.dw_bytes.specs.declared.fault.FaultKind.TheVariants as fault
 use Rattle.dw_stack.specs.declared.effect.StackEffect.{StackEffect}
@@ -9,7 +9,7 @@ use Rattle.dw_stack.specs.declared.state.StackState.{StackState}
 use Rattle.dw_stack.specs.declared.state.Kind.{Kind}
 use Rattle.dw_stack.specs.Effects.{effect_of}
 use Rattle.dw_stack.specs.States.{height_after, next_mode}
-use Rattle.dw_stack.specs.Paths.{Placed, place, aim, aimed, target_of, is_piece}
+use Rattle.dw_stack.specs.Paths.{Placed, place, aim, aimed, is_piece}
 use Rattle.dw_stack.specs.Judge.{IsEffectAt, Suits, Unsuited, TargetObjects, TargetIs, Judged, Objects}
 
 module _ (kind : Kind) (ops : List Placed) (len k pieces : ℕ) (s : StackState) (e : StackEffect) (at : IsEffectAt ops k e) where

@@ -1,9 +1,9 @@
 -- The operations of the code, read one by one.
-use Rattle.std.proofs.Common.{◌≡◌, ℕ, zero, suc, ◌+◌, ◌<◌, ◌≤◌, List, [], ◌∷◌, length, get_or, Some, refl, ap, arith}
+use Rattle.std.proofs.Common.{◌≡◌, ℕ, zero, suc, ◌<◌, ◌≤◌, List, [], ◌∷◌, length, get_or, Some, refl, ap, arith}
 use Rattle.std.specs.Prelude.{slice_get}
 use Rattle.dw_ops.specs.declared.operation.Operation as coded
 use Rattle.dw_ops.specs.Views.{located_of}
-use Rattle.dw_stack.specs.Paths.{Placed, place}
+use Rattle.dw_stack.specs.Paths.{place}
 use Rattle.dw_stack.specs.Views.{listed}
 
 pub listed_length : (ops : List (ℕ × coded.Operation)) → length (listed ops) ≡ length ops

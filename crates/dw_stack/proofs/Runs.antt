@@ -1,6 +1,6 @@
 -- Each run of a good expression follows a path.
 use Rattle.std.proofs.Common.{◌≡◌, ℕ, ℤ, negsuc, zero, suc, ◌+◌, ◌-◌, ◌≤◌, ◌⊎◌, Bool, true, false, not, eqb, List, [], ◌∷◌, ◌++◌, length, take, Option, Some, None, Result, Ok, Err, refl, sym, ap, ◌∙◌, subst, inl, inr, arith, IsTrue, length-append, length-take}
-use Rattle.std.specs.Prelude.{slice_get, MatchBool, ◌==◌}
+use Rattle.std.specs.Prelude.{slice_get, MatchBool}
 use Rattle.std.proofs.lemmas.Option.{slice_get_within, slice_get_cases}
 use Rattle.dw_ops.specs.Operations.{Operation, bra, skip, reg, regx, implicit_value, stack_value, piece, bit_piece}
 use Rattle.dw_stack.specs.declared.effect.Role.{Role}
@@ -12,9 +12,9 @@ use Rattle.dw_stack.specs.declared.state.Kind.TheVariants.{FrameCfa, FrameRegist
 use Rattle.dw_stack.specs.declared.state.Mode.{Mode}
 use Rattle.dw_stack.specs.declared.state.Mode.TheVariants as mode
 use Rattle.dw_stack.specs.Effects.{effect_of}
-use Rattle.dw_stack.specs.States.{start_of, next_mode, height_after, state_after, StandsAlone, HasResult}
+use Rattle.dw_stack.specs.States.{start_of, next_mode, height_after, state_after, StandsAlone}
 use Rattle.dw_stack.specs.Paths.{Placed, place, IsLaidOut, aim, aimed, target_of, Leads, Edge, Reaches, IsGood, IsDepth}
-use Rattle.dw_stack.specs.Machine.{Whereabouts, InRegister, HasValue, HasBytes, Extent, Piece, Configuration, Trouble, Meaning, entry, named, jumps, extent_of, location_of, stack_after, pieces_after, CanDo, Meets, Step, Stops, Run, Starts, PendingIs, has_pieces, Agrees, Ended, GoesOn, IsOver, RunsWell}
+use Rattle.dw_stack.specs.Machine.{Whereabouts, HasValue, HasBytes, Piece, Configuration, Trouble, Meaning, entry, named, jumps, extent_of, location_of, stack_after, pieces_after, CanDo, Meets, Step, Run, Starts, PendingIs, has_pieces, Agrees, GoesOn, IsOver, RunsWell}
 use Rattle.dw_stack.proofs.Places.{place_of_some, place_past, place_inj}
 use Rattle.dw_stack.proofs.Routes.{reach_from, extend, at_start, reached_place, edge_lands}
 

@@ -2,11 +2,10 @@
 use Rattle.std.proofs.Math.Logic.{∥∥₁_elim, ∥∥₁_prop}
 use mathlib.Core.HLevel.{⊥_prop}
 use Rattle.std.specs.Coded.{Coded-set, coded_ℕ, coded_bool, ×_prop, →_prop, Unit-prop, le_prop}
-use Rattle.std.proofs.Common.{◌≡◌, ℕ, zero, suc, ◌+◌, ◌<◌, ◌≤◌, ◌⊎◌, Bool, List, length, Option, Some, None, refl, sym, ap, ◌∙◌, inl, inr, arith}
+use Rattle.std.proofs.Common.{◌≡◌, ℕ, zero, suc, ◌≤◌, ◌⊎◌, Bool, List, length, Option, Some, None, refl, sym, ap, ◌∙◌, inl, inr, arith}
 use Rattle.std.specs.Prelude.{slice_get, ◌==◌}
 use Rattle.std.proofs.lemmas.Bool.{cases_eq}
 use Rattle.dw_bytes.specs.declared.fault.Fault.{Fault}
-use Rattle.dw_bytes.specs.declared.target.Target.{Target}
 use Rattle.dw_stack.specs.declared.effect.Role.{Role}
 use Rattle.dw_stack.specs.declared.effect.Role.TheVariants as role
 use Rattle.dw_stack.specs.declared.effect.StackEffect.{StackEffect}
@@ -17,8 +16,8 @@ use Rattle.dw_stack.specs.declared.state.Kind.{Kind}
 use Rattle.dw_stack.specs.declared.state.Kind.TheVariants.{FrameCfa, FrameRegister, Location}
 use Rattle.dw_stack.specs.Effects.{effect_of}
 use Rattle.dw_stack.specs.States.{StandsAlone, ResultOf}
-use Rattle.dw_stack.specs.Paths.{Placed, place, IsLaidOut, target_of, IsTarget, Reaches, IsAllowed, IsGood, IsDepth}
-use Rattle.dw_stack.specs.Expressions.{operations_in, reading_fault, IsGoodExpression, Checked, IsChecked}
+use Rattle.dw_stack.specs.Paths.{Placed, place, IsLaidOut, target_of, IsTarget, IsAllowed, IsGood}
+use Rattle.dw_stack.specs.Expressions.{operations_in, reading_fault, Checked, IsChecked}
 use Rattle.dw_stack.proofs.Places.{place_inj}
 use Rattle.dw_stack.proofs.Spelled.{spelled_of, read_of, laid_out}
 

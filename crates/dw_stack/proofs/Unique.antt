@@ -1,7 +1,7 @@
 -- What is said of an expression is said of one thing.
 use Rattle.std.proofs.Math.Logic.{∥∥₁_elim, ∥∥₁_prop}
 use Rattle.std.specs.Coded.{Coded-set, coded_ℕ, coded_bool, le_prop}
-use Rattle.std.proofs.Common.{◌≡◌, ◌∙◌, ◌⊎◌, ℕ, zero, suc, ◌+◌, ◌<◌, ◌≤◌, Bool, List, [], ◌∷◌, length, Option, Some, None, refl, sym, ap, subst, inl, inr, arith}
+use Rattle.std.proofs.Common.{◌≡◌, ◌∙◌, ℕ, zero, suc, ◌<◌, ◌≤◌, Bool, List, [], ◌∷◌, length, Option, Some, None, refl, sym, ap, inl, inr, arith}
 use Rattle.std.specs.Prelude.{slice_get, ◌==◌, if◌then◌else◌}
 use Rattle.std.proofs.lemmas.Bool.{cases_order}
 use Rattle.std.proofs.lemmas.Option.{slice_get_cases, same_Some}
@@ -14,7 +14,7 @@ use Rattle.dw_stack.specs.declared.state.Mode.{Mode}
 use Rattle.dw_stack.specs.declared.state.State.{State}
 use Rattle.dw_stack.specs.Paths.{Placed, IsGood, AreStates, IsDepth}
 use Rattle.dw_stack.specs.Faults.{Refuses, rank, IsFirstFault}
-use Rattle.dw_stack.specs.Expressions.{reading_fault, IsOtherCount, IsFaultOf}
+use Rattle.dw_stack.specs.Expressions.{IsFaultOf}
 use Rattle.dw_stack.proofs.Stable.{mode_stable, number_of}
 
 -- ---- the depth

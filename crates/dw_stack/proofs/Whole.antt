@@ -1,6 +1,6 @@
 -- From the operations of an expression to the expression.
-use Rattle.std.proofs.Common.{◌≡◌, ◌≢◌, ◌∙◌, ◌⊎◌, ℕ, List, length, Option, Some, None, refl, sym, ap, subst, inl, inr, arith}
-use Rattle.std.specs.Prelude.{slice_get, Result, Ok, Err, IfErr, IfSome}
+use Rattle.std.proofs.Common.{◌≡◌, ◌∙◌, ◌⊎◌, ℕ, List, length, Option, Some, None, sym, ap, subst, inl, inr}
+use Rattle.std.specs.Prelude.{slice_get, IfSome}
 use Rattle.std.specs.Borrow.{Bor}
 use Rattle.dw_bytes.specs.declared.target.Target.{Target}
 use Rattle.dw_bytes.specs.declared.fault.Fault.{Fault}
@@ -9,10 +9,9 @@ use Rattle.dw_stack.specs.declared.state.Kind.{Kind}
 use Rattle.dw_stack.specs.declared.state.State.{State}
 use Rattle.dw_stack.specs.declared.state.StackState.{StackState}
 use Rattle.dw_stack.specs.States.{at_offset}
-use Rattle.dw_stack.specs.Paths.{Placed, place, IsLaidOut, Reaches, IsGood, AreStates, IsDepth}
+use Rattle.dw_stack.specs.Paths.{Placed, IsLaidOut, Reaches, IsGood, AreStates, IsDepth}
 use Rattle.dw_stack.specs.Faults.{Given, IsFirstFault, KnowsOnly}
 use Rattle.dw_stack.specs.Arrivals.{given_of}
-use Rattle.dw_stack.specs.Machine.{RunsWell}
 use Rattle.dw_stack.specs.Expressions.{operations_in, reading_fault, IsGoodExpression, AreStatesOf, IsDepthOf, RunsWellWithin, IsOtherCount, IsFaultOf, Checked, IsChecked, IsOf, Knows}
 use Rattle.dw_stack.proofs.Places.{place_of_some}
 use Rattle.dw_stack.proofs.Verdicts.{good_refuses}

@@ -1,8 +1,6 @@
 -- What certificates and checked expressions are to a caller.
-use Rattle.std.specs.Prelude.{ℕ, List}
-use Rattle.dw_bytes.specs.declared.target.Target.{Target}
+use Rattle.std.specs.Prelude.{List}
 use Rattle.dw_ops.specs.Views.{bytes_of, target_of}
-use Rattle.dw_stack.specs.declared.state.Kind.{Kind}
 use Rattle.dw_stack.specs.declared.state.State.{State}
 use Rattle.dw_stack.specs.declared.checked.CheckedExpression.{CheckedExpression}
 use Rattle.dw_stack.specs.declared.certificate.Certificate.{Certificate}

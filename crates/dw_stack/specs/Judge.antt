@@ -9,7 +9,7 @@ use Rattle.dw_stack.specs.declared.state.StackState.{StackState}
 use Rattle.dw_stack.specs.declared.state.Kind.{Kind}
 use Rattle.dw_stack.specs.Effects.{effect_of}
 use Rattle.dw_stack.specs.States.{StandsAlone, height_after, state_after}
-use Rattle.dw_stack.specs.Paths.{Placed, place, aim, target_of, IsAllowed, is_piece}
+use Rattle.dw_stack.specs.Paths.{Placed, place, aim, IsAllowed, is_piece}
 use Rattle.dw_stack.specs.Faults.{Objection}
 
 -- e is what the operation numbered k does

@@ -1,11 +1,11 @@
-use Rattle.std.proofs.Common.{◌≡◌, ◌+◌, ◌<◌, ◌≤◌, ◌⊎◌, ◌∙◌, refl, sym, ap, subst, length, ℕ, Option, Some, None, List, [], cond, Bool, ◌∷◌, ◌++◌, take, drop, arith, rules, get_or, length-set, get_or-set_same, get_or-set_other, inl, inr}
+use Rattle.std.proofs.Common.{◌≡◌, ◌+◌, ◌<◌, ◌⊎◌, ◌∙◌, refl, sym, ap, subst, length, ℕ, Option, List, [], cond, Bool, ◌∷◌, ◌++◌, arith, rules, get_or, length-set, get_or-set_same, get_or-set_other, inr}
 use Rattle.std.proofs.lemmas.List.{length-replicate, get_or-replicate}
 use Rattle.std.proofs.lemmas.Grind.{common_steps}
-use Rattle.std.specs.Prelude.{slice_set, replicate, max, Result, Ok, Err, ◌==◌}
+use Rattle.std.specs.Prelude.{slice_set, replicate, max, Ok, Err, ◌==◌}
 use Rattle.std.specs.List.{refill}
 use Rattle.dw_bytes.specs.declared.fault.Fault.{Fault}
 use Rattle.dw_bytes.specs.declared.fault.FaultKind.{FaultKind}
-use Rattle.dw_bytes.specs.declared.fault.FaultKind.TheVariants.{Mismatch, EndsEmpty, Unreachable}
+use Rattle.dw_bytes.specs.declared.fault.FaultKind.TheVariants.{Mismatch, EndsEmpty}
 use Rattle.dw_bytes.specs.Answers.{memory}
 use Rattle.dw_stack.specs.declared.state.State.{State}
 use Rattle.dw_stack.specs.declared.state.StackState.{StackState}
@@ -14,7 +14,7 @@ use Rattle.dw_stack.specs.declared.step.Done.{Done}
 use Rattle.dw_stack.specs.declared.arrivals.Arrival.{Arrival}
 use Rattle.dw_stack.specs.declared.arrivals.Arrival.TheVariants.{Nothing, One, Many}
 use Rattle.dw_stack.specs.States.{start_of, HasResult, at_offset}
-use Rattle.dw_stack.specs.Paths.{Placed, place, IsLaidOut, IsGood}
+use Rattle.dw_stack.specs.Paths.{Placed, place, IsLaidOut}
 use Rattle.dw_stack.specs.Faults.{IsFirstFault}
 use Rattle.dw_stack.specs.Arrivals.{given_of, arrived, Stepped, StepObjects}
 use Rattle.dw_stack.specs.Views.{listed}

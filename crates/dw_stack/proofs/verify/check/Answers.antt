@@ -1,15 +1,11 @@
-use Rattle.std.proofs.Common.{◌≡◌, ◌∙◌, ◌⊎◌, ◌<◌, ℕ, List, length, sym, ap, subst, arith, rules}
-use Rattle.std.specs.Prelude.{IfErr, IfSome, IsTrue}
-use Rattle.dw_bytes.specs.Answers.{memory}
-use Rattle.dw_bytes.specs.declared.fault.Fault.{Fault}
+use Rattle.std.proofs.Common.{◌∙◌, length, sym, ap, subst, arith, rules}
 use Rattle.dw_ops.specs.Views.{bytes_of, target_of}
 use Rattle.dw_stack.specs.Arrivals.{given_of}
-use Rattle.dw_stack.specs.Paths.{Placed}
 use Rattle.dw_stack.specs.Views.{listed}
-use Rattle.dw_stack.specs.Expressions.{operations_in, Checked, IsChecked, IsFaultOf, Knows}
+use Rattle.dw_stack.specs.Expressions.{Checked, IsChecked}
 use Rattle.dw_stack.proofs.Lists.{listed_length}
 use Rattle.dw_stack.proofs.Places.{count_le}
-use Rattle.dw_stack.proofs.Whole.{same_count, laid_for, checked_for, states_for, fault_for, knows_for}
+use Rattle.dw_stack.proofs.Whole.{same_count, laid_for, checked_for, fault_for, knows_for}
 use Rattle.dw_stack.proofs.verify.check.Goals as goal
 
 pub pass-requires-clause-laid : goal.pass-requires-clause-laid

@@ -1,4 +1,4 @@
-use Rattle.std.proofs.Common.{◌≡◌, ◌⊎◌, inl, inr, Some, rules}
+use Rattle.std.proofs.Common.{◌≡◌, inl, inr, Some, rules}
 use Rattle.dw_bytes.specs.Answers.{memory}
 use Rattle.dw_ops.specs.Views.{bytes_of, target_of}
 use Rattle.dw_stack.specs.Certificates.{checked_in}
