@@ -33,9 +33,7 @@ const fn with(program: [u8; 8]) -> [u8; 56] {
 }
 
 /// The last CIE and the last FDE of a section.
-fn records(
-    section: &[u8],
-) -> Result<(CommonInformationEntry<'_>, FrameDescriptionEntry<'_>), Fail>
+fn records(section: &[u8]) -> Result<(CommonInformationEntry<'_>, FrameDescriptionEntry<'_>), Fail>
     requires { length section.now < 2 ^ 32 }
 {
     let mut cie = None;
@@ -54,9 +52,11 @@ fn records(
 fn first_fault(alloc: Global, program: [u8; 8]) -> Result<Option<(FaultKind, u32)>, Fail> {
     let section = with(program);
     let (cie, fde) = records(&section)?;
-    Ok(check_fde(alloc, &cie, &fde)
-        .err()
-        .map(|fault| (fault.kind, fault.at)))
+    Ok(
+        check_fde(alloc, &cie, &fde)
+            .err()
+            .map(|fault| (fault.kind, fault.at)),
+    )
 }
 
 /// The rows of a program as text.
@@ -86,8 +86,7 @@ fn shown(alloc: Global, section: &[u8]) -> Result<String, Fail>
 #[test]
 fn gives_the_rows_of_a_function(rt: HostRuntime) -> Result<(), Fail> {
     let text = shown(rt.alloc(), &FUNCTION)?;
-    assert_eq!(
-        rt;
+    assert_eq!(rt;
         text.as_str(),
         "1000..1001 RegisterAndOffset { register: 7, offset: 8 } r16 Offset(-8)\n1001..1004 RegisterAndOffset { register: 7, offset: 16 } r6 Offset(-16) r16 Offset(-8)\n1004..1020 RegisterAndOffset { register: 6, offset: 16 } r6 Offset(-16) r16 Offset(-8)\n"
     );
@@ -97,8 +96,7 @@ fn gives_the_rows_of_a_function(rt: HostRuntime) -> Result<(), Fail> {
 #[test]
 fn gives_the_rows_of_a_remembered_state(rt: HostRuntime) -> Result<(), Fail> {
     let text = shown(rt.alloc(), &with([0x0a, 0x0e, 0x10, 0x41, 0x0b, 0, 0, 0]))?;
-    assert_eq!(
-        rt;
+    assert_eq!(rt;
         text.as_str(),
         "1000..1001 RegisterAndOffset { register: 7, offset: 16 } r16 Offset(-8)\n1001..1020 RegisterAndOffset { register: 7, offset: 8 } r16 Offset(-8)\n"
     );
@@ -108,10 +106,22 @@ fn gives_the_rows_of_a_remembered_state(rt: HostRuntime) -> Result<(), Fail> {
 #[test]
 fn names_the_first_fault(rt: HostRuntime) -> Result<(), Fail> {
     assert_eq!(rt; first_fault(rt.alloc(), [0x60, 0, 0, 0, 0, 0, 0, 0])?, None);
-    assert_eq!(rt; first_fault(rt.alloc(), [0x61, 0, 0, 0, 0, 0, 0, 0])?, Some((FaultKind::LocationPastEnd, 48)));
-    assert_eq!(rt; first_fault(rt.alloc(), [0x0b, 0, 0, 0, 0, 0, 0, 0])?, Some((FaultKind::RestoreWithoutRemember, 48)));
-    assert_eq!(rt; first_fault(rt.alloc(), [0x0a, 0, 0, 0, 0, 0, 0, 0])?, Some((FaultKind::Unrestored, 56)));
-    assert_eq!(rt; first_fault(rt.alloc(), [0, 0x0f, 1, 0x30, 0, 0, 0, 0])?, Some((FaultKind::NotYet, 49)));
+    assert_eq!(rt;
+        first_fault(rt.alloc(), [0x61, 0, 0, 0, 0, 0, 0, 0])?,
+        Some((FaultKind::LocationPastEnd, 48))
+    );
+    assert_eq!(rt;
+        first_fault(rt.alloc(), [0x0b, 0, 0, 0, 0, 0, 0, 0])?,
+        Some((FaultKind::RestoreWithoutRemember, 48))
+    );
+    assert_eq!(rt;
+        first_fault(rt.alloc(), [0x0a, 0, 0, 0, 0, 0, 0, 0])?,
+        Some((FaultKind::Unrestored, 56))
+    );
+    assert_eq!(rt;
+        first_fault(rt.alloc(), [0, 0x0f, 1, 0x30, 0, 0, 0, 0])?,
+        Some((FaultKind::NotYet, 49))
+    );
     Ok(())
 }
 
@@ -122,12 +132,31 @@ fn finds_the_row_of_an_address(rt: HostRuntime) -> Result<(), Fail> {
     match check_fde(rt.alloc(), &cie, &fde) {
         Ok(()) => {
             assert!(rt; row_at(&cie, &fde, 0xfff).is_none());
-            assert_eq!(rt; row_at(&cie, &fde, 0x1000).ok_or("first")?.end_address(), 0x1001);
+            assert_eq!(rt;
+                row_at(&cie, &fde, 0x1000).ok_or("first")?.end_address(),
+                0x1001
+            );
             let row = row_at(&cie, &fde, 0x1001).ok_or("second")?;
-            assert!(rt; matches!(row.cfa(), CfaRule::RegisterAndOffset { register: 7, offset: 16 }));
+            assert!(rt;
+                matches!(
+                    row.cfa(),
+                    CfaRule::RegisterAndOffset {
+                        register: 7,
+                        offset: 16
+                    }
+                )
+            );
             let row = row_at(&cie, &fde, 0x101f).ok_or("third")?;
             assert_eq!(rt; row.start_address(), 0x1002);
-            assert!(rt; matches!(row.cfa(), CfaRule::RegisterAndOffset { register: 7, offset: 8 }));
+            assert!(rt;
+                matches!(
+                    row.cfa(),
+                    CfaRule::RegisterAndOffset {
+                        register: 7,
+                        offset: 8
+                    }
+                )
+            );
             assert!(rt; matches!(row.register(16), RegisterRule::Offset(-8)));
             assert!(rt; matches!(row.register(6), RegisterRule::Default));
             assert!(rt; row_at(&cie, &fde, 0x1020).is_none());
