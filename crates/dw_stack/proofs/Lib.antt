@@ -10,3 +10,4 @@ pub mod Runs
 pub mod Stable
 pub mod Whole
 pub mod Unique
+pub mod Bytes
