@@ -11,3 +11,4 @@ pub mod Stable
 pub mod Whole
 pub mod Unique
 pub mod Bytes
+pub mod Deciding

@@ -1,6 +1,6 @@
 //! Laws of expressions: functions that do nothing, each with the law as its contract.
 
-ghost use Rattle.std.specs.Prelude.{◌≡◌, ◌+◌, ◌<◌, ◌≤◌, ℕ, List, length, slice_get, Option, Some, None, Ok};
+ghost use Rattle.std.specs.Prelude.{◌≡◌, ◌+◌, ◌<◌, ◌≤◌, ◌⊎◌, ℕ, List, length, slice_get, Option, Some, None, Ok};
 ghost use Rattle.dw_bytes.specs.declared.target.Target.{Target};
 ghost use Rattle.dw_bytes.specs.declared.fault.Fault.{Fault};
 ghost use Rattle.dw_stack.specs.declared.state.Kind.{Kind};
@@ -20,6 +20,11 @@ pub fn good_expressions_run_well()
 /// A good expression has no fault.
 pub fn good_expressions_have_no_fault()
     ensures { (kind : Kind) (target : Target) (bytes : List ℕ) (f : Fault) → IsGoodExpression kind target bytes → IsFaultOf kind target bytes None f → ⊥ }
+{}
+
+/// Every expression is good or has a first fault.
+pub fn every_expression_has_a_verdict()
+    ensures { (kind : Kind) (target : Target) (bytes : List ℕ) → IsGoodExpression kind target bytes ⊎ ((f : Fault) × IsFaultOf kind target bytes None f) }
 {}
 
 /// There is one first fault.
