@@ -1,12 +1,11 @@
 -- Each operation of an expression stands in its bytes.
-use Rattle.std.proofs.Common.{◌≡◌, ◌∙◌, ℕ, zero, suc, ◌+◌, List, [], ◌∷◌, ◌++◌, length, drop, Some, Ok, refl, sym, ap, subst, arith, length-append}
+use Rattle.std.proofs.Common.{◌≡◌, ◌∙◌, ℕ, zero, suc, ◌+◌, List, [], ◌∷◌, length, drop, Some, Ok, refl, sym, ap, subst, arith, length-append}
 use Rattle.std.specs.Prelude.{slice_get}
 use Rattle.std.proofs.lemmas.List.{drop-drop}
 use Rattle.std.proofs.Math.Seq.{drop-append_seam}
 use Rattle.std.proofs.lemmas.Option.{same_Some}
 use Rattle.dw_bytes.specs.declared.target.Target.{Target}
 use Rattle.dw_bytes.specs.Reading.{Reading}
-use Rattle.dw_ops.specs.Operations.{Operation}
 use Rattle.dw_ops.specs.Opcodes.{AreOperations, operation_at}
 use Rattle.dw_ops.proofs.Lists.{exact-operation}
 use Rattle.dw_stack.specs.Paths.{Placed, place}
