@@ -10,3 +10,5 @@ pub mod Runs
 pub mod Stable
 pub mod Whole
 pub mod Unique
+pub mod Bytes
+pub mod Deciding

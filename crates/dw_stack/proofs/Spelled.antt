@@ -10,7 +10,7 @@ use Rattle.dw_ops.proofs.Lists.{expressions-are-operations}
 use Rattle.dw_stack.specs.Paths.{Placed, place, IsLaidOut}
 use Rattle.dw_stack.specs.Expressions.{operations_in, reading_fault}
 
-first_place : (target : Target) (at : ℕ) (bytes : List ℕ) (ops : List Placed) → AreOperations target at bytes ops → place ops (at + length bytes) 0 ≡ at
+pub first_place : (target : Target) (at : ℕ) (bytes : List ℕ) (ops : List Placed) → AreOperations target at bytes ops → place ops (at + length bytes) 0 ≡ at
 first_place target at bytes [] are = let none = ap length are in omega (arith, none)
 first_place target at bytes (x ∷ xs) (first, rest, parts, spelled, others) = spelled.0
 

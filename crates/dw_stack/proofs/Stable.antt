@@ -100,7 +100,7 @@ state_stable s t h =
     first ∙ (second ∙ third)
 
 -- an operation, or the end, begins at t, or none does
-find_place : (ops : List Placed) (len t n : ℕ) → ((j : ℕ) × (j ≤ n) × (place ops len j ≡ t)) ⊎ ((j : ℕ) → j ≤ n → place ops len j ≡ t → ⊥)
+pub find_place : (ops : List Placed) (len t n : ℕ) → ((j : ℕ) × (j ≤ n) × (place ops len j ≡ t)) ⊎ ((j : ℕ) → j ≤ n → place ops len j ≡ t → ⊥)
 find_place ops len t zero = elim (cases_eq (place ops len 0) t) [
   | inl here ↦ inl (0, omega arith, here)
   | inr other ↦ inr (λ j le e. let first : j ≡ 0 = omega arith in other (ap (place ops len) (sym first) ∙ e))

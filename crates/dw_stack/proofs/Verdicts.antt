@@ -215,7 +215,7 @@ module _ (kind : Kind) (ops : List Placed) (len : ℕ) (laid : IsLaidOut ops len
       local_refuses fault.EndsEmpty x s stands o there = absurd o
       local_refuses f x s stands o there = (i, x, s, stands, sym (place_of_some ops len i x stands), there, o)
 
-      objects_fault : (f : FaultKind) (s : StackState) → i < length ops → get_or arrivals i Nothing ≡ One s → Given ops len given i s → Objects kind ops len i pieces s f → IsFirstFault kind ops len given f (place ops len i)
+      pub objects_fault : (f : FaultKind) (s : StackState) → i < length ops → get_or arrivals i Nothing ≡ One s → Given ops len given i s → Objects kind ops len i pieces s f → IsFirstFault kind ops len given f (place ops len i)
       unfolding Passes
       objects_fault f s lt e is o =
           let objection : Objection kind ops len i (pieces_before ops i) o.placed s f = subst (λ (n : ℕ). Objection kind ops len i n o.placed s f) w.counted o.objection in

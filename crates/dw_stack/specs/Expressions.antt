@@ -1,8 +1,9 @@
 -- Expressions by their bytes.
-use Rattle.std.specs.Prelude.{◌≡◌, ℕ, ◌⊎◌, List, length, Option, Some, None}
+use Rattle.std.specs.Prelude.{◌≡◌, ℕ, ◌⊎◌, List, drop, length, Option, Some, None}
 use Rattle.dw_bytes.specs.declared.target.Target.{Target}
 use Rattle.dw_bytes.specs.declared.fault.Fault.{Fault}
 use Rattle.dw_bytes.specs.declared.fault.FaultKind.TheVariants.{CertLength}
+use Rattle.dw_bytes.specs.Reading.{Reading}
 use Rattle.dw_bytes.specs.Answers.{values_in, fault_in}
 use Rattle.dw_ops.specs.Opcodes.{AreOperations, operations_of}
 use Rattle.dw_stack.specs.declared.state.State.{State}
@@ -10,6 +11,10 @@ use Rattle.dw_stack.specs.declared.state.Kind.{Kind}
 use Rattle.dw_stack.specs.Paths.{Placed, IsGood, AreStates, IsDepth}
 use Rattle.dw_stack.specs.Faults.{IsFirstFault}
 use Rattle.dw_stack.specs.Machine.{RunsWell}
+
+-- bytes from one of their offsets on
+abbrev pub reading_at : Target → List ℕ → ℕ → Reading
+reading_at target bytes at = record { target = target; position = at; rest = drop at bytes }
 
 -- the operations that bytes spell, up to the first that can't be read, and that one's fault
 abbrev pub operations_in : Target → List ℕ → List Placed

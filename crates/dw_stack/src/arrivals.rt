@@ -17,7 +17,9 @@ pub enum Arrival {
 
 /// What fills the places of a list that aren't used.
 impl Default for Arrival {
-    fn default() -> Self {
+    fn default() -> Self
+        ensures { result ≡ Arrival.Nothing }
+    {
         Arrival::Nothing
     }
 }

@@ -1,11 +1,15 @@
 //! Laws of expressions: functions that do nothing, each with the law as its contract.
 
-ghost use Rattle.std.specs.Prelude.{◌≡◌, ℕ, List, Option, None};
+ghost use Rattle.std.specs.Prelude.{◌≡◌, ◌+◌, ◌<◌, ◌≤◌, ◌⊎◌, ℕ, List, length, slice_get, Option, Some, None, Ok};
 ghost use Rattle.dw_bytes.specs.declared.target.Target.{Target};
 ghost use Rattle.dw_bytes.specs.declared.fault.Fault.{Fault};
 ghost use Rattle.dw_stack.specs.declared.state.Kind.{Kind};
 ghost use Rattle.dw_stack.specs.declared.state.State.{State};
-ghost use Rattle.dw_stack.specs.Expressions.{IsGoodExpression, IsDepthOf, AreStatesOf, RunsWellWithin, IsFaultOf};
+ghost use Rattle.dw_stack.specs.declared.state.StackState.{StackState};
+ghost use Rattle.dw_ops.specs.Opcodes.{operation_at};
+ghost use Rattle.dw_stack.specs.Paths.{Placed, place, IsLaidOut, Reaches};
+ghost use Rattle.dw_stack.specs.Machine.{Configuration, Agrees, Meets};
+ghost use Rattle.dw_stack.specs.Expressions.{operations_in, reading_at, IsGoodExpression, IsDepthOf, AreStatesOf, RunsWellWithin, IsFaultOf};
 
 /// Every run of a good expression, whatever the registers, the memory and the context, follows a path, is as the state
 /// there says, never has more entries than the depth, takes no more steps than there are operations, and is never stuck.
@@ -16,6 +20,11 @@ pub fn good_expressions_run_well()
 /// A good expression has no fault.
 pub fn good_expressions_have_no_fault()
     ensures { (kind : Kind) (target : Target) (bytes : List ℕ) (f : Fault) → IsGoodExpression kind target bytes → IsFaultOf kind target bytes None f → ⊥ }
+{}
+
+/// Every expression is good or has a first fault.
+pub fn every_expression_has_a_verdict()
+    ensures { (kind : Kind) (target : Target) (bytes : List ℕ) → IsGoodExpression kind target bytes ⊎ ((f : Fault) × IsFaultOf kind target bytes None f) }
 {}
 
 /// There is one first fault.
@@ -31,4 +40,22 @@ pub fn one_depth()
 /// A good expression has one list of states.
 pub fn one_certificate()
     ensures { (kind : Kind) (target : Target) (bytes : List ℕ) (s t : List State) → IsGoodExpression kind target bytes → AreStatesOf kind target bytes s → AreStatesOf kind target bytes t → s ≡ t }
+{}
+
+/// The operations of a good expression follow each other from its first byte to its end, and each is read at its offset.
+pub fn operations_stand_in_the_bytes()
+    ensures laid { (kind : Kind) (target : Target) (bytes : List ℕ) → IsGoodExpression kind target bytes → IsLaidOut (operations_in target bytes) (length bytes) }
+    ensures read { (kind : Kind) (target : Target) (bytes : List ℕ) → IsGoodExpression kind target bytes → (k : ℕ) (x : Placed) → slice_get (operations_in target bytes) k ≡ Some x → operation_at (reading_at target bytes x.0) ≡ Ok (x.1, reading_at target bytes (place (operations_in target bytes) (length bytes) (k + 1))) }
+{}
+
+/// Operations that follow each other begin one behind the other, and the end is behind them all.
+pub fn places_ascend()
+    ensures begins { (ops : List Placed) (len k : ℕ) (x : Placed) → slice_get ops k ≡ Some x → place ops len k ≡ x.0 }
+    ensures ends { (ops : List Placed) (len k : ℕ) → length ops ≤ k → place ops len k ≡ len }
+    ensures ascends { (ops : List Placed) (len : ℕ) → IsLaidOut ops len → (j k : ℕ) → j < k → k ≤ length ops → place ops len j < place ops len k }
+{}
+
+/// Where a path comes to an operation of a good expression, all that it needs is there.
+pub fn needs_are_met()
+    ensures { (kind : Kind) (target : Target) (bytes : List ℕ) → IsGoodExpression kind target bytes → (c : Configuration) (s : StackState) → Reaches kind (operations_in target bytes) (length bytes) c.offset s → Agrees s c → (k : ℕ) (x : Placed) → slice_get (operations_in target bytes) k ≡ Some x → x.0 ≡ c.offset → Meets (operations_in target bytes) c }
 {}

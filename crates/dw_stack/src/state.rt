@@ -43,7 +43,9 @@ pub struct State {
 
 /// What fills the places of a list that aren't used.
 impl Default for State {
-    fn default() -> Self {
+    fn default() -> Self
+        ensures { result ≡ at_offset 0 (start_of Kind.Location) }
+    {
         State {
             offset: 0,
             height: 0,
