@@ -61,8 +61,7 @@ pub fn register(cursor: &mut Cursor<'_>, at: u32) -> Result<u16, Fault>
     ensures goes_on { GoesOn cursor.old cursor.new }
 {
     let mut ahead = cursor.copy();
-    let number = ahead.uleb()?;
-    let register = number_of_register(number, at, cursor.target())?;
+    let register = number_of_register(ahead.uleb()?, at, cursor.target())?;
     *cursor = ahead;
     Ok(register)
 }

@@ -1,6 +1,6 @@
 //! The bytes of a call frame program.
 
-ghost use Rattle.std.specs.Prelude.{◌≡◌, ◌≤◌, ◌<◌, ◌^◌, length, drop};
+ghost use Rattle.std.specs.Prelude.{◌≡◌, ◌≤◌, ◌<◌, ◌+◌, ◌^◌, length, drop};
 
 use dw_bytes::{Cursor, Target};
 
@@ -18,7 +18,7 @@ pub struct Program<'a> {
 
 impl<'a> Program<'a> {
     ghost use Rattle.std.specs.Prelude.{take};
-    ghost use Rattle.dw_frame.specs.Views.{reading_of, reading_from};
+    ghost use Rattle.dw_frame.specs.Views.{start_of, end_of, target_of, reading_of, reading_from};
 
     /// The bytes of a section from an offset up to another.
     pub(crate) fn new(section: &'a [u8], start: u32, end: u32, target: Target) -> Self
@@ -26,8 +26,8 @@ impl<'a> Program<'a> {
         requires inside { end ≤ length section.now }
         requires short { length section.now < 2 ^ 32 }
         ensures section { result.section.now ≡ take end section.now }
-        ensures start { result.start ≡ start }
-        ensures target { result.target ≡ target }
+        ensures start { start_of result ≡ start }
+        ensures target { target_of result ≡ target }
     {
         Program {
             section: &section[..end as usize],
@@ -38,28 +38,30 @@ impl<'a> Program<'a> {
 
     /// The offset of its first byte.
     pub fn start(&self) -> u32
-        ensures { result ≡ self.now.start }
+        ensures start { result ≡ start_of self.now }
+        ensures within { result ≤ end_of self.now }
     {
         self.start
     }
 
     /// The offset behind its last byte.
     pub fn end(&self) -> u32
-        ensures { result ≡ length self.now.section.now }
+        ensures end { result ≡ end_of self.now }
+        ensures behind { result ≡ (reading_of self.now).position + length (reading_of self.now).rest }
     {
         self.section.len() as u32
     }
 
     /// What its numbers are read under.
     pub fn target(&self) -> Target
-        ensures { result ≡ self.now.target }
+        ensures { result ≡ target_of self.now }
     {
         self.target
     }
 
     /// What is left of it from one of its offsets on.
     pub(crate) fn from_offset(&self, at: u32) -> Program<'a>
-        requires { at ≤ length self.now.section.now }
+        requires { at ≤ end_of self.now }
         ensures { reading_of result ≡ reading_from self.now at }
     {
         Program {
@@ -71,7 +73,7 @@ impl<'a> Program<'a> {
 
     /// A cursor at one of its offsets, which can read up to its end.
     pub(crate) fn cursor(&self, at: u32) -> Cursor<'a>
-        requires { at ≤ length self.now.section.now }
+        requires { at ≤ end_of self.now }
         ensures { result ≡ reading_from self.now at }
     {
         cursor_at(self.section, self.target, at)
