@@ -1,10 +1,13 @@
 pub mod Growth
+pub mod Known
 pub mod Lookups
 pub mod Padded
 pub mod Parsed
 pub mod Replies
 pub mod Sent
+pub mod Separated
 pub mod Shown
 pub mod Simple
+pub mod StateLines
 pub mod Within
 pub mod Writing

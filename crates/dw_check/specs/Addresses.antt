@@ -1,4 +1,4 @@
--- Addresses on the command line.
+-- Numbers and addresses as text.
 use Rattle.std.specs.Prelude.{◌&&◌, ℕ, nat_lt, nat_le, if◌then◌else◌, List, length, take, drop, Option, Some, None, option_and_then, codes}
 use Rattle.std.specs.List.{list_all}
 use Rattle.std.specs.Char.{digit_value}
@@ -7,10 +7,14 @@ use Rattle.std.specs.Str.Parse.{digits_value}
 use Rattle.dw_bytes.specs.declared.target.Target.{Target}
 use Rattle.dw_frame.specs.Sections.{top_of}
 
+-- the number that digits of this radix spell, at least one and at most so many
+abbrev pub number_of : ℕ → ℕ → List ℕ → Option ℕ
+number_of radix most ds = if nat_lt 0 (length ds) && nat_le (length ds) most && list_all (λ c. nat_lt (digit_value c) radix) ds
+    then Some (digits_value radix ds) else None
+
 -- the number that 1 to 16 hex digits of either case spell
 abbrev pub hex_of : List ℕ → Option ℕ
-hex_of ds = if nat_lt 0 (length ds) && nat_le (length ds) 16 && list_all (λ c. nat_lt (digit_value c) 16) ds
-    then Some (digits_value 16 ds) else None
+hex_of ds = number_of 16 16 ds
 
 -- a number that is at most another
 abbrev pub at_most : ℕ → ℕ → Option ℕ

@@ -3,7 +3,10 @@ pub mod Asked
 pub mod Commands
 pub mod Hexed
 pub mod Names
+pub mod Parts
 pub mod Runs
+pub mod StateFile
+pub mod StateViews
 pub mod Statuses
 pub mod Taken
 pub mod Text

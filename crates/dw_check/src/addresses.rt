@@ -1,24 +1,28 @@
-//! Addresses on the command line.
+//! Numbers and addresses as text.
 
-ghost use Rattle.std.specs.Prelude.{◌≡◌, option_and_then};
+ghost use Rattle.std.specs.Prelude.{◌≡◌, ◌≤◌, ◌⊎◌, option_and_then};
 ghost use Rattle.dw_frame.specs.Sections.{top_of};
-ghost use Rattle.dw_check.specs.Addresses.{hex_of, at_most, address_of};
+ghost use Rattle.dw_check.specs.Addresses.{number_of, at_most, address_of};
 
 use dw_bytes::{AddressSize, Target};
 
-/// The number of 1 to 16 hex digits.
-fn parse_hex(digits: &str) -> Option<u64>
-    ensures { result ≡ hex_of digits.now }
+/// The number that decimal or hex digits spell, at least one and at most so many.
+pub(crate) fn parse_number(digits: &[u8], radix: u32, most: usize) -> Option<u64>
+    requires radix { (radix ≡ 10) ⊎ (radix ≡ 16) }
+    requires most { most ≤ 16 }
+    ensures { result ≡ number_of radix most digits.now }
 {
-    let bytes = digits.as_bytes();
-    if bytes.is_empty() || bytes.len() > 16 {
+    if digits.is_empty() || digits.len() > most {
         return None;
     }
     // `from_str_radix` takes a sign.
-    if bytes[0] == b'+' {
+    if digits[0] == b'+' {
         return None;
     }
-    match u64::from_str_radix(digits, 16) {
+    let Ok(digits) = str::from_utf8(digits) else {
+        return None;
+    };
+    match u64::from_str_radix(digits, radix) {
         Ok(value) => Some(value),
         Err(_) => None,
     }
@@ -42,11 +46,11 @@ fn address_within(number: Option<u64>, target: Target) -> Option<u64>
 }
 
 /// The address of the target that `0x` and 1 to 16 hex digits of either case spell.
-pub(crate) fn parse_address(text: &str, target: Target) -> Option<u64>
+pub(crate) fn parse_address(text: &[u8], target: Target) -> Option<u64>
     ensures { result ≡ address_of target text.now }
 {
-    match text.strip_prefix("0x") {
-        Some(digits) => address_within(parse_hex(digits), target),
+    match text.strip_prefix(b"0x") {
+        Some(digits) => address_within(parse_number(digits, 16, 16), target),
         None => None,
     }
 }

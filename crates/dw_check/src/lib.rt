@@ -6,11 +6,14 @@ mod asked;
 mod command_line;
 mod hexed;
 mod lines;
+mod machine_state;
 mod names;
 mod numbers;
 mod output;
+mod parts;
 mod runs;
 mod sink;
+mod state_line;
 mod words;
 
 pub use asked::{End, Request, Task, Usage};

@@ -91,7 +91,7 @@ fn row_request(alloc: Global, matches: &ArgMatches<'_>) -> Result<Request, Usage
     let (Some(file), Some(text)) = (text_of(matches, "FRAME"), text_of(matches, "ADDRESS")) else {
         return Err(Usage::Memory);
     };
-    match parse_address(text, target_of(matches)) {
+    match parse_address(text.as_bytes(), target_of(matches)) {
         Some(address) => request_with(alloc, matches, Task::Row { address }, file),
         None => Err(Usage::BadArgument),
     }

@@ -1,0 +1,130 @@
+//! What a state file says of a machine.
+
+ghost use Rattle.std.specs.Prelude.{◌≡◌, ℕ, ◌+◌, ◌≤◌, ◌^◌, ◌∷◌, ◌++◌, [], List, OnOk, IfOk, IfErr, Some, length, MatchOption};
+ghost use Rattle.std.specs.Ordering.{nat_cmp};
+ghost use Rattle.std.specs.BTreeMap.{get, Updates, IsUnchanged};
+ghost use Rattle.std.specs.Option.{option_or};
+ghost use Rattle.dw_check.specs.StateFile.{Given, FitsAddresses, IsGivenBy, byte_in};
+ghost use Rattle.dw_check.specs.declared.machine_state.StateFault.TheVariants.{Memory};
+ghost use Rattle.dw_check.specs.StateViews.{given_of, known_of, IsStateOf, IsStateFault};
+
+use crate::parts::Parts;
+use crate::state_line::{StateLine, parse_line};
+use dw_bytes::Target;
+use std::alloc::{AllocError, Global};
+use std::collections::BTreeMap;
+
+/// A machine as far as it is known.
+#[derive(Drop)]
+pub(crate) struct MachineState {
+    registers: BTreeMap<u16, u64>,
+    memory: BTreeMap<u64, u8>,
+    pub cfa: Option<u64>,
+    pub frame_base: Option<u64>,
+    pub object: Option<u64>,
+}
+
+/// Why a state file gives no state.
+#[derive(Clone, Copy, Debug, PartialEq, Eq)]
+pub(crate) enum StateFault {
+    /// This line is none, lines counted from 1.
+    Line(u64),
+    /// Memory ran out.
+    Memory,
+}
+
+/// Gives a key its value, unless it has one.
+fn add_first<K: Ord + Copy, V: Drop>(
+    map: &mut BTreeMap<K, V>,
+    key: K,
+    value: V,
+) -> Result<(), AllocError>
+    ensures { OnOk result (MatchOption (get K.cmp map.old key) (Updates K.cmp map.old map.new key (Some value)) (λ _. IsUnchanged map.old map.new)) }
+{
+    if !map.contains_key(&key) {
+        map.insert(key, value)?;
+    }
+    Ok(())
+}
+
+/// Adds bytes at an address.
+fn add_bytes(memory: &mut BTreeMap<u64, u8>, address: u64, bytes: &[u8]) -> Result<(), AllocError>
+    requires { address + length bytes.now ≤ 2 ^ 64 }
+    ensures { OnOk result ((a : ℕ) → get nat_cmp memory.new a ≡ option_or (get nat_cmp memory.old a) (byte_in a (Given.bytes address bytes.now))) }
+{
+    for (index, byte) in bytes.iter().enumerate() {
+        add_first(memory, address + index as u64, *byte)?;
+    }
+    Ok(())
+}
+
+impl MachineState {
+    /// A machine of which nothing is known.
+    pub fn new(alloc: Global) -> Self
+        ensures { IsGivenBy (known_of result) [] }
+    {
+        MachineState {
+            registers: BTreeMap::new(alloc),
+            memory: BTreeMap::new(alloc),
+            cfa: None,
+            frame_base: None,
+            object: None,
+        }
+    }
+
+    /// Adds what a line gives. What was given before stays.
+    fn add(&mut self, line: StateLine) -> Result<(), AllocError>
+        requires { FitsAddresses (given_of line) }
+        ensures { OnOk result ((gs : List Given) → IsGivenBy (known_of self.old) gs → IsGivenBy (known_of self.new) (gs ++ given_of line ∷ [])) }
+    {
+        match line {
+            StateLine::Register { number, content } => add_first(
+                &mut self.registers,
+                number,
+                content,
+            )?,
+            StateLine::Memory { address, bytes } => add_bytes(
+                &mut self.memory,
+                address,
+                bytes.as_slice(),
+            )?,
+            StateLine::Cfa(value) => self.cfa = self.cfa.or(Some(value)),
+            StateLine::FrameBase(value) => self.frame_base = self.frame_base.or(Some(value)),
+            StateLine::Object(value) => self.object = self.object.or(Some(value)),
+        }
+        Ok(())
+    }
+}
+
+impl From<AllocError> for StateFault {
+    ghost from_gives = { λ _ e. e ≡ Memory };
+
+    fn from(_: AllocError) -> Self {
+        StateFault::Memory
+    }
+}
+
+/// What a state file says, or its first line that is none. An empty line says nothing, and where two lines
+/// give one thing or one byte, the first holds. Time n log n in the file's length.
+pub(crate) fn read_state(
+    alloc: Global,
+    target: Target,
+    text: &[u8],
+) -> Result<MachineState, StateFault>
+    ensures state { IfOk result (IsStateOf target text.now) }
+    ensures fault { IfErr result (IsStateFault target text.now) }
+{
+    let mut state = MachineState::new(alloc);
+    let mut number = 0;
+    for line in Parts::new(text, b'\n') {
+        number += 1;
+        if line.is_empty() {
+            continue;
+        }
+        let Some(given) = parse_line(alloc, target, line)? else {
+            return Err(StateFault::Line(number));
+        };
+        state.add(given)?;
+    }
+    Ok(state)
+}

@@ -1,0 +1,62 @@
+//! Bytes between separators.
+
+ghost use Rattle.std.specs.Prelude.{◌≡◌};
+ghost use Rattle.std.specs.Iterator.{YieldsFirstBy, item_count};
+ghost use Rattle.dw_check.specs.Parts.{parts_of};
+
+use memchr::memchr;
+use std::iter::FusedIterator;
+use std::marker::Model;
+
+/// The parts of bytes between separators, the empty ones too. Seen as the list of what is still to come.
+#[derive(Debug, Drop)]
+pub(crate) struct Parts<'a> {
+    separator: u8,
+    /// What is behind the last separator that was met; nothing once all of it was given.
+    rest: Option<&'a [u8]>,
+}
+
+impl<'a> Model for Parts<'a> {
+    ghost use Rattle.std.specs.Prelude.{ℕ, List, option_map};
+    ghost use Rattle.dw_check.specs.Parts.{parts_left};
+
+    ghost Value = { List (List ℕ) };
+
+    ghost view = { λ p. parts_left p.separator (option_map (λ rest. rest.now) p.rest) };
+}
+
+impl<'a> Parts<'a> {
+    /// The parts of these bytes.
+    pub fn new(bytes: &'a [u8], separator: u8) -> Self
+        ensures { result ≡ parts_of separator bytes.entry.now }
+    {
+        Parts {
+            separator,
+            rest: Some(bytes),
+        }
+    }
+}
+
+impl<'a> Iterator for Parts<'a> {
+    type Item = &'a [u8];
+
+    ghost next_gives = { YieldsFirstBy (λ part. part.now) (λ rest. rest) };
+
+    ghost remaining = { item_count (λ rest. rest) };
+
+    fn next(&mut self) -> Option<&'a [u8]> {
+        let rest = self.rest?;
+        match memchr(self.separator, rest) {
+            Some(at) => {
+                self.rest = Some(&rest[at + 1..]);
+                Some(&rest[..at])
+            }
+            None => {
+                self.rest = None;
+                Some(rest)
+            }
+        }
+    }
+}
+
+impl<'a> FusedIterator for Parts<'a> {}

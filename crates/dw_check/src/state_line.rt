@@ -1,0 +1,136 @@
+//! The lines of a state file.
+
+ghost use Rattle.std.specs.Prelude.{◌≡◌, IfOk, IfSome, option_map};
+ghost use Rattle.dw_check.specs.StateFile.{FitsAddresses, register_number, bytes_given, register_given, memory_given, numbered, named, line_given};
+ghost use Rattle.dw_check.specs.StateViews.{given_of};
+
+use crate::addresses::{parse_address, parse_number};
+use crate::parts::Parts;
+use dw_bytes::{AddressSize, Target};
+use hex::FromHexError;
+use std::alloc::{AllocError, Global};
+
+/// What a line of a state file gives.
+#[derive(Debug, Drop)]
+pub(crate) enum StateLine {
+    Register { number: u16, content: u64 },
+    Memory { address: u64, bytes: Vec<u8> },
+    Cfa(u64),
+    FrameBase(u64),
+    Object(u64),
+}
+
+/// A register's number in 1 to 5 decimal digits.
+fn parse_register(digits: &[u8]) -> Option<u16>
+    ensures { result ≡ register_number digits.now }
+{
+    let number = parse_number(digits, 10, 5)?;
+    match u16::try_from(number) {
+        Ok(register) => Some(register),
+        Err(_) => None,
+    }
+}
+
+/// The bytes at an address: one or more, up to the top of the addresses at most.
+fn memory_at(target: Target, address: u64, bytes: Vec<u8>) -> Option<StateLine>
+    ensures given { option_map given_of result ≡ bytes_given target address bytes.items }
+    ensures fits { IfSome result (λ line. FitsAddresses (given_of line)) }
+{
+    let top = match target.address_size {
+        AddressSize::Four => 0xffff_ffff,
+        AddressSize::Eight => u64::MAX,
+    };
+    if bytes.is_empty() || address > top || (bytes.len() - 1) as u64 > top - address {
+        return None;
+    }
+    Some(StateLine::Memory { address, bytes })
+}
+
+/// What `reg` gives.
+fn parse_register_line(target: Target, place: &[u8], value: &[u8]) -> Option<StateLine>
+    ensures given { option_map given_of result ≡ register_given target place.now value.now }
+    ensures fits { IfSome result (λ line. FitsAddresses (given_of line)) }
+{
+    let number = parse_register(place)?;
+    let content = parse_address(value, target)?;
+    Some(StateLine::Register { number, content })
+}
+
+/// What `mem` gives.
+fn parse_memory_line(
+    alloc: Global,
+    target: Target,
+    place: &[u8],
+    value: &[u8],
+) -> Result<Option<StateLine>, AllocError>
+    ensures given { IfOk result (λ r. option_map given_of r ≡ memory_given target place.now value.now) }
+    ensures fits { IfOk result (λ r. IfSome r (λ line. FitsAddresses (given_of line))) }
+{
+    let Some(address) = parse_address(place, target) else {
+        return Ok(None);
+    };
+    match hex::decode(alloc, value) {
+        Ok(bytes) => Ok(memory_at(target, address, bytes)),
+        Err(FromHexError::OutOfMemory) => Err(AllocError),
+        Err(_) => Ok(None),
+    }
+}
+
+/// What a line of three words gives.
+fn parse_numbered(
+    alloc: Global,
+    target: Target,
+    word: &[u8],
+    place: &[u8],
+    value: &[u8],
+) -> Result<Option<StateLine>, AllocError>
+    ensures given { IfOk result (λ r. option_map given_of r ≡ numbered target word.now place.now value.now) }
+    ensures fits { IfOk result (λ r. IfSome r (λ line. FitsAddresses (given_of line))) }
+{
+    if word == "reg".as_bytes() {
+        return Ok(parse_register_line(target, place, value));
+    }
+    if word == "mem".as_bytes() {
+        return parse_memory_line(alloc, target, place, value);
+    }
+    Ok(None)
+}
+
+/// What a line of two words gives.
+fn parse_named(target: Target, word: &[u8], value: &[u8]) -> Option<StateLine>
+    ensures given { option_map given_of result ≡ named target word.now value.now }
+    ensures fits { IfSome result (λ line. FitsAddresses (given_of line)) }
+{
+    let value = parse_address(value, target);
+    if word == "cfa".as_bytes() {
+        return Some(StateLine::Cfa(value?));
+    }
+    if word == "frame".as_bytes() {
+        return Some(StateLine::FrameBase(value?));
+    }
+    if word == "object".as_bytes() {
+        return Some(StateLine::Object(value?));
+    }
+    None
+}
+
+/// What a line gives, or that it is none. Its words stand between single spaces.
+pub(crate) fn parse_line(
+    alloc: Global,
+    target: Target,
+    line: &[u8],
+) -> Result<Option<StateLine>, AllocError>
+    ensures given { IfOk result (λ r. option_map given_of r ≡ line_given target line.now) }
+    ensures fits { IfOk result (λ r. IfSome r (λ line. FitsAddresses (given_of line))) }
+{
+    let mut words = Parts::new(line, b' ');
+    let (first, second) = (words.next(), words.next());
+    let (third, fourth) = (words.next(), words.next());
+    match (first, second, third, fourth) {
+        (Some(word), Some(value), None, _) => Ok(parse_named(target, word, value)),
+        (Some(word), Some(place), Some(value), None) => parse_numbered(
+            alloc, target, word, place, value,
+        ),
+        _ => Ok(None),
+    }
+}
