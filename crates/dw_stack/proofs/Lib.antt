@@ -12,3 +12,4 @@ pub mod Whole
 pub mod Unique
 pub mod Bytes
 pub mod Deciding
+pub mod Pieces
