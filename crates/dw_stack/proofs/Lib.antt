@@ -13,3 +13,4 @@ pub mod Unique
 pub mod Bytes
 pub mod Deciding
 pub mod Pieces
+pub mod Heights

@@ -18,6 +18,7 @@ use Rattle.dw_stack.specs.States.{start_of, next_mode, height_after, state_after
 use Rattle.dw_stack.specs.Paths.{Placed, place, IsLaidOut, aim, aimed, target_of, Leads, Edge, Follows, Reaches, IsStart, pieces_before, IsGood, AreStates, IsDepth}
 use Rattle.dw_stack.specs.Machine.{Whereabouts, Piece, Configuration, Trouble, Meaning, entry, named, jumps, extent_of, location_of, stack_after, pieces_after, CanDo, Meets, Step, Run, offsets_of, Starts, PendingIs, has_pieces, Agrees, GoesOn, IsOver, RunsWell}
 use Rattle.dw_stack.proofs.Places.{place_of_some, place_past, place_inj}
+use Rattle.dw_stack.proofs.Heights.{next_height_le}
 use Rattle.dw_stack.proofs.Pieces.{pieces_mono, pieces_with, length-pieces_after}
 use Rattle.dw_stack.proofs.Routes.{reach_from, extend, at_start, reached_place, edge_lands}
 
@@ -245,15 +246,8 @@ module _ (kind : Kind) (ops : List Placed) (len : ℕ) (laid : IsLaidOut ops len
       let after = state_after (effect_of t.meets.placed.1) r.0 in
       let agrees = agrees_after m ops len r.0 c run.0 t r.2 in
       let below = deep.greatest (height_after (effect_of t.meets.placed.1) r.0) (inr (t.meets.number, t.meets.placed, r.0, t.meets.stands, reach_from kind ops len c.offset t.meets.placed.0 r.0 r.0 (sym t.meets.from) refl r.1, inr refl)) in
-      let low = mode_height (effect_of t.meets.placed.1).role (height_after (effect_of t.meets.placed.1) r.0) r.0.pieced in
+      let low = next_height_le (effect_of t.meets.placed.1).role (height_after (effect_of t.meets.placed.1) r.0) r.0.pieced in
       bound m n depth run.0 d deep (after, extend kind ops len c.offset r.0 run.0.offset after r.1 (step_edge m r.0 c run.0 t), agrees) (omega (arith, agrees.height, below, low)) run.2
-    where
-      mode_height : (q : Role) (h : ℕ) (b : Bool) → (next_mode q h b).height ≤ h
-      mode_height role.Piece h b = omega arith
-      mode_height role.Plain h b = omega arith
-      mode_height role.Register h b = omega arith
-      mode_height role.Bytes h b = omega arith
-      mode_height role.Top h b = omega arith
 
   -- one step more at the end of a run
   run_more : (m : Meaning) (n : ℕ) (c d e : Configuration) → Run m ops len n c d → Step m ops len d e → Run m ops len (suc n) c e
@@ -318,12 +312,17 @@ module _ (kind : Kind) (ops : List Placed) (len : ℕ) (laid : IsLaidOut ops len
     | inr past ↦ inl (sym e ∙ place_past ops len j past.0)
   ]
 
+  pub stands_on_start : (m : Meaning) (c d : Configuration) (n : ℕ) → Starts kind c → Run m ops len n c d → IsStart ops len d.offset
+  stands_on_start m c d n s run =
+      let l = run_later m n 0 c d (omega arith) (laid.first ∙ sym s.offset) run in
+      starts_within l.0 d.offset l.3
+
   pub good_runs : (depth : ℕ) → IsDepth kind ops len depth → RunsWell kind ops len depth
   unfolding Stands
   good_runs depth deep = record {
     follows = λ m c d n s run. run_follows m n c d (starts c s) run;
     path = path_from_start;
-    stands = λ m c d n s run. let l = run_later m n 0 c d (omega arith) (laid.first ∙ sym s.offset) run in starts_within l.0 d.offset l.3;
+    stands = stands_on_start;
     pieces = λ m c d n s run. run_pieces m n 0 c d (omega arith) (laid.first ∙ sym s.offset) (let none = ap length s.pieces in omega (arith, none)) run;
     bounded = λ m c d n s run. bound m n depth c d deep (starts c s) (omega (arith, s.stack, deep.greatest (start_of kind).height (inl refl))) run;
     short = λ m c d n s run. let l = run_later m n 0 c d (omega arith) (laid.first ∙ sym s.offset) run in omega (arith, l.1, l.2);
