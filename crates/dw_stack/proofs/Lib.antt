@@ -14,3 +14,6 @@ pub mod Bytes
 pub mod Deciding
 pub mod Pieces
 pub mod Heights
+pub mod Arriving
+pub mod Tests
+pub mod Named

@@ -19,6 +19,7 @@ use Rattle.dw_stack.specs.declared.state.Kind.TheVariants.{FrameCfa, FrameRegist
 use Rattle.dw_stack.specs.Effects.{effect_of}
 use Rattle.dw_stack.specs.States.{StandsAlone, ResultOf, at_offset}
 use Rattle.dw_stack.specs.Paths.{Placed, place, IsLaidOut, target_of, IsTarget, IsAllowed, IsGood, AreStates}
+use Rattle.dw_stack.specs.FirstFault.{number_of}
 use Rattle.dw_stack.specs.Expressions.{operations_in, reading_fault, Checked, IsChecked}
 use Rattle.dw_stack.proofs.Places.{place_inj}
 use Rattle.dw_stack.proofs.Spelled.{spelled_of, read_of, laid_out}
@@ -64,12 +65,6 @@ result-prop FrameRegister mode.Register empty pieced h = ⊥_prop
 result-prop FrameRegister mode.Value empty pieced h = ⊥_prop
 result-prop FrameRegister mode.AfterPiece empty pieced h = ⊥_prop
 
-pub number_of : Mode → ℕ
-number_of mode.Stack = 0
-number_of mode.Register = 1
-number_of mode.Value = 2
-number_of mode.AfterPiece = 3
-
 mode_of : ℕ → Mode
 mode_of zero = mode.Stack
 mode_of (suc zero) = mode.Register
@@ -77,7 +72,7 @@ mode_of (suc (suc zero)) = mode.Value
 mode_of _ = mode.AfterPiece
 
 mode_back : (m : Mode) → mode_of (number_of m) ≡ m
-unfolding mode_of number_of
+unfolding mode_of
 mode_back mode.Stack = refl
 mode_back mode.Register = refl
 mode_back mode.Value = refl

@@ -1,6 +1,6 @@
 //! Laws of expressions: functions that do nothing, each with the law as its contract.
 
-ghost use Rattle.std.specs.Prelude.{◌≡◌, ◌+◌, ◌<◌, ◌≤◌, ◌⊎◌, ℕ, List, length, slice_get, Option, Some, None, Ok};
+ghost use Rattle.std.specs.Prelude.{◌≡◌, ◌+◌, ◌<◌, ◌≤◌, ◌⊎◌, ◌↔◌, ℕ, List, length, slice_get, Option, Some, None, Ok};
 ghost use Rattle.dw_bytes.specs.declared.target.Target.{Target};
 ghost use Rattle.dw_bytes.specs.declared.fault.Fault.{Fault};
 ghost use Rattle.dw_stack.specs.declared.state.Kind.{Kind};
@@ -11,6 +11,7 @@ ghost use Rattle.dw_stack.specs.States.{at_offset};
 ghost use Rattle.dw_stack.specs.Paths.{Placed, place, IsStart, IsLaidOut, Reaches};
 ghost use Rattle.dw_stack.specs.Machine.{Configuration, Meaning, Starts, Run, Agrees, Meets};
 ghost use Rattle.dw_stack.specs.Expressions.{operations_in, reading_at, IsGoodExpression, IsDepthOf, AreStatesOf, RunsWellWithin, IsFaultOf};
+ghost use Rattle.dw_stack.specs.FirstFault.{expression_fault};
 
 use crate::judge::{MAX_HEIGHT, MAX_PIECES};
 
@@ -45,6 +46,13 @@ pub fn good_expressions_have_no_fault()
 /// Every expression is good or has a first fault.
 pub fn every_expression_has_a_verdict()
     ensures { (kind : Kind) (target : Target) (bytes : List ℕ) → IsGoodExpression kind target bytes ⊎ ((f : Fault) × IsFaultOf kind target bytes None f) }
+{}
+
+/// The fault that a function of the bytes names is the first fault: none exactly where the expression is good, and f exactly
+/// where f is its first fault.
+pub fn the_fault_is_the_first()
+    ensures none { (kind : Kind) (target : Target) (bytes : List ℕ) → (expression_fault kind target bytes ≡ None) ↔ IsGoodExpression kind target bytes }
+    ensures some { (kind : Kind) (target : Target) (bytes : List ℕ) (f : Fault) → (expression_fault kind target bytes ≡ Some f) ↔ IsFaultOf kind target bytes None f }
 {}
 
 /// There is one first fault.
