@@ -1,6 +1,7 @@
 -- The first fault of an expression as a function of its bytes. First all is read. Then the operations are judged in order
--- of offset, and last the end, each by questions in a fixed order; the first that isn't answered with yes names the fault
--- (the order is this checker's; what the questions ask is of DWARF 5, sections 2.5 and 2.6).
+-- of offset, and last the end, each by questions in a fixed order; the first that isn't answered with yes names the fault.
+-- The questions ask what DWARF 5, sections 2.5 and 2.6, and this checker's rule on paths demand; their order is this
+-- checker's.
 use Rattle.std.specs.Prelude.{ℕ, ℤ, zero, suc, ◌+◌, ◌==◌, nat_lt, nat_le, ◌&&◌, ◌||◌, Bool, true, false, not, is_some, if◌then◌else◌, List, [], ◌∷◌, ◌++◌, length, map, Option, Some, None, slice_get}
 use Rattle.std.specs.Option.{option_or}
 use Rattle.std.specs.List.{list_any, list_all, flat_map}
@@ -22,25 +23,28 @@ use Rattle.dw_stack.specs.States.{start_of, height_after, state_after}
 use Rattle.dw_stack.specs.Paths.{Placed, place, aim, target_of, is_piece, pieces_before}
 use Rattle.dw_stack.specs.Expressions.{operations_in, reading_fault}
 
--- the offsets that may come after the operation numbered k, of this effect
+-- ---- what comes to an offset
+
 abbrev pub offsets_to : Option ℕ → List ℕ
 offsets_to None = []
 offsets_to (Some t) = t ∷ []
 
+-- the offsets that may come after the operation numbered k, of this effect: the next one, and where it branches to
 abbrev pub offsets_after : List Placed → ℕ → ℕ → StackEffect → List ℕ
 offsets_after ops len k e = (if e.falls then place ops len (k + 1) ∷ [] else []) ++ offsets_to (target_of ops len k e)
 
--- of offsets with states: the states at this offset
+-- of offsets with states, the states at this offset
 abbrev pub states_at : ℕ → List (ℕ × StackState) → List StackState
 states_at at [] = []
 states_at at (c ∷ come) = if c.0 == at then c.1 ∷ states_at at come else states_at at come
 
--- where an operation leads from each of these states, and the states there
+-- the offsets to which the operation numbered k leads from these states, with the states there
 abbrev pub onward : List Placed → ℕ → ℕ → Option Placed → List StackState → List (ℕ × StackState)
 onward ops len k None states = []
-onward ops len k (Some x) states = flat_map (λ s. map (λ b. (b, state_after (effect_of x.1) s)) (offsets_after ops len k (effect_of x.1))) states
+onward ops len k (Some x) states =
+    flat_map (λ s. map (λ b. (b, state_after (effect_of x.1) s)) (offsets_after ops len k (effect_of x.1))) states
 
--- all offsets, with their states, that paths over the first k operations come to
+-- the offsets to which paths over the first k operations come, with the states there
 abbrev pub arriving : Kind → List Placed → ℕ → ℕ → List (ℕ × StackState)
 arriving kind ops len zero = (0, start_of kind) ∷ []
 arriving kind ops len (suc k) =
@@ -50,7 +54,7 @@ arriving kind ops len (suc k) =
 abbrev pub states_to : Kind → List Placed → ℕ → ℕ → List StackState
 states_to kind ops len k = states_at (place ops len k) (arriving kind ops len k)
 
--- ---- what is asked, as tests
+-- ---- what is asked, as tests (`IsAllowed`, `StandsAlone` and `ResultOf` say the same as facts)
 
 abbrev pub has_operation : Kind → StackEffect → Bool
 has_operation Location e = true
@@ -79,8 +83,10 @@ number_of mode.Register = 1
 number_of mode.Value = 2
 number_of mode.AfterPiece = 3
 
+-- two paths that meet here have the same height and mode, and both a piece before them, or neither
 abbrev pub same_state : StackState → StackState → Bool
-same_state s t = (s.height == t.height) && (number_of s.mode == number_of t.mode) && (if s.pieced then t.pieced else not t.pieced)
+same_state s t =
+    (s.height == t.height) && (number_of s.mode == number_of t.mode) && (if s.pieced then t.pieced else not t.pieced)
 
 -- the jump, if there is one, isn't backward
 abbrev pub is_ahead : ℕ → Option ℤ → Bool
@@ -97,6 +103,7 @@ is_start ops len (Some t) = (len == t) || list_any (λ (x : Placed). x.0 == t) o
 abbrev pub Question : Type 0
 Question = Bool × Fault
 
+-- is it so, and if not, this is the fault
 abbrev pub else_fault : Bool → FaultKind → ℕ → Question
 else_fault b kind at = (b, record { kind = kind; at = at })
 
@@ -106,7 +113,7 @@ first_no [] = None
 first_no ((true, f) ∷ asked) = first_no asked
 first_no ((false, f) ∷ asked) = Some f
 
--- of an operation at one state
+-- of an operation, numbered k, of this effect and at this offset, where paths come to it with the state s
 abbrev pub asked_at : Kind → List Placed → ℕ → ℕ → StackEffect → StackState → ℕ → List Question
 asked_at kind ops len k e s at =
     else_fault (has_operation kind e) fault.NotInFrame at
@@ -118,13 +125,13 @@ asked_at kind ops len k e s at =
     ∷ else_fault (is_start ops len (target_of ops len k e)) fault.TargetNotStart at
     ∷ []
 
--- of the operation x, numbered k, by the states that come to it
+-- of the operation x, numbered k, by the states with which paths come to it
 abbrev pub asked_of : Kind → List Placed → ℕ → ℕ → Placed → List StackState → List Question
 asked_of kind ops len k x [] = else_fault false fault.Unreachable x.0 ∷ []
 asked_of kind ops len k x (s ∷ others) =
     else_fault (list_all (same_state s) others) fault.Mismatch x.0 ∷ asked_at kind ops len k (effect_of x.1) s x.0
 
--- of the end, by the states that come to it
+-- of the end, by the states with which paths come to it
 abbrev pub asked_last : Kind → List Placed → ℕ → List StackState → List Question
 asked_last kind ops len [] = []
 asked_last kind ops len (s ∷ others) =
@@ -138,7 +145,7 @@ asked_from kind ops len k [] = asked_last kind ops len (states_to kind ops len k
 asked_from kind ops len k (x ∷ left) =
     asked_of kind ops len k x (states_to kind ops len k) ++ asked_from kind ops len (k + 1) left
 
--- the first fault of operations
+-- the first fault of operations that follow each other up to the length
 unfoldable pub first_fault : Kind → List Placed → ℕ → Option Fault
 first_fault kind ops len = first_no (asked_from kind ops len 0 ops)
 
