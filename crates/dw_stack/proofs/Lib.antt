@@ -17,3 +17,4 @@ pub mod Heights
 pub mod Arriving
 pub mod Tests
 pub mod Named
+pub mod Determined

@@ -9,7 +9,7 @@ ghost use Rattle.dw_stack.specs.declared.state.StackState.{StackState};
 ghost use Rattle.dw_ops.specs.Opcodes.{operation_at};
 ghost use Rattle.dw_stack.specs.States.{at_offset};
 ghost use Rattle.dw_stack.specs.Paths.{Placed, place, IsStart, IsLaidOut, Reaches};
-ghost use Rattle.dw_stack.specs.Machine.{Configuration, Meaning, Starts, Run, Agrees, Meets};
+ghost use Rattle.dw_stack.specs.Machine.{Configuration, Meaning, Starts, Run, Agrees, Meets, IsOver};
 ghost use Rattle.dw_stack.specs.Expressions.{operations_in, reading_at, IsGoodExpression, IsDepthOf, AreStatesOf, RunsWellWithin, IsFaultOf};
 ghost use Rattle.dw_stack.specs.FirstFault.{expression_fault};
 
@@ -30,6 +30,12 @@ pub fn runs_are_as_certified()
 /// A run of a good expression stands where an operation begins, or at the end, and never inside an operation.
 pub fn runs_stand_on_operations()
     ensures { (kind : Kind) (target : Target) (bytes : List ℕ) → IsGoodExpression kind target bytes → (m : Meaning) (c d : Configuration) (n : ℕ) → Starts kind c → Run m (operations_in target bytes) (length bytes) n c d → IsStart (operations_in target bytes) (length bytes) d.offset }
+{}
+
+/// A run of a good expression has one end: for the same registers, memory and context, and from the same start, any two that
+/// are over took as many steps and stand in the same configuration.
+pub fn one_run()
+    ensures { (kind : Kind) (target : Target) (bytes : List ℕ) → IsGoodExpression kind target bytes → (m : Meaning) (n k : ℕ) (c d e : Configuration) → Run m (operations_in target bytes) (length bytes) n c d → IsOver kind m (operations_in target bytes) (length bytes) d → Run m (operations_in target bytes) (length bytes) k c e → IsOver kind m (operations_in target bytes) (length bytes) e → (n ≡ k) × (d ≡ e) }
 {}
 
 /// The numbers of this checker's two limits.
