@@ -36,7 +36,7 @@ use Rattle.dw_stack.proofs.Walks.{Walked, walked_start, walked_step}
 use Rattle.dw_stack.proofs.Verdicts.{step_fault, objects_fault, end_not_nothing, end_mismatch, end_empty, end_good}
 use Rattle.dw_stack.proofs.Spelled.{spelled_of, laid_if_read}
 use Rattle.dw_stack.proofs.Arriving.{Has, states_come, come_states}
-use Rattle.dw_stack.proofs.Tests.{operation_tells, alone_tells, few_tells, result_tells, same_tells, others_tell, start_tells}
+use Rattle.dw_stack.proofs.Telling.{operation_tells, alone_tells, few_tells, result_tells, same_tells, others_tell, start_tells}
 
 -- ---- what one arrival says
 

@@ -1,11 +1,11 @@
 -- A configuration has one next, and a run one end.
-use Rattle.std.proofs.Common.{◌≡◌, ◌∙◌, ◌⊎◌, ℕ, zero, suc, ◌+◌, ◌-◌, ◌<◌, ◌≤◌, Bool, true, false, List, length, take, Option, Some, Result, Ok, Err, refl, sym, ap, subst, inl, inr, arith}
+use Rattle.std.proofs.Common.{◌≡◌, ◌∙◌, ℕ, zero, suc, ◌+◌, ◌-◌, ◌<◌, Bool, true, false, List, length, take, Option, Some, Result, Ok, Err, refl, sym, ap, subst, inl, inr, arith}
 use Rattle.std.specs.Prelude.{slice_get, MatchBool}
 use Rattle.std.proofs.lemmas.Option.{slice_get_within, same_Some}
 use Rattle.dw_stack.specs.declared.state.Kind.{Kind}
 use Rattle.dw_stack.specs.Effects.{effect_of}
 use Rattle.dw_stack.specs.Paths.{Placed, place, IsLaidOut, target_of}
-use Rattle.dw_stack.specs.Machine.{Whereabouts, Piece, Configuration, Trouble, Meaning, named, jumps, extent_of, location_of, stack_after, pieces_after, Meets, Step, Stops, Run, IsOver}
+use Rattle.dw_stack.specs.Machine.{Whereabouts, Piece, Configuration, Trouble, Meaning, named, jumps, extent_of, location_of, stack_after, pieces_after, Meets, Step, Run, IsOver}
 use Rattle.dw_stack.proofs.Places.{place_of_some, place_past, place_mono, place_inj}
 
 abbrev made : ℕ → List ℕ → Option Whereabouts → List Piece → Configuration

@@ -15,6 +15,6 @@ pub mod Deciding
 pub mod Pieces
 pub mod Heights
 pub mod Arriving
-pub mod Tests
+pub mod Telling
 pub mod Named
 pub mod Determined
