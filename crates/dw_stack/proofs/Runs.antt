@@ -1,5 +1,5 @@
 -- Each run of a good expression follows a path.
-use Rattle.std.proofs.Common.{◌≡◌, ℕ, ℤ, negsuc, zero, suc, ◌+◌, ◌-◌, ◌<◌, ◌≤◌, ◌⊎◌, Bool, true, false, not, eqb, List, [], ◌∷◌, ◌++◌, length, take, Option, Some, None, Result, Ok, Err, refl, sym, ap, ◌∙◌, subst, inl, inr, arith, IsTrue, length-append, length-take}
+use Rattle.std.proofs.Common.{◌≡◌, ℕ, ℤ, negsuc, zero, suc, ◌+◌, ◌-◌, ◌<◌, ◌≤◌, ◌⊎◌, Bool, true, false, cond, not, eqb, List, [], ◌∷◌, ◌++◌, length, take, Option, Some, None, Result, Ok, Err, refl, sym, ap, ◌∙◌, subst, inl, inr, arith, IsTrue, length-append, length-take}
 use Rattle.std.specs.Prelude.{slice_get, MatchBool}
 use Rattle.std.proofs.lemmas.Option.{slice_get_within, slice_get_cases}
 use Rattle.dw_ops.specs.Operations.{Operation, bra, skip, reg, regx, implicit_value, stack_value, piece, bit_piece}
@@ -15,7 +15,7 @@ use Rattle.dw_stack.specs.declared.state.Mode.{Mode}
 use Rattle.dw_stack.specs.declared.state.Mode.TheVariants as mode
 use Rattle.dw_stack.specs.Effects.{effect_of}
 use Rattle.dw_stack.specs.States.{start_of, next_mode, height_after, state_after, StandsAlone, at_offset}
-use Rattle.dw_stack.specs.Paths.{Placed, place, IsLaidOut, aim, aimed, target_of, Leads, Edge, Follows, Reaches, IsStart, pieces_before, IsGood, AreStates, IsDepth}
+use Rattle.dw_stack.specs.Paths.{Placed, place, IsLaidOut, aim, aimed, target_of, Leads, Edge, Follows, Reaches, IsStart, is_piece, pieces_before, IsGood, AreStates, IsDepth}
 use Rattle.dw_stack.specs.Machine.{Whereabouts, Piece, Configuration, Trouble, Meaning, entry, named, jumps, extent_of, location_of, stack_after, pieces_after, CanDo, Meets, Step, Run, offsets_of, Starts, PendingIs, has_pieces, Agrees, GoesOn, IsOver, RunsWell}
 use Rattle.dw_stack.proofs.Places.{place_of_some, place_past, place_inj}
 use Rattle.dw_stack.proofs.Heights.{next_height_le}
@@ -289,10 +289,10 @@ module _ (kind : Kind) (ops : List Placed) (len : ℕ) (laid : IsLaidOut ops len
       (p.0, subst (λ (at : ℕ). Follows ops len at (start_of kind) (offsets_of m ops len n c d run) d.offset p.0) s.offset p.1, p.2)
 
   -- a run has no more pieces than operations before it name
-  run_pieces : (m : Meaning) (n i : ℕ) (c d : Configuration) → i ≤ length ops → place ops len i ≡ c.offset → length c.pieces ≤ pieces_before ops i → Run m ops len n c d → length d.pieces ≤ MAX_PIECES
+  run_pieces : (m : Meaning) (n i : ℕ) (c d : Configuration) → i ≤ length ops → place ops len i ≡ c.offset → length c.pieces ≤ pieces_before ops i → Run m ops len n c d → (j : ℕ) × (j ≤ length ops) × (place ops len j ≡ d.offset) × (length d.pieces ≤ pieces_before ops j)
   run_pieces m zero i c d le at few run =
       let same = ap (λ (e : Configuration). length e.pieces) run in
-      omega (arith, same, few, pieces_mono ops i (length ops) le, good.pieces)
+      (i, le, at ∙ ap (λ (e : Configuration). e.offset) run, omega (arith, same, few))
   run_pieces m (suc n) i c d le at few run =
       let t = run.1 in
       let x = t.meets.placed in
@@ -305,6 +305,35 @@ module _ (kind : Kind) (ops : List Placed) (len : ℕ) (laid : IsLaidOut ops len
       let later = pieces_mono ops (t.meets.number + 1) l.number (omega (arith, l.later, same, here)) in
       let more = ap length t.pieces ∙ length-pieces_after (effect_of x.1).role c.pieces (record { location = location_of c.stack c.pending; size = extent_of x.1 }) in
       run_pieces m n l.number run.0 d l.within l.there (omega (arith, few, named_here, before, later, more)) run.2
+
+  pieces_at : (m : Meaning) (c d : Configuration) (n : ℕ) → Starts kind c → Run m ops len n c d → (j : ℕ) × (j ≤ length ops) × (place ops len j ≡ d.offset) × (length d.pieces ≤ pieces_before ops j)
+  pieces_at m c d n s run = run_pieces m n 0 c d (omega arith) (laid.first ∙ sym s.offset) (let none = ap length s.pieces in omega (arith, none)) run
+
+  few_pieces : (m : Meaning) (c d : Configuration) (n : ℕ) → Starts kind c → Run m ops len n c d → length d.pieces ≤ MAX_PIECES
+  few_pieces m c d n s run =
+      let there = pieces_at m c d n s run in
+      omega (arith, there.3, pieces_mono ops there.0 (length ops) there.1, good.pieces)
+
+  counted : Bool → ℕ
+  counted b = cond b 1 0
+
+  room_for_piece : (m : Meaning) (c d : Configuration) (n : ℕ) → Starts kind c → Run m ops len n c d → (t : Meets ops d) → is_piece (effect_of t.placed.1).role ≡ true → length d.pieces < MAX_PIECES
+  unfolding counted
+  room_for_piece m c d n s run t names =
+      let there = pieces_at m c d n s run in
+      let lt = slice_get_within ops t.number t.placed t.stands in
+      let same : t.number ≡ there.0 = place_inj ops len laid t.number there.0 (omega (arith, lt)) there.1 (place_of_some ops len t.number t.placed t.stands ∙ t.from ∙ sym there.2) in
+      let before : pieces_before ops t.number ≡ pieces_before ops there.0 = ap (pieces_before ops) same in
+      let names_one = ap (λ (b : Bool). counted b) names in
+      let more = pieces_with ops t.number t.placed t.stands in
+      omega (arith, there.3, before, names_one, more, pieces_mono ops (t.number + 1) (length ops) (omega (arith, lt)), good.pieces)
+
+  room_at : (m : Meaning) (depth : ℕ) (c d : Configuration) (n : ℕ) → IsDepth kind ops len depth → Starts kind c → Run m ops len n c d → (t : Meets ops d) → length d.stack - (effect_of t.placed.1).takes + (effect_of t.placed.1).adds ≤ depth
+  unfolding Stands
+  room_at m depth c d n deep s run t =
+      let here = run_follows m n c d (starts c s) run in
+      let below = deep.greatest (height_after (effect_of t.placed.1) here.0) (inr (t.number, t.placed, here.0, t.stands, reach_from kind ops len d.offset t.placed.0 here.0 here.0 (sym t.from) refl here.1, inr refl)) in
+      omega (arith, below, here.2.height)
 
   starts_within : (j at : ℕ) → place ops len j ≡ at → IsStart ops len at
   starts_within j at e = elim (slice_get_cases ops j).1 [
@@ -323,7 +352,9 @@ module _ (kind : Kind) (ops : List Placed) (len : ℕ) (laid : IsLaidOut ops len
     follows = λ m c d n s run. run_follows m n c d (starts c s) run;
     path = path_from_start;
     stands = stands_on_start;
-    pieces = λ m c d n s run. run_pieces m n 0 c d (omega arith) (laid.first ∙ sym s.offset) (let none = ap length s.pieces in omega (arith, none)) run;
+    room = λ m c d n s run t. room_at m depth c d n deep s run t;
+    pieces = few_pieces;
+    room_for_piece = room_for_piece;
     bounded = λ m c d n s run. bound m n depth c d deep (starts c s) (omega (arith, s.stack, deep.greatest (start_of kind).height (inl refl))) run;
     short = λ m c d n s run. let l = run_later m n 0 c d (omega arith) (laid.first ∙ sym s.offset) run in omega (arith, l.1, l.2);
     stops = λ m c d n why s run stop. let l = run_later m n 0 c d (omega arith) (laid.first ∙ sym s.offset) run in let b = before_end l.0 d l.2 l.3 stop.meets in omega (arith, l.1, b);
