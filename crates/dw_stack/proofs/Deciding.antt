@@ -1,133 +1,67 @@
--- Every expression is good or has a first fault.
-use Rattle.std.proofs.Common.{◌≡◌, ◌∙◌, ◌⊎◌, ℕ, ℤ, zero, suc, negsuc, ◌+◌, ◌<◌, ◌≤◌, Bool, true, false, List, [], ◌∷◌, length, get_or, Option, Some, None, refl, sym, ap, inl, inr, arith}
-use Rattle.std.specs.Prelude.{slice_get, slice_set, slice_index_or, replicate, ◌==◌}
-use Rattle.std.proofs.lemmas.Bool.{cases_eq, cases_lt}
-use Rattle.std.proofs.lemmas.List.{length-replicate, get_or-replicate}
-use Rattle.std.proofs.lemmas.Option.{slice_get_cases}
+-- The questions that are asked of an expression, in their order: either all are answered with yes, and it is good, or the
+-- first that isn't names the first fault.
+use Rattle.std.proofs.Common.{◌≡◌, ◌≢◌, ◌∙◌, ◌⊎◌, ℕ, ℤ, zero, suc, negsuc, ◌+◌, ◌<◌, ◌≤◌, Bool, true, false, not, leb, ltb, ◌||◌, List, [], ◌∷◌, ◌++◌, length, get_or, Option, Some, None, refl, sym, ap, subst, inl, inr, arith, length-append}
+use Rattle.std.specs.Prelude.{slice_get, slice_set, slice_index_or, replicate, is_some, ◌==◌}
+use Rattle.std.specs.Option.{option_or}
+use Rattle.std.specs.List.{list_all}
+use Rattle.std.proofs.lemmas.List.{length-replicate, get_or-replicate, append_assoc}
+use Rattle.std.proofs.lemmas.Option.{slice_get_within}
+use Rattle.std.proofs.lemmas.Bool.Decides.{leb_tells}
 use Rattle.dw_bytes.specs.declared.target.Target.{Target}
 use Rattle.dw_bytes.specs.declared.fault.Fault.{Fault}
 use Rattle.dw_bytes.specs.declared.fault.FaultKind.{FaultKind}
 use Rattle.dw_bytes.specs.declared.fault.FaultKind.TheVariants as fault
-use Rattle.dw_stack.specs.declared.effect.Role.{Role}
-use Rattle.dw_stack.specs.declared.effect.Role.TheVariants as role
 use Rattle.dw_stack.specs.declared.effect.StackEffect.{StackEffect}
 use Rattle.dw_stack.specs.declared.judge.Outgoing.{Outgoing}
 use Rattle.dw_stack.specs.declared.judge.TheConstants.{MAX_HEIGHT, MAX_PIECES}
 use Rattle.dw_stack.specs.declared.state.State.{State}
 use Rattle.dw_stack.specs.declared.state.StackState.{StackState}
-use Rattle.dw_stack.specs.declared.state.Mode.{Mode}
-use Rattle.dw_stack.specs.declared.state.Mode.TheVariants as mode
 use Rattle.dw_stack.specs.declared.state.Kind.{Kind}
-use Rattle.dw_stack.specs.declared.state.Kind.TheVariants.{FrameCfa, FrameRegister, Location}
 use Rattle.dw_stack.specs.declared.step.Done.{Done}
 use Rattle.dw_stack.specs.declared.arrivals.Arrival.{Arrival}
 use Rattle.dw_stack.specs.declared.arrivals.Arrival.TheVariants.{Nothing, One, Many}
 use Rattle.dw_stack.specs.Effects.{effect_of}
-use Rattle.dw_stack.specs.States.{start_of, StandsAlone, height_after, next_mode, ResultOf}
-use Rattle.dw_stack.specs.Paths.{Placed, place, aim, IsLaidOut, IsAllowed, is_piece, IsGood}
+use Rattle.dw_stack.specs.States.{start_of, height_after, next_mode}
+use Rattle.dw_stack.specs.Paths.{Placed, place, aim, aimed, target_of, IsLaidOut, is_piece, pieces_before, IsGood}
 use Rattle.dw_stack.specs.Faults.{IsFirstFault}
-use Rattle.dw_stack.specs.Judge.{IsEffectAt, Suits, Unsuited, TargetIs, TargetObjects, Judged, Objects}
+use Rattle.dw_stack.specs.Judge.{IsEffectAt, Suits, TargetIs, TargetObjects, Judged, Objects}
 use Rattle.dw_stack.specs.Arrivals.{Merges, Receives, ReceivesIf, ReceivesAt, PassesOn, Stepped}
 use Rattle.dw_stack.specs.Expressions.{operations_in, reading_fault, IsGoodExpression, IsFaultOf}
-use Rattle.dw_stack.proofs.Places.{place_mono}
+use Rattle.dw_stack.specs.FirstFault.{states_to, has_operation, stands_alone, has_result, same_state, is_ahead, is_start, Question, else_fault, first_no, asked_at, asked_of, asked_last, asked_from, first_fault, expression_fault}
+use Rattle.dw_stack.proofs.Places.{place_of_some, later_place}
+use Rattle.dw_stack.proofs.Routes.{Comes}
+use Rattle.dw_stack.proofs.Describes.{Describes}
 use Rattle.dw_stack.proofs.Judging.{objects_unsuited, objects_target, judged}
 use Rattle.dw_stack.proofs.Walks.{Walked, walked_start, walked_step}
 use Rattle.dw_stack.proofs.Verdicts.{step_fault, objects_fault, end_not_nothing, end_mismatch, end_empty, end_good}
-use Rattle.dw_stack.proofs.Stable.{number_of, mode_stable, find_place}
 use Rattle.dw_stack.proofs.Spelled.{spelled_of, laid_if_read}
+use Rattle.dw_stack.proofs.Arriving.{Has, states_come, come_states}
+use Rattle.dw_stack.proofs.Telling.{operation_tells, alone_tells, few_tells, result_tells, same_tells, others_tell, start_tells}
 
-abbrev Or : Type 0 → Type 0
-Or A = A ⊎ (A → ⊥)
+-- ---- what one arrival says
 
-bool_or : (b c : Bool) → Or (b ≡ c)
-bool_or true true = inl refl
-bool_or false false = inl refl
-bool_or true false = inr (λ e. cc)
-bool_or false true = inr (λ e. cc)
+arrived_none : (a : Arrival) (P : StackState → Type 0) → Describes a P → ((t : StackState) → P t → ⊥) → a ≡ Nothing
+arrived_none Nothing P d none = refl
+arrived_none (One s) P d none = absurd (none s d.0)
+arrived_none Many P d none = absurd (none d.0 d.2)
 
-zero_or : (h : ℕ) → Or (h ≡ 0)
-zero_or h = cases_eq h 0
+arrived_one : (a : Arrival) (P : StackState → Type 0) (s : StackState) → Describes a P → P s → ((t : StackState) → P t → t ≡ s) → a ≡ One s
+arrived_one Nothing P s d here one = absurd (d s here)
+arrived_one (One t) P s d here one = ap (λ (x : StackState). One x) (one t d.0)
+arrived_one Many P s d here one = absurd (d.4 (one d.0 d.2 ∙ sym (one d.1 d.3)))
 
-le_or : (a b : ℕ) → Or (a ≤ b)
-le_or a b = elim (cases_lt b a) [ inl above ↦ inr (λ le. omega (arith, above, le)) | inr within ↦ inl within ]
-
-allowed_or : (kind : Kind) (e : StackEffect) → Or (IsAllowed kind e)
-allowed_or Location e = inl tt
-allowed_or FrameCfa e = bool_or e.framed true
-allowed_or FrameRegister e = bool_or e.framed true
-
-alone_or : (r : Role) (m : Mode) (h : ℕ) → Or (StandsAlone r m h)
-alone_or role.Piece mode.AfterPiece h = inl tt
-alone_or role.Piece mode.Stack h = le_or h 1
-alone_or role.Piece mode.Register h = zero_or h
-alone_or role.Piece mode.Value h = zero_or h
-alone_or role.Register mode.Stack h = zero_or h
-alone_or role.Register mode.AfterPiece h = zero_or h
-alone_or role.Register mode.Register h = inr (λ none. none)
-alone_or role.Register mode.Value h = inr (λ none. none)
-alone_or role.Bytes mode.Stack h = zero_or h
-alone_or role.Bytes mode.AfterPiece h = zero_or h
-alone_or role.Bytes mode.Register h = inr (λ none. none)
-alone_or role.Bytes mode.Value h = inr (λ none. none)
-alone_or role.Plain mode.Stack h = inl tt
-alone_or role.Plain mode.AfterPiece h = inl tt
-alone_or role.Plain mode.Register h = inr (λ none. none)
-alone_or role.Plain mode.Value h = inr (λ none. none)
-alone_or role.Top mode.Stack h = inl tt
-alone_or role.Top mode.AfterPiece h = inl tt
-alone_or role.Top mode.Register h = inr (λ none. none)
-alone_or role.Top mode.Value h = inr (λ none. none)
-
-stack_or : (empty pieced : Bool) (h : ℕ) → Or (empty ≡ false → (pieced ≡ false) × (1 ≤ h))
-stack_or true pieced h = inl (λ e. absurd (cc))
-stack_or false pieced h = elim (bool_or pieced false) [
-  | inr other ↦ inr (λ has. other (has refl).0)
-  | inl plain ↦ elim (le_or 1 h) [
-    | inl some ↦ inl (λ _. (plain, some))
-    | inr none ↦ inr (λ has. none (has refl).1)
-  ]
-]
-
-result_or : (kind : Kind) (m : Mode) (empty pieced : Bool) (h : ℕ) → Or (ResultOf kind m empty pieced h)
-result_or Location mode.AfterPiece empty pieced h = inl tt
-result_or Location mode.Stack empty pieced h = stack_or empty pieced h
-result_or Location mode.Register empty pieced h = bool_or pieced false
-result_or Location mode.Value empty pieced h = bool_or pieced false
-result_or FrameCfa mode.Stack empty pieced h = le_or 1 h
-result_or FrameRegister mode.Stack empty pieced h = le_or 1 h
-result_or FrameCfa mode.Register empty pieced h = inr (λ none. none)
-result_or FrameCfa mode.Value empty pieced h = inr (λ none. none)
-result_or FrameCfa mode.AfterPiece empty pieced h = inr (λ none. none)
-result_or FrameRegister mode.Register empty pieced h = inr (λ none. none)
-result_or FrameRegister mode.Value empty pieced h = inr (λ none. none)
-result_or FrameRegister mode.AfterPiece empty pieced h = inr (λ none. none)
-
-abbrev made : ℕ → Mode → Bool → StackState
-made height m pieced = record { height = height; mode = m; pieced = pieced }
-
-state_or : (s t : StackState) → Or (s ≡ t)
-state_or s t = elim (cases_eq s.height t.height) [
-  | inr other ↦ inr (λ e. other (ap (λ (x : StackState). x.height) e))
-  | inl height ↦ elim (cases_eq (number_of s.mode) (number_of t.mode)) [
-    | inr other ↦ inr (λ e. other (ap (λ (x : StackState). number_of x.mode) e))
-    | inl number ↦ elim (bool_or s.pieced t.pieced) [
-      | inr other ↦ inr (λ e. other (ap (λ (x : StackState). x.pieced) e))
-      | inl pieced ↦
-          let first : made s.height s.mode s.pieced ≡ made t.height s.mode s.pieced = ap (λ (h : ℕ). made h s.mode s.pieced) height in
-          let second : made t.height s.mode s.pieced ≡ made t.height t.mode s.pieced = ap (λ (m : Mode). made t.height m s.pieced) (mode_stable s.mode t.mode number) in
-          let third : made t.height t.mode s.pieced ≡ made t.height t.mode t.pieced = ap (λ (b : Bool). made t.height t.mode b) pieced in
-          inl (first ∙ (second ∙ third))
-    ]
-  ]
-]
+arrived_many : (a : Arrival) (P : StackState → Type 0) (s t : StackState) → Describes a P → P s → P t → s ≢ t → a ≡ Many
+arrived_many Nothing P s t d here there other = absurd (d s here)
+arrived_many (One u) P s t d here there other = absurd (other (d.1 s here ∙ sym (d.1 t there)))
+arrived_many Many P s t d here there other = refl
 
 -- ---- one step
 
 merged : (a : Arrival) (s : StackState) → (b : Arrival) × Merges a s b
 merged Nothing s = (One s, refl)
-merged (One t) s = elim (state_or t s) [
-  | inl same ↦ (One t, inl (same, refl))
-  | inr other ↦ (Many, inr (other, refl))
+merged (One t) s = elim (same_tells t s) [
+  | inl same ↦ (One t, inl (same.1, refl))
+  | inr other ↦ (Many, inr (other.1, refl))
 ]
 merged Many s = (Many, refl)
 
@@ -150,109 +84,198 @@ passed_on old i out =
     let new = received_at out.target mid.0 out.state in
     (new.0, record { mid = mid.0; next = mid.1; target = new.1 })
 
-few_or : (b : Bool) (pieces : ℕ) → (b ≡ true → pieces < MAX_PIECES) ⊎ ((b ≡ true) × (MAX_PIECES ≤ pieces))
-few_or false pieces = inl (λ e. absurd (cc))
-few_or true pieces = elim (cases_lt pieces MAX_PIECES) [ inl few ↦ inl (λ _. few) | inr many ↦ inr (refl, many) ]
-
-suits_or : (kind : Kind) (e : StackEffect) (pieces : ℕ) (s : StackState) → ((h : ℕ) × Suits kind e pieces s h) ⊎ ((f : FaultKind) × Unsuited kind e pieces s f)
-suits_or kind e pieces s = elim (allowed_or kind e) [
-  | inr other ↦ inr (fault.NotInFrame, other)
-  | inl allowed ↦ elim (alone_or e.role s.mode s.height) [
-    | inr other ↦ inr (fault.NotAlone, (allowed, other))
-    | inl alone ↦ elim (cases_lt s.height e.needs) [
-      | inl low ↦ inr (fault.Underflow, (allowed, alone, low))
-      | inr needs ↦ elim (cases_lt MAX_HEIGHT (height_after e s)) [
-        | inl high ↦ inr (fault.TooDeep, (allowed, alone, needs, high))
-        | inr limit ↦ elim (few_or (is_piece e.role) pieces) [
-          | inr many ↦ inr (fault.TooManyPieces, (allowed, alone, needs, limit, many.0, many.1))
-          | inl few ↦ inl (height_after e s, record { allowed = allowed; alone = alone; needs = needs; limit = limit; few = few; height_is = refl })
-        ]
-      ]
-    ]
-  ]
-]
-
 aim_or : (next : ℕ) (z : ℤ) → (aim next z ≡ None) ⊎ ((t : ℕ) × (aim next z ≡ Some t) × (next ≤ t))
 aim_or next (negsuc n) = inl refl
 aim_or next z = inr (_, refl, omega arith)
 
+-- ---- the questions
+
+abbrev fault_of : FaultKind → ℕ → Fault
+fault_of kind at = record { kind = kind; at = at }
+
+passes : (b : Bool) (f : FaultKind) (at : ℕ) (rest : List Question) → b ≡ true → first_no (else_fault b f at ∷ rest) ≡ first_no rest
+passes b f at rest is = ap (λ (c : Bool). first_no (else_fault c f at ∷ rest)) is
+
+fails : (b : Bool) (f : FaultKind) (at : ℕ) (rest : List Question) → b ≡ false → first_no (else_fault b f at ∷ rest) ≡ Some (fault_of f at)
+fails b f at rest is = ap (λ (c : Bool). first_no (else_fault c f at ∷ rest)) is
+
+first_no-append : (xs ys : List Question) → first_no (xs ++ ys) ≡ option_or (first_no xs) (first_no ys)
+first_no-append [] ys = refl
+first_no-append ((true, f) ∷ xs) ys = first_no-append xs ys
+first_no-append ((false, f) ∷ xs) ys = refl
+
+at_seam : (before left : List Placed) (x : Placed) → slice_get (before ++ x ∷ left) (length before) ≡ Some x
+at_seam [] left x = refl
+at_seam (y ∷ before) left x = at_seam before left x
+
 module _ (kind : Kind) (ops : List Placed) (len : ℕ) (laid : IsLaidOut ops len) where
-  later_place : (k j : ℕ) → k < length ops → place ops len (k + 1) ≤ place ops len j → k < j
-  later_place k j lt le = elim (cases_lt k j) [
-    | inl later ↦ later
-    | inr early ↦ elim (cases_eq j (k + 1)) [
-      | inl same ↦ absurd (omega (arith, same, early))
-      | inr _ ↦ absurd (omega (arith, le, place_mono ops len laid j (k + 1) (omega arith) (omega arith)))
-    ]
-  ]
-
-  target_or : (k : ℕ) → k < length ops → (o : Option ℤ) → ((t : Option ℕ) × TargetIs ops len k o t) ⊎ ((z : ℤ) × (f : FaultKind) × (o ≡ Some z) × TargetObjects ops len k z f)
-  target_or k lt None = inl (None, tt)
-  target_or k lt (Some z) = elim (aim_or (place ops len (k + 1)) z) [
-    | inl back ↦ inr (z, fault.Backward, refl, back)
-    | inr goes ↦ elim (find_place ops len goes.0 (length ops)) [
-      | inl found ↦ inl (Some found.0, record { later = later_place k found.0 lt (omega (arith, goes.2, found.2)); within = found.1; there = goes.1 ∙ ap (λ (n : ℕ). Some n) (sym found.2) })
-      | inr none ↦ inr (z, fault.TargetNotStart, refl, (goes.0, goes.1, none))
-    ]
-  ]
-
-  judged_or : (k pieces : ℕ) (x : Placed) (s : StackState) → k < length ops → slice_get ops k ≡ Some x → ((out : Outgoing) × Judged kind ops len k pieces s out) ⊎ ((f : FaultKind) × Objects kind ops len k pieces s f)
-  judged_or k pieces x s lt stands =
-      let e : StackEffect = effect_of x.1 in
-      let at : IsEffectAt ops k e = record { placed = x; stands = stands; is = refl } in
-      elim (suits_or kind e pieces s) [
-        | inr bad ↦ inr (bad.0, objects_unsuited kind ops len k pieces s e at bad.0 bad.1)
-        | inl fits ↦ elim (target_or k lt e.jump) [
-          | inr bad ↦ inr (bad.1, objects_target kind ops len k pieces s e at fits.0 fits.1 bad.0 bad.1 bad.2 bad.3)
-          | inl target ↦
-              let out : Outgoing = record { state = next_mode e.role fits.0 s.pieced; height = fits.0; piece = is_piece e.role; falls = e.falls; target = target.0 } in
-              inl (out, judged kind ops len k pieces s e at fits.0 fits.1 target.0 out target.1 refl refl refl refl refl)
+  target_tells : (k : ℕ) → k < length ops → (o : Option ℤ) → ((is_ahead (place ops len (k + 1)) o ≡ true) × (is_start ops len (aimed (place ops len (k + 1)) o) ≡ true) × (t : Option ℕ) × TargetIs ops len k o t) ⊎ (((z : ℤ) × (o ≡ Some z) × (is_ahead (place ops len (k + 1)) o ≡ false) × TargetObjects ops len k z fault.Backward) ⊎ ((z : ℤ) × (o ≡ Some z) × (is_ahead (place ops len (k + 1)) o ≡ true) × (is_start ops len (aimed (place ops len (k + 1)) o) ≡ false) × TargetObjects ops len k z fault.TargetNotStart))
+  target_tells k lt None = inl (refl, refl, None, tt)
+  target_tells k lt (Some z) = elim (aim_or (place ops len (k + 1)) z) [
+    | inl back ↦ inr (inl (z, refl, ap (λ (o : Option ℕ). is_some o) back, back))
+    | inr goes ↦
+        let ahead = ap (λ (o : Option ℕ). is_some o) goes.1 in
+        let to = ap (λ (o : Option ℕ). is_start ops len o) goes.1 in
+        elim (start_tells ops len goes.0) [
+          | inl found ↦ inl (ahead, to ∙ found.0, Some found.1, record { later = later_place ops len laid k found.1 lt (omega (arith, goes.2, found.3)); within = found.2; there = goes.1 ∙ ap (λ (n : ℕ). Some n) (sym found.3) })
+          | inr none ↦ inr (inr (z, refl, ahead, to ∙ none.0, (goes.0, goes.1, none.1)))
         ]
+  ]
+
+  abbrev Asked : ℕ → Placed → StackState → Type 0
+  Asked k x s = ((first_no (asked_at kind ops len k (effect_of x.1) s x.0) ≡ None) × (out : Outgoing) × Judged kind ops len k (pieces_before ops k) s out) ⊎ ((f : FaultKind) × (first_no (asked_at kind ops len k (effect_of x.1) s x.0) ≡ Some (fault_of f x.0)) × Objects kind ops len k (pieces_before ops k) s f)
+
+  module _ (k : ℕ) (x : Placed) (s : StackState) (lt : k < length ops) (stands : slice_get ops k ≡ Some x) where
+    abbrev e : StackEffect
+    e = effect_of x.1
+
+    abbrev n : ℕ
+    n = pieces_before ops k
+
+    at : IsEffectAt ops k (effect_of x.1)
+    at = record { placed = x; stands = stands; is = refl }
+
+    abbrev asked_start : List Question
+    asked_start = else_fault (is_start ops len (target_of ops len k e)) fault.TargetNotStart x.0 ∷ []
+
+    abbrev asked_ahead : List Question
+    asked_ahead = else_fault (is_ahead (place ops len (k + 1)) e.jump) fault.Backward x.0 ∷ asked_start
+
+    abbrev asked_few : List Question
+    asked_few = else_fault (not (is_piece e.role) || ltb n MAX_PIECES) fault.TooManyPieces x.0 ∷ asked_ahead
+
+    abbrev asked_low : List Question
+    asked_low = else_fault (leb (height_after e s) MAX_HEIGHT) fault.TooDeep x.0 ∷ asked_few
+
+    abbrev asked_needs : List Question
+    asked_needs = else_fault (leb e.needs s.height) fault.Underflow x.0 ∷ asked_low
+
+    abbrev asked_alone : List Question
+    asked_alone = else_fault (stands_alone e.role s.mode s.height) fault.NotAlone x.0 ∷ asked_needs
+
+    asked_targets : (height : ℕ) → Suits kind e n s height → ((first_no asked_ahead ≡ None) × (out : Outgoing) × Judged kind ops len k n s out) ⊎ ((f : FaultKind) × (first_no asked_ahead ≡ Some (fault_of f x.0)) × Objects kind ops len k n s f)
+    asked_targets height fits = elim (target_tells k lt e.jump) [
+      | inl fine ↦
+          let out : Outgoing = record { state = next_mode e.role height s.pieced; height = height; piece = is_piece e.role; falls = e.falls; target = fine.2 } in
+          inl (passes (is_ahead (place ops len (k + 1)) e.jump) fault.Backward x.0 asked_start fine.0 ∙ passes (is_start ops len (target_of ops len k e)) fault.TargetNotStart x.0 [] fine.1, out, judged kind ops len k n s e at height fits fine.2 out fine.3 refl refl refl refl refl)
+      | inr bad ↦ elim bad [
+        | inl back ↦ inr (fault.Backward, fails (is_ahead (place ops len (k + 1)) e.jump) fault.Backward x.0 asked_start back.2, objects_target kind ops len k n s e at height fits back.0 fault.Backward back.1 back.3)
+        | inr none ↦ inr (fault.TargetNotStart, passes (is_ahead (place ops len (k + 1)) e.jump) fault.Backward x.0 asked_start none.2 ∙ fails (is_start ops len (target_of ops len k e)) fault.TargetNotStart x.0 [] none.3, objects_target kind ops len k n s e at height fits none.0 fault.TargetNotStart none.1 none.4)
       ]
+    ]
 
-  Verdict : Type 0
-  Verdict = IsGood kind ops len ⊎ ((f : FaultKind) × (a : ℕ) × IsFirstFault kind ops len None f a)
+    -- the judgement of the operation, question by question
+    asked : Asked k x s
+    asked = elim (operation_tells kind e) [
+      | inr bad ↦ inr (fault.NotInFrame, fails (has_operation kind e) fault.NotInFrame x.0 asked_alone bad.0, objects_unsuited kind ops len k n s e at fault.NotInFrame bad.1)
+      | inl allowed ↦
+          let to_alone = passes (has_operation kind e) fault.NotInFrame x.0 asked_alone allowed.0 in
+          elim (alone_tells e.role s.mode s.height) [
+            | inr bad ↦ inr (fault.NotAlone, to_alone ∙ fails (stands_alone e.role s.mode s.height) fault.NotAlone x.0 asked_needs bad.0, objects_unsuited kind ops len k n s e at fault.NotAlone (allowed.1, bad.1))
+            | inl alone ↦
+                let to_needs = to_alone ∙ passes (stands_alone e.role s.mode s.height) fault.NotAlone x.0 asked_needs alone.0 in
+                elim (leb_tells e.needs s.height) [
+                  | inr bad ↦ inr (fault.Underflow, to_needs ∙ fails (leb e.needs s.height) fault.Underflow x.0 asked_low bad.0, objects_unsuited kind ops len k n s e at fault.Underflow (allowed.1, alone.1, bad.1))
+                  | inl needs ↦
+                      let to_low = to_needs ∙ passes (leb e.needs s.height) fault.Underflow x.0 asked_low needs.0 in
+                      elim (leb_tells (height_after e s) MAX_HEIGHT) [
+                        | inr bad ↦ inr (fault.TooDeep, to_low ∙ fails (leb (height_after e s) MAX_HEIGHT) fault.TooDeep x.0 asked_few bad.0, objects_unsuited kind ops len k n s e at fault.TooDeep (allowed.1, alone.1, needs.1, bad.1))
+                        | inl low ↦
+                            let to_few = to_low ∙ passes (leb (height_after e s) MAX_HEIGHT) fault.TooDeep x.0 asked_few low.0 in
+                            elim (few_tells (is_piece e.role) n) [
+                              | inr bad ↦ inr (fault.TooManyPieces, to_few ∙ fails (not (is_piece e.role) || ltb n MAX_PIECES) fault.TooManyPieces x.0 asked_ahead bad.0, objects_unsuited kind ops len k n s e at fault.TooManyPieces (allowed.1, alone.1, needs.1, low.1, bad.1, bad.2))
+                              | inl few ↦
+                                  let to_ahead = to_few ∙ passes (not (is_piece e.role) || ltb n MAX_PIECES) fault.TooManyPieces x.0 asked_ahead few.0 in
+                                  elim (asked_targets (height_after e s) (record { allowed = allowed.1; alone = alone.1; needs = needs.1; limit = low.1; few = few.1; height_is = refl })) [
+                                    | inl fine ↦ inl (to_ahead ∙ fine.0, fine.1, fine.2)
+                                    | inr bad ↦ inr (bad.0, to_ahead ∙ bad.1, bad.2)
+                                  ]
+                            ]
+                      ]
+                ]
+          ]
+    ]
 
-  walk : (left i : ℕ) (states : List State) (arrivals : List Arrival) (depth pieces : ℕ) → i + left ≡ length ops → Walked kind ops len None i states arrivals depth pieces → Verdict
-  unfolding Verdict
-  walk zero i states arrivals depth pieces count w = at_end (get_or arrivals (length ops) Nothing) refl
+  -- there is no fault and all is good, or it is this first one
+  abbrev Named : Option Fault → Type 0
+  Named o = ((o ≡ None) × IsGood kind ops len) ⊎ ((f : FaultKind) × (a : ℕ) × (o ≡ Some (fault_of f a)) × IsFirstFault kind ops len None f a)
+
+  named_by : (o p : Option Fault) → o ≡ p → Named p → Named o
+  named_by o p same named = elim named [ inl good ↦ inl (same ∙ good.0, good.1) | inr bad ↦ inr (bad.0, bad.1, same ∙ bad.2, bad.3) ]
+
+  module _ (i : ℕ) (states : List State) (arrivals : List Arrival) (depth pieces : ℕ) (w : Walked kind ops len None i states arrivals depth pieces) (le : i ≤ length ops) (l : List StackState) (list_is : states_to kind ops len i ≡ l) where
+    comes : (t : StackState) → Has l t → Comes kind ops len i (place ops len i) t
+    comes t h = states_come kind ops len laid i t le (subst (λ (m : List StackState). Has m t) (sym list_is) h)
+
+    listed_there : (t : StackState) → Comes kind ops len i (place ops len i) t → Has l t
+    listed_there t c = subst (λ (m : List StackState). Has m t) list_is (come_states kind ops len laid i t le c)
+
+    nothing_there : l ≡ [] → get_or arrivals i Nothing ≡ Nothing
+    nothing_there is = arrived_none (get_or arrivals i Nothing) (Comes kind ops len i (place ops len i)) (w.described i (omega arith) le) (λ t c. subst (λ (m : List StackState). Has m t) is (listed_there t c))
+
+    one_there : (s : StackState) (others : List StackState) → l ≡ s ∷ others → ((t : StackState) → Has others t → t ≡ s) → get_or arrivals i Nothing ≡ One s
+    one_there s others is same = arrived_one (get_or arrivals i Nothing) (Comes kind ops len i (place ops len i)) s (w.described i (omega arith) le) (comes s (subst (λ (m : List StackState). Has m s) (sym is) (inl refl))) (λ t c. elim (subst (λ (m : List StackState). Has m t) is (listed_there t c)) [ inl here ↦ sym here | inr later ↦ same t later ])
+
+    many_there : (s t : StackState) (others : List StackState) → l ≡ s ∷ others → Has others t → s ≢ t → get_or arrivals i Nothing ≡ Many
+    many_there s t others is there other = arrived_many (get_or arrivals i Nothing) (Comes kind ops len i (place ops len i)) s t (w.described i (omega arith) le) (comes s (subst (λ (m : List StackState). Has m s) (sym is) (inl refl))) (comes t (subst (λ (m : List StackState). Has m t) (sym is) (inr there))) other
+
+  walk : (left : List Placed) (i : ℕ) (before : List Placed) (states : List State) (arrivals : List Arrival) (depth pieces : ℕ) → before ++ left ≡ ops → length before ≡ i → Walked kind ops len None i states arrivals depth pieces → Named (first_no (asked_from kind ops len i left))
+  walk [] i before states arrivals depth pieces parts count w = at_end (states_to kind ops len i) refl
     where
       all : i ≡ length ops
-      all = omega (arith, count)
+      all = let long = ap length parts in let both = length-append before [] in omega (arith, long, both, count)
 
-      at_end : (a : Arrival) → get_or arrivals (length ops) Nothing ≡ a → IsGood kind ops len ⊎ ((f : FaultKind) × (b : ℕ) × IsFirstFault kind ops len None f b)
-      at_end Nothing e = absurd (end_not_nothing kind ops len laid None i all states arrivals depth pieces w e)
-      at_end Many e = inr (fault.Mismatch, len, end_mismatch kind ops len laid None i all states arrivals depth pieces w e)
-      at_end (One s) e = elim (result_or kind s.mode (length ops == 0) s.pieced s.height) [
-        | inl has ↦ inl (end_good kind ops len laid None i all states arrivals depth pieces w s e has)
-        | inr none ↦ inr (fault.EndsEmpty, len, end_empty kind ops len laid None i all states arrivals depth pieces w s e none)
+      here : (a : Arrival) → get_or arrivals i Nothing ≡ a → get_or arrivals (length ops) Nothing ≡ a
+      here a is = ap (λ (n : ℕ). get_or arrivals n Nothing) (sym all) ∙ is
+
+      at_end : (l : List StackState) → states_to kind ops len i ≡ l → Named (first_no (asked_last kind ops len l))
+      at_end [] is = absurd (end_not_nothing kind ops len laid None i all states arrivals depth pieces w (here Nothing (nothing_there i states arrivals depth pieces w (omega (arith, all)) [] is refl)))
+      at_end (s ∷ others) is = elim (others_tell s others) [
+        | inr mixed ↦ inr (fault.Mismatch, len, fails (list_all (same_state s) others) fault.Mismatch len _ mixed.0, end_mismatch kind ops len laid None i all states arrivals depth pieces w (here Many (many_there i states arrivals depth pieces w (omega (arith, all)) (s ∷ others) is s mixed.1 others refl mixed.2 mixed.3)))
+        | inl same ↦
+            let one = here (One s) (one_there i states arrivals depth pieces w (omega (arith, all)) (s ∷ others) is s others refl same.1) in
+            let first = passes (list_all (same_state s) others) fault.Mismatch len (else_fault (has_result kind s.mode (length ops == 0) s.pieced s.height) fault.EndsEmpty len ∷ []) same.0 in
+            elim (result_tells kind s.mode (length ops == 0) s.pieced s.height) [
+              | inl has ↦ inl (first ∙ passes (has_result kind s.mode (length ops == 0) s.pieced s.height) fault.EndsEmpty len [] has.0, end_good kind ops len laid None i all states arrivals depth pieces w s one has.1)
+              | inr none ↦ inr (fault.EndsEmpty, len, first ∙ fails (has_result kind s.mode (length ops == 0) s.pieced s.height) fault.EndsEmpty len [] none.0, end_empty kind ops len laid None i all states arrivals depth pieces w s one none.1)
+            ]
       ]
-  walk (suc left) i states arrivals depth pieces count w = at_step (get_or arrivals i Nothing) refl (λ more new deep many next. walk left (i + 1) more new deep many (omega (arith, count)) next)
+  walk (x ∷ left) i before states arrivals depth pieces parts count w =
+      at_step (states_to kind ops len i) refl (λ more new deep many next. walk left (i + 1) (before ++ x ∷ []) more new deep many (append_assoc before (x ∷ []) left ∙ parts) (let long = length-append before (x ∷ []) in omega (arith, long, count)) next)
     where
-      lt : i < length ops
-      lt = omega (arith, count)
+      stands : slice_get ops i ≡ Some x
+      stands = ap (slice_get ops) (sym count) ∙ (ap (λ (xs : List Placed). slice_get xs (length before)) (sym parts) ∙ at_seam before left x)
 
-      at_step : (a : Arrival) → get_or arrivals i Nothing ≡ a → ((more : List State) (new : List Arrival) (deep many : ℕ) → Walked kind ops len None (i + 1) more new deep many → IsGood kind ops len ⊎ ((f : FaultKind) × (b : ℕ) × IsFirstFault kind ops len None f b)) → IsGood kind ops len ⊎ ((f : FaultKind) × (b : ℕ) × IsFirstFault kind ops len None f b)
-      at_step Nothing e on = inr (fault.Unreachable, place ops len i, step_fault kind ops len laid None i states arrivals depth pieces w fault.Unreachable lt e)
-      at_step Many e on = inr (fault.Mismatch, place ops len i, step_fault kind ops len laid None i states arrivals depth pieces w fault.Mismatch lt e)
-      at_step (One s) e on = elim (slice_get_cases ops i).1 [
-        | inr past ↦ absurd (omega (arith, past.0, lt))
-        | inl found ↦ elim (judged_or i pieces found.0 s lt found.2) [
-          | inr bad ↦ inr (bad.0, place ops len i, objects_fault kind ops len laid None i states arrivals depth pieces w bad.0 s lt e tt bad.1)
-          | inl fine ↦
-              let out : Outgoing = fine.0 in
-              let done : Done = record { state = s; height = out.height; piece = out.piece } in
-              let new = passed_on arrivals i out in
-              let stepped : Stepped kind ops len None i pieces arrivals done new.0 = record { out = out; one = e; given_is = tt; judged = fine.1; height = refl; piece = refl; passes = new.1 } in
-              on _ new.0 _ _ (walked_step kind ops len laid None i states arrivals new.0 depth pieces done lt w stepped)
-        ]
+      lt : i < length ops
+      lt = slice_get_within ops i x stands
+
+      here : (f : FaultKind) → IsFirstFault kind ops len None f (place ops len i) → IsFirstFault kind ops len None f x.0
+      here f first = subst (λ (n : ℕ). IsFirstFault kind ops len None f n) (place_of_some ops len i x stands) first
+
+      at_step : (l : List StackState) → states_to kind ops len i ≡ l → ((more : List State) (new : List Arrival) (deep many : ℕ) → Walked kind ops len None (i + 1) more new deep many → Named (first_no (asked_from kind ops len (i + 1) left))) → Named (first_no (asked_of kind ops len i x l ++ asked_from kind ops len (i + 1) left))
+      at_step [] is on = inr (fault.Unreachable, x.0, refl, here fault.Unreachable (step_fault kind ops len laid None i states arrivals depth pieces w fault.Unreachable lt (nothing_there i states arrivals depth pieces w (omega (arith, lt)) [] is refl)))
+      at_step (s ∷ others) is on = elim (others_tell s others) [
+        | inr mixed ↦ inr (fault.Mismatch, x.0, fails (list_all (same_state s) others) fault.Mismatch x.0 _ mixed.0, here fault.Mismatch (step_fault kind ops len laid None i states arrivals depth pieces w fault.Mismatch lt (many_there i states arrivals depth pieces w (omega (arith, lt)) (s ∷ others) is s mixed.1 others refl mixed.2 mixed.3)))
+        | inl same ↦
+            let one = one_there i states arrivals depth pieces w (omega (arith, lt)) (s ∷ others) is s others refl same.1 in
+            let first : first_no (asked_of kind ops len i x (s ∷ others) ++ asked_from kind ops len (i + 1) left) ≡ option_or (first_no (asked_at kind ops len i (effect_of x.1) s x.0)) (first_no (asked_from kind ops len (i + 1) left)) =
+            passes (list_all (same_state s) others) fault.Mismatch x.0 (asked_at kind ops len i (effect_of x.1) s x.0 ++ asked_from kind ops len (i + 1) left) same.0 ∙ first_no-append (asked_at kind ops len i (effect_of x.1) s x.0) (asked_from kind ops len (i + 1) left) in
+            elim (asked i x s lt stands) [
+              | inr bad ↦ inr (bad.0, x.0, first ∙ ap (λ (o : Option Fault). option_or o (first_no (asked_from kind ops len (i + 1) left))) bad.1, here bad.0 (objects_fault kind ops len laid None i states arrivals depth pieces w bad.0 s lt one tt (subst (λ (n : ℕ). Objects kind ops len i n s bad.0) (sym w.counted) bad.2)))
+              | inl fine ↦
+                  let out : Outgoing = fine.1 in
+                  let done : Done = record { state = s; height = out.height; piece = out.piece } in
+                  let new = passed_on arrivals i out in
+                  let stepped : Stepped kind ops len None i pieces arrivals done new.0 = record { out = out; one = one; given_is = tt; judged = subst (λ (n : ℕ). Judged kind ops len i n s out) (sym w.counted) fine.2; height = refl; piece = refl; passes = new.1 } in
+                  named_by (first_no (asked_of kind ops len i x (s ∷ others) ++ asked_from kind ops len (i + 1) left)) (first_no (asked_from kind ops len (i + 1) left)) (first ∙ ap (λ (o : Option Fault). option_or o (first_no (asked_from kind ops len (i + 1) left))) fine.0) (on _ new.0 _ _ (walked_step kind ops len laid None i states arrivals new.0 depth pieces done lt w stepped))
+            ]
       ]
 
-  pub verdict : IsGood kind ops len ⊎ ((f : FaultKind) × (a : ℕ) × IsFirstFault kind ops len None f a)
-  unfolding Verdict
-  verdict =
+  pub named : Named (first_fault kind ops len)
+  unfolding first_fault
+  named =
       let first : List Arrival = One (start_of kind) ∷ replicate (length ops) Nothing in
-      walk (length ops) 0 [] first (start_of kind).height 0 (omega arith) (walked_start kind ops len laid None first (wide (length ops)) refl (λ j pos le. others j pos le))
+      walk ops 0 [] [] first (start_of kind).height 0 refl refl (walked_start kind ops len laid None first (wide (length ops)) refl (λ j pos le. others j pos le))
     where
       wide : (n : ℕ) → length (One (start_of kind) ∷ replicate n Nothing) ≡ n + 1
       wide n = let long = length-replicate n Nothing in omega (arith, long)
@@ -261,13 +284,23 @@ module _ (kind : Kind) (ops : List Placed) (len : ℕ) (laid : IsLaidOut ops len
       others zero pos le = absurd (omega arith)
       others (suc j) pos le = get_or-replicate (length ops) j Nothing Nothing (omega arith)
 
+-- the same of an expression
+pub named_expression : (kind : Kind) (target : Target) (bytes : List ℕ) → ((expression_fault kind target bytes ≡ None) × IsGoodExpression kind target bytes) ⊎ ((f : Fault) × (expression_fault kind target bytes ≡ Some f) × IsFaultOf kind target bytes None f)
+unfolding expression_fault
+named_expression kind target bytes = by_reading (reading_fault target bytes) refl
+  where
+    by_reading : (o : Option Fault) → reading_fault target bytes ≡ o → ((option_or (reading_fault target bytes) (first_fault kind (operations_in target bytes) (length bytes)) ≡ None) × IsGoodExpression kind target bytes) ⊎ ((f : Fault) × (option_or (reading_fault target bytes) (first_fault kind (operations_in target bytes) (length bytes)) ≡ Some f) × IsFaultOf kind target bytes None f)
+    by_reading (Some f) is = inr (f, ap (λ (o : Option Fault). option_or o (first_fault kind (operations_in target bytes) (length bytes))) is, inl is)
+    by_reading None is =
+        let then = ap (λ (o : Option Fault). option_or o (first_fault kind (operations_in target bytes) (length bytes))) is in
+        elim (named kind (operations_in target bytes) (length bytes) (laid_if_read target bytes is)) [
+          | inl good ↦ inl (then ∙ good.0, record { spelled = spelled_of target bytes is; good = good.1 })
+          | inr bad ↦ inr (fault_of bad.0 bad.1, then ∙ bad.2, inr (inr (is, (λ other. other), bad.3)))
+        ]
+
 -- every expression has a verdict
 pub every_verdict : (kind : Kind) (target : Target) (bytes : List ℕ) → IsGoodExpression kind target bytes ⊎ ((f : Fault) × IsFaultOf kind target bytes None f)
-every_verdict kind target bytes = by_reading (reading_fault target bytes) refl
-  where
-    by_reading : (o : Option Fault) → reading_fault target bytes ≡ o → IsGoodExpression kind target bytes ⊎ ((f : Fault) × IsFaultOf kind target bytes None f)
-    by_reading (Some f) is = inr (f, inl is)
-    by_reading None is = elim (verdict kind (operations_in target bytes) (length bytes) (laid_if_read target bytes is)) [
-      | inl good ↦ inl (record { spelled = spelled_of target bytes is; good = good })
-      | inr bad ↦ inr (record { kind = bad.0; at = bad.1 }, inr (inr (is, (λ other. other), bad.2)))
-    ]
+every_verdict kind target bytes = elim (named_expression kind target bytes) [
+  | inl good ↦ inl good.1
+  | inr bad ↦ inr (bad.0, bad.2)
+]

@@ -12,3 +12,9 @@ pub mod Whole
 pub mod Unique
 pub mod Bytes
 pub mod Deciding
+pub mod Pieces
+pub mod Heights
+pub mod Arriving
+pub mod Telling
+pub mod Named
+pub mod Determined

@@ -1,7 +1,7 @@
 -- Where the operations begin.
 use Rattle.std.proofs.Common.{◌≡◌, ℕ, zero, suc, ◌+◌, ◌-◌, ◌<◌, ◌≤◌, List, [], ◌∷◌, length, get_or, Some, refl, sym, ap, ◌∙◌, inl, inr, arith}
 use Rattle.std.specs.Prelude.{slice_get}
-use Rattle.std.proofs.lemmas.Bool.{cases_lt, cases_order}
+use Rattle.std.proofs.lemmas.Bool.{cases_eq, cases_lt, cases_order}
 use Rattle.dw_stack.specs.Paths.{Placed}
 use Rattle.dw_stack.specs.Paths.{place, IsLaidOut}
 
@@ -50,6 +50,15 @@ module _ (ops : List Placed) (len : ℕ) (laid : IsLaidOut ops len) where
           | inr above ↦ absurd (omega (arith, place_mono k j above hj))
         ]
       ]
+
+  pub later_place : (k j : ℕ) → k < length ops → place ops len (k + 1) ≤ place ops len j → k < j
+  later_place k j lt le = elim (cases_lt k j) [
+    | inl later ↦ later
+    | inr early ↦ elim (cases_eq j (k + 1)) [
+      | inl same ↦ absurd (omega (arith, same, early))
+      | inr _ ↦ absurd (omega (arith, le, place_mono j (k + 1) (omega arith) (omega arith)))
+    ]
+  ]
 
 -- no operation begins at t, and the end is not there, where t is between two neighbours
 pub nowhere : (ops : List Placed) (len : ℕ) → IsLaidOut ops len → (k t : ℕ) → 0 < k → k ≤ length ops → place ops len (k - 1) < t → (k < length ops → t ≤ place ops len k) → (place ops len k ≡ t → ⊥) → (j : ℕ) → j ≤ length ops → place ops len j ≡ t → ⊥

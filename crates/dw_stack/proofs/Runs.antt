@@ -1,29 +1,33 @@
 -- Each run of a good expression follows a path.
-use Rattle.std.proofs.Common.{◌≡◌, ℕ, ℤ, negsuc, zero, suc, ◌+◌, ◌-◌, ◌≤◌, ◌⊎◌, Bool, true, false, not, eqb, List, [], ◌∷◌, ◌++◌, length, take, Option, Some, None, Result, Ok, Err, refl, sym, ap, ◌∙◌, subst, inl, inr, arith, IsTrue, length-append, length-take}
+use Rattle.std.proofs.Common.{◌≡◌, ℕ, ℤ, negsuc, zero, suc, ◌+◌, ◌-◌, ◌<◌, ◌≤◌, ◌⊎◌, Bool, true, false, cond, not, eqb, List, [], ◌∷◌, ◌++◌, length, take, Option, Some, None, Result, Ok, Err, refl, sym, ap, ◌∙◌, subst, inl, inr, arith, IsTrue, length-append, length-take}
 use Rattle.std.specs.Prelude.{slice_get, MatchBool}
 use Rattle.std.proofs.lemmas.Option.{slice_get_within, slice_get_cases}
 use Rattle.dw_ops.specs.Operations.{Operation, bra, skip, reg, regx, implicit_value, stack_value, piece, bit_piece}
 use Rattle.dw_stack.specs.declared.effect.Role.{Role}
 use Rattle.dw_stack.specs.declared.effect.Role.TheVariants as role
 use Rattle.dw_stack.specs.declared.effect.StackEffect.{StackEffect}
+use Rattle.dw_stack.specs.declared.judge.TheConstants.{MAX_PIECES}
+use Rattle.dw_stack.specs.declared.state.State.{State}
 use Rattle.dw_stack.specs.declared.state.StackState.{StackState}
 use Rattle.dw_stack.specs.declared.state.Kind.{Kind}
 use Rattle.dw_stack.specs.declared.state.Kind.TheVariants.{FrameCfa, FrameRegister, Location}
 use Rattle.dw_stack.specs.declared.state.Mode.{Mode}
 use Rattle.dw_stack.specs.declared.state.Mode.TheVariants as mode
 use Rattle.dw_stack.specs.Effects.{effect_of}
-use Rattle.dw_stack.specs.States.{start_of, next_mode, height_after, state_after, StandsAlone}
-use Rattle.dw_stack.specs.Paths.{Placed, place, IsLaidOut, aim, aimed, target_of, Leads, Edge, Reaches, IsGood, IsDepth}
-use Rattle.dw_stack.specs.Machine.{Whereabouts, HasValue, HasBytes, Piece, Configuration, Trouble, Meaning, entry, named, jumps, extent_of, location_of, stack_after, pieces_after, CanDo, Meets, Step, Run, Starts, PendingIs, has_pieces, Agrees, GoesOn, IsOver, RunsWell}
+use Rattle.dw_stack.specs.States.{start_of, next_mode, height_after, state_after, StandsAlone, at_offset}
+use Rattle.dw_stack.specs.Paths.{Placed, place, IsLaidOut, aim, aimed, target_of, Leads, Edge, Follows, Reaches, IsStart, is_piece, pieces_before, IsGood, AreStates, IsDepth}
+use Rattle.dw_stack.specs.Machine.{Whereabouts, Piece, Configuration, Trouble, Meaning, entry, named, jumps, extent_of, location_of, stack_after, pieces_after, CanDo, Meets, Step, Run, offsets_of, Starts, PendingIs, has_pieces, Agrees, GoesOn, IsOver, RunsWell}
 use Rattle.dw_stack.proofs.Places.{place_of_some, place_past, place_inj}
+use Rattle.dw_stack.proofs.Heights.{next_height_le}
+use Rattle.dw_stack.proofs.Pieces.{pieces_mono, pieces_with, length-pieces_after}
 use Rattle.dw_stack.proofs.Routes.{reach_from, extend, at_start, reached_place, edge_lands}
 
 -- per operation: what it names is what its role says
 pending_is : (op : Operation) (s : List ℕ) (p : Option Whereabouts) (h : ℕ) (b : Bool) → p ≡ named op s → PendingIs (next_mode (effect_of op).role h b).mode p (next_mode (effect_of op).role h b).height
 pending_is (reg r) s p h b e = (r, e)
 pending_is (regx r) s p h b e = (r, e)
-pending_is (implicit_value bytes) s p h b e = (HasBytes bytes, e)
-pending_is stack_value s p h b e = (HasValue (entry s 0), e)
+pending_is (implicit_value bytes) s p h b e = inr (bytes, e)
+pending_is stack_value s p h b e = inl (entry s 0, e)
 pending_is (piece n) s p h b e = (e, refl)
 pending_is (bit_piece n m) s p h b e = (e, refl)
 pending_is _ s p h b e = e
@@ -128,17 +132,12 @@ module _ (kind : Kind) (ops : List Placed) (len : ℕ) (laid : IsLaidOut ops len
       let after = state_after (effect_of t.meets.placed.1) r.0 in
       run_follows m n run.0 d (after, extend kind ops len c.offset r.0 run.0.offset after r.1 (step_edge m r.0 c run.0 t), agrees_after m ops len r.0 c run.0 t r.2) run.2
 
-  starts : (c : Configuration) → Starts kind c → Stands c
-  unfolding Stands
-  starts c s = (
-    start_of kind,
-    reach_from kind ops len 0 c.offset (start_of kind) (start_of kind) (sym s.offset) refl (at_start kind ops len),
-    record {
-      height = s.stack;
-      pending = plain kind c.pending s.pending;
-      pieces = unpieced kind c.pieces s.pieces;
-    },
-  )
+  agrees_at_start : (c : Configuration) → Starts kind c → Agrees (start_of kind) c
+  agrees_at_start c s = record {
+    height = s.stack;
+    pending = plain kind c.pending s.pending;
+    pieces = unpieced kind c.pieces s.pieces;
+  }
     where
       plain : (k : Kind) (p : Option Whereabouts) → p ≡ None → PendingIs (start_of k).mode p (start_of k).height
       plain FrameCfa p e = e
@@ -149,6 +148,14 @@ module _ (kind : Kind) (ops : List Placed) (len : ℕ) (laid : IsLaidOut ops len
       unpieced FrameCfa ps e = ap has_pieces (sym e)
       unpieced FrameRegister ps e = ap has_pieces (sym e)
       unpieced Location ps e = ap has_pieces (sym e)
+
+  starts : (c : Configuration) → Starts kind c → Stands c
+  unfolding Stands
+  starts c s = (
+    start_of kind,
+    reach_from kind ops len 0 c.offset (start_of kind) (start_of kind) (sym s.offset) refl (at_start kind ops len),
+    agrees_at_start c s,
+  )
 
   -- each step comes to a later operation, and where a run comes to has its number
   run_later : (m : Meaning) (n i : ℕ) (c d : Configuration) → i ≤ length ops → place ops len i ≡ c.offset → Run m ops len n c d → (j : ℕ) × (i + n ≤ j) × (j ≤ length ops) × (place ops len j ≡ d.offset)
@@ -226,7 +233,8 @@ module _ (kind : Kind) (ops : List Placed) (len : ℕ) (laid : IsLaidOut ops len
             answer_of m c t (m.answer t.placed.1 c.stack) refl
         | inr past ↦
             let here : c.offset ≡ len = sym p.2 ∙ place_past ops len p.0 past.0 in
-            inl (record { there = here; state = r.0; agrees = r.2; result = good.ends r.0 (reach_from kind ops len c.offset len r.0 r.0 here refl r.1) })
+            let reached = reach_from kind ops len c.offset len r.0 r.0 here refl r.1 in
+            inl (record { there = here; state = r.0; reaches = reached; agrees = r.2; result = good.ends r.0 reached })
       ]
 
   -- no stack is above the depth
@@ -238,15 +246,8 @@ module _ (kind : Kind) (ops : List Placed) (len : ℕ) (laid : IsLaidOut ops len
       let after = state_after (effect_of t.meets.placed.1) r.0 in
       let agrees = agrees_after m ops len r.0 c run.0 t r.2 in
       let below = deep.greatest (height_after (effect_of t.meets.placed.1) r.0) (inr (t.meets.number, t.meets.placed, r.0, t.meets.stands, reach_from kind ops len c.offset t.meets.placed.0 r.0 r.0 (sym t.meets.from) refl r.1, inr refl)) in
-      let low = mode_height (effect_of t.meets.placed.1).role (height_after (effect_of t.meets.placed.1) r.0) r.0.pieced in
+      let low = next_height_le (effect_of t.meets.placed.1).role (height_after (effect_of t.meets.placed.1) r.0) r.0.pieced in
       bound m n depth run.0 d deep (after, extend kind ops len c.offset r.0 run.0.offset after r.1 (step_edge m r.0 c run.0 t), agrees) (omega (arith, agrees.height, below, low)) run.2
-    where
-      mode_height : (q : Role) (h : ℕ) (b : Bool) → (next_mode q h b).height ≤ h
-      mode_height role.Piece h b = omega arith
-      mode_height role.Plain h b = omega arith
-      mode_height role.Register h b = omega arith
-      mode_height role.Bytes h b = omega arith
-      mode_height role.Top h b = omega arith
 
   -- one step more at the end of a run
   run_more : (m : Meaning) (n : ℕ) (c d e : Configuration) → Run m ops len n c d → Step m ops len d e → Run m ops len (suc n) c e
@@ -272,10 +273,88 @@ module _ (kind : Kind) (ops : List Placed) (len : ℕ) (laid : IsLaidOut ops len
     ]
   ]
 
+  -- the offsets of a run are a path
+  run_path : (m : Meaning) (n : ℕ) (c d : Configuration) (s : StackState) → Agrees s c → (run : Run m ops len n c d) → (t : StackState) × Follows ops len c.offset s (offsets_of m ops len n c d run) d.offset t × Agrees t d
+  run_path m zero c d s agrees run = (s, (ap (λ (e : Configuration). e.offset) run, refl), subst (λ (e : Configuration). Agrees s e) run agrees)
+  run_path m (suc n) c d s agrees run =
+      let t = run.1 in
+      let after = state_after (effect_of t.meets.placed.1) s in
+      let rest = run_path m n run.0 d after (agrees_after m ops len s c run.0 t agrees) run.2 in
+      (rest.0, (after, step_edge m s c run.0 t, rest.1), rest.2)
+
+  path_from_start : (m : Meaning) (c d : Configuration) (n : ℕ) → Starts kind c → (run : Run m ops len n c d) → (s : StackState) × Follows ops len 0 (start_of kind) (offsets_of m ops len n c d run) d.offset s × Agrees s d
+  unfolding Stands
+  path_from_start m c d n s run =
+      let p = run_path m n c d (start_of kind) (agrees_at_start c s) run in
+      (p.0, subst (λ (at : ℕ). Follows ops len at (start_of kind) (offsets_of m ops len n c d run) d.offset p.0) s.offset p.1, p.2)
+
+  -- a run has no more pieces than operations before it name
+  run_pieces : (m : Meaning) (n i : ℕ) (c d : Configuration) → i ≤ length ops → place ops len i ≡ c.offset → length c.pieces ≤ pieces_before ops i → Run m ops len n c d → (j : ℕ) × (j ≤ length ops) × (place ops len j ≡ d.offset) × (length d.pieces ≤ pieces_before ops j)
+  run_pieces m zero i c d le at few run =
+      let same = ap (λ (e : Configuration). length e.pieces) run in
+      (i, le, at ∙ ap (λ (e : Configuration). e.offset) run, omega (arith, same, few))
+  run_pieces m (suc n) i c d le at few run =
+      let t = run.1 in
+      let x = t.meets.placed in
+      let e = step_edge m (start_of kind) c run.0 t in
+      let l = edge_lands ops len c.offset (start_of kind) run.0.offset (state_after (effect_of x.1) (start_of kind)) e in
+      let same : e.number ≡ i = place_inj ops len laid e.number i (omega (arith, slice_get_within ops e.number e.placed e.stands)) le (place_of_some ops len e.number e.placed e.stands ∙ e.from ∙ sym at) in
+      let here : t.meets.number ≡ i = place_inj ops len laid t.meets.number i (omega (arith, slice_get_within ops t.meets.number x t.meets.stands)) le (place_of_some ops len t.meets.number x t.meets.stands ∙ t.meets.from ∙ sym at) in
+      let named_here = pieces_with ops t.meets.number x t.meets.stands in
+      let before : pieces_before ops t.meets.number ≡ pieces_before ops i = ap (pieces_before ops) here in
+      let later = pieces_mono ops (t.meets.number + 1) l.number (omega (arith, l.later, same, here)) in
+      let more = ap length t.pieces ∙ length-pieces_after (effect_of x.1).role c.pieces (record { location = location_of c.stack c.pending; size = extent_of x.1 }) in
+      run_pieces m n l.number run.0 d l.within l.there (omega (arith, few, named_here, before, later, more)) run.2
+
+  pieces_at : (m : Meaning) (c d : Configuration) (n : ℕ) → Starts kind c → Run m ops len n c d → (j : ℕ) × (j ≤ length ops) × (place ops len j ≡ d.offset) × (length d.pieces ≤ pieces_before ops j)
+  pieces_at m c d n s run = run_pieces m n 0 c d (omega arith) (laid.first ∙ sym s.offset) (let none = ap length s.pieces in omega (arith, none)) run
+
+  few_pieces : (m : Meaning) (c d : Configuration) (n : ℕ) → Starts kind c → Run m ops len n c d → length d.pieces ≤ MAX_PIECES
+  few_pieces m c d n s run =
+      let there = pieces_at m c d n s run in
+      omega (arith, there.3, pieces_mono ops there.0 (length ops) there.1, good.pieces)
+
+  counted : Bool → ℕ
+  counted b = cond b 1 0
+
+  room_for_piece : (m : Meaning) (c d : Configuration) (n : ℕ) → Starts kind c → Run m ops len n c d → (t : Meets ops d) → is_piece (effect_of t.placed.1).role ≡ true → length d.pieces < MAX_PIECES
+  unfolding counted
+  room_for_piece m c d n s run t names =
+      let there = pieces_at m c d n s run in
+      let lt = slice_get_within ops t.number t.placed t.stands in
+      let same : t.number ≡ there.0 = place_inj ops len laid t.number there.0 (omega (arith, lt)) there.1 (place_of_some ops len t.number t.placed t.stands ∙ t.from ∙ sym there.2) in
+      let before : pieces_before ops t.number ≡ pieces_before ops there.0 = ap (pieces_before ops) same in
+      let names_one = ap (λ (b : Bool). counted b) names in
+      let more = pieces_with ops t.number t.placed t.stands in
+      omega (arith, there.3, before, names_one, more, pieces_mono ops (t.number + 1) (length ops) (omega (arith, lt)), good.pieces)
+
+  room_at : (m : Meaning) (depth : ℕ) (c d : Configuration) (n : ℕ) → IsDepth kind ops len depth → Starts kind c → Run m ops len n c d → (t : Meets ops d) → length d.stack - (effect_of t.placed.1).takes + (effect_of t.placed.1).adds ≤ depth
+  unfolding Stands
+  room_at m depth c d n deep s run t =
+      let here = run_follows m n c d (starts c s) run in
+      let below = deep.greatest (height_after (effect_of t.placed.1) here.0) (inr (t.number, t.placed, here.0, t.stands, reach_from kind ops len d.offset t.placed.0 here.0 here.0 (sym t.from) refl here.1, inr refl)) in
+      omega (arith, below, here.2.height)
+
+  starts_within : (j at : ℕ) → place ops len j ≡ at → IsStart ops len at
+  starts_within j at e = elim (slice_get_cases ops j).1 [
+    | inl found ↦ inr (j, found.0, found.2, sym (place_of_some ops len j found.0 found.2) ∙ e)
+    | inr past ↦ inl (sym e ∙ place_past ops len j past.0)
+  ]
+
+  pub stands_on_start : (m : Meaning) (c d : Configuration) (n : ℕ) → Starts kind c → Run m ops len n c d → IsStart ops len d.offset
+  stands_on_start m c d n s run =
+      let l = run_later m n 0 c d (omega arith) (laid.first ∙ sym s.offset) run in
+      starts_within l.0 d.offset l.3
+
   pub good_runs : (depth : ℕ) → IsDepth kind ops len depth → RunsWell kind ops len depth
   unfolding Stands
   good_runs depth deep = record {
     follows = λ m c d n s run. run_follows m n c d (starts c s) run;
+    path = path_from_start;
+    stands = stands_on_start;
+    room = λ m c d n s run t. room_at m depth c d n deep s run t;
+    pieces = few_pieces;
+    room_for_piece = room_for_piece;
     bounded = λ m c d n s run. bound m n depth c d deep (starts c s) (omega (arith, s.stack, deep.greatest (start_of kind).height (inl refl))) run;
     short = λ m c d n s run. let l = run_later m n 0 c d (omega arith) (laid.first ∙ sym s.offset) run in omega (arith, l.1, l.2);
     stops = λ m c d n why s run stop. let l = run_later m n 0 c d (omega arith) (laid.first ∙ sym s.offset) run in let b = before_end l.0 d l.2 l.3 stop.meets in omega (arith, l.1, b);
@@ -286,3 +365,15 @@ module _ (kind : Kind) (ops : List Placed) (len : ℕ) (laid : IsLaidOut ops len
   pub run_stands : (m : Meaning) (n : ℕ) (c d : Configuration) → Starts kind c → Run m ops len n c d → (s : StackState) × Reaches kind ops len d.offset s × Agrees s d
   unfolding Stands
   run_stands m n c d s run = run_follows m n c d (starts c s) run
+
+  -- where a run stands at an operation it is as the certificate says
+  pub as_certified : (states : List State) → AreStates kind ops len states → (m : Meaning) (c d : Configuration) (n k : ℕ) → Starts kind c → Run m ops len n c d → k < length ops → d.offset ≡ place ops len k → (s : StackState) × (slice_get states k ≡ Some (at_offset d.offset s)) × Agrees s d
+  as_certified states are m c d n k s run lt at =
+      let here = run_stands m n c d s run in
+      elim (slice_get_cases ops k).1 [
+        | inl found ↦
+            let same : d.offset ≡ found.0.0 = at ∙ place_of_some ops len k found.0 found.2 in
+            let state = are.each k found.0 here.0 found.2 (reach_from kind ops len d.offset found.0.0 here.0 here.0 same refl here.1) in
+            (here.0, state ∙ ap (λ (n : ℕ). Some (at_offset n here.0)) (sym same), here.2)
+        | inr past ↦ absurd (omega (arith, lt, past.0))
+      ]

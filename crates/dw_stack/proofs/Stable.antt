@@ -5,18 +5,21 @@ use Rattle.std.specs.Coded.{Coded-set, coded_ℕ, coded_bool, ×_prop, →_prop,
 use Rattle.std.proofs.Common.{◌≡◌, ℕ, zero, suc, ◌≤◌, ◌⊎◌, Bool, List, length, Option, Some, None, refl, sym, ap, ◌∙◌, inl, inr, arith}
 use Rattle.std.specs.Prelude.{slice_get, ◌==◌}
 use Rattle.std.proofs.lemmas.Bool.{cases_eq}
+use Rattle.std.proofs.lemmas.Option.{same_Some}
 use Rattle.dw_bytes.specs.declared.fault.Fault.{Fault}
 use Rattle.dw_stack.specs.declared.effect.Role.{Role}
 use Rattle.dw_stack.specs.declared.effect.Role.TheVariants as role
 use Rattle.dw_stack.specs.declared.effect.StackEffect.{StackEffect}
 use Rattle.dw_stack.specs.declared.state.Mode.{Mode}
 use Rattle.dw_stack.specs.declared.state.Mode.TheVariants as mode
+use Rattle.dw_stack.specs.declared.state.State.{State}
 use Rattle.dw_stack.specs.declared.state.StackState.{StackState}
 use Rattle.dw_stack.specs.declared.state.Kind.{Kind}
 use Rattle.dw_stack.specs.declared.state.Kind.TheVariants.{FrameCfa, FrameRegister, Location}
 use Rattle.dw_stack.specs.Effects.{effect_of}
-use Rattle.dw_stack.specs.States.{StandsAlone, ResultOf}
-use Rattle.dw_stack.specs.Paths.{Placed, place, IsLaidOut, target_of, IsTarget, IsAllowed, IsGood}
+use Rattle.dw_stack.specs.States.{StandsAlone, ResultOf, at_offset}
+use Rattle.dw_stack.specs.Paths.{Placed, place, IsLaidOut, target_of, IsTarget, IsAllowed, IsGood, AreStates}
+use Rattle.dw_stack.specs.FirstFault.{number_of}
 use Rattle.dw_stack.specs.Expressions.{operations_in, reading_fault, Checked, IsChecked}
 use Rattle.dw_stack.proofs.Places.{place_inj}
 use Rattle.dw_stack.proofs.Spelled.{spelled_of, read_of, laid_out}
@@ -62,12 +65,6 @@ result-prop FrameRegister mode.Register empty pieced h = ⊥_prop
 result-prop FrameRegister mode.Value empty pieced h = ⊥_prop
 result-prop FrameRegister mode.AfterPiece empty pieced h = ⊥_prop
 
-pub number_of : Mode → ℕ
-number_of mode.Stack = 0
-number_of mode.Register = 1
-number_of mode.Value = 2
-number_of mode.AfterPiece = 3
-
 mode_of : ℕ → Mode
 mode_of zero = mode.Stack
 mode_of (suc zero) = mode.Register
@@ -75,7 +72,7 @@ mode_of (suc (suc zero)) = mode.Value
 mode_of _ = mode.AfterPiece
 
 mode_back : (m : Mode) → mode_of (number_of m) ≡ m
-unfolding mode_of number_of
+unfolding mode_of
 mode_back mode.Stack = refl
 mode_back mode.Register = refl
 mode_back mode.Value = refl
@@ -98,6 +95,29 @@ state_stable s t h =
     let second : made t.height s.mode s.pieced ≡ made t.height t.mode s.pieced = ap (λ (m : Mode). made t.height m s.pieced) same in
     let third : made t.height t.mode s.pieced ≡ made t.height t.mode t.pieced = ap (λ (b : Bool). made t.height t.mode b) pieced in
     first ∙ (second ∙ third)
+
+-- the state without its offset
+abbrev state_in : State → StackState
+state_in s = made s.height s.mode s.pieced
+
+located_stable : (s t : State) → ∥ s ≡ t ∥₁ → s ≡ t
+located_stable s t h =
+    let offset : s.offset ≡ t.offset = ∥∥₁_elim h (Coded-set coded_ℕ _ _) (λ e. ap (λ (x : State). x.offset) e) in
+    let state : state_in s ≡ state_in t = state_stable (state_in s) (state_in t) (∥∥₁_elim h ∥∥₁_prop (λ e. ∣ ap (λ (x : State). state_in x) e ∣₁)) in
+    let moved : at_offset s.offset (state_in s) ≡ at_offset t.offset (state_in s) = ap (λ (n : ℕ). at_offset n (state_in s)) offset in
+    let changed : at_offset t.offset (state_in s) ≡ at_offset t.offset (state_in t) = ap (λ (x : StackState). at_offset t.offset x) state in
+    moved ∙ changed
+
+found_stable : (o : Option State) (t : State) → ∥ o ≡ Some t ∥₁ → o ≡ Some t
+found_stable None t h = absurd (∥∥₁_elim h ⊥_prop (λ e. cc))
+found_stable (Some s) t h = ap (λ (x : State). Some x) (located_stable s t (∥∥₁_elim h ∥∥₁_prop (λ e. ∣ same_Some s t e ∣₁)))
+
+-- what merely are the states are the states
+pub states_stable : (kind : Kind) (ops : List Placed) (len : ℕ) (states : List State) → ∥ AreStates kind ops len states ∥₁ → AreStates kind ops len states
+states_stable kind ops len states h = record {
+  long = ∥∥₁_elim h (Coded-set coded_ℕ _ _) (λ are. are.long);
+  each = λ k x s stands r. found_stable (slice_get states k) (at_offset x.0 s) (∥∥₁_elim h ∥∥₁_prop (λ are. ∣ are.each k x s stands r ∣₁));
+}
 
 -- an operation, or the end, begins at t, or none does
 pub find_place : (ops : List Placed) (len t n : ℕ) → ((j : ℕ) × (j ≤ n) × (place ops len j ≡ t)) ⊎ ((j : ℕ) → j ≤ n → place ops len j ≡ t → ⊥)

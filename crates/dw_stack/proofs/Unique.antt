@@ -15,7 +15,8 @@ use Rattle.dw_stack.specs.declared.state.State.{State}
 use Rattle.dw_stack.specs.Paths.{Placed, IsGood, AreStates, IsDepth}
 use Rattle.dw_stack.specs.Faults.{Refuses, rank, IsFirstFault}
 use Rattle.dw_stack.specs.Expressions.{IsFaultOf}
-use Rattle.dw_stack.proofs.Stable.{mode_stable, number_of}
+use Rattle.dw_stack.specs.FirstFault.{number_of}
+use Rattle.dw_stack.proofs.Stable.{mode_stable}
 
 -- ---- the depth
 

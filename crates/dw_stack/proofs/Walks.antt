@@ -231,7 +231,7 @@ depth_more kind ops len i d h x s r one below = record { touched = touched; grea
         ]
 
 -- one operation more, of which the test says whether it names a piece
-count_more : (ops : List Placed) (i pieces : ℕ) (x : Placed) (b : Bool) → slice_get ops i ≡ Some x → b ≡ is_piece (effect_of x.1).role → pieces ≡ pieces_before ops i → (pieces + cond b 1 0) ≡ pieces_before ops (i + 1)
+pub count_more : (ops : List Placed) (i pieces : ℕ) (x : Placed) (b : Bool) → slice_get ops i ≡ Some x → b ≡ is_piece (effect_of x.1).role → pieces ≡ pieces_before ops i → (pieces + cond b 1 0) ≡ pieces_before ops (i + 1)
 count_more ops i pieces x true s is counted =
     let read : get_or ops i x ≡ x = get_or_from_slice_get ops i x x s in
     let yes : is_piece (effect_of (get_or ops i x).1).role ≡ true = ap (λ (y : Placed). is_piece (effect_of y.1).role) read ∙ sym is in

@@ -8,3 +8,4 @@ pub mod Machine
 pub mod Expressions
 pub mod Views
 pub mod Certificates
+pub mod FirstFault

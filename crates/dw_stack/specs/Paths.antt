@@ -23,6 +23,10 @@ place [] len j = len
 place (x ∷ xs) len zero = x.0
 place (x ∷ xs) len (suc j) = place xs len j
 
+-- an operation begins at this offset, or it is the length
+abbrev pub IsStart : List Placed → ℕ → ℕ → Type 0
+IsStart ops len at = (at ≡ len) ⊎ ((k : ℕ) × (x : Placed) × (slice_get ops k ≡ Some x) × (x.0 ≡ at))
+
 -- the operations follow each other from offset 0 on, up to the length
 pub record IsLaidOut (ops : List Placed) (len : ℕ) : Type 0 where
   pub first : place ops len 0 ≡ 0

@@ -1,5 +1,8 @@
 //! The certificate of an expression.
 
+ghost use Rattle.dw_ops.specs.Views.{bytes_of, target_of};
+ghost use Rattle.dw_stack.specs.Expressions.{AreStatesOf};
+
 use crate::checked::CheckedExpression;
 use crate::state::State;
 use smallvec::SmallVec;
@@ -9,6 +12,7 @@ use smallvec::SmallVec;
 pub struct Certificate<'a> {
     pub(crate) checked: CheckedExpression<'a>,
     pub(crate) states: SmallVec<State, 16>,
+    pub ghost certified: { ∥ AreStatesOf checked.kind (target_of checked.expression) (bytes_of checked.expression) states.items ∥₁ },
 }
 
 impl<'a> Certificate<'a> {
@@ -17,7 +21,8 @@ impl<'a> Certificate<'a> {
 
     /// The state before each operation, in their order: the one that every path which comes there has.
     pub fn states(&self) -> &[State]
-        ensures { result.now ≡ states_in self.now }
+        ensures value { result.now ≡ states_in self.now }
+        ensures states { AreStatesOf (checked_in self.now).kind (checked_in self.now).target (checked_in self.now).bytes result.now }
     {
         self.states.as_slice()
     }

@@ -3,6 +3,7 @@
 ghost use Rattle.dw_ops.specs.Views.{bytes_of, target_of};
 ghost use Rattle.dw_stack.specs.Expressions.{IsChecked};
 
+use crate::judge::MAX_HEIGHT;
 use crate::state::Kind;
 use dw_ops::Expression;
 
@@ -18,7 +19,7 @@ pub struct CheckedExpression<'a> {
 }
 
 impl<'a> CheckedExpression<'a> {
-    ghost use Rattle.std.specs.Prelude.{◌≡◌, length};
+    ghost use Rattle.std.specs.Prelude.{◌≡◌, ◌≤◌, length};
     ghost use Rattle.dw_stack.specs.Expressions.{IsGoodExpression, IsDepthOf, RunsWellWithin, operations_in};
     ghost use Rattle.dw_stack.specs.Certificates.{checked_of};
 
@@ -51,10 +52,11 @@ impl<'a> CheckedExpression<'a> {
         self.kind
     }
 
-    /// The greatest height on any path, the start included. No run of the expression has more entries.
+    /// The greatest height on any path, the start included, at most `MAX_HEIGHT`. No run of the expression has more entries.
     pub fn depth(&self) -> u8
         ensures value { result ≡ (checked_of self.now).depth }
         ensures depth { IsDepthOf (checked_of self.now).kind (checked_of self.now).target (checked_of self.now).bytes result }
+        ensures limit { result ≤ MAX_HEIGHT }
         ensures runs { RunsWellWithin (checked_of self.now).kind (checked_of self.now).target (checked_of self.now).bytes result }
     {
         self.depth

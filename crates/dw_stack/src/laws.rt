@@ -1,20 +1,47 @@
 //! Laws of expressions: functions that do nothing, each with the law as its contract.
 
-ghost use Rattle.std.specs.Prelude.{◌≡◌, ◌+◌, ◌<◌, ◌≤◌, ◌⊎◌, ℕ, List, length, slice_get, Option, Some, None, Ok};
+ghost use Rattle.std.specs.Prelude.{◌≡◌, ◌+◌, ◌<◌, ◌≤◌, ◌⊎◌, ◌↔◌, ℕ, List, length, slice_get, Option, Some, None, Ok};
 ghost use Rattle.dw_bytes.specs.declared.target.Target.{Target};
 ghost use Rattle.dw_bytes.specs.declared.fault.Fault.{Fault};
 ghost use Rattle.dw_stack.specs.declared.state.Kind.{Kind};
 ghost use Rattle.dw_stack.specs.declared.state.State.{State};
 ghost use Rattle.dw_stack.specs.declared.state.StackState.{StackState};
 ghost use Rattle.dw_ops.specs.Opcodes.{operation_at};
-ghost use Rattle.dw_stack.specs.Paths.{Placed, place, IsLaidOut, Reaches};
-ghost use Rattle.dw_stack.specs.Machine.{Configuration, Agrees, Meets};
+ghost use Rattle.dw_stack.specs.States.{at_offset};
+ghost use Rattle.dw_stack.specs.Paths.{Placed, place, IsStart, IsLaidOut, Reaches};
+ghost use Rattle.dw_stack.specs.Machine.{Configuration, Meaning, Starts, Run, Agrees, Meets, IsOver};
 ghost use Rattle.dw_stack.specs.Expressions.{operations_in, reading_at, IsGoodExpression, IsDepthOf, AreStatesOf, RunsWellWithin, IsFaultOf};
+ghost use Rattle.dw_stack.specs.FirstFault.{expression_fault};
+
+use crate::judge::{MAX_HEIGHT, MAX_PIECES};
 
 /// Every run of a good expression, whatever the registers, the memory and the context, follows a path, is as the state
 /// there says, never has more entries than the depth, takes no more steps than there are operations, and is never stuck.
 pub fn good_expressions_run_well()
     ensures { (kind : Kind) (target : Target) (bytes : List ℕ) (depth : ℕ) → IsGoodExpression kind target bytes → IsDepthOf kind target bytes depth → RunsWellWithin kind target bytes depth }
+{}
+
+/// Wherever a run of a good expression stands at an operation, its height, its mode and whether a piece came before are those
+/// of the certificate's state there.
+pub fn runs_are_as_certified()
+    ensures { (kind : Kind) (target : Target) (bytes : List ℕ) (states : List State) → IsGoodExpression kind target bytes → AreStatesOf kind target bytes states → (m : Meaning) (c d : Configuration) (n k : ℕ) → Starts kind c → Run m (operations_in target bytes) (length bytes) n c d → k < length (operations_in target bytes) → d.offset ≡ place (operations_in target bytes) (length bytes) k → (s : StackState) × (slice_get states k ≡ Some (at_offset d.offset s)) × Agrees s d }
+{}
+
+/// A run of a good expression stands where an operation begins, or at the end, and never inside an operation.
+pub fn runs_stand_on_operations()
+    ensures { (kind : Kind) (target : Target) (bytes : List ℕ) → IsGoodExpression kind target bytes → (m : Meaning) (c d : Configuration) (n : ℕ) → Starts kind c → Run m (operations_in target bytes) (length bytes) n c d → IsStart (operations_in target bytes) (length bytes) d.offset }
+{}
+
+/// A run of a good expression has one end: for the same registers, memory and context, and from the same start, any two that
+/// are over took as many steps and stand in the same configuration.
+pub fn one_run()
+    ensures { (kind : Kind) (target : Target) (bytes : List ℕ) → IsGoodExpression kind target bytes → (m : Meaning) (n k : ℕ) (c d e : Configuration) → Run m (operations_in target bytes) (length bytes) n c d → IsOver kind m (operations_in target bytes) (length bytes) d → Run m (operations_in target bytes) (length bytes) k c e → IsOver kind m (operations_in target bytes) (length bytes) e → (n ≡ k) × (d ≡ e) }
+{}
+
+/// The numbers of this checker's two limits.
+pub fn limits()
+    ensures height { MAX_HEIGHT ≡ 64 }
+    ensures pieces { MAX_PIECES ≡ 32 }
 {}
 
 /// A good expression has no fault.
@@ -25,6 +52,13 @@ pub fn good_expressions_have_no_fault()
 /// Every expression is good or has a first fault.
 pub fn every_expression_has_a_verdict()
     ensures { (kind : Kind) (target : Target) (bytes : List ℕ) → IsGoodExpression kind target bytes ⊎ ((f : Fault) × IsFaultOf kind target bytes None f) }
+{}
+
+/// The fault that a function of the bytes names is the first fault: none exactly where the expression is good, and f exactly
+/// where f is its first fault.
+pub fn the_fault_is_the_first()
+    ensures none { (kind : Kind) (target : Target) (bytes : List ℕ) → (expression_fault kind target bytes ≡ None) ↔ IsGoodExpression kind target bytes }
+    ensures some { (kind : Kind) (target : Target) (bytes : List ℕ) (f : Fault) → (expression_fault kind target bytes ≡ Some f) ↔ IsFaultOf kind target bytes None f }
 {}
 
 /// There is one first fault.

@@ -21,4 +21,8 @@ pub use state::{Kind, Mode, State};
 pub use verify::{CertFault, certify, recheck};
 
 #[cfg(test)]
+mod given_tests;
+#[cfg(test)]
+mod hostile_tests;
+#[cfg(test)]
 mod tests;

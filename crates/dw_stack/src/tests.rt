@@ -7,44 +7,33 @@ use std::alloc::Global;
 use std::process::Abort;
 use std::test::Fail;
 
-const LITTLE: Target = Target {
+pub(crate) const LITTLE: Target = Target {
     order: Order::Little,
     address_size: AddressSize::Eight,
 };
 
+const BIG: Target = Target {
+    order: Order::Big,
+    address_size: AddressSize::Eight,
+};
+
 /// The depth and the count of operations, or the refusal.
-fn judged(alloc: Global, bytes: &[u8], kind: Kind) -> Result<(u8, u32), Fault>
+fn judged_under(alloc: Global, target: Target, bytes: &[u8], kind: Kind) -> Result<(u8, u32), Fault>
     requires { length bytes.now < 2 ^ 32 }
 {
-    let certificate = certify(alloc, Expression::new(bytes, LITTLE), kind)?;
+    let certificate = certify(alloc, Expression::new(bytes, target), kind)?;
     let checked = certificate.into_checked();
     Ok((checked.depth(), checked.operation_count()))
 }
 
-/// The same of given states.
-fn rechecked(
-    alloc: Global,
-    bytes: &[u8],
-    kind: Kind,
-    states: &[State],
-) -> Result<(u8, u32), CertFault>
+pub(crate) fn judged(alloc: Global, bytes: &[u8], kind: Kind) -> Result<(u8, u32), Fault>
     requires { length bytes.now < 2 ^ 32 }
 {
-    let checked = recheck(alloc, Expression::new(bytes, LITTLE), kind, states)?;
-    Ok((checked.depth(), checked.operation_count()))
+    judged_under(alloc, LITTLE, bytes, kind)
 }
 
-fn refusal(kind: FaultKind, at: u32) -> Result<(u8, u32), Fault> {
+pub(crate) fn refusal(kind: FaultKind, at: u32) -> Result<(u8, u32), Fault> {
     Err(Fault { kind, at })
-}
-
-fn state(offset: u32, height: u8) -> State {
-    State {
-        offset,
-        height,
-        mode: Mode::Stack,
-        pieced: false,
-    }
 }
 
 #[test]
@@ -75,6 +64,11 @@ fn straight_lines(rt: HostRuntime) {
         judged(alloc, &[0x08], kind),
         refusal(FaultKind::Truncated, 1)
     );
+    // Reading comes before the underflow at 0.
+    assert_eq!(rt;
+        judged(alloc, &[0x12, 0x08], kind),
+        refusal(FaultKind::Truncated, 2)
+    );
     assert_eq!(rt;
         judged(alloc, &[0x18], kind),
         refusal(FaultKind::UnknownOperation, 0)
@@ -99,6 +93,11 @@ fn kinds(rt: HostRuntime) {
     );
     assert_eq!(rt;
         judged(alloc, &[0x9c], Kind::FrameCfa),
+        refusal(FaultKind::NotInFrame, 0)
+    );
+    // The kind comes before the underflow.
+    assert_eq!(rt;
+        judged(alloc, &[0x9f], Kind::FrameCfa),
         refusal(FaultKind::NotInFrame, 0)
     );
     assert_eq!(rt; judged(alloc, &[], Kind::FrameRegister), Ok((1, 0)));
@@ -143,6 +142,28 @@ fn branches(rt: HostRuntime) {
     assert_eq!(rt;
         judged(alloc, &[0x2f, 0x01, 0x00, 0x96, 0x2f, 0xfc, 0xff], kind),
         refusal(FaultKind::Unreachable, 3)
+    );
+}
+
+#[test]
+fn ends_of_branches(rt: HostRuntime) {
+    let alloc = rt.alloc();
+    let kind = Kind::Location;
+    // The branch leaves 1 at the end, the next operation 0.
+    assert_eq!(rt;
+        judged(alloc, &[0x30, 0x30, 0x28, 0x01, 0x00, 0x13], kind),
+        refusal(FaultKind::Mismatch, 6)
+    );
+    // A byte past the end is no target.
+    assert_eq!(rt;
+        judged(alloc, &[0x30, 0x28, 0x05, 0x00], kind),
+        refusal(FaultKind::TargetNotStart, 1)
+    );
+    let nop_ahead = [0x30, 0x28, 0x00, 0x01, 0x96, 0x32];
+    assert_eq!(rt; judged_under(alloc, BIG, &nop_ahead, kind), Ok((1, 4)));
+    assert_eq!(rt;
+        judged(alloc, &nop_ahead, kind),
+        refusal(FaultKind::TargetNotStart, 1)
     );
 }
 
@@ -217,124 +238,6 @@ fn many_pieces(rt: HostRuntime) -> Result<(), Fail> {
         refusal(FaultKind::TooManyPieces, 64)
     );
     Ok(())
-}
-
-#[test]
-fn given_states(rt: HostRuntime) {
-    let alloc = rt.alloc();
-    let kind = Kind::Location;
-    let sum = [0x32, 0x33, 0x22];
-    let right = [state(0, 0), state(1, 1), state(2, 2)];
-    assert_eq!(rt; rechecked(alloc, &sum, kind, &right), Ok((2, 3)));
-    let late = [state(0, 0), state(1, 1), state(2, 1)];
-    assert_eq!(rt;
-        rechecked(alloc, &sum, kind, &late),
-        refusal(FaultKind::CertState, 2)
-    );
-    let early = [state(0, 1), state(1, 1), state(2, 2)];
-    assert_eq!(rt;
-        rechecked(alloc, &sum, kind, &early),
-        refusal(FaultKind::CertState, 0)
-    );
-    let moved = [state(0, 0), state(1, 1), state(3, 2)];
-    assert_eq!(rt;
-        rechecked(alloc, &sum, kind, &moved),
-        refusal(FaultKind::CertState, 2)
-    );
-    assert_eq!(rt;
-        rechecked(alloc, &sum, kind, &right[..2]),
-        refusal(FaultKind::CertLength, 0)
-    );
-    let meeting = [0x30, 0x28, 0x01, 0x00, 0x31, 0x32];
-    let falling = [state(0, 0), state(1, 1), state(4, 0), state(5, 1)];
-    assert_eq!(rt;
-        rechecked(alloc, &meeting, kind, &falling),
-        refusal(FaultKind::Mismatch, 5)
-    );
-    let branching = [state(0, 0), state(1, 1), state(4, 0), state(5, 0)];
-    assert_eq!(rt;
-        rechecked(alloc, &meeting, kind, &branching),
-        refusal(FaultKind::Mismatch, 5)
-    );
-    assert_eq!(rt;
-        rechecked(
-            alloc,
-            &[0x12, 0x22],
-            Kind::FrameRegister,
-            &[state(0, 1), state(1, 2)]
-        ),
-        Ok((2, 2))
-    );
-}
-
-/// States that differ from one in one part.
-fn forged(state: State) -> [State; 7] {
-    let other = |mode| State { mode, ..state };
-    let (first, second, third) = match state.mode {
-        Mode::Stack => (Mode::Register, Mode::Value, Mode::AfterPiece),
-        Mode::Register => (Mode::Stack, Mode::Value, Mode::AfterPiece),
-        Mode::Value => (Mode::Stack, Mode::Register, Mode::AfterPiece),
-        Mode::AfterPiece => (Mode::Stack, Mode::Register, Mode::Value),
-    };
-    [
-        State {
-            offset: state.offset ^ 1,
-            ..state
-        },
-        State {
-            height: state.height ^ 1,
-            ..state
-        },
-        State {
-            height: state.height ^ 64,
-            ..state
-        },
-        other(first),
-        other(second),
-        other(third),
-        State {
-            pieced: !state.pieced,
-            ..state
-        },
-    ]
-}
-
-/// The certificate's states are taken; none that differs in one place is, nor one with a state more or less.
-fn takes_only_its_own(rt: &impl Abort, alloc: Global, bytes: &[u8], kind: Kind) -> Result<(), Fail>
-    requires { length bytes.now < 2 ^ 32 }
-{
-    let certificate = certify(alloc, Expression::new(bytes, LITTLE), kind)?;
-    let states = certificate.states();
-    assert!(rt; rechecked(alloc, bytes, kind, states).is_ok());
-    let short = refusal(FaultKind::CertLength, 0);
-    let mut given = states.to_vec(alloc)?;
-    given.push(state(0, 0))?;
-    assert_eq!(rt; rechecked(alloc, bytes, kind, &given), short);
-    let _ = given.pop();
-    let _ = given.pop();
-    assert_eq!(rt; rechecked(alloc, bytes, kind, &given), short);
-    for i in 0..states.len() {
-        for state in forged(states[i]) {
-            let mut given = states.to_vec(alloc)?;
-            assert!(rt; i < given.len());
-            given[i] = state;
-            assert_eq!(rt;
-                rechecked(alloc, bytes, kind, &given),
-                refusal(FaultKind::CertState, states[i].offset)
-            );
-        }
-    }
-    drop(certificate);
-    Ok(())
-}
-
-#[test]
-fn forged_states(rt: HostRuntime) -> Result<(), Fail> {
-    let alloc = rt.alloc();
-    takes_only_its_own(&rt, alloc, &[0x32, 0x33, 0x22], Kind::Location)?;
-    takes_only_its_own(&rt, alloc, &[0x31, 0x32, 0x28, 0x00, 0x00], Kind::Location)?;
-    takes_only_its_own(&rt, alloc, &[0x50, 0x93, 0x04, 0x93, 0x04], Kind::Location)?;
-    takes_only_its_own(&rt, alloc, &[0x12, 0x22], Kind::FrameRegister)
 }
 
 #[test]

@@ -1,10 +1,11 @@
 //! Certifying expressions.
 
 ghost use Rattle.std.specs.Prelude.{◌≡◌, ◌⊎◌, ◌≤◌, ◌↔◌, IsTrue, IfSome, length, OnOk, IfOk, IfErr, None, Some};
-ghost use Rattle.dw_bytes.specs.Answers.{memory};
+ghost use Rattle.dw_bytes.specs.Answers.{memory, Answers};
 ghost use Rattle.dw_ops.specs.Views.{bytes_of, target_of};
 ghost use Rattle.dw_stack.specs.Arrivals.{given_of};
 ghost use Rattle.dw_stack.specs.Expressions.{IsGoodExpression, AreStatesOf, IsChecked, IsFaultOf, IsOf, RunsWellWithin, Knows};
+ghost use Rattle.dw_stack.specs.FirstFault.{expression_fault};
 ghost use Rattle.dw_stack.specs.Certificates.{checked_of, checked_in, states_in};
 
 use crate::certificate::Certificate;
@@ -75,6 +76,7 @@ pub fn certify<'a>(
     ensures same { IfOk result (λ c. IsOf kind (target_of expression.entry) (bytes_of expression.entry) (checked_in c)) }
     ensures states { IfOk result (λ c. AreStatesOf kind (target_of expression.entry) (bytes_of expression.entry) (states_in c)) }
     ensures runs { IfOk result (λ c. RunsWellWithin kind (target_of expression.entry) (bytes_of expression.entry) (checked_in c).depth) }
+    ensures answer { Answers (expression_fault kind (target_of expression.entry) (bytes_of expression.entry)) result }
     ensures fault { IfErr result (λ f. (f ≡ memory) ⊎ IsFaultOf kind (target_of expression.entry) (bytes_of expression.entry) None f) }
     ensures inside { IfErr result (λ f. f.at ≤ length (bytes_of expression.entry)) }
     ensures only { IsGoodExpression kind (target_of expression.entry) (bytes_of expression.entry) → IfErr result (λ f. f ≡ memory) }

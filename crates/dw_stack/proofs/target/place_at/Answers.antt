@@ -11,7 +11,7 @@ returns-else-from-target-2-clause-err c =
     let long = listed_length c.args.operations.now in
     let done : c.loop-low.low ≡ c.loop-low.high = omega arith in
     let same : place ops c.args.end c.loop-low.low ≡ place ops c.args.end c.loop-low.high = ap (place ops c.args.end) done in
-    (refl, λ j le. nowhere ops c.args.end c.requires.laid c.loop-low.low c.args.target (omega arith) (omega (arith, long)) c.loop-low.invariant.below (λ lt. let le = c.loop-low.invariant.above (omega (arith, long)) in omega arith) (λ e. c.if-from-target-2.false (c.from-2.ensures ∙ c.place_of.ensures ∙ e)) j (omega (arith, long)))
+    (refl, λ j le. nowhere ops c.args.end c.requires.laid c.loop-low.low c.args.target (omega arith) (omega (arith, long)) c.loop-low.invariant.below (λ lt. let le = c.loop-low.invariant.above (omega (arith, long)) in omega arith) (λ e. omega (arith, e, c.from-2.ensures, c.place_of.ensures, c.if-from-target-2.false)) j (omega (arith, long)))
 
 pub loop-low-preserved-then-from-target : goal.loop-low-preserved-then-from-target
 loop-low-preserved-then-from-target c = record {

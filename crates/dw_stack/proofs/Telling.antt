@@ -1,0 +1,168 @@
+-- What the tests of an expression's operations tell.
+use Rattle.std.proofs.Common.{◌≡◌, ◌≢◌, ◌∙◌, ℕ, zero, suc, ◌+◌, ◌<◌, ◌≤◌, ◌⊎◌, ◌||◌, ◌&&◌, Bool, true, false, not, eqb, leb, ltb, List, [], ◌∷◌, length, Some, refl, sym, ap, inl, inr, arith}
+use Rattle.std.specs.Prelude.{◌==◌, if◌then◌else◌}
+use Rattle.std.specs.List.{list_any, list_all}
+use Rattle.std.proofs.lemmas.Bool.{cases_Bool, eqb-true, eqb-false, leb-true, leb-false, ltb-true, ltb-false, or_left, or_right}
+use Rattle.dw_stack.specs.declared.effect.Role.{Role}
+use Rattle.dw_stack.specs.declared.effect.Role.TheVariants as role
+use Rattle.dw_stack.specs.declared.effect.StackEffect.{StackEffect}
+use Rattle.dw_stack.specs.declared.judge.TheConstants.{MAX_PIECES}
+use Rattle.dw_stack.specs.declared.state.StackState.{StackState}
+use Rattle.dw_stack.specs.declared.state.Mode.{Mode}
+use Rattle.dw_stack.specs.declared.state.Mode.TheVariants as mode
+use Rattle.dw_stack.specs.declared.state.Kind.{Kind}
+use Rattle.dw_stack.specs.declared.state.Kind.TheVariants.{FrameCfa, FrameRegister, Location}
+use Rattle.dw_stack.specs.States.{StandsAlone, ResultOf}
+use Rattle.dw_stack.specs.Paths.{Placed, place, IsAllowed}
+use Rattle.dw_stack.specs.FirstFault.{has_operation, stands_alone, has_result, number_of, same_state, is_start}
+use Rattle.dw_stack.proofs.Arriving.{Has}
+use Rattle.dw_stack.proofs.Stable.{mode_stable}
+
+-- a test is true where this holds, and else false
+abbrev pub Tells : Bool → Type 0 → Type 0
+Tells b P = ((b ≡ true) × P) ⊎ ((b ≡ false) × (P → ⊥))
+
+always : {P : Type 0} → P → Tells true P
+always p = inl (refl, p)
+
+never : {P : Type 0} → (P → ⊥) → Tells false P
+never not_p = inr (refl, not_p)
+
+bool_tells : (b : Bool) → Tells b (b ≡ true)
+bool_tells true = inl (refl, refl)
+bool_tells false = inr (refl, λ e. cc)
+
+not_tells : (b : Bool) → Tells (not b) (b ≡ false)
+not_tells true = inr (refl, λ e. cc)
+not_tells false = inl (refl, refl)
+
+pub equal_tells : (a b : ℕ) → Tells (a == b) (a ≡ b)
+equal_tells a b = elim (cases_Bool (eqb a b)) [ inl is ↦ inl (is, eqb-true a b is) | inr is ↦ inr (is, eqb-false a b is) ]
+
+pub le_tells : (a b : ℕ) → Tells (leb a b) (a ≤ b)
+le_tells a b = elim (cases_Bool (leb a b)) [ inl is ↦ inl (is, leb-true a b is) | inr is ↦ inr (is, λ le. let lt = leb-false a b is in omega (arith, le, lt)) ]
+
+-- ---- the tables
+
+pub operation_tells : (kind : Kind) (e : StackEffect) → Tells (has_operation kind e) (IsAllowed kind e)
+operation_tells Location e = always tt
+operation_tells FrameCfa e = bool_tells e.framed
+operation_tells FrameRegister e = bool_tells e.framed
+
+pub alone_tells : (r : Role) (m : Mode) (h : ℕ) → Tells (stands_alone r m h) (StandsAlone r m h)
+alone_tells role.Piece mode.AfterPiece h = always tt
+alone_tells role.Piece mode.Stack h = le_tells h 1
+alone_tells role.Piece mode.Register h = equal_tells h 0
+alone_tells role.Piece mode.Value h = equal_tells h 0
+alone_tells role.Register mode.Stack h = equal_tells h 0
+alone_tells role.Register mode.AfterPiece h = equal_tells h 0
+alone_tells role.Register mode.Register h = never (λ none. none)
+alone_tells role.Register mode.Value h = never (λ none. none)
+alone_tells role.Bytes mode.Stack h = equal_tells h 0
+alone_tells role.Bytes mode.AfterPiece h = equal_tells h 0
+alone_tells role.Bytes mode.Register h = never (λ none. none)
+alone_tells role.Bytes mode.Value h = never (λ none. none)
+alone_tells role.Plain mode.Stack h = always tt
+alone_tells role.Plain mode.AfterPiece h = always tt
+alone_tells role.Plain mode.Register h = never (λ none. none)
+alone_tells role.Plain mode.Value h = never (λ none. none)
+alone_tells role.Top mode.Stack h = always tt
+alone_tells role.Top mode.AfterPiece h = always tt
+alone_tells role.Top mode.Register h = never (λ none. none)
+alone_tells role.Top mode.Value h = never (λ none. none)
+
+stack_tells : (empty pieced : Bool) (h : ℕ) → Tells (empty || (not pieced && leb 1 h)) (empty ≡ false → (pieced ≡ false) × (1 ≤ h))
+stack_tells true pieced h = inl (refl, λ e. absurd (cc))
+stack_tells false true h = inr (refl, λ has. let plain = (has refl).0 in cc)
+stack_tells false false h = elim (le_tells 1 h) [ inl some ↦ inl (some.0, λ e. (refl, some.1)) | inr none ↦ inr (none.0, λ has. none.1 (has refl).1) ]
+
+pub result_tells : (kind : Kind) (m : Mode) (empty pieced : Bool) (h : ℕ) → Tells (has_result kind m empty pieced h) (ResultOf kind m empty pieced h)
+result_tells Location mode.AfterPiece empty pieced h = always tt
+result_tells Location mode.Stack empty pieced h = stack_tells empty pieced h
+result_tells Location mode.Register empty pieced h = not_tells pieced
+result_tells Location mode.Value empty pieced h = not_tells pieced
+result_tells FrameCfa mode.Stack empty pieced h = le_tells 1 h
+result_tells FrameRegister mode.Stack empty pieced h = le_tells 1 h
+result_tells FrameCfa mode.Register empty pieced h = never (λ none. none)
+result_tells FrameCfa mode.Value empty pieced h = never (λ none. none)
+result_tells FrameCfa mode.AfterPiece empty pieced h = never (λ none. none)
+result_tells FrameRegister mode.Register empty pieced h = never (λ none. none)
+result_tells FrameRegister mode.Value empty pieced h = never (λ none. none)
+result_tells FrameRegister mode.AfterPiece empty pieced h = never (λ none. none)
+
+-- ---- numbers of pieces, states and targets
+
+pub few_tells : (piece : Bool) (pieces : ℕ) → ((not piece || ltb pieces MAX_PIECES ≡ true) × (piece ≡ true → pieces < MAX_PIECES)) ⊎ ((not piece || ltb pieces MAX_PIECES ≡ false) × (piece ≡ true) × (MAX_PIECES ≤ pieces))
+few_tells false pieces = inl (refl, λ e. absurd (cc))
+few_tells true pieces = elim (cases_Bool (ltb pieces MAX_PIECES)) [
+  | inl is ↦ inl (is, λ _. ltb-true pieces MAX_PIECES is)
+  | inr is ↦ inr (is, refl, ltb-false pieces MAX_PIECES is)
+]
+
+flag_tells : (b c : Bool) → Tells (if b then c else not c) (b ≡ c)
+flag_tells true true = inl (refl, refl)
+flag_tells false false = inl (refl, refl)
+flag_tells true false = inr (refl, λ e. cc)
+flag_tells false true = inr (refl, λ e. cc)
+
+both_tell : {P Q R : Type 0} (b c d : Bool) → Tells b P → Tells c Q → Tells d R → Tells (b && c && d) (P × Q × R)
+both_tell b c d first second third = elim first [
+  | inr other ↦ inr (ap (λ (x : Bool). x && c && d) other.0, λ all. other.1 all.0)
+  | inl p ↦ elim second [
+    | inr other ↦ inr (ap (λ (x : Bool). x && c && d) p.0 ∙ ap (λ (x : Bool). true && x && d) other.0, λ all. other.1 all.1)
+    | inl q ↦ elim third [
+      | inr other ↦ inr (ap (λ (x : Bool). x && c && d) p.0 ∙ (ap (λ (x : Bool). true && x && d) q.0 ∙ other.0), λ all. other.1 all.2)
+      | inl r ↦ inl (ap (λ (x : Bool). x && c && d) p.0 ∙ (ap (λ (x : Bool). true && x && d) q.0 ∙ r.0), (p.1, q.1, r.1))
+    ]
+  ]
+]
+
+abbrev made : ℕ → Mode → Bool → StackState
+made height m pieced = record { height = height; mode = m; pieced = pieced }
+
+pub same_tells : (s t : StackState) → Tells (same_state s t) (s ≡ t)
+same_tells s t = elim (both_tell (s.height == t.height) (number_of s.mode == number_of t.mode) (if s.pieced then t.pieced else not t.pieced) (equal_tells s.height t.height) (equal_tells (number_of s.mode) (number_of t.mode)) (flag_tells s.pieced t.pieced)) [
+  | inr other ↦ inr (other.0, λ e. other.1 (ap (λ (x : StackState). x.height) e, ap (λ (x : StackState). number_of x.mode) e, ap (λ (x : StackState). x.pieced) e))
+  | inl all ↦
+      let first : made s.height s.mode s.pieced ≡ made t.height s.mode s.pieced = ap (λ (h : ℕ). made h s.mode s.pieced) all.1.0 in
+      let second : made t.height s.mode s.pieced ≡ made t.height t.mode s.pieced = ap (λ (m : Mode). made t.height m s.pieced) (mode_stable s.mode t.mode all.1.1) in
+      let third : made t.height t.mode s.pieced ≡ made t.height t.mode t.pieced = ap (λ (b : Bool). made t.height t.mode b) all.1.2 in
+      inl (all.0, first ∙ (second ∙ third))
+]
+
+pub others_tell : (s : StackState) (others : List StackState) → ((list_all (same_state s) others ≡ true) × ((t : StackState) → Has others t → t ≡ s)) ⊎ ((list_all (same_state s) others ≡ false) × (t : StackState) × Has others t × (s ≢ t))
+others_tell s [] = inl (refl, λ t h. absurd h)
+others_tell s (u ∷ others) = elim (same_tells s u) [
+  | inr other ↦ inr (ap (λ (b : Bool). b && list_all (same_state s) others) other.0, u, inl refl, other.1)
+  | inl same ↦
+      let passes : list_all (same_state s) (u ∷ others) ≡ list_all (same_state s) others = ap (λ (b : Bool). b && list_all (same_state s) others) same.0 in
+      elim (others_tell s others) [
+        | inr later ↦ inr (passes ∙ later.0, later.1, inr later.2, later.3)
+        | inl all ↦ inl (passes ∙ all.0, λ t h. elim h [ inl here ↦ sym here ∙ sym same.1 | inr later ↦ all.1 t later ])
+      ]
+]
+
+pub start_tells : (ops : List Placed) (len t : ℕ) → ((is_start ops len (Some t) ≡ true) × (j : ℕ) × (j ≤ length ops) × (place ops len j ≡ t)) ⊎ ((is_start ops len (Some t) ≡ false) × ((j : ℕ) → j ≤ length ops → place ops len j ≢ t))
+start_tells [] len t = elim (equal_tells len t) [
+  | inl here ↦ inl (or_left (len == t) false here.0, 0, omega arith, here.1)
+  | inr other ↦ inr (ap (λ (b : Bool). b || false) other.0, λ j le. other.1)
+]
+start_tells (x ∷ ops) len t = elim (equal_tells x.0 t) [
+  | inl here ↦ inl (or_right (len == t) ((x.0 == t) || list_any (λ (y : Placed). y.0 == t) ops) (or_left (x.0 == t) (list_any (λ (y : Placed). y.0 == t) ops) here.0), 0, omega arith, here.1)
+  | inr other ↦
+      let passes : is_start (x ∷ ops) len (Some t) ≡ is_start ops len (Some t) = ap (λ (b : Bool). (len == t) || (b || list_any (λ (y : Placed). y.0 == t) ops)) other.0 in
+      elim (start_tells ops len t) [
+        | inl found ↦ inl (passes ∙ found.0, found.1 + 1, omega (arith, found.2), found_at found.1 found.3)
+        | inr none ↦ inr (passes ∙ none.0, λ j le. nowhere_at j le other.1 none.1)
+      ]
+]
+  where
+    found_at : (j : ℕ) → place ops len j ≡ t → place (x ∷ ops) len (j + 1) ≡ t
+    found_at j e = ap (place (x ∷ ops) len) (next j) ∙ e
+      where
+        next : (n : ℕ) → n + 1 ≡ suc n
+        next n = omega arith
+
+    nowhere_at : (j : ℕ) → j ≤ length (x ∷ ops) → (x.0 ≢ t) → ((k : ℕ) → k ≤ length ops → place ops len k ≢ t) → place (x ∷ ops) len j ≢ t
+    nowhere_at zero le other none e = other e
+    nowhere_at (suc j) le other none e = none j (omega arith) e

@@ -1,0 +1,156 @@
+-- The first fault of an expression as a function of its bytes. First all is read. Then the operations are judged in order
+-- of offset, and last the end, each by questions in a fixed order; the first that isn't answered with yes names the fault.
+-- The questions ask what DWARF 5, sections 2.5 and 2.6, and this checker's rule on paths demand; their order is this
+-- checker's.
+use Rattle.std.specs.Prelude.{ℕ, ℤ, zero, suc, ◌+◌, ◌==◌, nat_lt, nat_le, ◌&&◌, ◌||◌, Bool, true, false, not, is_some, if◌then◌else◌, List, [], ◌∷◌, ◌++◌, length, map, Option, Some, None, slice_get}
+use Rattle.std.specs.Option.{option_or}
+use Rattle.std.specs.List.{list_any, list_all, flat_map}
+use Rattle.dw_bytes.specs.declared.target.Target.{Target}
+use Rattle.dw_bytes.specs.declared.fault.Fault.{Fault}
+use Rattle.dw_bytes.specs.declared.fault.FaultKind.{FaultKind}
+use Rattle.dw_bytes.specs.declared.fault.FaultKind.TheVariants as fault
+use Rattle.dw_stack.specs.declared.judge.TheConstants.{MAX_HEIGHT, MAX_PIECES}
+use Rattle.dw_stack.specs.declared.effect.Role.{Role}
+use Rattle.dw_stack.specs.declared.effect.Role.TheVariants as role
+use Rattle.dw_stack.specs.declared.effect.StackEffect.{StackEffect}
+use Rattle.dw_stack.specs.declared.state.Mode.{Mode}
+use Rattle.dw_stack.specs.declared.state.Mode.TheVariants as mode
+use Rattle.dw_stack.specs.declared.state.StackState.{StackState}
+use Rattle.dw_stack.specs.declared.state.Kind.{Kind}
+use Rattle.dw_stack.specs.declared.state.Kind.TheVariants.{Location}
+use Rattle.dw_stack.specs.Effects.{effect_of}
+use Rattle.dw_stack.specs.States.{start_of, height_after, state_after}
+use Rattle.dw_stack.specs.Paths.{Placed, place, aim, target_of, is_piece, pieces_before}
+use Rattle.dw_stack.specs.Expressions.{operations_in, reading_fault}
+
+-- ---- what comes to an offset
+
+abbrev pub offsets_to : Option ℕ → List ℕ
+offsets_to None = []
+offsets_to (Some t) = t ∷ []
+
+-- the offsets that may come after the operation numbered k, of this effect: the next one, and where it branches to
+abbrev pub offsets_after : List Placed → ℕ → ℕ → StackEffect → List ℕ
+offsets_after ops len k e = (if e.falls then place ops len (k + 1) ∷ [] else []) ++ offsets_to (target_of ops len k e)
+
+-- of offsets with states, the states at this offset
+abbrev pub states_at : ℕ → List (ℕ × StackState) → List StackState
+states_at at [] = []
+states_at at (c ∷ come) = if c.0 == at then c.1 ∷ states_at at come else states_at at come
+
+-- the offsets to which the operation numbered k leads from these states, with the states there
+abbrev pub onward : List Placed → ℕ → ℕ → Option Placed → List StackState → List (ℕ × StackState)
+onward ops len k None states = []
+onward ops len k (Some x) states =
+    flat_map (λ s. map (λ b. (b, state_after (effect_of x.1) s)) (offsets_after ops len k (effect_of x.1))) states
+
+-- the offsets to which paths over the first k operations come, with the states there
+abbrev pub arriving : Kind → List Placed → ℕ → ℕ → List (ℕ × StackState)
+arriving kind ops len zero = (0, start_of kind) ∷ []
+arriving kind ops len (suc k) =
+    arriving kind ops len k ++ onward ops len k (slice_get ops k) (states_at (place ops len k) (arriving kind ops len k))
+
+-- the states of the paths that come to the operation numbered k, or to the end
+abbrev pub states_to : Kind → List Placed → ℕ → ℕ → List StackState
+states_to kind ops len k = states_at (place ops len k) (arriving kind ops len k)
+
+-- ---- what is asked, as tests (`IsAllowed`, `StandsAlone` and `ResultOf` say the same as facts)
+
+abbrev pub has_operation : Kind → StackEffect → Bool
+has_operation Location e = true
+has_operation _ e = e.framed
+
+abbrev pub stands_alone : Role → Mode → ℕ → Bool
+stands_alone role.Piece mode.AfterPiece h = true
+stands_alone role.Piece mode.Stack h = nat_le h 1
+stands_alone role.Piece _ h = h == 0
+stands_alone _ mode.Register h = false
+stands_alone _ mode.Value h = false
+stands_alone role.Plain _ h = true
+stands_alone role.Top _ h = true
+stands_alone _ _ h = h == 0
+
+abbrev pub has_result : Kind → Mode → Bool → Bool → ℕ → Bool
+has_result Location mode.AfterPiece empty pieced h = true
+has_result Location mode.Stack empty pieced h = empty || (not pieced && nat_le 1 h)
+has_result Location _ empty pieced h = not pieced
+has_result _ mode.Stack empty pieced h = nat_le 1 h
+has_result _ _ empty pieced h = false
+
+abbrev pub number_of : Mode → ℕ
+number_of mode.Stack = 0
+number_of mode.Register = 1
+number_of mode.Value = 2
+number_of mode.AfterPiece = 3
+
+-- two paths that meet here have the same height and mode, and both a piece before them, or neither
+abbrev pub same_state : StackState → StackState → Bool
+same_state s t =
+    (s.height == t.height) && (number_of s.mode == number_of t.mode) && (if s.pieced then t.pieced else not t.pieced)
+
+-- the jump, if there is one, isn't backward
+abbrev pub is_ahead : ℕ → Option ℤ → Bool
+is_ahead next None = true
+is_ahead next (Some z) = is_some (aim next z)
+
+-- some operation begins at the target, or it is the end
+abbrev pub is_start : List Placed → ℕ → Option ℕ → Bool
+is_start ops len None = true
+is_start ops len (Some t) = (len == t) || list_any (λ (x : Placed). x.0 == t) ops
+
+-- ---- the questions, each with the fault where the answer is no
+
+abbrev pub Question : Type 0
+Question = Bool × Fault
+
+-- is it so, and if not, this is the fault
+abbrev pub else_fault : Bool → FaultKind → ℕ → Question
+else_fault b kind at = (b, record { kind = kind; at = at })
+
+-- the fault of the first question that isn't answered with yes
+abbrev pub first_no : List Question → Option Fault
+first_no [] = None
+first_no ((true, f) ∷ asked) = first_no asked
+first_no ((false, f) ∷ asked) = Some f
+
+-- of an operation, numbered k, of this effect and at this offset, where paths come to it with the state s
+abbrev pub asked_at : Kind → List Placed → ℕ → ℕ → StackEffect → StackState → ℕ → List Question
+asked_at kind ops len k e s at =
+    else_fault (has_operation kind e) fault.NotInFrame at
+    ∷ else_fault (stands_alone e.role s.mode s.height) fault.NotAlone at
+    ∷ else_fault (nat_le e.needs s.height) fault.Underflow at
+    ∷ else_fault (nat_le (height_after e s) MAX_HEIGHT) fault.TooDeep at
+    ∷ else_fault (not (is_piece e.role) || nat_lt (pieces_before ops k) MAX_PIECES) fault.TooManyPieces at
+    ∷ else_fault (is_ahead (place ops len (k + 1)) e.jump) fault.Backward at
+    ∷ else_fault (is_start ops len (target_of ops len k e)) fault.TargetNotStart at
+    ∷ []
+
+-- of the operation x, numbered k, by the states with which paths come to it
+abbrev pub asked_of : Kind → List Placed → ℕ → ℕ → Placed → List StackState → List Question
+asked_of kind ops len k x [] = else_fault false fault.Unreachable x.0 ∷ []
+asked_of kind ops len k x (s ∷ others) =
+    else_fault (list_all (same_state s) others) fault.Mismatch x.0 ∷ asked_at kind ops len k (effect_of x.1) s x.0
+
+-- of the end, by the states with which paths come to it
+abbrev pub asked_last : Kind → List Placed → ℕ → List StackState → List Question
+asked_last kind ops len [] = []
+asked_last kind ops len (s ∷ others) =
+    else_fault (list_all (same_state s) others) fault.Mismatch len
+    ∷ else_fault (has_result kind s.mode (length ops == 0) s.pieced s.height) fault.EndsEmpty len
+    ∷ []
+
+-- of the operations that are left, from the one numbered k on, and then of the end
+abbrev pub asked_from : Kind → List Placed → ℕ → ℕ → List Placed → List Question
+asked_from kind ops len k [] = asked_last kind ops len (states_to kind ops len k)
+asked_from kind ops len k (x ∷ left) =
+    asked_of kind ops len k x (states_to kind ops len k) ++ asked_from kind ops len (k + 1) left
+
+-- the first fault of operations that follow each other up to the length
+unfoldable pub first_fault : Kind → List Placed → ℕ → Option Fault
+first_fault kind ops len = first_no (asked_from kind ops len 0 ops)
+
+-- The first fault of an expression: none exactly for a good one, and f exactly where the relation `IsFaultOf` has f (the law
+-- `the_fault_is_the_first`).
+unfoldable pub expression_fault : Kind → Target → List ℕ → Option Fault
+expression_fault kind target bytes =
+    option_or (reading_fault target bytes) (first_fault kind (operations_in target bytes) (length bytes))
