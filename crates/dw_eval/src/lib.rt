@@ -1,5 +1,11 @@
 //! The evaluation of expressions (DWARF 5, sections 2.5 and 2.6).
 #![tactic(auto)]
 
+mod change;
+mod machine;
 mod stack;
+mod surroundings;
+mod trouble;
 mod width;
+
+pub use surroundings::{Context, Memory, Registers};

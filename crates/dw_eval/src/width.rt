@@ -1,6 +1,6 @@
 //! Arithmetic on the entries of the stack.
 
-ghost use Rattle.std.specs.Prelude.{◌≡◌, ◌<◌, ◌+◌, ◌-◌, ◌*◌, ◌/◌, ◌%◌, ◌^◌, ◌==◌, pos, ◌+ℤ◌, ◌-ℤ◌, unsigned_abs, int_div, int_lt};
+ghost use Rattle.std.specs.Prelude.{◌≡◌, ◌<◌, ◌+◌, ◌-◌, ◌*◌, ◌/◌, ◌%◌, ◌^◌, ◌==◌, pos, ◌+ℤ◌, ◌-ℤ◌, unsigned_abs, int_div, int_lt, int_le, bit_and, bit_or, bit_xor};
 ghost use Rattle.std.specs.Int.{int_shr};
 ghost use Rattle.dw_eval.specs.Numbers.{width_of, reduced, signed, truth};
 
@@ -13,6 +13,16 @@ pub struct Width {
 }
 
 impl Width {
+    /// The greatest entry.
+    pub fn max(self) -> u64
+        ensures { result + 1 ≡ 2 ^ width_of self.size }
+    {
+        match self.size {
+            AddressSize::Four => 0xffff_ffff,
+            AddressSize::Eight => u64::MAX,
+        }
+    }
+
     /// The number modulo 2^w.
     pub fn reduce(self, n: u64) -> u64
         ensures { result ≡ reduced (width_of self.size) (pos n) }
@@ -104,6 +114,46 @@ impl Width {
         self.reduce(!b)
     }
 
+    pub fn and(self, a: u64, b: u64) -> u64
+        requires a { a < 2 ^ width_of self.size }
+        requires b { b < 2 ^ width_of self.size }
+        ensures { result ≡ reduced (width_of self.size) (pos (bit_and a b)) }
+    {
+        a & b
+    }
+
+    pub fn or(self, a: u64, b: u64) -> u64
+        requires a { a < 2 ^ width_of self.size }
+        requires b { b < 2 ^ width_of self.size }
+        ensures { result ≡ reduced (width_of self.size) (pos (bit_or a b)) }
+    {
+        a | b
+    }
+
+    pub fn xor(self, a: u64, b: u64) -> u64
+        requires a { a < 2 ^ width_of self.size }
+        requires b { b < 2 ^ width_of self.size }
+        ensures { result ≡ reduced (width_of self.size) (pos (bit_xor a b)) }
+    {
+        a ^ b
+    }
+
+    /// The remainder, unsigned.
+    pub fn rem(self, a: u64, b: u64) -> u64
+        requires a { a < 2 ^ width_of self.size }
+        requires nonzero { 0 < b }
+        ensures { result ≡ reduced (width_of self.size) (pos (a % b)) }
+    {
+        a % b
+    }
+
+    /// 1 for true, 0 for false.
+    pub fn truth(self, holds: bool) -> u64
+        ensures { result ≡ reduced (width_of self.size) (truth holds) }
+    {
+        u64::from(holds)
+    }
+
     pub fn shl(self, a: u64, b: u64) -> u64
         ensures { result ≡ reduced (width_of self.size) (pos (a * 2 ^ b)) }
     {
@@ -112,9 +162,10 @@ impl Width {
 
     /// Shifted right, zeros in.
     pub fn shr(self, a: u64, b: u64) -> u64
+        requires { a < 2 ^ width_of self.size }
         ensures { result ≡ reduced (width_of self.size) (pos (a / 2 ^ b)) }
     {
-        if b < 64 { self.reduce(a >> b) } else { 0 }
+        if b < 64 { a >> b } else { 0 }
     }
 
     /// Shifted right, the sign in.
@@ -132,5 +183,14 @@ impl Width {
         ensures { result ≡ int_lt (signed (width_of self.size) a) (signed (width_of self.size) b) }
     {
         self.sign(a) < self.sign(b)
+    }
+
+    /// Whether `a` is at most `b`, signed.
+    pub fn is_at_most(self, a: u64, b: u64) -> bool
+        requires a { a < 2 ^ width_of self.size }
+        requires b { b < 2 ^ width_of self.size }
+        ensures { result ≡ int_le (signed (width_of self.size) a) (signed (width_of self.size) b) }
+    {
+        self.sign(a) <= self.sign(b)
     }
 }
