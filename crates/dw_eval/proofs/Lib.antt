@@ -1,3 +1,4 @@
 pub mod Shifts
 pub mod Writes
 pub mod Entries
+pub mod Steps

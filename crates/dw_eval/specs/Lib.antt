@@ -1,5 +1,9 @@
 pub mod Numbers
 pub mod World
 pub mod Values
+pub mod Meaning
 pub mod Changes
 pub mod Handed
+pub mod Results
+pub mod Views
+pub mod Moves

@@ -1,6 +1,6 @@
 //! What an operation does to the stack.
 
-ghost use Rattle.std.specs.Prelude.{◌≡◌, ◌+◌, ◌-◌, ◌^◌, ◌<◌, ◌≤◌, ◌%◌, ◌∷◌, [], length, pos, All, Ok, int_div};
+ghost use Rattle.std.specs.Prelude.{◌≡◌, ◌+◌, ◌-◌, ◌^◌, ◌<◌, ◌≤◌, ◌%◌, ◌∷◌, [], length, pos, All, IfOk, Ok, int_div};
 ghost use Rattle.dw_eval.specs.Numbers.{width_of, reduced, signed};
 ghost use Rattle.dw_eval.specs.Values.{unless_zero};
 ghost use Rattle.dw_ops.specs.Views.{operation_of};
@@ -72,7 +72,9 @@ pub fn change_of<R: Registers, M: Memory>(
     requires needs { (effect_of (operation_of operation.now)).needs ≤ length stack.now }
     requires sized { IsSized (operation_of operation.now) }
     requires below { All (λ n. n < 2 ^ width (world_in R.contents M.bytes machine.now)) stack.now }
-    ensures { changed_by result stack.now ≡ acted (world_in R.contents M.bytes machine.now) (operation_of operation.now) stack.now }
+    ensures takes { IfOk result (λ change. taken_by change ≡ (effect_of (operation_of operation.now)).takes) }
+    ensures adds { IfOk result (λ change. added_by change ≡ (effect_of (operation_of operation.now)).adds) }
+    ensures acts { changed_by result stack.now ≡ acted (world_in R.contents M.bytes machine.now) (operation_of operation.now) stack.now }
 {
     let width = machine.width();
     match *operation {

@@ -2,10 +2,13 @@
 #![tactic(auto)]
 
 mod change;
+mod location;
 mod machine;
+mod run;
 mod stack;
 mod surroundings;
 mod trouble;
 mod width;
 
+pub use location::{Evaluation, Location, Outcome, Piece, PieceSize};
 pub use surroundings::{Context, Memory, Registers};
