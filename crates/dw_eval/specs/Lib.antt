@@ -5,5 +5,6 @@ pub mod Meaning
 pub mod Changes
 pub mod Handed
 pub mod Results
+pub mod Fits
 pub mod Views
 pub mod Moves
