@@ -5,3 +5,4 @@ pub mod Steps
 pub mod Sizes
 pub mod Pushes
 pub mod Ahead
+pub mod Ends

@@ -8,3 +8,4 @@ pub mod Results
 pub mod Fits
 pub mod Views
 pub mod Moves
+pub mod Ends

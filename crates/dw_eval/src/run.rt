@@ -1,27 +1,19 @@
 //! A run, step by step.
 
-ghost use Rattle.std.specs.Prelude.{◌≡◌, ◌≢◌, ◌+◌, ◌-◌, ◌<◌, ◌≤◌, ◌^◌, ◌++◌, ◌∷◌, [], length, All, true, None, Some, Err, MatchResult};
-ghost use Rattle.std.specs.Option.{option_map};
-ghost use Rattle.dw_ops.specs.Views.{operation_of};
-ghost use Rattle.dw_stack.specs.Effects.{effect_of};
-ghost use Rattle.dw_stack.specs.Paths.{is_piece};
-ghost use Rattle.dw_stack.specs.Machine.{named, location_of, CanDo};
-ghost use Rattle.dw_eval.specs.World.{width};
-ghost use Rattle.dw_eval.specs.Values.{answer};
-ghost use Rattle.dw_eval.specs.Changes.{IsSized, trouble_of};
-ghost use Rattle.dw_eval.specs.Handed.{world_in};
-ghost use Rattle.dw_eval.specs.Views.{whereabouts_of, extent_in, piece_in, some_pieces};
-ghost use Rattle.dw_eval.specs.Moves.{configured, LeadsTo, HasTarget, Moves, EndsPiece};
+ghost use Rattle.std.specs.Prelude.{◌≤◌};
+ghost use Rattle.std.specs.Option.{ForSome};
+ghost use Rattle.arrayvec.specs.ArrayVec.{array_vec_len};
 
+use crate::aims::{location_named, piece_size, target_of};
 use crate::change::{change_of, make};
-use crate::location::{Location, Piece, PieceSize, Pieces};
+use crate::location::{Location, Outcome, Piece, PieceSize, Pieces};
 use crate::machine::Machine;
 use crate::stack::Stack;
 use crate::surroundings::{Memory, Registers};
 use crate::trouble::Trouble;
 use arrayvec::ArrayVec;
 use dw_ops::Operation;
-use dw_stack::{MAX_HEIGHT, MAX_PIECES};
+use dw_stack::{Kind, MAX_HEIGHT, MAX_PIECES};
 
 /// Where a run stands, but for its offset.
 #[derive(Drop)]
@@ -31,53 +23,25 @@ pub struct Run<'a> {
     pub pending: Option<Location<'a>>,
     /// The pieces so far. Their places are made with the first: most expressions have none.
     pub pieces: Option<Pieces<'a>>,
-}
-
-/// Where the operation leads.
-fn target_of(operation: &Operation<'_>, stack: &Stack, next: u32) -> u32
-    requires needs { (effect_of (operation_of operation.now)).needs ≤ length stack.now }
-    requires target { HasTarget (operation_of operation.now) stack.now next }
-    ensures { LeadsTo (operation_of operation.now) stack.now next result }
-{
-    match *operation {
-        Operation::Bra { offset } => {
-            if stack.entry(0) == 0 {
-                next
-            } else {
-                next + u32::from(offset.unsigned_abs())
-            }
-        }
-        Operation::Skip { offset } => next + u32::from(offset.unsigned_abs()),
-        _ => next,
-    }
-}
-
-/// The location that the operation names.
-fn location_named<'a>(operation: &Operation<'a>, stack: &Stack) -> Option<Location<'a>>
-    requires { (effect_of (operation_of operation.now)).needs ≤ length stack.now }
-    ensures { option_map whereabouts_of result ≡ named (operation_of operation.now) stack.now }
-{
-    match *operation {
-        Operation::Reg { register } => Some(Location::Register(u16::from(register))),
-        Operation::Regx { register } => Some(Location::Register(register)),
-        Operation::ImplicitValue { bytes } => Some(Location::Bytes(bytes)),
-        Operation::StackValue => Some(Location::Value(stack.entry(0))),
-        _ => None,
-    }
-}
-
-/// The size of the piece that the operation ends, if it ends one.
-fn piece_size(operation: &Operation<'_>) -> Option<PieceSize>
-    ensures { EndsPiece (operation_of operation.now) result }
-{
-    match *operation {
-        Operation::Piece { size } => Some(PieceSize::Bytes(size)),
-        Operation::BitPiece { size, offset } => Some(PieceSize::Bits { size, offset }),
-        _ => None,
-    }
+    ghost some: { ForSome pieces (λ v. 1 ≤ array_vec_len v) },
 }
 
 impl<'a> Run<'a> {
+    ghost use Rattle.std.specs.Prelude.{◌≡◌, ◌+◌, ◌-◌, ◌<◌, ◌≤◌, ◌^◌, ◌++◌, ◌∷◌, [], length, All, true, false, None, Err, MatchResult};
+    ghost use Rattle.std.specs.Option.{option_map};
+    ghost use Rattle.dw_ops.specs.Views.{operation_of};
+    ghost use Rattle.dw_stack.specs.Effects.{effect_of};
+    ghost use Rattle.dw_stack.specs.Paths.{is_piece};
+    ghost use Rattle.dw_stack.specs.Machine.{location_of, CanDo};
+    ghost use Rattle.dw_eval.specs.World.{width};
+    ghost use Rattle.dw_eval.specs.Values.{answer};
+    ghost use Rattle.dw_eval.specs.Changes.{IsSized, trouble_of};
+    ghost use Rattle.dw_eval.specs.Handed.{world_in};
+    ghost use Rattle.dw_eval.specs.Views.{whereabouts_of, extent_in, piece_in, some_pieces, outcome_of};
+    ghost use Rattle.dw_eval.specs.Results.{result_of};
+    ghost use Rattle.dw_eval.specs.Ends.{HasEnd};
+    ghost use Rattle.dw_eval.specs.Moves.{configured, HasTarget, Moves};
+
     /// A run with an empty stack.
     pub fn new() -> Self
         ensures stack { result.stack ≡ [] }
@@ -166,5 +130,36 @@ impl<'a> Run<'a> {
             }
         }
         Ok(to)
+    }
+
+    /// Where the object is, at the end of a location with operations.
+    fn into_location(self) -> Outcome<'a>
+        requires { HasEnd Kind.Location false (configured 0 self) }
+        ensures { outcome_of result ≡ result_of Kind.Location false (configured 0 self.entry) }
+    {
+        let Run {
+            stack,
+            pending,
+            pieces,
+        } = self;
+        match pieces {
+            Some(pieces) => Outcome::Pieces(pieces),
+            None => match pending {
+                Some(location) => Outcome::Single(location),
+                None => Outcome::Single(Location::Address(stack.entry(0))),
+            },
+        }
+    }
+
+    /// What the end gives, of an expression with or without operations.
+    pub fn into_outcome(self, kind: Kind, is_empty: bool) -> Outcome<'a>
+        requires { HasEnd kind is_empty (configured 0 self) }
+        ensures { outcome_of result ≡ result_of kind is_empty (configured 0 self.entry) }
+    {
+        match kind {
+            Kind::FrameCfa | Kind::FrameRegister => Outcome::Value(self.stack.entry(0)),
+            Kind::Location if is_empty => Outcome::Single(Location::Empty),
+            Kind::Location => self.into_location(),
+        }
     }
 }

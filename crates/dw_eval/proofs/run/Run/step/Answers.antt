@@ -19,7 +19,7 @@ returns-in_ok-change-in-None g c =
     let e : World = world_in g.R.Registers.contents g.M.Memory.bytes c.args.machine.now in
     let op : Operation = operation_of c.args.operation.now in
     let s : List ℕ = c.args.self.now.stack in
-    let left : acted e op s ≡ Ok c.make.new.stack = sym (c.make.ensures ∙ c.in_ok-change-in-None.ensures.acts) in
+    let left : acted e op s ≡ Ok c.make.new.stack = cc (c.in_ok-change-in-None.ensures.acts, c.make.ensures) in
     let found = acted_ok e op s c.make.new.stack left in
     record {
       new = found.0;
