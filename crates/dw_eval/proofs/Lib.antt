@@ -6,3 +6,4 @@ pub mod Sizes
 pub mod Pushes
 pub mod Ahead
 pub mod Ends
+pub mod Going
