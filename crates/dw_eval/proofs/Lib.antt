@@ -7,3 +7,4 @@ pub mod Pushes
 pub mod Ahead
 pub mod Ends
 pub mod Going
+pub mod Loop

@@ -3,6 +3,7 @@
 
 mod aims;
 mod change;
+mod evaluation;
 mod location;
 mod machine;
 mod run;
