@@ -12,5 +12,6 @@ mod surroundings;
 mod trouble;
 mod width;
 
+pub use evaluation::evaluate;
 pub use location::{Evaluation, Location, Outcome, Piece, PieceSize};
 pub use surroundings::{Context, Memory, Registers};
