@@ -8,3 +8,4 @@ pub mod Ahead
 pub mod Ends
 pub mod Going
 pub mod Loop
+pub mod Determined

@@ -4,6 +4,7 @@
 mod aims;
 mod change;
 mod evaluation;
+pub mod laws;
 mod location;
 mod machine;
 mod run;
