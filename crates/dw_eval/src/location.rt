@@ -55,7 +55,7 @@ impl Default for Piece<'_> {
 pub type Pieces<'a> = ArrayVec<Piece<'a>, MAX_PIECES>;
 
 /// What an evaluation comes to. Offsets are in bytes from the expression's first byte.
-#[derive(Debug, Drop)]
+#[derive(Clone, Debug, Drop, PartialEq, Eq)]
 pub enum Outcome<'a> {
     /// The value of a frame's expression: an address, or what a register had (DWARF 5, section 6.4.2).
     Value(u64),
@@ -70,7 +70,7 @@ pub enum Outcome<'a> {
 }
 
 /// What an evaluation comes to, and how many operations it reached, the one without an answer included.
-#[derive(Debug, Drop)]
+#[derive(Clone, Debug, Drop, PartialEq, Eq)]
 pub struct Evaluation<'a> {
     pub outcome: Outcome<'a>,
     pub steps: u32,
