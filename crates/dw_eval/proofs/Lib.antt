@@ -1,0 +1,11 @@
+pub mod Shifts
+pub mod Writes
+pub mod Entries
+pub mod Steps
+pub mod Sizes
+pub mod Pushes
+pub mod Ahead
+pub mod Ends
+pub mod Going
+pub mod Loop
+pub mod Determined

@@ -1,0 +1,11 @@
+pub mod Numbers
+pub mod World
+pub mod Values
+pub mod Meaning
+pub mod Changes
+pub mod Handed
+pub mod Results
+pub mod Fits
+pub mod Views
+pub mod Moves
+pub mod Ends

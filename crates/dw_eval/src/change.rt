@@ -1,0 +1,163 @@
+//! What an operation does to the stack.
+
+ghost use Rattle.std.specs.Prelude.{◌≡◌, ◌+◌, ◌-◌, ◌^◌, ◌<◌, ◌≤◌, ◌%◌, ◌∷◌, [], length, pos, All, IfOk, Ok, int_div};
+ghost use Rattle.dw_eval.specs.Numbers.{width_of, reduced, signed};
+ghost use Rattle.dw_eval.specs.Values.{unless_zero};
+ghost use Rattle.dw_ops.specs.Views.{operation_of};
+ghost use Rattle.dw_stack.specs.Effects.{effect_of};
+ghost use Rattle.dw_eval.specs.World.{width};
+ghost use Rattle.dw_eval.specs.Changes.{acted, one_of, changed, changed_by, IsSized, taken_by, added_by};
+ghost use Rattle.dw_eval.specs.Handed.{world_in};
+
+use crate::machine::Machine;
+use crate::stack::Stack;
+use crate::surroundings::{Memory, Registers};
+use crate::trouble::Trouble;
+use crate::width::Width;
+use dw_ops::Operation;
+use dw_stack::MAX_HEIGHT;
+
+/// What becomes of the stack.
+#[derive(Clone, Copy)]
+pub enum Change {
+    /// Nothing.
+    Stays,
+    /// The top is taken.
+    Pop,
+    /// The top and the second entry change places.
+    Swap,
+    /// The top becomes the third entry, the second the top and the third the second.
+    Rot,
+    /// A value takes the place of so many entries at the top.
+    Put { taken: usize, value: u64 },
+}
+
+/// A value in the place of so many entries.
+fn put(taken: usize, value: u64) -> Result<Change, Trouble>
+    ensures { result ≡ Ok (Change.Put taken value) }
+{
+    Ok(Change::Put { taken, value })
+}
+
+/// The quotient, signed and truncated, unless the divisor is 0.
+fn divided(width: Width, a: u64, b: u64) -> Result<u64, Trouble>
+    requires a { a < 2 ^ width_of width.size }
+    requires b { b < 2 ^ width_of width.size }
+    ensures { one_of result ≡ unless_zero b (Ok (reduced (width_of width.size) (int_div (signed (width_of width.size) a) (signed (width_of width.size) b)) ∷ [])) }
+{
+    if b == 0 {
+        return Err(Trouble::DivisionByZero);
+    }
+    Ok(width.div(a, b))
+}
+
+/// The remainder, unsigned, unless the divisor is 0.
+fn remainder(width: Width, a: u64, b: u64) -> Result<u64, Trouble>
+    requires { a < 2 ^ width_of width.size }
+    ensures { one_of result ≡ unless_zero b (Ok (reduced (width_of width.size) (pos (a % b)) ∷ [])) }
+{
+    if b == 0 {
+        return Err(Trouble::DivisionByZero);
+    }
+    Ok(width.rem(a, b))
+}
+
+/// The change of an operation whose entries are there.
+#[tactic(auto, using(crate::proofs::Entries::entry_below))]
+pub fn change_of<R: Registers, M: Memory>(
+    machine: &Machine<'_, R, M>,
+    operation: &Operation<'_>,
+    stack: &Stack,
+) -> Result<Change, Trouble>
+    requires needs { (effect_of (operation_of operation.now)).needs ≤ length stack.now }
+    requires sized { IsSized (operation_of operation.now) }
+    requires below { All (λ n. n < 2 ^ width (world_in R.contents M.bytes machine.now)) stack.now }
+    ensures takes { IfOk result (λ change. taken_by change ≡ (effect_of (operation_of operation.now)).takes) }
+    ensures adds { IfOk result (λ change. added_by change ≡ (effect_of (operation_of operation.now)).adds) }
+    ensures acts { changed_by result stack.now ≡ acted (world_in R.contents M.bytes machine.now) (operation_of operation.now) stack.now }
+{
+    let width = machine.width();
+    match *operation {
+        Operation::Addr { address } => put(0, width.reduce(address)),
+        Operation::Const1u { value } => put(0, width.reduce(u64::from(value))),
+        Operation::Const1s { value } => put(0, width.reduce_signed(i64::from(value))),
+        Operation::Const2u { value } => put(0, width.reduce(u64::from(value))),
+        Operation::Const2s { value } => put(0, width.reduce_signed(i64::from(value))),
+        Operation::Const4u { value } => put(0, width.reduce(u64::from(value))),
+        Operation::Const4s { value } => put(0, width.reduce_signed(i64::from(value))),
+        Operation::Const8u { value } => put(0, width.reduce(value)),
+        Operation::Const8s { value } => put(0, width.reduce_signed(value)),
+        Operation::Constu { value } => put(0, width.reduce(value)),
+        Operation::Consts { value } => put(0, width.reduce_signed(value)),
+        Operation::Lit { value } => put(0, width.reduce(u64::from(value))),
+        Operation::Fbreg { offset } => put(0, machine.framed(offset)?),
+        Operation::Breg { register, offset } => put(0, machine.based(u16::from(register), offset)?),
+        Operation::Bregx { register, offset } => put(0, machine.based(register, offset)?),
+        Operation::Dup => put(0, stack.entry(0)),
+        Operation::Drop => Ok(Change::Pop),
+        Operation::Pick { index } => put(0, stack.entry(usize::from(index))),
+        Operation::Over => put(0, stack.entry(1)),
+        Operation::Swap => Ok(Change::Swap),
+        Operation::Rot => Ok(Change::Rot),
+        Operation::Deref => put(1, machine.load(stack.entry(0), machine.word())?),
+        Operation::DerefSize { size } => put(1, machine.load(stack.entry(0), size)?),
+        Operation::PushObjectAddress => put(0, machine.given(machine.context.object)?),
+        Operation::CallFrameCfa => put(0, machine.given(machine.context.cfa)?),
+        Operation::Abs => put(1, width.abs(stack.entry(0))),
+        Operation::And => put(2, width.and(stack.entry(1), stack.entry(0))),
+        Operation::Div => put(2, divided(width, stack.entry(1), stack.entry(0))?),
+        Operation::Minus => put(2, width.minus(stack.entry(1), stack.entry(0))),
+        Operation::Mod => put(2, remainder(width, stack.entry(1), stack.entry(0))?),
+        Operation::Mul => put(2, width.mul(stack.entry(1), stack.entry(0))),
+        Operation::Neg => put(1, width.neg(stack.entry(0))),
+        Operation::Not => put(1, width.not(stack.entry(0))),
+        Operation::Or => put(2, width.or(stack.entry(1), stack.entry(0))),
+        Operation::Plus => put(2, width.plus(stack.entry(1), stack.entry(0))),
+        Operation::PlusUconst { value } => put(1, width.plus(stack.entry(0), value)),
+        Operation::Shl => put(2, width.shl(stack.entry(1), stack.entry(0))),
+        Operation::Shr => put(2, width.shr(stack.entry(1), stack.entry(0))),
+        Operation::Shra => put(2, width.shra(stack.entry(1), stack.entry(0))),
+        Operation::Xor => put(2, width.xor(stack.entry(1), stack.entry(0))),
+        Operation::Eq => put(2, width.truth(stack.entry(1) == stack.entry(0))),
+        Operation::Ge => put(
+            2,
+            width.truth(width.is_at_most(stack.entry(0), stack.entry(1))),
+        ),
+        Operation::Gt => put(
+            2,
+            width.truth(width.is_below(stack.entry(0), stack.entry(1))),
+        ),
+        Operation::Le => put(
+            2,
+            width.truth(width.is_at_most(stack.entry(1), stack.entry(0))),
+        ),
+        Operation::Lt => put(
+            2,
+            width.truth(width.is_below(stack.entry(1), stack.entry(0))),
+        ),
+        Operation::Ne => put(2, width.truth(stack.entry(1) != stack.entry(0))),
+        Operation::Bra { .. } | Operation::StackValue => Ok(Change::Pop),
+        Operation::Skip { .. }
+        | Operation::Nop
+        | Operation::Reg { .. }
+        | Operation::Regx { .. }
+        | Operation::ImplicitValue { .. }
+        | Operation::Piece { .. }
+        | Operation::BitPiece { .. } => Ok(Change::Stays),
+    }
+}
+
+/// Makes the change.
+pub fn make(change: Change, stack: &mut Stack)
+    requires enough { taken_by change ≤ length stack.old }
+    requires room { length stack.old - taken_by change + added_by change ≤ MAX_HEIGHT }
+    ensures { Ok stack.new ≡ changed change stack.old }
+{
+    match change {
+        Change::Stays => {}
+        Change::Pop => stack.pop(),
+        Change::Swap => stack.swap(),
+        Change::Rot => stack.rot(),
+        Change::Put { taken, value } => stack.put(taken, value),
+    }
+}

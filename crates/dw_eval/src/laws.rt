@@ -1,0 +1,32 @@
+//! Laws of evaluations: functions that do nothing, each with the law as its contract.
+
+ghost use Rattle.std.specs.Prelude.{◌≡◌, ◌^◌, ◌≤◌, ℕ, List, Some};
+ghost use Rattle.dw_stack.specs.declared.state.Kind.{Kind};
+ghost use Rattle.dw_stack.specs.Paths.{Placed};
+ghost use Rattle.dw_stack.specs.Machine.{Configuration, Run};
+ghost use Rattle.dw_stack.specs.Expressions.{Checked, IsChecked, IsGoodExpression};
+ghost use Rattle.dw_eval.specs.World.{World, width};
+ghost use Rattle.dw_eval.specs.Meaning.{meaning_of};
+ghost use Rattle.dw_eval.specs.Fits.{NumbersFit};
+ghost use Rattle.dw_eval.specs.Results.{Outcome, IsOfKind, first_stack, started, IsEvaluation};
+
+/// An evaluation of a good expression comes to one outcome, after one number of steps.
+pub fn one_evaluation()
+    ensures { (c : Checked) (e : World) (o p : Outcome) (n k : ℕ) → IsGoodExpression c.kind c.target c.bytes → IsEvaluation c e o n → IsEvaluation c e p k → (o ≡ p) × (n ≡ k) }
+{}
+
+/// Each checked expression has an evaluation, whatever is handed in, within its number of operations.
+pub fn each_has_an_evaluation()
+    ensures { (c : Checked) (e : World) → IsChecked c → (o : Outcome) × (n : ℕ) × IsEvaluation c e o n × (n ≤ c.count) }
+{}
+
+/// All numbers of a run are below 2^w wherever it comes: those on the stack, the value or address that was named, and
+/// those of the pieces.
+pub fn numbers_fit()
+    ensures { (e : World) (kind : Kind) (ops : List Placed) (len n : ℕ) (s : List ℕ) (c : Configuration) → first_stack e kind ≡ Some s → Run (meaning_of e) ops len n (started s) c → NumbersFit (2 ^ width e) c }
+{}
+
+/// Expressions of a frame come to values, and locations to locations.
+pub fn outcomes_are_of_their_kind()
+    ensures { (c : Checked) (e : World) (o : Outcome) (n : ℕ) → IsEvaluation c e o n → IsOfKind c.kind o }
+{}

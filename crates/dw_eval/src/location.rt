@@ -1,0 +1,77 @@
+//! Where an object is.
+
+use arrayvec::ArrayVec;
+use dw_stack::MAX_PIECES;
+
+/// Where an object is, or a piece of it (DWARF 5, section 2.6.1).
+#[derive(Clone, Copy, Debug, PartialEq, Eq)]
+pub enum Location<'a> {
+    /// Nowhere: it was optimized away.
+    Empty,
+    /// In memory at this address.
+    Address(u64),
+    /// In this register.
+    Register(u16),
+    /// Nowhere, but its value is this number.
+    Value(u64),
+    /// Nowhere, but its value is these bytes.
+    Bytes(&'a [u8]),
+}
+
+/// What fills the places of a list that aren't used.
+impl Default for Location<'_> {
+    fn default() -> Self {
+        Location::Empty
+    }
+}
+
+/// How much of an object a piece is.
+#[derive(Clone, Copy, Debug, PartialEq, Eq)]
+pub enum PieceSize {
+    /// So many bytes.
+    Bytes(u32),
+    /// So many bits, from an offset in bits on in the piece's location.
+    Bits { size: u32, offset: u32 },
+}
+
+/// A piece of an object (DWARF 5, section 2.6.1.2).
+#[derive(Clone, Copy, Debug, PartialEq, Eq)]
+pub struct Piece<'a> {
+    pub location: Location<'a>,
+    pub size: PieceSize,
+}
+
+/// What fills the places of a list that aren't used.
+impl Default for Piece<'_> {
+    fn default() -> Self {
+        Piece {
+            location: Location::Empty,
+            size: PieceSize::Bytes(0),
+        }
+    }
+}
+
+/// The pieces of an object, in order.
+pub type Pieces<'a> = ArrayVec<Piece<'a>, MAX_PIECES>;
+
+/// What an evaluation comes to. Offsets are in bytes from the expression's first byte.
+#[derive(Clone, Debug, Drop, PartialEq, Eq)]
+pub enum Outcome<'a> {
+    /// The value of a frame's expression: an address, or what a register had (DWARF 5, section 6.4.2).
+    Value(u64),
+    /// Where an object is.
+    Single(Location<'a>),
+    /// Where the pieces of an object are.
+    Pieces(Pieces<'a>),
+    /// The operation there asks for a register, for memory or for what the context has, and it isn't handed in.
+    Unreadable { at: u32 },
+    /// The operation there divides by zero.
+    DivisionByZero { at: u32 },
+}
+
+/// What an evaluation comes to, and how many operations it reached, the one without an answer included.
+#[derive(Clone, Debug, Drop, PartialEq, Eq)]
+pub struct Evaluation<'a> {
+    pub outcome: Outcome<'a>,
+    pub steps: u32,
+}

@@ -1,0 +1,90 @@
+//! What operations ask of the machine.
+
+ghost use Rattle.std.specs.Prelude.{◌≡◌, ◌+◌, ◌+ℤ◌, ◌^◌, ◌<◌, ◌≤◌, ◌⊎◌, ◌∷◌, [], pos, Ok};
+ghost use Rattle.dw_eval.specs.World.{width};
+ghost use Rattle.dw_eval.specs.Values.{pushed, present, loaded};
+ghost use Rattle.dw_eval.specs.Changes.{one_of};
+ghost use Rattle.dw_bytes.specs.Spelling.{bytes_of_address};
+ghost use Rattle.dw_eval.specs.Handed.{world_in};
+
+use crate::surroundings::{Context, Memory, Registers};
+use crate::trouble::Trouble;
+use crate::width::Width;
+use dw_bytes::{AddressSize, Target};
+
+/// What an evaluation is handed, under the target of its expression.
+#[derive(Drop)]
+pub struct Machine<'m, R: Registers, M: Memory> {
+    pub target: Target,
+    pub context: &'m Context,
+    pub registers: &'m R,
+    pub memory: &'m M,
+}
+
+impl<'m, R: Registers, M: Memory> Machine<'m, R, M> {
+    /// The width of an entry.
+    pub fn width(&self) -> Width
+        ensures { result.size ≡ self.now.target.address_size }
+    {
+        Width {
+            size: self.target.address_size,
+        }
+    }
+
+    /// How many bytes a word has.
+    pub fn word(&self) -> u8
+        ensures value { result ≡ bytes_of_address self.now.target.address_size }
+        ensures size { (result ≡ 1) ⊎ (result ≡ 2) ⊎ (result ≡ 4) ⊎ (result ≡ 8) }
+    {
+        match self.target.address_size {
+            AddressSize::Four => 4,
+            AddressSize::Eight => 8,
+        }
+    }
+
+    /// A register's content and an offset.
+    pub fn based(&self, number: u16, offset: i64) -> Result<u64, Trouble>
+        ensures { one_of result ≡ present ((world_in R.contents M.bytes self.now).registers number) (λ n. pushed (world_in R.contents M.bytes self.now) (pos n +ℤ offset)) }
+    {
+        match self.registers.register(number) {
+            Some(content) => Ok(self.width().offset(content, offset)),
+            None => Err(Trouble::Unreadable),
+        }
+    }
+
+    /// The frame base and an offset.
+    pub fn framed(&self, offset: i64) -> Result<u64, Trouble>
+        ensures { one_of result ≡ present (world_in R.contents M.bytes self.now).frame_base (λ n. pushed (world_in R.contents M.bytes self.now) (pos n +ℤ offset)) }
+    {
+        match self.context.frame_base {
+            Some(base) => Ok(self.width().offset(base, offset)),
+            None => Err(Trouble::Unreadable),
+        }
+    }
+
+    /// What the context has, modulo 2^w, if it has it.
+    pub fn given(&self, value: Option<u64>) -> Result<u64, Trouble>
+        ensures { one_of result ≡ present value (λ n. pushed (world_in R.contents M.bytes self.now) (pos n)) }
+    {
+        match value {
+            Some(number) => Ok(self.width().reduce(number)),
+            None => Err(Trouble::Unreadable),
+        }
+    }
+
+    /// So many bytes at an address, of which the last is below 2^w.
+    pub fn load(&self, address: u64, size: u8) -> Result<u64, Trouble>
+        requires address { address < 2 ^ width (world_in R.contents M.bytes self.now) }
+        requires size { (size ≡ 1) ⊎ (size ≡ 2) ⊎ (size ≡ 4) ⊎ (size ≡ 8) }
+        ensures { one_of result ≡ loaded (world_in R.contents M.bytes self.now) address size }
+    {
+        let width = self.width();
+        if address > width.max() - u64::from(size - 1) {
+            return Err(Trouble::Unreadable);
+        }
+        match self.memory.read(address, size, self.target.order) {
+            Some(number) => Ok(width.reduce(number)),
+            None => Err(Trouble::Unreadable),
+        }
+    }
+}

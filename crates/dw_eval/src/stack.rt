@@ -1,0 +1,103 @@
+//! The stack of a run.
+
+use dw_stack::MAX_HEIGHT;
+use std::marker::Model;
+
+/// How many places the stack has.
+const PLACES: usize = MAX_HEIGHT as usize;
+
+/// The entries of a run, the top last, in places of a fixed number.
+#[derive(Drop)]
+pub struct Stack {
+    places: [u64; PLACES],
+    height: usize,
+}
+
+impl Model for Stack {
+    ghost use Rattle.std.specs.Prelude.{ℕ, List, ◌≤◌, take, length};
+
+    ghost Value = { List ℕ };
+
+    ghost view = { λ s. take s.height s.places };
+
+    ghost invariant = { λ s. s.height ≤ length s.places };
+}
+
+impl Stack {
+    ghost use Rattle.std.specs.Prelude.{◌≡◌, ◌+◌, ◌-◌, ◌<◌, ◌≤◌, ◌==◌, [], ◌∷◌, ◌++◌, length, take};
+    ghost use Rattle.dw_stack.specs.Machine.{entry};
+
+    /// No entry.
+    pub fn new() -> Self
+        ensures { result ≡ [] }
+    {
+        Stack {
+            places: [0; PLACES],
+            height: 0,
+        }
+    }
+
+    /// Whether there is no entry.
+    pub fn is_empty(&self) -> bool
+        ensures { result ≡ (length self.now == 0) }
+    {
+        self.height == 0
+    }
+
+    /// The entry so many below the top.
+    pub fn entry(&self, below: usize) -> u64
+        requires { below < length self.now }
+        ensures { result ≡ entry self.now below }
+    {
+        self.places[self.height - 1 - below]
+    }
+
+    /// Puts a value in the place of so many entries at the top.
+    pub fn put(&mut self, taken: usize, value: u64)
+        requires taken { taken ≤ length self.old }
+        requires room { length self.old - taken < MAX_HEIGHT }
+        ensures { self.new ≡ take (length self.old - taken) self.old ++ value ∷ [] }
+    {
+        let place = self.height - taken;
+        self.places[place] = value;
+        self.height = place + 1;
+    }
+
+    /// Takes the top.
+    pub fn pop(&mut self)
+        requires { 1 ≤ length self.old }
+        ensures { self.new ≡ take (length self.old - 1) self.old }
+    {
+        self.height -= 1;
+    }
+
+    /// Exchanges the top and the second entry.
+    pub fn swap(&mut self)
+        requires { 2 ≤ length self.old }
+        ensures { self.new ≡ take (length self.old - 2) self.old ++ entry self.old 0 ∷ entry self.old 1 ∷ [] }
+    {
+        let (second, top) = (self.height - 2, self.height - 1);
+        let entry = self.places[top];
+        self.places[top] = self.places[second];
+        self.places[second] = entry;
+    }
+
+    /// Makes the top the third entry, the second the top and the third the second.
+    pub fn rot(&mut self)
+        requires { 3 ≤ length self.old }
+        ensures { self.new ≡ take (length self.old - 3) self.old ++ entry self.old 0 ∷ entry self.old 2 ∷ entry self.old 1 ∷ [] }
+    {
+        let (third, second, top) = (self.height - 3, self.height - 2, self.height - 1);
+        let entry = self.places[top];
+        self.places[top] = self.places[second];
+        self.places[second] = self.places[third];
+        self.places[third] = entry;
+    }
+
+    /// Takes all entries.
+    pub fn clear(&mut self)
+        ensures { self.new ≡ [] }
+    {
+        self.height = 0;
+    }
+}

@@ -1,0 +1,41 @@
+//! What an evaluation is handed.
+
+ghost use Rattle.std.specs.Prelude.{◌≡◌, ◌+◌, ◌^◌, ◌<◌, ◌≤◌, ◌⊎◌, ℕ, Option};
+ghost use Rattle.dw_eval.specs.World.{number_at};
+
+use dw_bytes::Order;
+
+/// A register file: a partial function from register numbers to contents.
+pub trait Registers {
+    /// What the registers have.
+    ghost contents: { Self → ℕ → Option ℕ };
+
+    /// The content of a register, where it is known. An evaluation takes it modulo 2^w, w being the size of an address
+    /// in bits.
+    fn register(&self, number: u16) -> Option<u64>
+        ensures { result ≡ contents self.now number };
+}
+
+/// Memory: a partial function from addresses to bytes.
+pub trait Memory {
+    /// The byte at an address.
+    ghost bytes: { Self → ℕ → Option ℕ };
+
+    /// The number that so many bytes from an address on are in this order, where all of them are known. A read has 1,
+    /// 2, 4 or 8 bytes, and its last byte's address is below 2^64.
+    fn read(&self, address: u64, size: u8, order: Order) -> Option<u64>
+        requires size { (size ≡ 1) ⊎ (size ≡ 2) ⊎ (size ≡ 4) ⊎ (size ≡ 8) }
+        requires within { address + size ≤ 2 ^ 64 }
+        ensures { result ≡ number_at (bytes self.now) order address size };
+}
+
+/// What the place in the program gives an expression. Each number is taken modulo 2^w.
+#[derive(Clone, Copy, Debug, Default, PartialEq, Eq)]
+pub struct Context {
+    /// The canonical frame address (DWARF 5, section 6.4).
+    pub cfa: Option<u64>,
+    /// The frame base of the subprogram (DWARF 5, section 3.3.5).
+    pub frame_base: Option<u64>,
+    /// The address of the object whose expression it is (DWARF 5, section 2.5.1.3).
+    pub object: Option<u64>,
+}

@@ -1,0 +1,196 @@
+//! Arithmetic on the entries of the stack.
+
+ghost use Rattle.std.specs.Prelude.{◌≡◌, ◌<◌, ◌+◌, ◌-◌, ◌*◌, ◌/◌, ◌%◌, ◌^◌, ◌==◌, pos, ◌+ℤ◌, ◌-ℤ◌, unsigned_abs, int_div, int_lt, int_le, bit_and, bit_or, bit_xor};
+ghost use Rattle.std.specs.Int.{int_shr};
+ghost use Rattle.dw_eval.specs.Numbers.{width_of, reduced, signed, truth};
+
+use dw_bytes::AddressSize;
+
+/// How many bits an entry has: those of an address. Operands are entries, and results are taken modulo 2^w.
+#[derive(Clone, Copy)]
+pub struct Width {
+    pub size: AddressSize,
+}
+
+impl Width {
+    /// The greatest entry.
+    pub fn max(self) -> u64
+        ensures { result + 1 ≡ 2 ^ width_of self.size }
+    {
+        match self.size {
+            AddressSize::Four => 0xffff_ffff,
+            AddressSize::Eight => u64::MAX,
+        }
+    }
+
+    /// The number modulo 2^w.
+    pub fn reduce(self, n: u64) -> u64
+        ensures { result ≡ reduced (width_of self.size) (pos n) }
+    {
+        match self.size {
+            AddressSize::Four => n % 0x1_0000_0000,
+            AddressSize::Eight => n,
+        }
+    }
+
+    /// The signed number modulo 2^w.
+    pub fn reduce_signed(self, z: i64) -> u64
+        ensures { result ≡ reduced (width_of self.size) z }
+    {
+        self.reduce(z.cast_unsigned())
+    }
+
+    /// The entry as a signed number.
+    fn sign(self, n: u64) -> i64
+        requires { n < 2 ^ width_of self.size }
+        ensures { result ≡ signed (width_of self.size) n }
+    {
+        match self.size {
+            AddressSize::Four => {
+                if n < 0x8000_0000 {
+                    n as i64
+                } else {
+                    n as i64 - 0x1_0000_0000
+                }
+            }
+            AddressSize::Eight => n.cast_signed(),
+        }
+    }
+
+    /// The sum of a number and an offset.
+    pub fn offset(self, n: u64, offset: i64) -> u64
+        ensures { result ≡ reduced (width_of self.size) (pos n +ℤ offset) }
+    {
+        self.reduce(n.wrapping_add(offset.cast_unsigned()))
+    }
+
+    pub fn plus(self, a: u64, b: u64) -> u64
+        ensures { result ≡ reduced (width_of self.size) (pos (a + b)) }
+    {
+        self.reduce(a.wrapping_add(b))
+    }
+
+    pub fn minus(self, a: u64, b: u64) -> u64
+        ensures { result ≡ reduced (width_of self.size) (pos a -ℤ pos b) }
+    {
+        self.reduce(a.wrapping_sub(b))
+    }
+
+    pub fn mul(self, a: u64, b: u64) -> u64
+        ensures { result ≡ reduced (width_of self.size) (pos (a * b)) }
+    {
+        self.reduce(a.wrapping_mul(b))
+    }
+
+    /// The quotient, signed and truncated.
+    pub fn div(self, a: u64, b: u64) -> u64
+        requires a { a < 2 ^ width_of self.size }
+        requires b { b < 2 ^ width_of self.size }
+        requires nonzero { 0 < b }
+        ensures { result ≡ reduced (width_of self.size) (int_div (signed (width_of self.size) a) (signed (width_of self.size) b)) }
+    {
+        self.reduce_signed(self.sign(a).wrapping_div(self.sign(b)))
+    }
+
+    /// The absolute value, signed. The most negative number keeps its value.
+    pub fn abs(self, b: u64) -> u64
+        requires { b < 2 ^ width_of self.size }
+        ensures { result ≡ reduced (width_of self.size) (pos (unsigned_abs (signed (width_of self.size) b))) }
+    {
+        self.reduce(self.sign(b).unsigned_abs())
+    }
+
+    pub fn neg(self, b: u64) -> u64
+        ensures { result ≡ reduced (width_of self.size) (pos 0 -ℤ pos b) }
+    {
+        self.minus(0, b)
+    }
+
+    /// All w bits inverted.
+    pub fn not(self, b: u64) -> u64
+        requires { b < 2 ^ width_of self.size }
+        ensures { result ≡ reduced (width_of self.size) (pos (2 ^ width_of self.size - 1 - b)) }
+    {
+        self.reduce(!b)
+    }
+
+    pub fn and(self, a: u64, b: u64) -> u64
+        requires a { a < 2 ^ width_of self.size }
+        requires b { b < 2 ^ width_of self.size }
+        ensures { result ≡ reduced (width_of self.size) (pos (bit_and a b)) }
+    {
+        a & b
+    }
+
+    pub fn or(self, a: u64, b: u64) -> u64
+        requires a { a < 2 ^ width_of self.size }
+        requires b { b < 2 ^ width_of self.size }
+        ensures { result ≡ reduced (width_of self.size) (pos (bit_or a b)) }
+    {
+        a | b
+    }
+
+    pub fn xor(self, a: u64, b: u64) -> u64
+        requires a { a < 2 ^ width_of self.size }
+        requires b { b < 2 ^ width_of self.size }
+        ensures { result ≡ reduced (width_of self.size) (pos (bit_xor a b)) }
+    {
+        a ^ b
+    }
+
+    /// The remainder, unsigned.
+    pub fn rem(self, a: u64, b: u64) -> u64
+        requires a { a < 2 ^ width_of self.size }
+        requires nonzero { 0 < b }
+        ensures { result ≡ reduced (width_of self.size) (pos (a % b)) }
+    {
+        a % b
+    }
+
+    /// 1 for true, 0 for false.
+    pub fn truth(self, holds: bool) -> u64
+        ensures { result ≡ reduced (width_of self.size) (truth holds) }
+    {
+        u64::from(holds)
+    }
+
+    pub fn shl(self, a: u64, b: u64) -> u64
+        ensures { result ≡ reduced (width_of self.size) (pos (a * 2 ^ b)) }
+    {
+        if b < 64 { self.reduce(a << b) } else { 0 }
+    }
+
+    /// Shifted right, zeros in.
+    pub fn shr(self, a: u64, b: u64) -> u64
+        requires { a < 2 ^ width_of self.size }
+        ensures { result ≡ reduced (width_of self.size) (pos (a / 2 ^ b)) }
+    {
+        if b < 64 { a >> b } else { 0 }
+    }
+
+    /// Shifted right, the sign in.
+    pub fn shra(self, a: u64, b: u64) -> u64
+        requires { a < 2 ^ width_of self.size }
+        ensures { result ≡ reduced (width_of self.size) (int_shr (signed (width_of self.size) a) b) }
+    {
+        self.reduce_signed(self.sign(a) >> b.min(63))
+    }
+
+    /// Whether `a` is below `b`, signed.
+    pub fn is_below(self, a: u64, b: u64) -> bool
+        requires a { a < 2 ^ width_of self.size }
+        requires b { b < 2 ^ width_of self.size }
+        ensures { result ≡ int_lt (signed (width_of self.size) a) (signed (width_of self.size) b) }
+    {
+        self.sign(a) < self.sign(b)
+    }
+
+    /// Whether `a` is at most `b`, signed.
+    pub fn is_at_most(self, a: u64, b: u64) -> bool
+        requires a { a < 2 ^ width_of self.size }
+        requires b { b < 2 ^ width_of self.size }
+        ensures { result ≡ int_le (signed (width_of self.size) a) (signed (width_of self.size) b) }
+    {
+        self.sign(a) <= self.sign(b)
+    }
+}
