@@ -1,6 +1,10 @@
+pub mod Assembled
+pub mod Evaluated
 pub mod Growth
+pub mod Hexes
 pub mod Known
 pub mod Lookups
+pub mod OneReply
 pub mod Padded
 pub mod Parsed
 pub mod Replies

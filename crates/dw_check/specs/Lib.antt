@@ -1,8 +1,10 @@
 pub mod Addresses
 pub mod Asked
 pub mod Commands
+pub mod Evaluations
 pub mod Hexed
 pub mod Names
+pub mod Outcomes
 pub mod Parts
 pub mod Runs
 pub mod StateFile

@@ -1,5 +1,5 @@
 -- What a call that writes a text has written.
-use Rattle.std.specs.Prelude.{ℕ, Bool, true, false, List, Option, Result, Ok, Err}
+use Rattle.std.specs.Prelude.{ℕ, Bool, true, false, List, [], Option, Result, Ok, Err}
 use Rattle.std.specs.Io.KnownBytes.{Appends}
 use Rattle.dw_check.specs.Taken.{AppendsFront}
 use Rattle.dw_check.specs.declared.output.ReportFault.{ReportFault}
@@ -9,6 +9,12 @@ use Rattle.dw_check.specs.declared.output.ReportFault.TheVariants.{Memory, Write
 abbrev pub Writes : Option (List ℕ) → Option (List ℕ) → Result (Unit {0}) ReportFault → List ℕ → Type 0
 Writes old new (Ok _) text = Appends old new text
 Writes old new (Err _) text = AppendsFront old new text
+
+-- the same of a text that is handed over whole: for want of memory none of it was written
+abbrev pub WritesWhole : Option (List ℕ) → Option (List ℕ) → Result (Unit {0}) ReportFault → List ℕ → Type 0
+WritesWhole old new (Ok _) text = Appends old new text
+WritesWhole old new (Err Memory) text = Appends old new []
+WritesWhole old new (Err Write) text = AppendsFront old new text
 
 -- a call that answers this left the sink stopped
 abbrev pub is_write : Result (Unit {0}) ReportFault → Bool

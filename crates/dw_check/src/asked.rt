@@ -7,6 +7,7 @@ ghost use Rattle.dw_check.specs.Statuses.{status_of_usage, status_of_end};
 ghost use Rattle.dw_check.specs.declared.asked.Usage.TheVariants.{Memory};
 
 use dw_bytes::Target;
+use dw_stack::Kind;
 use std::alloc::{AllocError, AllocFailed};
 use std::marker::Model;
 
@@ -17,6 +18,8 @@ pub enum Task {
     Rows,
     /// The row of an address in a frame section.
     Row { address: u64 },
+    /// What an expression of this kind gives.
+    Eval { kind: Kind },
 }
 
 /// What a command line asks for.

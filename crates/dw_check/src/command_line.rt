@@ -3,7 +3,7 @@
 ghost use Rattle.std.specs.Prelude.{◌≡◌, IfOk, false, codes};
 ghost use Rattle.clap.specs.Words.{with_subcommand, app_of, rule_of};
 ghost use Rattle.clap.specs.declared.builder.Command.TheViews.{out-Command as fields_of};
-ghost use Rattle.dw_check.specs.Commands.{flag_rule, word_rule, with_flags, with_word, rows_app, row_app, dwcheck};
+ghost use Rattle.dw_check.specs.Commands.{flag_rule, option_rule, word_rule, with_flags, with_word, rows_app, row_app, eval_app, dwcheck};
 
 use clap::{Arg, ArgAction, Command};
 use std::alloc::{AllocError, Global};
@@ -20,6 +20,13 @@ fn word<'a>(alloc: Global, name: &'a str) -> Arg<'a>
     ensures local { result.global ≡ false }
 {
     Arg::new(alloc, name).required(true)
+}
+
+fn option<'a>(alloc: Global, name: &'a str) -> Arg<'a>
+    ensures rule { rule_of result ≡ option_rule name.entry.now }
+    ensures local { result.global ≡ false }
+{
+    Arg::new(alloc, name).long(name).action(ArgAction::Set)
 }
 
 fn with_flags<'a>(alloc: Global, command: Command<'a>) -> Result<Command<'a>, AllocError>
@@ -71,6 +78,16 @@ fn row_command<'a>(alloc: Global) -> Result<Command<'a>, AllocError>
     with_word(alloc, command, "ADDRESS")
 }
 
+fn eval_command<'a>(alloc: Global) -> Result<Command<'a>, AllocError>
+    ensures app { IfOk result (λ c. app_of c ≡ eval_app) }
+    ensures local { IfOk result (λ c. (fields_of c).has_globals ≡ false) }
+{
+    let command = with_flags(alloc, Command::new(alloc, "eval"))?;
+    let command = with_word(alloc, command, "KIND")?;
+    let command = with_word(alloc, command, "EXPR")?;
+    command.arg(option(alloc, "state"))
+}
+
 /// The whole command line. One of its subcommands has to be named.
 pub(crate) fn whole_command<'a>(alloc: Global) -> Result<Command<'a>, AllocError>
     ensures app { IfOk result (λ c. app_of c ≡ dwcheck) }
@@ -79,5 +96,6 @@ pub(crate) fn whole_command<'a>(alloc: Global) -> Result<Command<'a>, AllocError
     let command = Command::new(alloc, "dwcheck");
     let command = with_command(command, rows_command(alloc)?)?;
     let command = with_command(command, row_command(alloc)?)?;
+    let command = with_command(command, eval_command(alloc)?)?;
     Ok(command.subcommand_required(true))
 }

@@ -4,11 +4,14 @@
 mod addresses;
 mod asked;
 mod command_line;
+mod evaluations;
 mod hexed;
+pub mod laws;
 mod lines;
 mod machine_state;
 mod names;
 mod numbers;
+mod outcomes;
 mod output;
 mod parts;
 mod runs;
@@ -21,5 +24,7 @@ pub use runs::run;
 pub use sink::{Sink, Stopped, Through};
 pub use words::request;
 
+#[cfg(test)]
+mod eval_tests;
 #[cfg(test)]
 mod tests;

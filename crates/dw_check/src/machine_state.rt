@@ -4,13 +4,15 @@ ghost use Rattle.std.specs.Prelude.{◌≡◌, ℕ, ◌+◌, ◌≤◌, ◌^◌,
 ghost use Rattle.std.specs.Ordering.{nat_cmp};
 ghost use Rattle.std.specs.BTreeMap.{get, Updates, IsUnchanged};
 ghost use Rattle.std.specs.Option.{option_or};
-ghost use Rattle.dw_check.specs.StateFile.{Given, FitsAddresses, IsGivenBy, byte_in};
+ghost use Rattle.dw_check.specs.StateFile.{Given, FitsAddresses, IsGivenBy, byte_in, file_given};
 ghost use Rattle.dw_check.specs.declared.machine_state.StateFault.TheVariants.{Memory};
 ghost use Rattle.dw_check.specs.StateViews.{given_of, known_of, IsStateOf, IsStateFault};
 
 use crate::parts::Parts;
 use crate::state_line::{StateLine, parse_line};
-use dw_bytes::Target;
+use byteorder::{BigEndian, ByteOrder, LittleEndian};
+use dw_bytes::{Order, Target};
+use dw_eval::{Memory, Registers};
 use std::alloc::{AllocError, Global};
 use std::collections::BTreeMap;
 
@@ -104,6 +106,30 @@ impl From<AllocError> for StateFault {
     }
 }
 
+impl Registers for MachineState {
+    ghost contents = { λ m. (known_of m).registers };
+
+    fn register(&self, number: u16) -> Option<u64> {
+        self.registers.get(&number).copied()
+    }
+}
+
+impl Memory for MachineState {
+    ghost bytes = { λ m. (known_of m).memory };
+
+    fn read(&self, address: u64, size: u8, order: Order) -> Option<u64> {
+        let mut bytes = [0; 8];
+        for index in 0..size {
+            bytes[usize::from(index)] = *self.memory.get(&(address + u64::from(index)))?;
+        }
+        let count = usize::from(size);
+        Some(match order {
+            Order::Little => LittleEndian::read_uint(&bytes[..count], count),
+            Order::Big => BigEndian::read_uint(&bytes[..count], count),
+        })
+    }
+}
+
 /// What a state file says, or its first line that is none. An empty line says nothing, and where two lines
 /// give one thing or one byte, the first holds. Time n log n in the file's length.
 pub(crate) fn read_state(
@@ -111,8 +137,8 @@ pub(crate) fn read_state(
     target: Target,
     text: &[u8],
 ) -> Result<MachineState, StateFault>
-    ensures state { IfOk result (IsStateOf target text.now) }
-    ensures fault { IfErr result (IsStateFault target text.now) }
+    ensures state { IfOk result (IsStateOf (file_given target text.now)) }
+    ensures fault { IfErr result (IsStateFault (file_given target text.now)) }
 {
     let mut state = MachineState::new(alloc);
     let mut number = 0;

@@ -5,7 +5,7 @@ ghost use Rattle.std.specs.List.{All, flat_map};
 ghost use Rattle.dw_frame.specs.Views.{cie_of, fde_of};
 ghost use Rattle.dw_frame.specs.Sections.{top_of};
 ghost use Rattle.dw_check.specs.Text.{FitsFde, Fits, refused_line, fde_line, row_line, fde_text, frame_text, lookup_text};
-ghost use Rattle.dw_check.specs.Written.{Writes, is_write};
+ghost use Rattle.dw_check.specs.Written.{Writes, WritesWhole, is_write};
 ghost use Rattle.dw_check.specs.declared.output.ReportFault.TheVariants.{Memory, Write};
 
 use crate::lines::{Place, push_fde, push_refused, push_row};
@@ -48,7 +48,7 @@ pub(crate) fn write_refused<S: Sink>(
     sink: &mut S,
 ) -> Result<(), ReportFault>
     requires { S.has_stopped sink.old ≡ false }
-    ensures written { Writes (S.taken sink.old) (S.taken sink.new) result (refused_line place fault) }
+    ensures written { WritesWhole (S.taken sink.old) (S.taken sink.new) result (refused_line place fault) }
     ensures stops { S.has_stopped sink.new ≡ is_write result }
 {
     line.clear();

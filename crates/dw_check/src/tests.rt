@@ -37,7 +37,7 @@ row 0x0000000000001004..0x0000000000001020 cfa=r6+16 r6=[c-16] r16=[c-8]
 ";
 
 /// The request of these words.
-fn asked(alloc: Global, words: &[&str]) -> Result<Result<Request, Usage>, Fail> {
+pub(crate) fn asked(alloc: Global, words: &[&str]) -> Result<Result<Request, Usage>, Fail> {
     let mut list: Vec<String> = Vec::new(alloc);
     for word in words {
         list.push(String::from_str(alloc, word)?)?;

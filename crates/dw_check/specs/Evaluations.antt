@@ -1,0 +1,31 @@
+-- What an expression comes to on a machine of which something is known.
+use Rattle.std.specs.Prelude.{◌≡◌, ℕ, ◌<◌, ◌^◌, List, length}
+use Rattle.dw_bytes.specs.declared.target.Target.{Target}
+use Rattle.dw_stack.specs.declared.state.Kind.{Kind}
+use Rattle.dw_stack.specs.Expressions.{operations_in, IsGoodExpression, IsDepthOf}
+use Rattle.dw_eval.specs.World.{World}
+use Rattle.dw_eval.specs.Results.{Outcome, IsRun}
+use Rattle.dw_check.specs.StateFile.{Given, first_that, content_in, byte_in, cfa_in, frame_base_in, object_in}
+use Rattle.dw_check.specs.Outcomes.{evaluation_text}
+
+-- a machine of which this was given, under a target
+abbrev pub world_of : Target → List Given → World
+world_of target gs = record {
+  target = target;
+  registers = λ n. first_that (content_in n) gs;
+  memory = λ a. first_that (byte_in a) gs;
+  cfa = first_that cfa_in gs;
+  frame_base = first_that frame_base_in gs;
+  object = first_that object_in gs;
+}
+
+-- The expression is good, its run on what was given comes to an outcome after some steps, and the text shows them and its depth.
+pub record Evaluates (kind : Kind) (target : Target) (bytes : List ℕ) (gs : List Given) (written : List ℕ) : Type 0 where
+  pub short : length bytes < 2 ^ 32
+  pub good : IsGoodExpression kind target bytes
+  pub outcome : Outcome
+  pub steps : ℕ
+  pub run : IsRun (world_of target gs) kind (operations_in target bytes) (length bytes) outcome steps
+  pub depth : ℕ
+  pub deepest : IsDepthOf kind target bytes depth
+  pub text : written ≡ evaluation_text target.address_size outcome steps depth

@@ -1,0 +1,42 @@
+-- The text of an outcome.
+use Rattle.std.specs.Prelude.{ℕ, List, ◌++◌, length, codes, decimal}
+use Rattle.std.specs.List.{flat_map}
+use Rattle.hex.specs.Hex.{encode_lower}
+use Rattle.dw_bytes.specs.declared.target.AddressSize.{AddressSize}
+use Rattle.dw_stack.specs.Machine.{Whereabouts, Nowhere, AtAddress, InRegister, HasValue, HasBytes, Extent, Piece}
+use Rattle.dw_stack.specs.Machine as machine
+use Rattle.dw_eval.specs.Results.{Outcome, value, single, pieces, unreadable, division_by_zero}
+use Rattle.dw_check.specs.Text.{address_text, offset_text}
+
+-- where an object is, or a piece of it
+abbrev pub location_text : AddressSize → Whereabouts → List ℕ
+location_text size Nowhere = codes "empty"
+location_text size (AtAddress a) = codes "address " ++ address_text size a
+location_text size (InRegister r) = codes "register " ++ decimal r
+location_text size (HasValue v) = codes "value " ++ address_text size v
+location_text size (HasBytes bytes) = codes "bytes " ++ encode_lower bytes
+
+abbrev pub size_text : Extent → List ℕ
+size_text (machine.bytes n) = codes " bytes " ++ decimal n
+size_text (machine.bits n offset) = codes " bits " ++ decimal n ++ codes " offset " ++ decimal offset
+
+unfoldable pub piece_line : AddressSize → Piece → List ℕ
+piece_line size piece = codes "piece " ++ location_text size piece.location ++ size_text piece.size ++ codes "\n"
+
+-- what happened at an operation
+unfoldable pub stop_line : List ℕ → ℕ → List ℕ
+stop_line what at = what ++ codes " at " ++ offset_text at ++ codes "\n"
+
+abbrev pub outcome_text : AddressSize → Outcome → List ℕ
+outcome_text size (value v) = codes "value " ++ address_text size v ++ codes "\n"
+outcome_text size (single l) = location_text size l ++ codes "\n"
+outcome_text size (pieces ps) = codes "pieces " ++ decimal (length ps) ++ codes "\n" ++ flat_map (piece_line size) ps
+outcome_text size (unreadable at) = stop_line (codes "unreadable") at
+outcome_text size (division_by_zero at) = stop_line (codes "division by zero") at
+
+-- the steps that were taken, and the depth
+unfoldable pub counts_line : ℕ → ℕ → List ℕ
+counts_line steps depth = codes "steps " ++ decimal steps ++ codes " depth " ++ decimal depth ++ codes "\n"
+
+unfoldable pub evaluation_text : AddressSize → Outcome → ℕ → ℕ → List ℕ
+evaluation_text size outcome steps depth = outcome_text size outcome ++ counts_line steps depth

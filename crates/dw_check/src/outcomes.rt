@@ -1,0 +1,140 @@
+//! The text of an evaluation.
+
+ghost use Rattle.std.specs.Prelude.{◌≡◌, ◌++◌, ◌^◌, ℕ, OnOk, map};
+ghost use Rattle.std.specs.List.{All, flat_map};
+ghost use Rattle.std.specs.String.{string_bytes};
+ghost use Rattle.hex.specs.Hex.{encode_lower};
+ghost use Rattle.dw_eval.specs.Views.{whereabouts_of, extent_in, piece_in, outcome_of};
+ghost use Rattle.dw_check.specs.Text.{hex_digits, digits_of};
+ghost use Rattle.dw_eval.specs.Fits.{LocationFits, PieceFits, OutcomeFits};
+ghost use Rattle.dw_check.specs.Outcomes.{location_text, size_text, piece_line, stop_line, outcome_text, counts_line, evaluation_text};
+
+use crate::numbers::{push_address, push_offset};
+use dw_bytes::AddressSize;
+use dw_eval::{Location, Outcome, Piece, PieceSize};
+use std::alloc::AllocError;
+
+fn push_byte(line: &mut String, byte: u8) -> Result<(), AllocError>
+    ensures { OnOk result (string_bytes line.new ≡ string_bytes line.old ++ hex_digits 2 byte) }
+{
+    write!(line, "{byte:02x}")
+}
+
+/// Bytes in hex.
+fn push_hex(line: &mut String, bytes: &[u8]) -> Result<(), AllocError>
+    ensures { OnOk result (string_bytes line.new ≡ string_bytes line.old ++ encode_lower bytes.now) }
+{
+    for byte in bytes {
+        push_byte(line, *byte)?;
+    }
+    Ok(())
+}
+
+fn push_location(
+    line: &mut String,
+    size: AddressSize,
+    location: Location<'_>,
+) -> Result<(), AllocError>
+    requires { LocationFits (16 ^ digits_of size) (whereabouts_of location) }
+    ensures { OnOk result (string_bytes line.new ≡ string_bytes line.old ++ location_text size (whereabouts_of location.entry)) }
+{
+    match location {
+        Location::Empty => line.push_str("empty"),
+        Location::Address(address) => {
+            line.push_str("address ")?;
+            push_address(line, size, address)
+        }
+        Location::Register(register) => write!(line, "register {register}"),
+        Location::Value(value) => {
+            line.push_str("value ")?;
+            push_address(line, size, value)
+        }
+        Location::Bytes(bytes) => {
+            line.push_str("bytes ")?;
+            push_hex(line, bytes)
+        }
+    }
+}
+
+fn push_size(line: &mut String, size: PieceSize) -> Result<(), AllocError>
+    ensures { OnOk result (string_bytes line.new ≡ string_bytes line.old ++ size_text (extent_in size)) }
+{
+    match size {
+        PieceSize::Bytes(count) => write!(line, " bytes {count}"),
+        PieceSize::Bits { size, offset } => write!(line, " bits {size} offset {offset}"),
+    }
+}
+
+#[tactic(auto, unfolding(crate::specs::Outcomes::piece_line))]
+fn push_piece(line: &mut String, size: AddressSize, piece: Piece<'_>) -> Result<(), AllocError>
+    requires { PieceFits (16 ^ digits_of size) (piece_in piece) }
+    ensures { OnOk result (string_bytes line.new ≡ string_bytes line.old ++ piece_line size (piece_in piece.entry)) }
+{
+    line.push_str("piece ")?;
+    push_location(line, size, piece.location)?;
+    push_size(line, piece.size)?;
+    line.push_str("\n")
+}
+
+fn push_pieces(line: &mut String, size: AddressSize, pieces: &[Piece<'_>]) -> Result<(), AllocError>
+    requires { All (PieceFits (16 ^ digits_of size)) (map piece_in pieces.now) }
+    ensures { OnOk result (string_bytes line.new ≡ string_bytes line.old ++ flat_map (piece_line size) (map piece_in pieces.now)) }
+{
+    for piece in pieces {
+        push_piece(line, size, *piece)?;
+    }
+    Ok(())
+}
+
+#[tactic(auto, unfolding(crate::specs::Outcomes::stop_line))]
+fn push_stop(line: &mut String, what: &str, at: u32) -> Result<(), AllocError>
+    ensures { OnOk result (string_bytes line.new ≡ string_bytes line.old ++ stop_line what.now at) }
+{
+    write!(line, "{what} at ")?;
+    push_offset(line, at)?;
+    line.push_str("\n")
+}
+
+fn push_outcome(
+    line: &mut String,
+    size: AddressSize,
+    outcome: &Outcome<'_>,
+) -> Result<(), AllocError>
+    requires { (len : ℕ) × OutcomeFits (16 ^ digits_of size) len (outcome_of outcome.now) }
+    ensures { OnOk result (string_bytes line.new ≡ string_bytes line.old ++ outcome_text size (outcome_of outcome.now)) }
+{
+    match outcome {
+        Outcome::Value(value) => {
+            line.push_str("value ")?;
+            push_address(line, size, *value)?;
+            line.push_str("\n")
+        }
+        Outcome::Single(location) => {
+            push_location(line, size, *location)?;
+            line.push_str("\n")
+        }
+        Outcome::Pieces(pieces) => {
+            let count = pieces.len();
+            write!(line, "pieces {count}\n")?;
+            push_pieces(line, size, pieces.as_slice())
+        }
+        Outcome::Unreadable { at } => push_stop(line, "unreadable", *at),
+        Outcome::DivisionByZero { at } => push_stop(line, "division by zero", *at),
+    }
+}
+
+/// The lines of an evaluation.
+#[tactic(auto, unfolding(crate::specs::Outcomes::counts_line, crate::specs::Outcomes::evaluation_text))]
+pub(crate) fn push_evaluation(
+    line: &mut String,
+    size: AddressSize,
+    outcome: &Outcome<'_>,
+    steps: u32,
+    depth: u8,
+) -> Result<(), AllocError>
+    requires { (len : ℕ) × OutcomeFits (16 ^ digits_of size) len (outcome_of outcome.now) }
+    ensures { OnOk result (string_bytes line.new ≡ string_bytes line.old ++ evaluation_text size (outcome_of outcome.now) steps depth) }
+{
+    push_outcome(line, size, outcome)?;
+    write!(line, "steps {steps} depth {depth}\n")
+}
