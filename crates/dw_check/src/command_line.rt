@@ -8,25 +8,35 @@ ghost use Rattle.dw_check.specs.Commands.{flag_rule, option_rule, word_rule, wit
 use clap::{Arg, ArgAction, Command};
 use std::alloc::{AllocError, Global};
 
-fn flag<'a>(alloc: Global, name: &'a str) -> Arg<'a>
+const FRAME_HELP: &str = "A file with a .debug_frame section";
+
+const STATE_HELP: &str = "A file with what registers, memory and the context have";
+
+fn flag<'a>(alloc: Global, name: &'a str, help: &'a str) -> Arg<'a>
     ensures rule { rule_of result ≡ flag_rule name.entry.now }
     ensures local { result.global ≡ false }
 {
-    Arg::new(alloc, name).long(name).action(ArgAction::SetTrue)
+    Arg::new(alloc, name)
+        .long(name)
+        .action(ArgAction::SetTrue)
+        .help(help)
 }
 
-fn word<'a>(alloc: Global, name: &'a str) -> Arg<'a>
+fn word<'a>(alloc: Global, name: &'a str, help: &'a str) -> Arg<'a>
     ensures rule { rule_of result ≡ word_rule name.entry.now }
     ensures local { result.global ≡ false }
 {
-    Arg::new(alloc, name).required(true)
+    Arg::new(alloc, name).required(true).help(help)
 }
 
-fn option<'a>(alloc: Global, name: &'a str) -> Arg<'a>
+fn option<'a>(alloc: Global, name: &'a str, help: &'a str) -> Arg<'a>
     ensures rule { rule_of result ≡ option_rule name.entry.now }
     ensures local { result.global ≡ false }
 {
-    Arg::new(alloc, name).long(name).action(ArgAction::Set)
+    Arg::new(alloc, name)
+        .long(name)
+        .action(ArgAction::Set)
+        .help(help)
 }
 
 fn with_flags<'a>(alloc: Global, command: Command<'a>) -> Result<Command<'a>, AllocError>
@@ -35,21 +45,22 @@ fn with_flags<'a>(alloc: Global, command: Command<'a>) -> Result<Command<'a>, Al
     ensures local { IfOk result (λ c. (fields_of c).has_globals ≡ false) }
 {
     command
-        .arg(flag(alloc, "big"))?
-        .arg(flag(alloc, "addr4"))?
-        .arg(flag(alloc, "hex"))
+        .arg(flag(alloc, "big", "Numbers are big-endian"))?
+        .arg(flag(alloc, "addr4", "Addresses have 4 bytes, not 8"))?
+        .arg(flag(alloc, "hex", "The file is hex text"))
 }
 
 fn with_word<'a>(
     alloc: Global,
     command: Command<'a>,
     name: &'a str,
+    help: &'a str,
 ) -> Result<Command<'a>, AllocError>
     requires { (fields_of command).has_globals ≡ false }
     ensures app { IfOk result (λ c. app_of c ≡ with_word (app_of command.entry) name.entry.now) }
     ensures local { IfOk result (λ c. (fields_of c).has_globals ≡ false) }
 {
-    command.arg(word(alloc, name))
+    command.arg(word(alloc, name, help))
 }
 
 fn with_command<'a>(command: Command<'a>, inner: Command<'a>) -> Result<Command<'a>, AllocError>
@@ -65,27 +76,41 @@ fn rows_command<'a>(alloc: Global) -> Result<Command<'a>, AllocError>
     ensures app { IfOk result (λ c. app_of c ≡ rows_app) }
     ensures local { IfOk result (λ c. (fields_of c).has_globals ≡ false) }
 {
-    let command = with_flags(alloc, Command::new(alloc, "rows"))?;
-    with_word(alloc, command, "FRAME")
+    let command = with_flags(
+        alloc,
+        Command::new(alloc, "rows").about("Show each FDE and its rows"),
+    )?;
+    with_word(alloc, command, "FRAME", FRAME_HELP)
 }
 
 fn row_command<'a>(alloc: Global) -> Result<Command<'a>, AllocError>
     ensures app { IfOk result (λ c. app_of c ≡ row_app) }
     ensures local { IfOk result (λ c. (fields_of c).has_globals ≡ false) }
 {
-    let command = with_flags(alloc, Command::new(alloc, "row"))?;
-    let command = with_word(alloc, command, "FRAME")?;
-    with_word(alloc, command, "ADDRESS")
+    let command = with_flags(
+        alloc,
+        Command::new(alloc, "row").about("Show the row of an address"),
+    )?;
+    let command = with_word(alloc, command, "FRAME", FRAME_HELP)?;
+    with_word(alloc, command, "ADDRESS", "0x and 1 to 16 hex digits")
 }
 
 fn eval_command<'a>(alloc: Global) -> Result<Command<'a>, AllocError>
     ensures app { IfOk result (λ c. app_of c ≡ eval_app) }
     ensures local { IfOk result (λ c. (fields_of c).has_globals ≡ false) }
 {
-    let command = with_flags(alloc, Command::new(alloc, "eval"))?;
-    let command = with_word(alloc, command, "KIND")?;
-    let command = with_word(alloc, command, "EXPR")?;
-    command.arg(option(alloc, "state"))
+    let command = with_flags(
+        alloc,
+        Command::new(alloc, "eval").about("Evaluate an expression"),
+    )?;
+    let command = with_word(alloc, command, "KIND", "cfa, register or location")?;
+    let command = with_word(
+        alloc,
+        command,
+        "EXPR",
+        "A file with the bytes of an expression",
+    )?;
+    command.arg(option(alloc, "state", STATE_HELP))
 }
 
 /// The whole command line. One of its subcommands has to be named.
@@ -93,7 +118,9 @@ pub(crate) fn whole_command<'a>(alloc: Global) -> Result<Command<'a>, AllocError
     ensures app { IfOk result (λ c. app_of c ≡ dwcheck) }
     ensures local { IfOk result (λ c. (fields_of c).has_globals ≡ false) }
 {
-    let command = Command::new(alloc, "dwcheck");
+    let command = Command::new(alloc, "dwcheck").about(
+        "Check DWARF 5 unwind tables, and evaluate expressions",
+    );
     let command = with_command(command, rows_command(alloc)?)?;
     let command = with_command(command, row_command(alloc)?)?;
     let command = with_command(command, eval_command(alloc)?)?;
