@@ -125,6 +125,23 @@ fn locations(rt: HostRuntime) -> Result<(), Fail> {
     Ok(())
 }
 
+/// As many pieces as there may be.
+#[test]
+fn many_pieces(rt: HostRuntime) -> Result<(), Fail> {
+    let alloc = rt.alloc();
+    let mut expression = String::new(alloc);
+    let mut wanted = String::from_str(alloc, "pieces 32\n")?;
+    for _ in 0..32 {
+        expression.push_str("9300")?;
+        wanted.push_str("piece empty bytes 0\n")?;
+    }
+    wanted.push_str("steps 32 depth 0\n")?;
+    let (end, written) = evaluated(alloc, LOCATION, expression.as_str(), None)?;
+    assert_eq!(rt; end, End::Done);
+    assert_eq!(rt; written.as_slice(), wanted.as_bytes());
+    Ok(())
+}
+
 /// Expressions, state files, and their text but for its last LF.
 const STATES: [(&[&str], &str, Option<&str>, &str); 19] = [
     (
