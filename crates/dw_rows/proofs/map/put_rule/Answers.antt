@@ -1,9 +1,7 @@
-use Rattle.std.proofs.Common.{arith, ◌≡◌, ◌≢◌, ◌+◌, ◌<◌, length}
+use Rattle.std.proofs.Common.{arith, ◌≡◌, ◌<◌, length}
 use Rattle.std.proofs.lemmas.Grind.{common_steps}
-use Rattle.dw_rows.specs.Rules.{rule_list, rule_in, changed_at}
 use Rattle.dw_rows.specs.Places.{place_in}
 use Rattle.dw_rows.specs.Views.{rule_of, entries_of}
-use Rattle.dw_rows.specs.declared.row.RegisterRule.TheVariants.{Default}
 use Rattle.dw_rows.proofs.Tables.{inserted, Clears, puts-inserted, full-count}
 use Rattle.dw_rows.proofs.Edits.{insert-place, rule_of-some, length-entries_of}
 use Rattle.dw_rows.proofs.map.put_rule.Goals as goal
