@@ -134,7 +134,7 @@ fn write_fde_and_rows<'a, S: Sink>(
     let size = frame.target().address_size;
     let cie = frame.cie_of(fde);
     write_fde(line, size, &cie, fde, sink)?;
-    rows.restart(&cie, fde);
+    frame.rows_into(fde, rows);
     write_rows(line, size, rows, row, sink)
 }
 

@@ -21,4 +21,5 @@ pub mod Goods
 pub mod Programs
 pub mod RowsOf
 mod WellFormedSections
+pub mod Initials
 pub mod Stacks
