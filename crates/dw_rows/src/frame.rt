@@ -69,18 +69,17 @@ fn records_of<'a>(
     let mut cies = Vec::new(alloc);
     let mut fdes = Vec::new(alloc);
     for entry in entries(section, target) {
-        match entry {
-            Ok(Entry::Cie(cie)) => {
+        match entry? {
+            Entry::Cie(cie) => {
                 if cies.push(cie).is_err() {
                     return Err(MEMORY);
                 }
             }
-            Ok(Entry::Fde(fde)) => {
+            Entry::Fde(fde) => {
                 if fdes.push(fde).is_err() {
                     return Err(MEMORY);
                 }
             }
-            Err(fault) => return Err(fault),
         }
     }
     Ok((cies, fdes))

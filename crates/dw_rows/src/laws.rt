@@ -13,6 +13,8 @@ ghost use Rattle.dw_rows.specs.Clauses.{AreRules, AreRowsOf};
 ghost use Rattle.dw_bytes.specs.declared.target.Target.{Target};
 ghost use Rattle.dw_rows.specs.Section.{section_fault};
 ghost use Rattle.dw_rows.specs.WellFormed.{IsWellFormed};
+ghost use Rattle.dw_rows.specs.declared.map.TheConstants.{MAX_RULES};
+ghost use Rattle.dw_rows.specs.declared.remembered.TheConstants.{MAX_REMEMBERED};
 
 /// The rules after each instruction are those that the instruction gives, a restore_state those before
 /// its match. No others are.
@@ -54,4 +56,10 @@ pub fn rule_lists_are_rules()
 /// with good programs, and no address covered by two FDEs.
 pub fn sections_without_fault_are_well_formed()
     ensures { (target : Target) (section : List ℕ) → (section_fault target section ≡ None) ↔ IsWellFormed target section }
+{}
+
+/// At most so many registers of a row have a rule other than default, and at most so many rows are remembered at once.
+pub fn limits()
+    ensures rules { MAX_RULES ≡ 128 }
+    ensures remembered { MAX_REMEMBERED ≡ 8 }
 {}

@@ -82,19 +82,6 @@ impl<'a> Rows<'a> {
         }
     }
 
-    /// Begins with the rows of another FDE, in the same place. Its program and its CIE's must be good.
-    pub fn restart(&mut self, cie: &CommonInformationEntry<'a>, fde: &FrameDescriptionEntry<'a>)
-        requires cie { cie_fault (cie_of cie.now) ≡ None }
-        requires fde { fde_fault (cie_of cie.now) (fde_of fde.now) ≡ None }
-        ensures { self.new ≡ rows_of (cie_of cie.now) (fde_of fde.now) }
-    {
-        run_good(&mut self.machine.position, cie);
-        self.instructions = begin(&mut self.machine, cie, fde);
-        self.cie = *cie;
-        self.fde = *fde;
-        self.given = 0;
-    }
-
     /// Begins with the rows of an FDE of a checked section, in the same place.
     pub(crate) fn restart_in(&mut self, frame: &CheckedFrame<'a>, fde: &FrameDescriptionEntry<'a>)
         requires { Contains frame.now.fdes (fde_of fde.now) }

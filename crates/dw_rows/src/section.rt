@@ -9,7 +9,7 @@ ghost use Rattle.dw_rows.specs.Overlap.{IsAscending, cie_offset};
 ghost use Rattle.dw_rows.specs.Machine.{IsLeftBy};
 ghost use Rattle.dw_rows.specs.Initial.{AreLeftBy};
 
-use crate::check::{check_program, run_cie_at};
+use crate::check::{check_program, run_cie};
 use crate::initial_rules::InitialRules;
 use crate::machine::Machine;
 use crate::position::Position;
@@ -95,7 +95,7 @@ pub fn check_cies(
 {
     let mut left = InitialRules::new(alloc);
     for cie in cies {
-        run_cie_at(position, cie)?;
+        run_cie(position, cie)?;
         if left.push(position.first()).is_err() {
             return Err(MEMORY);
         }
