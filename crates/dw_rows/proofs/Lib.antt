@@ -22,4 +22,5 @@ pub mod Programs
 pub mod RowsOf
 mod WellFormedSections
 pub mod Initials
+pub mod Standing
 pub mod Stacks

@@ -6,7 +6,7 @@ use Rattle.dw_bytes.specs.declared.fault.Fault.{Fault}
 use Rattle.dw_bytes.specs.Answers.{values_in, fault_in}
 use Rattle.dw_frame.specs.Records.{Cie, Fde, Record, common, description}
 use Rattle.dw_frame.specs.Sections.{entries_of, AreRecords}
-use Rattle.dw_frame.specs.Bounds.{Ascends, offset_of, IsSoundFde}
+use Rattle.dw_frame.specs.Bounds.{Ascends, offset_of, IsSoundCie, IsSoundFde}
 use Rattle.dw_frame.proofs.EachRecord.{sections-are-records}
 use Rattle.dw_frame.proofs.RecordBounds.{records-ascend, entries-sound}
 use Rattle.dw_rows.specs.Section.{frame_of, common_in, description_in, parts_fault}
@@ -63,6 +63,17 @@ among-entries (Err fault ∷ items) f (k, lt, is) = absurd (omega arith)
 among-entries (Ok (common c) ∷ items) f among = Contains-cons (Ok (common c)) (Ok (description f)) items (among-entries items f among)
 among-entries (Ok (description g) ∷ items) f (zero, lt, is) = (zero, omega arith, ap (λ h. Ok (description h)) is)
 among-entries (Ok (description g) ∷ items) f (suc k, lt, is) = Contains-cons (Ok (description g)) (Ok (description f)) items (among-entries items f (k, omega arith, is))
+
+-- and a CIE likewise
+common-among : (items : List (Result Record Fault)) (c : Cie) → Contains (filter_map common_in (values_in items)) c → Contains items (Ok (common c))
+common-among [] c (k, lt, is) = absurd (omega arith)
+common-among (Err fault ∷ items) c (k, lt, is) = absurd (omega arith)
+common-among (Ok (description g) ∷ items) c among = Contains-cons (Ok (description g)) (Ok (common c)) items (common-among items c among)
+common-among (Ok (common d) ∷ items) c (zero, lt, is) = (zero, omega arith, ap (λ h. Ok (common h)) is)
+common-among (Ok (common d) ∷ items) c (suc k, lt, is) = Contains-cons (Ok (common d)) (Ok (common c)) items (common-among items c (k, omega arith, is))
+
+pub cies-sound : (target : Target) (section : List ℕ) (c : Cie) → Contains (frame_of target section).cies c → IsSoundCie target (length section) c
+cies-sound target section c among = entries-sound target section (Ok (common c)) (common-among (entries_of target section) c among)
 
 -- its addresses are addresses of the target
 pub fdes-sound : (target : Target) (section : List ℕ) (f : Fde) → Contains (frame_of target section).fdes f → IsSoundFde target (length section) f

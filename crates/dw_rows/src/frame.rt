@@ -1,6 +1,6 @@
 //! A checked section.
 
-ghost use Rattle.std.specs.Prelude.{◌≡◌, ◌+◌, ◌<◌, ◌≤◌, ◌^◌, None, Some, Contains, length, map, option_map, IfOk, IfSome};
+ghost use Rattle.std.specs.Prelude.{◌≡◌, ◌+◌, ◌<◌, ◌≤◌, ◌^◌, None, Some, Contains, length, map, option_map, IfOk, IfErr, IfSome};
 ghost use Rattle.dw_frame.specs.Records.{Fde};
 ghost use Rattle.dw_frame.specs.Sections.{entries_of, top_of};
 ghost use Rattle.dw_frame.specs.Views.{cie_of, fde_of};
@@ -152,6 +152,7 @@ pub fn check_frame<'a>(
 ) -> Result<CheckedFrame<'a>, Fault>
     requires { length section.now < 2 ^ 32 }
     ensures answer { Answers (section_fault target section.now) result }
+    ensures inside { IfErr result (λ fault. fault.at ≤ length section.now) }
     ensures frame { IfOk result (λ frame. frame ≡ frame_of target section.now) }
 {
     let (cies, fdes) = records_of(alloc, section, target)?;

@@ -1,10 +1,11 @@
-use Rattle.std.proofs.Common.{◌≡◌, List, sym, subst, ap, ◌∙◌, map, None}
+use Rattle.std.proofs.Common.{rules, ◌≡◌, List, sym, subst, ap, ◌∙◌, map, None}
 use Rattle.dw_frame.specs.Views.{cie_of, fde_of}
 use Rattle.dw_frame.specs.declared.entry.CommonInformationEntry.{CommonInformationEntry}
 use Rattle.dw_frame.specs.declared.entry.FrameDescriptionEntry.{FrameDescriptionEntry}
-use Rattle.dw_rows.specs.Section.{parts_fault, frame_of}
+use Rattle.dw_rows.specs.Section.{parts_fault, section_fault, frame_of}
 use Rattle.dw_rows.specs.Initial.{AreLeftBy}
 use Rattle.dw_rows.specs.Overlap.{IsAscending, cie_offset, fde_offset, IsIndexOf}
+use Rattle.dw_rows.proofs.Standing.{section-answered}
 use Rattle.dw_rows.proofs.SectionOrder.{cies-ascend, fdes-ascend, kept}
 use Rattle.dw_rows.proofs.frame.check_frame.Goals as goal
 
@@ -30,3 +31,11 @@ invariant_of-result c =
     let left_by : AreLeftBy (map cie_of cies) left = subst (λ (l : List CommonInformationEntry). AreLeftBy (map cie_of l) left) c.deref.ensures.value c.in_ok-initial.ensures.left in
     let index_of : IsIndexOf (map fde_of fdes) index = subst (λ (l : List FrameDescriptionEntry). IsIndexOf (map fde_of l) index) c.deref-2.ensures.value c.in_ok-initial.ensures.index in
     kept c.args.target c.args.section.now (map cie_of cies) left (map fde_of fdes) index c.in_ok-cies.ensures.read c.in_ok-cies.ensures.cies c.in_ok-cies.ensures.fdes answer left_by index_of
+
+pub returns-in_err-cies-clause-inside : goal.returns-in_err-cies-clause-inside
+unfolding section_fault
+returns-in_err-cies-clause-inside c = section-answered c.args.target c.args.section.now c.from_residual.result (search rules)
+
+pub returns-in_err-initial-clause-inside : goal.returns-in_err-initial-clause-inside
+unfolding section_fault
+returns-in_err-initial-clause-inside c = section-answered c.args.target c.args.section.now c.from_residual-in_err-initial.result (search rules)
