@@ -57,7 +57,7 @@ pub(crate) fn row_from<'a>(
         return None;
     }
     let limit = fde.initial_location + fde.address_range;
-    let mut instructions = begin_at(position, cie, fde);
+    let mut instructions = begin_at(position, fde);
     loop {
         match next_plain(position, &mut instructions, cie, limit) {
             Next::Row(start, end) => {

@@ -55,7 +55,7 @@ impl<'a> Rows<'a> {
     {
         let mut machine = Machine::new();
         run_good(&mut machine.position, cie);
-        let instructions = begin(&mut machine, cie, fde);
+        let instructions = begin(&mut machine, fde);
         Rows {
             cie: *cie,
             fde: *fde,
@@ -72,7 +72,7 @@ impl<'a> Rows<'a> {
     {
         let mut machine = Machine::new();
         let cie = frame.recall_cie(&mut machine.position, fde);
-        let instructions = begin(&mut machine, &cie, fde);
+        let instructions = begin(&mut machine, fde);
         Rows {
             cie,
             fde: *fde,
@@ -88,7 +88,7 @@ impl<'a> Rows<'a> {
         ensures { self.new ≡ rows_in frame.now (fde_of fde.now) }
     {
         let cie = frame.recall_cie(&mut self.machine.position, fde);
-        self.instructions = begin(&mut self.machine, &cie, fde);
+        self.instructions = begin(&mut self.machine, fde);
         self.cie = cie;
         self.fde = *fde;
         self.given = 0;
