@@ -17,7 +17,7 @@ pub struct RuleSpan {
 }
 
 /// The rules that the initial instructions of CIEs leave (DWARF 5, section 6.4.1), of one CIE after the other. All lie in one
-/// place, so many CIEs take no room but that of the rules that they have.
+/// list, so many CIEs make no request for memory each, and take the room of the rules that they have.
 #[derive(Drop)]
 pub struct InitialRules {
     entries: Vec<RuleEntry>,
