@@ -108,10 +108,7 @@ fn write_rows<S: Sink>(
     ensures stops { S.has_stopped sink.new ≡ is_write result }
 {
     'rows: while rows.next_into(row) {
-        match write_row(line, size, row, sink) {
-            Ok(()) => {}
-            Err(fault) => return Err(fault),
-        }
+        write_row(line, size, row, sink)?;
     }
     Ok(())
 }
@@ -134,7 +131,7 @@ fn write_fde_and_rows<'a, S: Sink>(
     let size = frame.target().address_size;
     let cie = frame.cie_of(fde);
     write_fde(line, size, &cie, fde, sink)?;
-    rows.restart(&cie, fde);
+    frame.rows_into(fde, rows);
     write_rows(line, size, rows, row, sink)
 }
 
@@ -155,10 +152,7 @@ pub(crate) fn write_frame<S: Sink>(
     let mut rows = frame.rows(&fdes[0]);
     let mut row = UnwindTableRow::empty();
     for fde in fdes {
-        match write_fde_and_rows(line, frame, fde, &mut rows, &mut row, sink) {
-            Ok(()) => {}
-            Err(fault) => return Err(fault),
-        }
+        write_fde_and_rows(line, frame, fde, &mut rows, &mut row, sink)?;
     }
     Ok(())
 }

@@ -1,5 +1,5 @@
 -- FDEs that share addresses, as tests and as facts.
-use Rattle.std.proofs.Common.{◌≡◌, ℕ, zero, suc, ◌+◌, ◌<◌, ◌≤◌, List, [], ◌∷◌, length, get_or, Option, Some, None, Contains, Bool, true, false, refl, sym, ap, ◌∙◌, subst, arith, if◌then◌else◌, inl, inr, ◌⊎◌}
+use Rattle.std.proofs.Common.{◌≡◌, ℕ, zero, suc, ◌<◌, List, [], ◌∷◌, Option, Some, None, Contains, Bool, true, false, refl, sym, ap, ◌∙◌, subst, arith, if◌then◌else◌, inl, inr}
 use Rattle.std.specs.Prelude.{◌&&◌, ◌||◌, nat_lt}
 use Rattle.std.specs.List.{list_any}
 use Rattle.std.proofs.lemmas.Bool.{cases_lt, ltb-true, lt-ltb}
@@ -9,7 +9,7 @@ use Rattle.dw_bytes.specs.declared.fault.Fault.{Fault}
 use Rattle.dw_bytes.specs.declared.fault.FaultKind.TheVariants.{Overlap}
 use Rattle.dw_frame.specs.Records.{Fde}
 use Rattle.dw_rows.specs.Judgement.{or_else}
-use Rattle.dw_rows.specs.Section.{first_fault, overlap_fault, shares, Covers, SharesAddress, CoversOnce}
+use Rattle.dw_rows.specs.Section.{first_fault, overlap_fault, shares, SharesAddress, CoversOnce}
 use Rattle.dw_rows.specs.Overlap.{IsAscending, fde_offset, AreApart, IsApart, Overlaps, IsFirstOverlap}
 use Rattle.dw_rows.proofs.Search.{ascending-at}
 use Rattle.dw_rows.proofs.Faults.{none-each}

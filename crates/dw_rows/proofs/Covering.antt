@@ -1,5 +1,5 @@
 -- The rows of a program lie one behind another, and cover what the FDE covers.
-use Rattle.std.proofs.Common.{◌≡◌, ℕ, ◌+◌, ◌<◌, ◌≤◌, Bool, true, false, cond, List, [], ◌∷◌, ◌++◌, refl, sym, ap, ◌∙◌, arith, ltb, leb, inl, inr, Option, Some, None, Result, Ok, Err, subst, ◌↔◌, IsSome, is_some}
+use Rattle.std.proofs.Common.{◌≡◌, ℕ, ◌+◌, ◌<◌, ◌≤◌, Bool, true, false, cond, List, [], ◌∷◌, ◌++◌, refl, arith, ltb, leb, inl, inr, Option, Some, None, Result, Ok, Err, subst, ◌↔◌, IsSome}
 use Rattle.std.proofs.lemmas.Bool.{cases_lt, lt-ltb, le-ltb}
 use Rattle.std.proofs.lemmas.Bool.Decides.{nat_tests}
 use Rattle.std.specs.Prelude.{◌&&◌, find}
@@ -10,8 +10,8 @@ use Rattle.dw_frame.specs.Codes.{instructions_of}
 use Rattle.dw_rows.specs.Rules.{Row}
 use Rattle.dw_rows.specs.Effects.{Effect, effect_of, effects_of}
 use Rattle.dw_rows.specs.Meaning.{Start, location_of}
-use Rattle.dw_rows.specs.Judgement.{refusal_at, or_else, standing_at, fde_start, fde_fault_from, fde_fault}
-use Rattle.dw_rows.specs.UnwindRows.{row_up_to, rows_up_to, rows_after, rows_of, has_address, Cover}
+use Rattle.dw_rows.specs.Judgement.{refusal_at, standing_at, fde_start, fde_fault_from, fde_fault}
+use Rattle.dw_rows.specs.UnwindRows.{rows_up_to, rows_after, rows_of, has_address, Cover}
 use Rattle.dw_rows.proofs.Judging.{passed-from}
 use Rattle.dw_rows.proofs.Walking.{or_else-none, standing_at-none, forward}
 

@@ -1,9 +1,11 @@
 -- Places of a list and of what its elements stand for.
-use Rattle.std.proofs.Common.{◌≡◌, ℕ, zero, suc, ◌<◌, ◌≤◌, List, [], ◌∷◌, length, get_or, map, filter, Contains, Bool, true, false, refl, sym, ap, ◌∙◌, subst, arith, if◌then◌else◌}
+use Rattle.std.proofs.Common.{◌≡◌, ℕ, zero, suc, ◌<◌, ◌≤◌, ◌+◌, List, [], ◌∷◌, ◌++◌, length, get_or, take, map, filter, Contains, Bool, true, false, refl, sym, ap, ◌∙◌, subst, arith, if◌then◌else◌}
 use Rattle.std.specs.List.{AllByRecursion}
 use Rattle.std.specs.List.Sorted.{IsNonDecreasingBy}
 use Rattle.dw_rows.specs.Overlap.{IsAscending}
-use Rattle.std.proofs.lemmas.List.{get_or-map, length-map}
+use Rattle.std.proofs.lemmas.List.{get_or-map, length-map, take_more, map-append}
+use Rattle.std.proofs.lemmas.Option.{slice_get-get_or}
+use Rattle.std.specs.Prelude.{Some, slice_get}
 use Rattle.std.proofs.Math.ListN.{get_or-map as at_default}
 use Rattle.dw_frame.specs.Records.{Fde}
 use Rattle.dw_frame.specs.Views.{fde_of}
@@ -21,7 +23,7 @@ filter-map f p [] = refl
 filter-map f p (x ∷ xs) = elim (p (f x)) as (λ b. map f (if b then (x ∷ filter (λ y. p (f y)) xs) else filter (λ y. p (f y)) xs) ≡ (if b then (f x ∷ filter p (map f xs)) else filter p (map f xs))) [ true ↦ ap (λ l. f x ∷ l) (filter-map f p xs) | false ↦ filter-map f p xs ]
 
 -- an element of the list, to be its default
-some-element : {X : Type 0} (xs : List X) (i : ℕ) → i < length xs → X
+pub some-element : {X : Type 0} (xs : List X) (i : ℕ) → i < length xs → X
 some-element [] i h = absurd (omega arith)
 some-element (x ∷ xs) i h = x
 
@@ -73,3 +75,11 @@ all-back f at n (x ∷ xs) all = (all.0, all-back f at n xs all.1)
 pub ascending-back : {X Y : Type 0} (f : X → Y) (at : Y → ℕ) (xs : List X) → IsAscending at (map f xs) → IsAscending (λ x. at (f x)) xs
 ascending-back f at [] up = tt
 ascending-back f at (x ∷ xs) up = (all-back f at (at (f x)) xs up.0, ascending-back f at xs up.1)
+
+-- what is read at a place is what its element stands for
+pub read-map : {X Y : Type 0} (f : X → Y) (xs : List X) (i : ℕ) (x : X) → i < length xs → get_or xs i x ≡ x → slice_get (map f xs) i ≡ Some (f x)
+read-map f xs i x lt is = let long = length-map xs f in slice_get-get_or (map f xs) i (f x) (omega arith) ∙ ap Some (placed-map f xs i x is)
+
+-- one element more at the front
+pub front-map : {X Y : Type 0} (f : X → Y) (xs : List X) (i : ℕ) (x : X) → i < length xs → get_or xs i x ≡ x → map f (take (i + 1) xs) ≡ map f (take i xs) ++ f x ∷ []
+front-map f xs i x lt is = ap (map f) (take_more xs i x lt ∙ ap (λ y. take i xs ++ y ∷ []) is) ∙ map-append f (take i xs) (x ∷ [])

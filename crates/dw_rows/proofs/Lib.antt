@@ -21,4 +21,6 @@ pub mod Goods
 pub mod Programs
 pub mod RowsOf
 mod WellFormedSections
+pub mod Initials
+pub mod Standing
 pub mod Stacks

@@ -1,5 +1,5 @@
 -- The parts of a section's judgement.
-use Rattle.std.proofs.Common.{◌≡◌, ℕ, List, Option, Some, None, Contains, Bool, true, false, refl, sym, ap, ◌∙◌, if◌then◌else◌}
+use Rattle.std.proofs.Common.{◌≡◌, List, Option, Some, None, Contains, refl, sym, ap, ◌∙◌, if◌then◌else◌}
 use Rattle.std.specs.Prelude.{is_some}
 use Rattle.dw_bytes.specs.declared.fault.Fault.{Fault}
 use Rattle.dw_frame.specs.Records.{Cie, Fde}

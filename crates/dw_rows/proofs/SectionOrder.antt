@@ -1,15 +1,17 @@
 -- What is read of a section: in order of offset, and with addresses of the target.
-use Rattle.std.proofs.Common.{◌≡◌, ℕ, suc, zero, ◌+◌, ◌<◌, ◌≤◌, List, [], ◌∷◌, length, map, Option, Some, None, Result, Ok, Err, Contains, refl, sym, ap, ◌∙◌, subst, arith}
+use Rattle.std.proofs.Common.{◌≡◌, ℕ, suc, zero, ◌<◌, List, [], ◌∷◌, length, map, Some, None, Result, Ok, Err, Contains, refl, sym, ap, subst, arith}
 use Rattle.std.specs.List.{AllByRecursion, filter_map}
 use Rattle.dw_bytes.specs.declared.target.Target.{Target}
 use Rattle.dw_bytes.specs.declared.fault.Fault.{Fault}
 use Rattle.dw_bytes.specs.Answers.{values_in, fault_in}
 use Rattle.dw_frame.specs.Records.{Cie, Fde, Record, common, description}
-use Rattle.dw_frame.specs.Sections.{entries_of, top_of, AreRecords}
-use Rattle.dw_frame.specs.Bounds.{Ascends, offset_of, IsSoundFde}
+use Rattle.dw_frame.specs.Sections.{entries_of, AreRecords}
+use Rattle.dw_frame.specs.Bounds.{Ascends, offset_of, IsSoundCie, IsSoundFde}
 use Rattle.dw_frame.proofs.EachRecord.{sections-are-records}
 use Rattle.dw_frame.proofs.RecordBounds.{records-ascend, entries-sound}
 use Rattle.dw_rows.specs.Section.{frame_of, common_in, description_in, parts_fault}
+use Rattle.dw_rows.specs.Kept.{Kept}
+use Rattle.dw_rows.specs.Initial.{AreLeftBy}
 use Rattle.dw_rows.specs.Overlap.{IsAscending, cie_offset, fde_offset, IsIndexOf, IsKept}
 
 -- what is read without a fault is its values
@@ -62,16 +64,28 @@ among-entries (Ok (common c) ∷ items) f among = Contains-cons (Ok (common c)) 
 among-entries (Ok (description g) ∷ items) f (zero, lt, is) = (zero, omega arith, ap (λ h. Ok (description h)) is)
 among-entries (Ok (description g) ∷ items) f (suc k, lt, is) = Contains-cons (Ok (description g)) (Ok (description f)) items (among-entries items f (k, omega arith, is))
 
+-- and a CIE likewise
+common-among : (items : List (Result Record Fault)) (c : Cie) → Contains (filter_map common_in (values_in items)) c → Contains items (Ok (common c))
+common-among [] c (k, lt, is) = absurd (omega arith)
+common-among (Err fault ∷ items) c (k, lt, is) = absurd (omega arith)
+common-among (Ok (description g) ∷ items) c among = Contains-cons (Ok (description g)) (Ok (common c)) items (common-among items c among)
+common-among (Ok (common d) ∷ items) c (zero, lt, is) = (zero, omega arith, ap (λ h. Ok (common h)) is)
+common-among (Ok (common d) ∷ items) c (suc k, lt, is) = Contains-cons (Ok (common d)) (Ok (common c)) items (common-among items c (k, omega arith, is))
+
+pub cies-sound : (target : Target) (section : List ℕ) (c : Cie) → Contains (frame_of target section).cies c → IsSoundCie target (length section) c
+cies-sound target section c among = entries-sound target section (Ok (common c)) (common-among (entries_of target section) c among)
+
 -- its addresses are addresses of the target
 pub fdes-sound : (target : Target) (section : List ℕ) (f : Fde) → Contains (frame_of target section).fdes f → IsSoundFde target (length section) f
 fdes-sound target section f among = entries-sound target section (Ok (description f)) (among-entries (entries_of target section) f among)
 
 -- what a section without a fault keeps
-pub kept : (target : Target) (section : List ℕ) (cies : List Cie) (fdes index : List Fde) → fault_in (entries_of target section) ≡ None → cies ≡ (frame_of target section).cies → fdes ≡ (frame_of target section).fdes
-    → parts_fault cies fdes ≡ None → IsIndexOf fdes index → IsKept (record { target = target; cies = cies; fdes = fdes }) index
-kept target section cies fdes index read cies_is fdes_is none index_of = record {
+pub kept : (target : Target) (section : List ℕ) (cies : List Cie) (left : List Kept) (fdes index : List Fde) → fault_in (entries_of target section) ≡ None → cies ≡ (frame_of target section).cies → fdes ≡ (frame_of target section).fdes
+    → parts_fault cies fdes ≡ None → AreLeftBy cies left → IsIndexOf fdes index → IsKept (record { target = target; cies = cies; fdes = fdes }) left index
+kept target section cies left fdes index read cies_is fdes_is none left_by index_of = record {
   cies_up = subst (IsAscending cie_offset) (sym cies_is) (cies-ascend target section read);
   fdes_up = subst (IsAscending fde_offset) (sym fdes_is) (fdes-ascend target section read);
+  left_by = left_by;
   good = none;
   index_of = index_of;
   fits = λ f among. (fdes-sound target section f (subst (λ l. Contains l f) fdes_is among)).range;

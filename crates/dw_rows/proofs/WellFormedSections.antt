@@ -1,16 +1,14 @@
 -- A section has no fault exactly where it is well formed.
-use Rattle.std.proofs.Common.{◌≡◌, ℕ, ◌<◌, ◌≤◌, ◌↔◌, List, [], ◌∷◌, map, Option, Some, None, Result, Ok, Err, Contains, true, false, refl, sym, ap, ◌∙◌, subst, arith, if◌then◌else◌}
-use Rattle.std.specs.Prelude.{is_some}
+use Rattle.std.proofs.Common.{◌≡◌, ℕ, ◌↔◌, List, [], ◌∷◌, map, Some, None, Ok, Contains, refl, ap, ◌∙◌, subst, arith}
 use Rattle.dw_bytes.specs.declared.target.Target.{Target}
-use Rattle.dw_bytes.specs.declared.fault.Fault.{Fault}
 use Rattle.dw_bytes.specs.Answers.{values_in, fault_in}
 use Rattle.dw_frame.specs.Records.{Cie, Fde, Record}
-use Rattle.dw_frame.specs.Sections.{entries_of, AreRecords}
+use Rattle.dw_frame.specs.Sections.{entries_of}
 use Rattle.dw_frame.proofs.EachRecord.{sections-are-records}
 use Rattle.dw_rows.specs.Judgement.{cie_fault, fde_fault}
 use Rattle.dw_rows.specs.Good.{IsGoodCieProgram, IsGoodFdeProgram}
-use Rattle.dw_rows.specs.Section.{first_fault, cie_at, pointer_fault, program_fault, fault_behind, parts_fault, section_fault, frame_of, frame_fault, CoversOnce}
-use Rattle.dw_rows.specs.WellFormed.{IsWellFormed, cies_among, fdes_among}
+use Rattle.dw_rows.specs.Section.{cie_at, pointer_fault, program_fault, fault_behind, parts_fault, section_fault, frame_of, frame_fault, CoversOnce, cies_among, fdes_among}
+use Rattle.dw_rows.specs.WellFormed.{IsWellFormed}
 use Rattle.dw_rows.specs.Overlap.{IsAscending, cie_offset, fde_offset, AreApart}
 use Rattle.dw_rows.proofs.Faults.{found-at, at-found, none-each}
 use Rattle.dw_rows.proofs.Clashes.{each-none, none-overlap}

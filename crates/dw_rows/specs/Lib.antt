@@ -8,6 +8,7 @@ pub mod Judgement
 pub mod UnwindRows
 pub mod Machine
 pub mod Actions
+pub mod Initial
 pub mod Section
 pub mod Overlap
 pub mod Walks

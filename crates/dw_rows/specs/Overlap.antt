@@ -5,6 +5,8 @@ use Rattle.std.specs.List.Sorted.{IsNonDecreasingBy}
 use Rattle.dw_frame.specs.Records.{Cie, Fde}
 use Rattle.dw_frame.specs.Sections.{top_of}
 use Rattle.dw_rows.specs.Section.{Frame, SharesAddress, frame_fault}
+use Rattle.dw_rows.specs.Kept.{Kept}
+use Rattle.dw_rows.specs.Initial.{AreLeftBy}
 
 -- each begins before those after it
 abbrev pub IsAscending : {X : Type 0} → (X → ℕ) → List X → Type 0
@@ -64,9 +66,10 @@ pub record IsIndexOf (fdes index : List Fde) : Type 0 where
   pub to : (f : Fde) → Contains fdes f → 0 < f.range → Contains index f
   pub ordered : IsOrdered index
 
--- what a checked section keeps
-pub record IsKept (s : Frame) (index : List Fde) : Type 0 where
+-- what a checked section keeps: its records, what its CIEs leave, and its FDEs in order of address
+pub record IsKept (s : Frame) (left : List Kept) (index : List Fde) : Type 0 where
   pub cies_up : IsAscending cie_offset s.cies
+  pub left_by : AreLeftBy s.cies left
   pub fdes_up : IsAscending fde_offset s.fdes
   pub good : frame_fault s ≡ None
   pub index_of : IsIndexOf s.fdes index

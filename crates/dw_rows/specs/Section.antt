@@ -1,5 +1,5 @@
 -- A whole `.debug_frame` section: what is right in it, and its first fault (DWARF 5, section 6.4.1).
-use Rattle.std.specs.Prelude.{◌≡◌, ℕ, ◌+◌, ◌<◌, ◌≤◌, ◌==◌, ◌&&◌, nat_lt, Bool, if◌then◌else◌, Option, Some, None, is_some, Result, Ok, Err, List, [], ◌∷◌, Contains, find}
+use Rattle.std.specs.Prelude.{◌≡◌, ℕ, ◌+◌, ◌<◌, ◌≤◌, ◌==◌, ◌&&◌, nat_lt, Bool, if◌then◌else◌, Option, Some, None, is_some, List, [], ◌∷◌, Contains, find}
 use Rattle.std.specs.List.{filter_map, list_any}
 use Rattle.dw_bytes.specs.declared.target.Target.{Target}
 use Rattle.dw_bytes.specs.declared.fault.Fault.{Fault}
@@ -25,8 +25,14 @@ abbrev pub description_in : Record → Option Fde
 description_in (common c) = None
 description_in (description f) = Some f
 
+abbrev pub cies_among : List Record → List Cie
+cies_among records = filter_map common_in records
+
+abbrev pub fdes_among : List Record → List Fde
+fdes_among records = filter_map description_in records
+
 abbrev pub frame_from : Target → List Record → Frame
-frame_from target records = record { target = target; cies = filter_map common_in records; fdes = filter_map description_in records }
+frame_from target records = record { target = target; cies = cies_among records; fdes = fdes_among records }
 
 -- what is read of a section before its first fault
 abbrev pub frame_of : Target → List ℕ → Frame

@@ -1,17 +1,10 @@
 -- A section that is right, in the standard's words (DWARF 5, section 6.4.1).
 use Rattle.std.specs.Prelude.{◌≡◌, ℕ, List, Contains}
-use Rattle.std.specs.List.{filter_map}
 use Rattle.dw_bytes.specs.declared.target.Target.{Target}
 use Rattle.dw_frame.specs.Records.{Cie, Fde, Record}
 use Rattle.dw_frame.specs.Sections.{AreRecords}
 use Rattle.dw_rows.specs.Good.{IsGoodCieProgram, IsGoodFdeProgram}
-use Rattle.dw_rows.specs.Section.{common_in, description_in, CoversOnce}
-
-abbrev pub cies_among : List Record → List Cie
-cies_among records = filter_map common_in records
-
-abbrev pub fdes_among : List Record → List Fde
-fdes_among records = filter_map description_in records
+use Rattle.dw_rows.specs.Section.{cies_among, fdes_among, CoversOnce}
 
 -- The bytes are the spellings of records without a gap; each CIE_pointer is the offset of a CIE; all programs are good, those
 -- of FDEs behind their CIE's; and no address is covered by two FDEs.

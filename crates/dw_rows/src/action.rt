@@ -48,6 +48,13 @@ pub enum Action<'a> {
     Pops,
 }
 
+/// An unsigned offset that isn't factored.
+fn unfactored(offset: u64) -> i128
+    ensures { result ≡ pos offset }
+{
+    offset.into()
+}
+
 /// An unsigned offset times the data alignment factor.
 fn factored(cie: &CommonInformationEntry<'_>, offset: u64) -> i128
     ensures { result ≡ pos offset *ℤ cie.now.data_alignment_factor }
@@ -85,7 +92,7 @@ pub fn action_of<'a>(
         CallFrameInstruction::SetLoc { address } => Action::Jumps(address),
         CallFrameInstruction::DefCfa { register, offset } => Action::DefinesCfa {
             register,
-            offset: i128::from(offset),
+            offset: unfactored(offset),
         },
         CallFrameInstruction::DefCfaSf {
             register,
@@ -95,7 +102,7 @@ pub fn action_of<'a>(
             offset: factored_sf(cie, factored_offset),
         },
         CallFrameInstruction::DefCfaRegister { register } => Action::ChangesRegister(register),
-        CallFrameInstruction::DefCfaOffset { offset } => Action::ChangesOffset(i128::from(offset)),
+        CallFrameInstruction::DefCfaOffset { offset } => Action::ChangesOffset(unfactored(offset)),
         CallFrameInstruction::DefCfaOffsetSf { factored_offset } => {
             Action::ChangesOffset(factored_sf(cie, factored_offset))
         }

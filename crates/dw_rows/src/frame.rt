@@ -1,6 +1,6 @@
 //! A checked section.
 
-ghost use Rattle.std.specs.Prelude.{◌≡◌, ◌+◌, ◌<◌, ◌≤◌, ◌^◌, None, Some, Contains, length, map, option_map, IfOk, IfSome};
+ghost use Rattle.std.specs.Prelude.{◌≡◌, ◌+◌, ◌<◌, ◌≤◌, ◌^◌, None, Some, Contains, length, map, option_map, IfOk, IfErr, IfSome};
 ghost use Rattle.dw_frame.specs.Records.{Fde};
 ghost use Rattle.dw_frame.specs.Sections.{entries_of, top_of};
 ghost use Rattle.dw_frame.specs.Views.{cie_of, fde_of};
@@ -8,13 +8,17 @@ ghost use Rattle.dw_bytes.specs.Answers.{Judges, Answers, fault_in};
 ghost use Rattle.dw_rows.specs.Judgement.{cie_fault, fde_fault};
 ghost use Rattle.dw_rows.specs.Section.{IsCoverOf, first_fault, overlap_fault, programs_fault, parts_fault, frame_fault, section_fault, frame_of, cie_in, rows_in, IsRowFor};
 ghost use Rattle.dw_rows.specs.Overlap.{IsAscending, cie_offset, fde_offset, IsIndexOf};
+ghost use Rattle.dw_rows.specs.Machine.{IsLeftBy};
+ghost use Rattle.dw_rows.specs.Initial.{AreLeftBy};
 
 use crate::index::{covering, first_overlap, index_of};
-use crate::lookup::{row_at, rows};
+use crate::initial_rules::InitialRules;
+use crate::lookup::row_from;
 use crate::machine::Machine;
+use crate::position::Position;
 use crate::row::UnwindTableRow;
 use crate::row_iter::Rows;
-use crate::section::{check_cies, check_fdes, check_pointers, find_cie};
+use crate::section::{MEMORY, check_cies, check_fdes, check_pointers, find_cie, recall_cie};
 use dw_bytes::{Fault, FaultKind, Target};
 use dw_frame::{CommonInformationEntry, Entry, FrameDescriptionEntry, entries};
 use std::alloc::Global;
@@ -25,6 +29,8 @@ use std::marker::Model;
 pub struct CheckedFrame<'a> {
     target: Target,
     cies: Vec<CommonInformationEntry<'a>>,
+    /// What the initial instructions of each CIE leave.
+    initial: InitialRules,
     fdes: Vec<FrameDescriptionEntry<'a>>,
     /// The FDEs that cover an address, in order of address.
     index: Vec<FrameDescriptionEntry<'a>>,
@@ -40,13 +46,8 @@ impl<'a> Model for CheckedFrame<'a> {
 
     ghost view = { λ c. record { target = c.target; cies = map cie_of c.cies.items; fdes = map fde_of c.fdes.items } };
 
-    ghost invariant = { λ c. IsKept (record { target = c.target; cies = map cie_of c.cies.items; fdes = map fde_of c.fdes.items }) (map fde_of c.index.items) };
+    ghost invariant = { λ c. IsKept (record { target = c.target; cies = map cie_of c.cies.items; fdes = map fde_of c.fdes.items }) c.initial (map fde_of c.index.items) };
 }
-
-const MEMORY: Fault = Fault {
-    kind: FaultKind::Memory,
-    at: 0,
-};
 
 /// The records of a section, the CIEs and the FDEs apart. One pass.
 fn records_of<'a>(
@@ -68,18 +69,17 @@ fn records_of<'a>(
     let mut cies = Vec::new(alloc);
     let mut fdes = Vec::new(alloc);
     for entry in entries(section, target) {
-        match entry {
-            Ok(Entry::Cie(cie)) => {
+        match entry? {
+            Entry::Cie(cie) => {
                 if cies.push(cie).is_err() {
                     return Err(MEMORY);
                 }
             }
-            Ok(Entry::Fde(fde)) => {
+            Entry::Fde(fde) => {
                 if fdes.push(fde).is_err() {
                     return Err(MEMORY);
                 }
             }
-            Err(fault) => return Err(fault),
         }
     }
     Ok((cies, fdes))
@@ -103,50 +103,43 @@ fn check_overlap(
     }
 }
 
-/// Judges the records part by part, in order, and gives the FDEs in order of address.
+/// Judges what comes before the addresses: the CIE_pointers, and the programs. It gives what the CIEs' leave.
+fn check_programs(
+    alloc: Global,
+    cies: &[CommonInformationEntry<'_>],
+    fdes: &[FrameDescriptionEntry<'_>],
+) -> Result<InitialRules, Fault>
+    requires { IsAscending cie_offset (map cie_of cies.now) }
+    ensures answer { Answers (programs_fault (map cie_of cies.now) (map fde_of fdes.now)) result }
+    ensures left { IfOk result (λ initial. AreLeftBy (map cie_of cies.now) initial) }
+{
+    check_pointers(cies, fdes)?;
+    let mut machine = Machine::new();
+    let initial = check_cies(alloc, &mut machine.position, cies)?;
+    check_fdes(&mut machine, cies, &initial, fdes)?;
+    Ok(initial)
+}
+
+/// Judges the records part by part, in order. It gives what the CIEs' programs leave, and the FDEs in order of address.
 #[tactic(auto, unfolding(crate::specs::Section::parts_fault))]
 fn check_parts<'a>(
     alloc: Global,
     cies: &[CommonInformationEntry<'a>],
     fdes: &[FrameDescriptionEntry<'a>],
-) -> Result<Vec<FrameDescriptionEntry<'a>>, Fault>
+) -> Result<(InitialRules, Vec<FrameDescriptionEntry<'a>>), Fault>
     requires cies { IsAscending cie_offset (map cie_of cies.now) }
     requires fdes { IsAscending fde_offset (map fde_of fdes.now) }
     ensures answer { Answers (parts_fault (map cie_of cies.now) (map fde_of fdes.now)) result }
-    ensures index { IfOk result (λ index. IsIndexOf (map fde_of fdes.now) (map fde_of index.items)) }
+    ensures left { IfOk result (λ parts. AreLeftBy (map cie_of cies.now) parts.0) }
+    ensures index { IfOk result (λ parts. IsIndexOf (map fde_of fdes.now) (map fde_of parts.1.items)) }
 {
-    match check_programs(cies, fdes) {
-        Ok(()) => {}
-        Err(fault) => return Err(fault),
-    }
+    let initial = check_programs(alloc, cies, fdes)?;
     let index = match index_of(alloc, fdes) {
         Ok(index) => index,
         Err(_) => return Err(MEMORY),
     };
-    match check_overlap(fdes, &index) {
-        Ok(()) => Ok(index),
-        Err(fault) => Err(fault),
-    }
-}
-
-/// Judges what comes before the addresses: the CIE_pointers, and the programs.
-fn check_programs(
-    cies: &[CommonInformationEntry<'_>],
-    fdes: &[FrameDescriptionEntry<'_>],
-) -> Result<(), Fault>
-    requires { IsAscending cie_offset (map cie_of cies.now) }
-    ensures { Judges (programs_fault (map cie_of cies.now) (map fde_of fdes.now)) result }
-{
-    match check_pointers(cies, fdes) {
-        Ok(()) => {}
-        Err(fault) => return Err(fault),
-    }
-    let mut machine = Machine::new();
-    match check_cies(&mut machine, cies) {
-        Ok(()) => {}
-        Err(fault) => return Err(fault),
-    }
-    check_fdes(&mut machine, cies, fdes)
+    check_overlap(fdes, &index)?;
+    Ok((initial, index))
 }
 
 /// Checks a section of fewer than 2^32 bytes: its records, the CIE_pointer of each FDE, the programs of the CIEs, those of
@@ -159,21 +152,18 @@ pub fn check_frame<'a>(
 ) -> Result<CheckedFrame<'a>, Fault>
     requires { length section.now < 2 ^ 32 }
     ensures answer { Answers (section_fault target section.now) result }
+    ensures inside { IfErr result (λ fault. fault.at ≤ length section.now) }
     ensures frame { IfOk result (λ frame. frame ≡ frame_of target section.now) }
 {
-    let (cies, fdes) = match records_of(alloc, section, target) {
-        Ok(records) => records,
-        Err(fault) => return Err(fault),
-    };
-    match check_parts(alloc, &cies, &fdes) {
-        Ok(index) => Ok(CheckedFrame {
-            target,
-            cies,
-            fdes,
-            index,
-        }),
-        Err(fault) => Err(fault),
-    }
+    let (cies, fdes) = records_of(alloc, section, target)?;
+    let (initial, index) = check_parts(alloc, &cies, &fdes)?;
+    Ok(CheckedFrame {
+        target,
+        cies,
+        initial,
+        fdes,
+        index,
+    })
 }
 
 impl<'a> CheckedFrame<'a> {
@@ -221,24 +211,49 @@ impl<'a> CheckedFrame<'a> {
         }
     }
 
-    /// The rows of one of the FDEs, in the order of their addresses. Each call runs the program again as the rows are
-    /// asked for, and takes no memory.
+    /// The CIE of one of the FDEs, as `cie_of`. What it leaves is kept at the position, as the rules that programs begin with.
+    pub(crate) fn recall_cie(
+        &self,
+        position: &mut Position,
+        fde: &FrameDescriptionEntry<'a>,
+    ) -> CommonInformationEntry<'a>
+        requires { Contains self.now.fdes (fde_of fde.now) }
+        ensures cie { cie_in self.now (fde_of fde.now) ≡ Some (cie_of result) }
+        ensures fde_program { fde_fault (cie_of result) (fde_of fde.now) ≡ None }
+        ensures left { IsLeftBy (cie_of result) position.new.first }
+    {
+        match recall_cie(position, &self.cies, &self.initial, fde.cie_pointer) {
+            Some(cie) => cie,
+            None => unreachable!(),
+        }
+    }
+
+    /// The rows of one of the FDEs, in the order of their addresses. Each call runs the FDE's program again as the rows are
+    /// asked for, behind what was kept of its CIE's, and takes no memory.
     pub fn rows(&self, fde: &FrameDescriptionEntry<'a>) -> Rows<'a>
         requires { Contains self.now.fdes (fde_of fde.now) }
         ensures { result ≡ rows_in self.now (fde_of fde.now) }
     {
-        let cie = self.cie_of(fde);
-        rows(&cie, fde)
+        Rows::of(self, fde)
+    }
+
+    /// The rows of one of the FDEs as `rows` gives them, in the place of others.
+    pub fn rows_into(&self, fde: &FrameDescriptionEntry<'a>, rows: &mut Rows<'a>)
+        requires { Contains self.now.fdes (fde_of fde.now) }
+        ensures { rows.new ≡ rows_in self.now (fde_of fde.now) }
+    {
+        rows.restart_in(self, fde);
     }
 
     /// The row of an address, or none where no FDE covers it. It takes no memory: the FDE is found by halving, and its
-    /// program is run up to that row.
+    /// program is run up to that row, behind what was kept of its CIE's.
     pub fn row_for_address(&self, address: u64) -> Option<UnwindTableRow>
         ensures row { IsRowFor self.now address result }
         ensures fit { IfSome result (λ row. (row.start ≤ top_of self.now.target) × (row.end ≤ top_of self.now.target)) }
     {
         let fde = self.fde_for_address(address)?;
-        let cie = self.cie_of(&fde);
-        row_at(&cie, &fde, address)
+        let mut position = Position::new();
+        let cie = self.recall_cie(&mut position, &fde);
+        row_from(&mut position, &cie, &fde, address)
     }
 }

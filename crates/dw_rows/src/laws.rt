@@ -1,7 +1,7 @@
 //! What the definitions say, in the standard's words: functions that do nothing, each with the law as
 //! its contract.
 
-ghost use Rattle.std.specs.Prelude.{◌≡◌, ℕ, ◌+◌, ◌<◌, ◌≤◌, ◌↔◌, List, length, Option, Some, None, slice_get, filter, [], ◌∷◌};
+ghost use Rattle.std.specs.Prelude.{◌≡◌, ℕ, ◌+◌, ◌<◌, ◌≤◌, ◌↔◌, List, length, Option, Some, None, slice_get, filter, [], ◌∷◌, Err};
 ghost use Rattle.dw_frame.specs.Records.{Cie, Fde};
 ghost use Rattle.dw_rows.specs.Rules.{Rule, Cfa, Row, IsTable, rule_in, rule_list};
 ghost use Rattle.dw_rows.specs.Effects.{Effect, pops};
@@ -11,8 +11,12 @@ ghost use Rattle.dw_rows.specs.UnwindRows.{rows_of, has_address, Cover};
 ghost use Rattle.dw_rows.specs.Good.{rule_after, cfa_after, Match, IsGoodCieProgram, IsGoodFdeProgram};
 ghost use Rattle.dw_rows.specs.Clauses.{AreRules, AreRowsOf};
 ghost use Rattle.dw_bytes.specs.declared.target.Target.{Target};
+ghost use Rattle.dw_bytes.specs.declared.fault.Fault.{Fault};
+ghost use Rattle.dw_frame.specs.Bounds.{StandsIn};
 ghost use Rattle.dw_rows.specs.Section.{section_fault};
 ghost use Rattle.dw_rows.specs.WellFormed.{IsWellFormed};
+ghost use Rattle.dw_rows.specs.declared.map.TheConstants.{MAX_RULES};
+ghost use Rattle.dw_rows.specs.declared.remembered.TheConstants.{MAX_REMEMBERED};
 
 /// The rules after each instruction are those that the instruction gives, a restore_state those before
 /// its match. No others are.
@@ -54,4 +58,17 @@ pub fn rule_lists_are_rules()
 /// with good programs, and no address covered by two FDEs.
 pub fn sections_without_fault_are_well_formed()
     ensures { (target : Target) (section : List ℕ) → (section_fault target section ≡ None) ↔ IsWellFormed target section }
+{}
+
+/// At most so many registers of a row have a rule other than default, and at most so many rows are remembered at once.
+pub fn limits()
+    ensures rules { MAX_RULES ≡ 128 }
+    ensures remembered { MAX_REMEMBERED ≡ 8 }
+{}
+
+/// Each fault of a program stands in it or at its end, and each of a section likewise.
+pub fn faults_stand_inside()
+    ensures cie { (cie : Cie) (fault : Fault) → cie_fault cie ≡ Some fault → StandsIn cie.program (Err fault) }
+    ensures fde { (cie : Cie) (fde : Fde) (fault : Fault) → fde_fault cie fde ≡ Some fault → StandsIn fde.program (Err fault) }
+    ensures section { (target : Target) (section : List ℕ) (fault : Fault) → section_fault target section ≡ Some fault → fault.at ≤ length section }
 {}

@@ -5,6 +5,7 @@ mod action;
 mod check;
 mod frame;
 mod index;
+mod initial_rules;
 pub mod laws;
 mod lookup;
 mod machine;

@@ -4,13 +4,14 @@ ghost use Rattle.std.specs.Prelude.{◌≡◌, ◌+◌, ◌<◌, ◌≤◌, ◌�
 ghost use Rattle.dw_frame.specs.Views.{cie_of, fde_of};
 ghost use Rattle.dw_rows.specs.Judgement.{cie_fault, fde_fault};
 ghost use Rattle.dw_rows.specs.UnwindRows.{rows_of, has_address};
+ghost use Rattle.dw_rows.specs.Machine.{IsLeftBy};
 ghost use Rattle.dw_rows.specs.Walks.{remembering, Seeks};
 
 use crate::machine::Machine;
 use crate::position::Position;
 use crate::row::UnwindTableRow;
 use crate::row_iter::Rows;
-use crate::walk::{Next, begin_at, next_plain, next_range};
+use crate::walk::{Next, begin_at, next_plain, next_range, run_good};
 use dw_frame::{CommonInformationEntry, FrameDescriptionEntry, Instructions};
 
 /// The rows of an FDE, in the order of their addresses (DWARF 5, section 6.4.1). Its program and its
@@ -35,14 +36,30 @@ pub fn row_at<'a>(
     ensures row { result ≡ find (has_address address) (rows_of (cie_of cie.now) (fde_of fde.now)) }
     ensures covered { IsSome result ↔ ((fde.now.initial_location ≤ address) × (address < fde.now.initial_location + fde.now.address_range)) }
 {
+    let mut position = Position::new();
+    run_good(&mut position, cie);
+    row_from(&mut position, cie, fde, address)
+}
+
+/// The same where the position has kept what the CIE's program leaves.
+pub(crate) fn row_from<'a>(
+    position: &mut Position,
+    cie: &CommonInformationEntry<'a>,
+    fde: &FrameDescriptionEntry<'a>,
+    address: u64,
+) -> Option<UnwindTableRow>
+    requires left { IsLeftBy (cie_of cie.now) position.old.first }
+    requires fde { fde_fault (cie_of cie.now) (fde_of fde.now) ≡ None }
+    ensures row { result ≡ find (has_address address) (rows_of (cie_of cie.now) (fde_of fde.now)) }
+    ensures covered { IsSome result ↔ ((fde.now.initial_location ≤ address) × (address < fde.now.initial_location + fde.now.address_range)) }
+{
     if address < fde.initial_location {
         return None;
     }
     let limit = fde.initial_location + fde.address_range;
-    let mut position = Position::new();
-    let mut instructions = begin_at(&mut position, cie, fde);
+    let mut instructions = begin_at(position, fde);
     loop {
-        match next_plain(&mut position, &mut instructions, cie, limit) {
+        match next_plain(position, &mut instructions, cie, limit) {
             Next::Row(start, end) => {
                 if address < end {
                     let mut row = UnwindTableRow::empty();
@@ -50,7 +67,7 @@ pub fn row_at<'a>(
                     return Some(row);
                 }
             }
-            Next::Remembers => return row_behind(&position, instructions, cie, fde, address),
+            Next::Remembers => return row_behind(position, instructions, cie, fde, address),
             Next::End => return None,
         }
     }

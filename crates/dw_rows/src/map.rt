@@ -141,6 +141,25 @@ impl RegisterRuleMap {
         let _ = self.entries.try_extend_from_slice(other.entries.as_slice());
     }
 
+    /// Takes on the rules of some entries. Its cost is that of the rules that are there and of those that come.
+    pub fn assign(&mut self, entries: &[RuleEntry])
+        requires few { length entries.now ≤ MAX_RULES }
+        requires table { IsTable 0 (entries_of entries.now) }
+        ensures { self.new ≡ entries_of entries.now }
+    {
+        self.entries.clear();
+        let _ = self.entries.try_extend_from_slice(entries);
+    }
+
+    /// The entries of the rules other than `Default`, by ascending registers.
+    pub fn as_slice(&self) -> &[RuleEntry]
+        ensures entries { entries_of result.now ≡ self.now }
+        ensures few { length result.now ≤ MAX_RULES }
+        ensures table { IsTable 0 (entries_of result.now) }
+    {
+        self.entries.as_slice()
+    }
+
     /// Gives a register a rule. It is refused where there would be too many rules.
     pub fn set(&mut self, number: u16, rule: RegisterRule) -> Result<(), FaultKind>
         ensures { MatchResult result

@@ -5,9 +5,10 @@ ghost use Rattle.dw_frame.specs.Views.{cie_of, fde_of};
 ghost use Rattle.dw_rows.specs.Judgement.{cie_fault, fde_fault};
 ghost use Rattle.dw_rows.specs.UnwindRows.{rows_of};
 
+use crate::frame::CheckedFrame;
 use crate::machine::Machine;
 use crate::row::UnwindTableRow;
-use crate::walk::{begin, next_range};
+use crate::walk::{begin, next_range, run_good};
 use dw_frame::{CommonInformationEntry, FrameDescriptionEntry, Instructions};
 use std::iter::FusedIterator;
 use std::marker::Model;
@@ -39,11 +40,12 @@ impl<'a> Model for Rows<'a> {
 }
 
 impl<'a> Rows<'a> {
-    ghost use Rattle.std.specs.Prelude.{◌≡◌, None, [], ◌∷◌};
+    ghost use Rattle.std.specs.Prelude.{◌≡◌, None, [], ◌∷◌, Contains};
     ghost use Rattle.std.specs.Bool.{OnTrue, OnFalse};
     ghost use Rattle.dw_frame.specs.Views.{cie_of, fde_of};
     ghost use Rattle.dw_rows.specs.Judgement.{cie_fault, fde_fault};
     ghost use Rattle.dw_rows.specs.UnwindRows.{rows_of};
+    ghost use Rattle.dw_rows.specs.Section.{rows_in};
 
     /// All rows of an FDE. Its program and its CIE's must be good.
     pub(crate) fn new(cie: &CommonInformationEntry<'a>, fde: &FrameDescriptionEntry<'a>) -> Self
@@ -52,7 +54,8 @@ impl<'a> Rows<'a> {
         ensures { result ≡ rows_of (cie_of cie.now) (fde_of fde.now) }
     {
         let mut machine = Machine::new();
-        let instructions = begin(&mut machine, cie, fde);
+        run_good(&mut machine.position, cie);
+        let instructions = begin(&mut machine, fde);
         Rows {
             cie: *cie,
             fde: *fde,
@@ -62,14 +65,31 @@ impl<'a> Rows<'a> {
         }
     }
 
-    /// Begins with the rows of another FDE, in the same place. Its program and its CIE's must be good.
-    pub fn restart(&mut self, cie: &CommonInformationEntry<'a>, fde: &FrameDescriptionEntry<'a>)
-        requires cie { cie_fault (cie_of cie.now) ≡ None }
-        requires fde { fde_fault (cie_of cie.now) (fde_of fde.now) ≡ None }
-        ensures { self.new ≡ rows_of (cie_of cie.now) (fde_of fde.now) }
+    /// All rows of an FDE of a checked section.
+    pub(crate) fn of(frame: &CheckedFrame<'a>, fde: &FrameDescriptionEntry<'a>) -> Self
+        requires { Contains frame.now.fdes (fde_of fde.now) }
+        ensures { result ≡ rows_in frame.now (fde_of fde.now) }
     {
-        self.instructions = begin(&mut self.machine, cie, fde);
-        self.cie = *cie;
+        let mut machine = Machine::new();
+        let cie = frame.recall_cie(&mut machine.position, fde);
+        let instructions = begin(&mut machine, fde);
+        Rows {
+            cie,
+            fde: *fde,
+            machine,
+            instructions,
+            given: 0,
+        }
+    }
+
+    /// Begins with the rows of an FDE of a checked section, in the same place.
+    pub(crate) fn restart_in(&mut self, frame: &CheckedFrame<'a>, fde: &FrameDescriptionEntry<'a>)
+        requires { Contains frame.now.fdes (fde_of fde.now) }
+        ensures { self.new ≡ rows_in frame.now (fde_of fde.now) }
+    {
+        let cie = frame.recall_cie(&mut self.machine.position, fde);
+        self.instructions = begin(&mut self.machine, fde);
+        self.cie = cie;
         self.fde = *fde;
         self.given = 0;
     }

@@ -1,6 +1,6 @@
 //! The rules of a row together.
 
-use crate::map::RegisterRuleMap;
+use crate::map::{MAX_RULES, RegisterRuleMap, RuleEntry};
 use crate::row::{CfaRule, RegisterRule};
 use dw_bytes::FaultKind;
 use std::marker::Model;
@@ -24,10 +24,10 @@ impl Model for RowRules {
 }
 
 impl RowRules {
-    ghost use Rattle.std.specs.Prelude.{◌≡◌, None, Some, []};
+    ghost use Rattle.std.specs.Prelude.{◌≡◌, ◌≤◌, None, Some, [], length};
     ghost use Rattle.std.specs.Option.{option_map};
-    ghost use Rattle.dw_rows.specs.Rules.{rule_in};
-    ghost use Rattle.dw_rows.specs.Views.{rule_of, cfa_rule_of};
+    ghost use Rattle.dw_rows.specs.Rules.{IsTable, rule_in};
+    ghost use Rattle.dw_rows.specs.Views.{rule_of, cfa_rule_of, entries_of};
     ghost use Rattle.dw_rows.specs.Machine.{Sets};
 
     /// No rules.
@@ -64,6 +64,16 @@ impl RowRules {
     {
         self.cfa = other.cfa;
         self.rules.copy_from(&other.rules);
+    }
+
+    /// Takes on a rule of the CFA, and the rules of some entries.
+    pub fn assign(&mut self, cfa: Option<CfaRule>, entries: &[RuleEntry])
+        requires few { length entries.now ≤ MAX_RULES }
+        requires table { IsTable 0 (entries_of entries.now) }
+        ensures { self.new ≡ record { cfa = option_map cfa_rule_of cfa; rules = entries_of entries.now } }
+    {
+        self.cfa = cfa;
+        self.rules.assign(entries);
     }
 
     /// The CFA's rule.

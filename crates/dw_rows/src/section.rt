@@ -1,18 +1,42 @@
 //! The judgement of a section's records, part by part.
 
-ghost use Rattle.std.specs.Prelude.{◌≡◌, None, option_map, map};
-ghost use Rattle.dw_bytes.specs.Answers.{Judges};
+ghost use Rattle.std.specs.Prelude.{◌≡◌, ◌<◌, None, option_map, map, length, slice_get, MatchOption, IfSome, IfOk};
+ghost use Rattle.dw_bytes.specs.Answers.{Judges, Answers};
 ghost use Rattle.dw_frame.specs.Views.{cie_of, fde_of};
-ghost use Rattle.dw_rows.specs.Judgement.{cie_fault, fde_fault};
+ghost use Rattle.dw_rows.specs.Judgement.{cie_fault};
 ghost use Rattle.dw_rows.specs.Section.{cie_at, first_fault, pointer_fault, program_fault};
 ghost use Rattle.dw_rows.specs.Overlap.{IsAscending, cie_offset};
+ghost use Rattle.dw_rows.specs.Machine.{IsLeftBy};
+ghost use Rattle.dw_rows.specs.Initial.{AreLeftBy};
 
 use crate::check::{check_program, run_cie};
+use crate::initial_rules::InitialRules;
 use crate::machine::Machine;
+use crate::position::Position;
 use dw_bytes::{Fault, FaultKind};
 use dw_frame::{CommonInformationEntry, FrameDescriptionEntry};
+use std::alloc::Global;
 
-/// The CIE that begins at an offset, by halving the CIEs in order of offset.
+/// Want of memory, which stands nowhere in a section.
+pub const MEMORY: Fault = Fault {
+    kind: FaultKind::Memory,
+    at: 0,
+};
+
+/// The place of the CIE that begins at an offset, by halving the CIEs in order of offset.
+fn place_of_cie(cies: &[CommonInformationEntry<'_>], offset: u64) -> Option<usize>
+    requires { IsAscending cie_offset (map cie_of cies.now) }
+    ensures { MatchOption result
+        (cie_at (map cie_of cies.now) offset ≡ None)
+        (λ place. (place < length cies.now) × (cie_at (map cie_of cies.now) offset ≡ slice_get (map cie_of cies.now) place)) }
+{
+    match cies.binary_search_by_key(&offset, |cie| u64::from(cie.offset)) {
+        Ok(place) => Some(place),
+        Err(_) => None,
+    }
+}
+
+/// The CIE that begins at an offset.
 pub fn find_cie<'a>(
     cies: &[CommonInformationEntry<'a>],
     offset: u64,
@@ -20,10 +44,25 @@ pub fn find_cie<'a>(
     requires { IsAscending cie_offset (map cie_of cies.now) }
     ensures { option_map cie_of result ≡ cie_at (map cie_of cies.now) offset }
 {
-    match cies.binary_search_by_key(&offset, |cie| u64::from(cie.offset)) {
-        Ok(place) => Some(cies[place]),
-        Err(_) => None,
-    }
+    let place = place_of_cie(cies, offset)?;
+    Some(cies[place])
+}
+
+/// The CIE that begins at an offset. What it leaves is kept at the position, as the rules that programs begin with.
+pub fn recall_cie<'a>(
+    position: &mut Position,
+    cies: &[CommonInformationEntry<'a>],
+    initial: &InitialRules,
+    offset: u64,
+) -> Option<CommonInformationEntry<'a>>
+    requires order { IsAscending cie_offset (map cie_of cies.now) }
+    requires left { AreLeftBy (map cie_of cies.now) initial.now }
+    ensures cie { option_map cie_of result ≡ cie_at (map cie_of cies.now) offset }
+    ensures first { IfSome result (λ cie. IsLeftBy (cie_of cie) position.new.first) }
+{
+    let place = place_of_cie(cies, offset)?;
+    position.keep_initial(initial, place);
+    Some(cies[place])
 }
 
 /// Each CIE_pointer has to be the offset of a CIE: n log n for n records.
@@ -45,51 +84,39 @@ pub fn check_pointers(
     Ok(())
 }
 
-/// Each CIE's program has to be good.
-pub fn check_cies(machine: &mut Machine, cies: &[CommonInformationEntry<'_>]) -> Result<(), Fault>
-    ensures { Judges (first_fault cie_fault (map cie_of cies.now)) result }
+/// Each CIE's program has to be good. What it leaves is kept.
+pub fn check_cies(
+    alloc: Global,
+    position: &mut Position,
+    cies: &[CommonInformationEntry<'_>],
+) -> Result<InitialRules, Fault>
+    ensures answer { Answers (first_fault cie_fault (map cie_of cies.now)) result }
+    ensures left { IfOk result (λ initial. AreLeftBy (map cie_of cies.now) initial) }
 {
+    let mut left = InitialRules::new(alloc);
     for cie in cies {
-        match run_cie(machine, cie) {
-            Ok(()) => {}
-            Err(fault) => return Err(fault),
+        run_cie(position, cie)?;
+        if left.push(position.first()).is_err() {
+            return Err(MEMORY);
         }
     }
-    Ok(())
-}
-
-/// An FDE's program has to be good behind that of its CIE, which is.
-fn check_behind(
-    machine: &mut Machine,
-    cie: &CommonInformationEntry<'_>,
-    fde: &FrameDescriptionEntry<'_>,
-) -> Result<(), Fault>
-    requires { cie_fault (cie_of cie.now) ≡ None }
-    ensures { Judges (fde_fault (cie_of cie.now) (fde_of fde.now)) result }
-{
-    match run_cie(machine, cie) {
-        Ok(()) => check_program(machine, cie, fde),
-        Err(fault) => Err(fault),
-    }
+    Ok(left)
 }
 
 /// Each FDE's program has to be good behind its CIE's.
 pub fn check_fdes(
     machine: &mut Machine,
     cies: &[CommonInformationEntry<'_>],
+    initial: &InitialRules,
     fdes: &[FrameDescriptionEntry<'_>],
 ) -> Result<(), Fault>
     requires order { IsAscending cie_offset (map cie_of cies.now) }
-    requires cies { first_fault cie_fault (map cie_of cies.now) ≡ None }
+    requires left { AreLeftBy (map cie_of cies.now) initial.now }
     ensures { Judges (first_fault (program_fault (map cie_of cies.now)) (map fde_of fdes.now)) result }
 {
     for fde in fdes {
-        match find_cie(cies, fde.cie_pointer) {
-            Some(cie) => match check_behind(machine, &cie, fde) {
-                Ok(()) => {}
-                Err(fault) => return Err(fault),
-            },
-            None => {}
+        if let Some(cie) = recall_cie(&mut machine.position, cies, initial, fde.cie_pointer) {
+            check_program(machine, &cie, fde)?;
         }
     }
     Ok(())

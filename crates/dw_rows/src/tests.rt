@@ -160,15 +160,113 @@ fn finds_the_row_of_an_address(rt: HostRuntime) -> Result<(), Fail> {
             assert!(rt; matches!(row.register(16), RegisterRule::Offset(-8)));
             assert!(rt; matches!(row.register(6), RegisterRule::Default));
             assert!(rt; row_at(&cie, &fde, 0x1020).is_none());
-            let mut all = rows(&cie, &fde);
-            let mut row = UnwindTableRow::empty();
-            assert!(rt; all.next_into(&mut row));
-            assert!(rt; all.next_into(&mut row));
-            all.restart(&cie, &fde);
-            assert!(rt; all.next_into(&mut row));
-            assert_eq!(rt; row.start_address(), 0x1000);
         }
         Err(_) => return Err(Fail::from("a bad program")),
     }
+    Ok(())
+}
+
+/// The CIE of `FUNCTION`, and 1,000 FDEs of eight nops, the highest addresses first. Each covers 16 addresses of 32.
+fn descending(alloc: Global) -> Result<Vec<u8>, Fail> {
+    let mut section = FUNCTION[..24].to_vec(alloc)?;
+    for i in (0..1000u64).rev() {
+        push_fde(&mut section, 0x1000 + 0x20 * i, 0x10)?;
+    }
+    Ok(section)
+}
+
+/// One more FDE of eight nops, of the first CIE.
+fn push_fde(section: &mut Vec<u8>, initial: u64, range: u64) -> Result<(), Fail> {
+    section.extend_from_slice(&[0x1c, 0, 0, 0, 0, 0, 0, 0])?;
+    section.extend_from_slice(&initial.to_le_bytes())?;
+    section.extend_from_slice(&range.to_le_bytes())?;
+    section.extend_from_slice(&[0; 8])?;
+    Ok(())
+}
+
+/// Where the row of an address begins and ends.
+fn range_at(frame: &CheckedFrame<'_>, address: u64) -> Option<(u64, u64)> {
+    let row = frame.row_for_address(address)?;
+    Some((row.start_address(), row.end_address()))
+}
+
+/// How many rows the FDE of an address has.
+fn row_count(frame: &CheckedFrame<'_>, address: u64) -> Option<u32> {
+    let fde = frame.fde_for_address(address)?;
+    let mut count = 0u32;
+    for _ in frame.rows(&fde) {
+        count = count.saturating_add(1);
+    }
+    Some(count)
+}
+
+#[test]
+fn checks_a_section(rt: HostRuntime) -> Result<(), Fail> {
+    let frame = check_frame(rt.alloc(), &FUNCTION, LITTLE)?;
+    assert_eq!(rt; frame.cies().len(), 1);
+    assert_eq!(rt; frame.fdes().len(), 1);
+    assert_eq!(rt; range_at(&frame, 0xfff), None);
+    assert_eq!(rt; range_at(&frame, 0x1000), Some((0x1000, 0x1001)));
+    assert_eq!(rt; range_at(&frame, 0x101f), Some((0x1004, 0x1020)));
+    assert_eq!(rt; range_at(&frame, 0x1020), None);
+    let fde = frame.fde_for_address(0x1000).ok_or("an FDE")?;
+    let mut rows = frame.rows(&fde);
+    assert_eq!(rt; rows.next().ok_or("a row")?.end_address(), 0x1001);
+    assert_eq!(rt; rows.next().ok_or("a row")?.end_address(), 0x1004);
+    frame.rows_into(&fde, &mut rows);
+    let mut row = UnwindTableRow::empty();
+    assert!(rt; rows.next_into(&mut row));
+    assert_eq!(rt; row.end_address(), 0x1001);
+    Ok(())
+}
+
+#[test]
+fn looks_up_among_many(rt: HostRuntime) -> Result<(), Fail> {
+    let section = descending(rt.alloc())?;
+    assert_eq!(rt; section.len(), 32_024);
+    let frame = check_frame(rt.alloc(), &section, LITTLE)?;
+    assert_eq!(rt; range_at(&frame, 0x100f), Some((0x1000, 0x1010)));
+    assert_eq!(rt; range_at(&frame, 0x1010), None);
+    assert_eq!(rt; range_at(&frame, 0x8cef), Some((0x8ce0, 0x8cf0)));
+    assert_eq!(rt; range_at(&frame, 0x8cf0), None);
+    Ok(())
+}
+
+#[test]
+fn names_an_overlap_among_many(rt: HostRuntime) -> Result<(), Fail> {
+    let mut section = descending(rt.alloc())?;
+    push_fde(&mut section, 0x100f, 1)?;
+    assert_eq!(rt; section.len(), 32_056);
+    let fault = check_frame(rt.alloc(), &section, LITTLE)
+        .err()
+        .ok_or("an overlap")?;
+    assert_eq!(rt; (fault.kind, fault.at), (FaultKind::Overlap, 32_024));
+    Ok(())
+}
+
+/// The CIE of `FUNCTION`, and an FDE of 4,096 addresses whose program is 1,000 times the same byte.
+fn repeated(alloc: Global, instruction: u8) -> Result<Vec<u8>, Fail> {
+    let mut section = FUNCTION[..24].to_vec(alloc)?;
+    section.extend_from_slice(&[0xfc, 3, 0, 0, 0, 0, 0, 0])?;
+    section.extend_from_slice(&[0, 0x10, 0, 0, 0, 0, 0, 0, 0, 0x10, 0, 0, 0, 0, 0, 0])?;
+    section.resize(1048, instruction)?;
+    Ok(section)
+}
+
+#[test]
+fn checks_one_row(rt: HostRuntime) -> Result<(), Fail> {
+    let section = repeated(rt.alloc(), 0)?;
+    assert_eq!(rt; section.len(), 1048);
+    let frame = check_frame(rt.alloc(), &section, LITTLE)?;
+    assert_eq!(rt; row_count(&frame, 0x1000), Some(1));
+    Ok(())
+}
+
+#[test]
+fn checks_many_rows(rt: HostRuntime) -> Result<(), Fail> {
+    let section = repeated(rt.alloc(), 0x41)?;
+    assert_eq!(rt; section.len(), 1048);
+    let frame = check_frame(rt.alloc(), &section, LITTLE)?;
+    assert_eq!(rt; row_count(&frame, 0x1000), Some(1001));
     Ok(())
 }

@@ -1,16 +1,24 @@
-use Rattle.std.proofs.Common.{ap, sym, subst}
+use Rattle.std.proofs.Common.{◌≡◌, List, Some, ap, sym, subst, ◌∙◌}
 use Rattle.std.specs.List.{All}
+use Rattle.dw_frame.specs.Records.{Cie, Fde}
+use Rattle.dw_rows.specs.Rules.{Row}
+use Rattle.dw_rows.specs.UnwindRows.{rows_of}
+use Rattle.dw_rows.specs.Section.{Frame, cie_in, rows_in, rows_behind}
 use Rattle.dw_check.specs.Text.{Fits}
 use Rattle.dw_check.proofs.Within.{below_top, good_rows_fit}
 use Rattle.dw_check.proofs.Writing.{fde_then, fde_front}
 use Rattle.dw_check.proofs.output.write_fde_and_rows.Goals as goal
+
+-- the rows are those behind the CIE
+behind : (s : Frame) (f : Fde) (c : Cie) (rows : List Row) → cie_in s f ≡ Some c → rows ≡ rows_in s f → rows ≡ rows_of c f
+behind s f c rows is all = all ∙ ap (λ o. rows_behind o f) is
 
 pub write_fde-requires-clause-fits : goal.write_fde-requires-clause-fits
 write_fde-requires-clause-fits g c = below_top c.args.frame.now.target _ _ (ap (λ t. t.address_size) c.target-size.ensures) c.requires.fits
 
 pub write_rows-requires-clause-fit : goal.write_rows-requires-clause-fit
 write_rows-requires-clause-fit g c =
-    subst (λ rows. All (λ row. Fits c.target-size.result.address_size row) rows) (sym c.restart.ensures)
+    subst (λ rows. All (λ row. Fits c.target-size.result.address_size row) rows) (sym (behind c.args.frame.now _ _ _ c.cie_of-cie.ensures.cie c.rows_into.ensures))
     (good_rows_fit c.args.frame.now.target _ _ _ (ap (λ t. t.address_size) c.target-size.ensures) c.cie_of-cie.ensures.fde_program c.requires.fits)
 
 pub returns-in_err-write_fde-clause-written : goal.returns-in_err-write_fde-clause-written
@@ -20,5 +28,5 @@ returns-in_err-write_fde-clause-written g c =
 
 pub returns-clause-written : goal.returns-clause-written
 returns-clause-written g c =
-    fde_then c.args.frame.now _ _ _ _ _ _ _ _ (ap (λ t. t.address_size) c.target-size.ensures) c.cie_of-cie.ensures.cie c.restart.ensures
+    fde_then c.args.frame.now _ _ _ _ _ _ _ _ (ap (λ t. t.address_size) c.target-size.ensures) c.cie_of-cie.ensures.cie (behind c.args.frame.now _ _ _ c.cie_of-cie.ensures.cie c.rows_into.ensures)
     c.in_ok-write_fde.ensures.written c.write_rows.ensures.written

@@ -3,6 +3,7 @@ use Rattle.std.proofs.lemmas.Bool.Decides.{nat_tests}
 use Rattle.dw_frame.specs.Views.{fde_of}
 use Rattle.dw_check.specs.Text.{frame_text}
 use Rattle.dw_check.proofs.Sent.{sent_none, sent_next, sent_front, sent_all, sent_place, next_seen, none_seen}
+use Rattle.dw_check.proofs.Writing.{writes_front}
 use Rattle.dw_check.proofs.output.write_frame.Goals as goal
 
 pub loop-fde-init : goal.loop-fde-init
@@ -15,7 +16,7 @@ pub loop-fde-preserved : goal.loop-fde-preserved
 loop-fde-preserved g c = record {
   runs = search rules;
   sent = sent_next _ _ _ _ _ _ _ _ (next_seen fde_of c.fdes-fdes.result.now c.loop-fde.fde-index c.fde-item.result (omega arith) c.fde-item.is)
-      c.loop-fde.invariant.sent c.in-Ok.ensures.written;
+      c.loop-fde.invariant.sent c.in_ok-write_fde_and_rows.ensures.written;
 }
 
 pub write_fde_and_rows-requires-clause-inside : goal.write_fde_and_rows-requires-clause-inside
@@ -27,11 +28,12 @@ write_fde_and_rows-requires-clause-fits g c =
     c.fdes-fdes.ensures.fit (fde_of c.fde-item.result)
     (sent_place _ _ _ _ _ _ _ (next_seen fde_of c.fdes-fdes.result.now c.loop-fde.fde-index c.fde-item.result (omega arith) c.fde-item.is) c.loop-fde.invariant.sent)
 
-pub returns-in-Err-clause-written : goal.returns-in-Err-clause-written
+pub returns-in_err-write_fde_and_rows-clause-written : goal.returns-in_err-write_fde_and_rows-clause-written
 unfolding frame_text
-returns-in-Err-clause-written g c =
-    sent_front _ _ _ _ _ _ _ _ (next_seen fde_of c.fdes-fdes.result.now c.loop-fde.fde-index c.fde-item.result (omega arith) c.fde-item.is)
-    c.loop-fde.invariant.sent c.in-Err.ensures.written
+returns-in_err-write_fde_and_rows-clause-written g c =
+    writes_front _ _ _ _ c.from_residual.ensures.0
+    (sent_front _ _ _ _ _ _ _ _ (next_seen fde_of c.fdes-fdes.result.now c.loop-fde.fde-index c.fde-item.result (omega arith) c.fde-item.is)
+    c.loop-fde.invariant.sent c.in_err-write_fde_and_rows.ensures.written)
 
 pub returns-clause-written : goal.returns-clause-written
 unfolding frame_text

@@ -1,30 +1,41 @@
-use Rattle.std.proofs.Common.{◌≡◌, List, sym, subst, ap, ◌∙◌, map, None}
-use Rattle.dw_frame.specs.Records.{Cie, Fde}
+use Rattle.std.proofs.Common.{rules, ◌≡◌, List, sym, subst, ap, ◌∙◌, map, None}
 use Rattle.dw_frame.specs.Views.{cie_of, fde_of}
 use Rattle.dw_frame.specs.declared.entry.CommonInformationEntry.{CommonInformationEntry}
 use Rattle.dw_frame.specs.declared.entry.FrameDescriptionEntry.{FrameDescriptionEntry}
-use Rattle.dw_rows.specs.Section.{parts_fault, frame_of}
+use Rattle.dw_rows.specs.Section.{parts_fault, section_fault, frame_of}
+use Rattle.dw_rows.specs.Initial.{AreLeftBy}
 use Rattle.dw_rows.specs.Overlap.{IsAscending, cie_offset, fde_offset, IsIndexOf}
+use Rattle.dw_rows.proofs.Standing.{section-answered}
 use Rattle.dw_rows.proofs.SectionOrder.{cies-ascend, fdes-ascend, kept}
 use Rattle.dw_rows.proofs.frame.check_frame.Goals as goal
 
 pub check_parts-requires-clause-cies : goal.check_parts-requires-clause-cies
 check_parts-requires-clause-cies c =
-    let cies : map cie_of c.deref.result.now ≡ (frame_of c.args.target c.args.section.now).cies = ap (λ (l : List CommonInformationEntry). map cie_of l) c.deref.ensures.value ∙ c.in-Ok.ensures.cies in
-    subst (IsAscending cie_offset) (sym cies) (cies-ascend c.args.target c.args.section.now c.in-Ok.ensures.read)
+    let cies : map cie_of c.deref.result.now ≡ (frame_of c.args.target c.args.section.now).cies = ap (λ (l : List CommonInformationEntry). map cie_of l) c.deref.ensures.value ∙ c.in_ok-cies.ensures.cies in
+    subst (IsAscending cie_offset) (sym cies) (cies-ascend c.args.target c.args.section.now c.in_ok-cies.ensures.read)
 
 pub check_parts-requires-clause-fdes : goal.check_parts-requires-clause-fdes
 check_parts-requires-clause-fdes c =
-    let fdes : map fde_of c.deref-2.result.now ≡ (frame_of c.args.target c.args.section.now).fdes = ap (λ (l : List FrameDescriptionEntry). map fde_of l) c.deref-2.ensures.value ∙ c.in-Ok.ensures.fdes in
-    subst (IsAscending fde_offset) (sym fdes) (fdes-ascend c.args.target c.args.section.now c.in-Ok.ensures.read)
+    let fdes : map fde_of c.deref-2.result.now ≡ (frame_of c.args.target c.args.section.now).fdes = ap (λ (l : List FrameDescriptionEntry). map fde_of l) c.deref-2.ensures.value ∙ c.in_ok-cies.ensures.fdes in
+    subst (IsAscending fde_offset) (sym fdes) (fdes-ascend c.args.target c.args.section.now c.in_ok-cies.ensures.read)
 
 pub invariant_of-result : goal.invariant_of-result
 invariant_of-result c =
-    let cies = c.in-Ok.records.0.items in
-    let fdes = c.in-Ok.records.1.items in
-    let index = map fde_of c.in-Ok-check_parts.index.items in
+    let cies = c.in_ok-cies.cies.items in
+    let fdes = c.in_ok-cies.fdes.items in
+    let left = c.in_ok-initial.initial in
+    let index = map fde_of c.in_ok-initial.index.items in
     let answer : parts_fault (map cie_of cies) (map fde_of fdes) ≡ None =
     subst (λ (l : List CommonInformationEntry). parts_fault (map cie_of l) (map fde_of fdes) ≡ None) c.deref.ensures.value
-    (subst (λ (l : List FrameDescriptionEntry). parts_fault (map cie_of c.deref.result.now) (map fde_of l) ≡ None) c.deref-2.ensures.value c.in-Ok-check_parts.ensures.answer) in
-    let index_of : IsIndexOf (map fde_of fdes) index = subst (λ (l : List FrameDescriptionEntry). IsIndexOf (map fde_of l) index) c.deref-2.ensures.value c.in-Ok-check_parts.ensures.index in
-    kept c.args.target c.args.section.now (map cie_of cies) (map fde_of fdes) index c.in-Ok.ensures.read c.in-Ok.ensures.cies c.in-Ok.ensures.fdes answer index_of
+    (subst (λ (l : List FrameDescriptionEntry). parts_fault (map cie_of c.deref.result.now) (map fde_of l) ≡ None) c.deref-2.ensures.value c.in_ok-initial.ensures.answer) in
+    let left_by : AreLeftBy (map cie_of cies) left = subst (λ (l : List CommonInformationEntry). AreLeftBy (map cie_of l) left) c.deref.ensures.value c.in_ok-initial.ensures.left in
+    let index_of : IsIndexOf (map fde_of fdes) index = subst (λ (l : List FrameDescriptionEntry). IsIndexOf (map fde_of l) index) c.deref-2.ensures.value c.in_ok-initial.ensures.index in
+    kept c.args.target c.args.section.now (map cie_of cies) left (map fde_of fdes) index c.in_ok-cies.ensures.read c.in_ok-cies.ensures.cies c.in_ok-cies.ensures.fdes answer left_by index_of
+
+pub returns-in_err-cies-clause-inside : goal.returns-in_err-cies-clause-inside
+unfolding section_fault
+returns-in_err-cies-clause-inside c = section-answered c.args.target c.args.section.now c.from_residual.result (search rules)
+
+pub returns-in_err-initial-clause-inside : goal.returns-in_err-initial-clause-inside
+unfolding section_fault
+returns-in_err-initial-clause-inside c = section-answered c.args.target c.args.section.now c.from_residual-in_err-initial.result (search rules)

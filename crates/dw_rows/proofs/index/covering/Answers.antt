@@ -1,8 +1,6 @@
-use Rattle.std.proofs.Common.{◌≡◌, arith, rules, sym, leb, leb-true, leb-false, ◌≤◌, ◌<◌, ◌-◌, ◌+◌, ℕ, List, subst, map, length, get_or, Contains}
-use Rattle.std.specs.List.Sorted.{IsPartitionPoint}
+use Rattle.std.proofs.Common.{arith, rules, sym, leb, leb-true, leb-false, ◌≤◌, ◌-◌, ℕ, subst, map, Contains}
 use Rattle.std.proofs.lemmas.List.{length-map}
 use Rattle.std.proofs.lemmas.List.Sorted.{IsPartitionPoint-from_clause, IsPartitionedBy-leb}
-use Rattle.dw_frame.specs.Records.{Fde}
 use Rattle.dw_frame.specs.Views.{fde_of}
 use Rattle.dw_frame.specs.declared.entry.FrameDescriptionEntry.{FrameDescriptionEntry}
 use Rattle.dw_rows.specs.Overlap.{initial_of}

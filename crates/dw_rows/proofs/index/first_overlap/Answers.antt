@@ -1,6 +1,5 @@
 use Rattle.std.proofs.Common.{arith, sym, subst, ◌≡◌, ◌-◌, ◌+◌, ◌/◌, length, map}
 use Rattle.std.proofs.lemmas.List.{length-map}
-use Rattle.dw_frame.specs.Records.{Fde}
 use Rattle.dw_frame.specs.Views.{fde_of}
 use Rattle.dw_rows.specs.Overlap.{ApartWithin, ClashWithin}
 use Rattle.dw_rows.proofs.Sweeps.{first-clash, none-clash, none-apart, apart-below}

@@ -1,7 +1,6 @@
-use Rattle.std.proofs.Common.{rules, subst, map, filter, ap, ◌∙◌, nat_lt}
+use Rattle.std.proofs.Common.{rules, subst, map}
 use Rattle.std.specs.List.Sorted.{IsPermutation}
 use Rattle.std.proofs.lemmas.List.Sorted.{IsNonDecreasingBy-from_sort_by_key, IsPermutation-map}
-use Rattle.dw_frame.specs.Records.{Fde}
 use Rattle.dw_frame.specs.Views.{fde_of}
 use Rattle.dw_frame.specs.declared.entry.FrameDescriptionEntry.{FrameDescriptionEntry}
 use Rattle.dw_rows.specs.Overlap.{initial_of}

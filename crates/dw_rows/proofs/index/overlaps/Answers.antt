@@ -1,4 +1,4 @@
-use Rattle.std.proofs.Common.{◌<◌, arith, sym, map, length}
+use Rattle.std.proofs.Common.{arith, sym, map}
 use Rattle.std.proofs.lemmas.List.{length-map}
 use Rattle.dw_frame.specs.Views.{fde_of}
 use Rattle.dw_rows.proofs.Sweeps.{swept-none, swept-skip, swept-more, swept-all, clash-at}

@@ -1,9 +1,8 @@
-use Rattle.std.proofs.Common.{◌≡◌, ◌+◌, Option, Some, None, sym, ap, ◌∙◌}
+use Rattle.std.proofs.Common.{◌≡◌, ◌+◌, Some, sym, ap, ◌∙◌}
 use Rattle.std.specs.Prelude.{find}
 use Rattle.dw_frame.specs.Views.{cie_of, fde_of}
-use Rattle.dw_rows.specs.Rules.{Row}
 use Rattle.dw_rows.specs.UnwindRows.{rows_of, has_address}
-use Rattle.dw_rows.specs.Walks.{Walk, Seeks, remembering}
+use Rattle.dw_rows.specs.Walks.{Walk, Seeks}
 use Rattle.dw_rows.proofs.Coming.{seeks-found, seeks-on, seeks-none, seeks-walk, seeks-nearer, seeks-cfa}
 use Rattle.dw_rows.proofs.lookup.row_behind.Goals as goal
 

@@ -1,18 +1,17 @@
-use Rattle.std.proofs.Common.{arith, ◌≡◌, ◌≢◌, ◌+◌, ◌<◌, length}
+use Rattle.std.proofs.Common.{arith, ◌≡◌, ◌<◌, length}
 use Rattle.std.proofs.lemmas.Grind.{common_steps}
-use Rattle.dw_rows.specs.Rules.{rule_list, rule_in, changed_at}
 use Rattle.dw_rows.specs.Places.{place_in}
 use Rattle.dw_rows.specs.Views.{rule_of, entries_of}
-use Rattle.dw_rows.specs.declared.row.RegisterRule.TheVariants.{Default}
 use Rattle.dw_rows.proofs.Tables.{inserted, Clears, puts-inserted, full-count}
 use Rattle.dw_rows.proofs.Edits.{insert-place, rule_of-some, length-entries_of}
+use Rattle.dw_rows.specs.declared.map.TheConstants.{MAX_RULES}
 use Rattle.dw_rows.proofs.map.put_rule.Goals as goal
 
 pub returns-then-full : goal.returns-then-full
 returns-then-full c =
     let old = entries_of c.args.table.now.items in
     let mid = entries_of c.clear_rule.new.table.items in
-    let full : length c.clear_rule.new.table.items ≡ 128 = grind (arith, common_steps) in
+    let full : length c.clear_rule.new.table.items ≡ MAX_RULES = grind (arith, common_steps) in
     let clears : Clears old c.args.register mid = record { table = c.clear_rule.ensures.table; rules = c.clear_rule.ensures.rules } in
     let more = full-count old mid c.args.register (rule_of c.args.rule) (omega arith) (rule_of-some c.args.rule c.in_default.not-Default) clears in
     record { table = c.clear_rule.ensures.table; rules = tt; few = omega (arith, c.is_full-full.ensures.fits, length-entries_of c.clear_rule.new.table.items); full = omega (arith, more, length-entries_of c.clear_rule.new.table.items) }
@@ -25,4 +24,4 @@ returns c =
     let clears : Clears old c.args.register mid = record { table = c.clear_rule.ensures.table; rules = c.clear_rule.ensures.rules } in
     let new : entries_of c.insert.new.self.items ≡ inserted c.args.register (rule_of c.args.rule) mid = rw (c.insert.ensures.items, place) (insert-place c.clear_rule.new.table.items c.args.register (rule_of c.args.rule) c.entry.result c.entry.ensures) in
     let k = puts-inserted old mid (entries_of c.insert.new.self.items) c.args.register (rule_of c.args.rule) (omega arith) (rule_of-some c.args.rule c.in_default.not-Default) clears new in
-    record { table = k.table; rules = k.rules; few = let room : length c.clear_rule.new.table.items < 128 = grind (arith, common_steps) in omega (arith, c.insert.ensures.len, length-entries_of c.insert.new.self.items); full = tt }
+    record { table = k.table; rules = k.rules; few = let room : length c.clear_rule.new.table.items < MAX_RULES = grind (arith, common_steps) in omega (arith, c.insert.ensures.len, length-entries_of c.insert.new.self.items); full = tt }

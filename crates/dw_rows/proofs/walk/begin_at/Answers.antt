@@ -1,7 +1,7 @@
 use Rattle.std.proofs.Common.{refl}
-use Rattle.dw_frame.specs.Views.{cie_of, fde_of}
+use Rattle.dw_frame.specs.Views.{fde_of}
 use Rattle.dw_rows.proofs.Coming.{walk-begins}
 use Rattle.dw_rows.proofs.walk.begin_at.Goals as goal
 
 pub returns : goal.returns
-returns c = walk-begins (cie_of c.args.cie.now) (fde_of c.args.fde.now) _ c.run_cie_at.new.position.first refl c.in-Ok.ensures.1 c.requires.fde refl c.begin.ensures c.instructions.ensures
+returns c = λ cie left good. walk-begins cie (fde_of c.args.fde.now) _ c.args.position.now.first refl left good refl c.begin.ensures c.instructions.ensures

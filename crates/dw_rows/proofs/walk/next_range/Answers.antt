@@ -1,4 +1,4 @@
-use Rattle.std.proofs.Common.{◌≡◌, ◌≤◌, ◌<◌, sym, ◌∙◌, arith}
+use Rattle.std.proofs.Common.{◌≤◌, ◌<◌, sym, ◌∙◌, arith}
 use Rattle.dw_frame.specs.Views.{cie_of}
 use Rattle.dw_rows.specs.Walks.{Walk}
 use Rattle.dw_rows.proofs.Walking.{walk-read, stays-first, stays-on, passes-on, passes-end, no-more, walk-within}

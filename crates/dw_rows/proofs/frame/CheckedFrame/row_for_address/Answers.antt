@@ -16,4 +16,4 @@ row-fits p from to top rows (Some row) found covered le =
 
 pub returns-clause-fit : goal.returns-clause-fit
 returns-clause-fit c =
-    row-fits _ _ _ _ _ c.row_at.result c.row_at.ensures.row (cover-rows (cie_of c.cie_of-cie.result) (fde_of c.in_ok-fde.fde) c.cie_of-cie.ensures.fde_program) c.in_ok-fde.ensures.fit
+    row-fits _ _ _ _ _ c.row_from.result c.row_from.ensures.row (cover-rows (cie_of c.recall_cie-cie.result) (fde_of c.in_ok-fde.fde) c.recall_cie-cie.ensures.fde_program) c.in_ok-fde.ensures.fit

@@ -1,7 +1,7 @@
 use Rattle.std.proofs.Common.{arith, ◌-◌, sym, ap, ◌∙◌, ◌∷◌}
 use Rattle.dw_rows.specs.Kept.{Kept}
 use Rattle.dw_rows.specs.Places.{kept_in}
-use Rattle.dw_rows.proofs.Stacks.{stack-popped, kept-popped, not-empty}
+use Rattle.dw_rows.proofs.Stacks.{kept-popped, not-empty}
 use Rattle.dw_rows.proofs.remembered.Remembered.pop.Goals as goal
 
 pub offset_bounds-self-inside-self-inside : goal.offset_bounds-self-inside-self-inside

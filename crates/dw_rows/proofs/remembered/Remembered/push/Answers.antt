@@ -1,5 +1,4 @@
-use Rattle.std.proofs.Common.{arith, ◌<◌, ◌≡◌, length, List, sym, ap, ◌∙◌, ◌∷◌}
-use Rattle.std.proofs.Math.ListN.{set}
+use Rattle.std.proofs.Common.{arith, ◌<◌, length, List, ap, ◌∙◌, ◌∷◌}
 use Rattle.dw_rows.specs.declared.remembered.TheConstants.{MAX_REMEMBERED}
 use Rattle.dw_rows.specs.Kept.{Kept}
 use Rattle.dw_rows.specs.Places.{kept_in}

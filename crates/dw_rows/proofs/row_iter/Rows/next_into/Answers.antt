@@ -1,7 +1,6 @@
-use Rattle.std.proofs.Common.{rules, arith, refl, ◌≡◌, ◌+◌, ◌<◌, ◌^◌, List, ◌∷◌, length}
+use Rattle.std.proofs.Common.{rules, arith, refl, ◌+◌, ◌<◌, ◌^◌}
 use Rattle.dw_frame.specs.Views.{cie_of, fde_of}
-use Rattle.dw_rows.specs.Walks.{GoesOn, IsReady}
-use Rattle.dw_rows.proofs.Coming.{ready-walk, ready-rests, ready-comes, Rests, Comes}
+use Rattle.dw_rows.proofs.Coming.{ready-rests, ready-comes}
 use Rattle.dw_rows.proofs.row_iter.Rows.next_into.Goals as goal
 
 pub invariant_of-self-in-None : goal.invariant_of-self-in-None

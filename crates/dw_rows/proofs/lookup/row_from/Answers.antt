@@ -3,10 +3,10 @@ use Rattle.std.specs.Prelude.{find}
 use Rattle.dw_frame.specs.Views.{cie_of, fde_of}
 use Rattle.dw_rows.specs.Rules.{Row}
 use Rattle.dw_rows.specs.UnwindRows.{rows_of, has_address}
-use Rattle.dw_rows.specs.Walks.{Walk, Seeks, remembering}
+use Rattle.dw_rows.specs.Walks.{Walk}
 use Rattle.dw_rows.proofs.Covering.{covered-found, not-found-below}
 use Rattle.dw_rows.proofs.Coming.{seeks-found, seeks-on, seeks-walk, seeks-nearer, seeks-cfa, seeks-remembers, seeks-end}
-use Rattle.dw_rows.proofs.lookup.row_at.Goals as goal
+use Rattle.dw_rows.proofs.lookup.row_from.Goals as goal
 
 pub returns-then-address-fde-clause-row : goal.returns-then-address-fde-clause-row
 returns-then-address-fde-clause-row c = sym (not-found-below (cie_of c.args.cie.now) (fde_of c.args.fde.now) c.args.address c.requires.fde c.if-address-fde.true)

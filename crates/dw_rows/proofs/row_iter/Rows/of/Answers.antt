@@ -1,0 +1,6 @@
+use Rattle.dw_frame.specs.Views.{cie_of, fde_of}
+use Rattle.dw_rows.proofs.Coming.{ready-begun}
+use Rattle.dw_rows.proofs.row_iter.Rows.of.Goals as goal
+
+pub invariant_of-result : goal.invariant_of-result
+invariant_of-result c = ready-begun (cie_of c.recall_cie-cie.result) (fde_of c.args.fde.now) _ (c.begin-instructions.ensures (cie_of c.recall_cie-cie.result) c.recall_cie-cie.ensures.left c.recall_cie-cie.ensures.fde_program)

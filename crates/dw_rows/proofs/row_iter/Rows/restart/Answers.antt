@@ -1,6 +1,0 @@
-use Rattle.dw_frame.specs.Views.{cie_of, fde_of}
-use Rattle.dw_rows.proofs.Coming.{ready-begun}
-use Rattle.dw_rows.proofs.row_iter.Rows.restart.Goals as goal
-
-pub invariant_of-self : goal.invariant_of-self
-invariant_of-self c = ready-begun (cie_of c.args.cie.now) (fde_of c.args.fde.now) _ c.begin-self-inside.ensures

@@ -1,0 +1,27 @@
+use Rattle.std.proofs.Common.{◌≡◌, ◌+◌, [], ◌∷◌, ◌++◌, map, take, false, Result, Ok, Err, MatchResult, sym, subst, ◌∙◌, arith}
+use Rattle.std.specs.Result.{is_err}
+use Rattle.dw_frame.specs.Views.{cie_of}
+use Rattle.dw_rows.specs.Judgement.{cie_fault}
+use Rattle.dw_rows.specs.Machine.{IsLeftBy}
+use Rattle.dw_rows.proofs.Elements.{front-map}
+use Rattle.dw_rows.proofs.Faults.{passed}
+use Rattle.dw_rows.proofs.Initials.{left-one}
+use Rattle.dw_rows.proofs.section.check_cies.Goals as goal
+
+-- what an answer that isn't refused says
+not-refused : {E : Type 0} (P Q : Type 0) (r : Result (Unit {0}) E) → false ≡ is_err r → MatchResult r (λ _. P) (λ _. Q) → P
+not-refused P Q (Ok _) e h = h
+not-refused P Q (Err x) e h = cc
+
+pub loop-cie-preserved : goal.loop-cie-preserved
+loop-cie-preserved c =
+    let cies = c.args.cies.now in
+    let i = c.loop-cie.cie-index in
+    let x = c.cie-item.result in
+    let one : IsLeftBy (cie_of x) c.first.result.now = subst (IsLeftBy (cie_of x)) (sym c.first.ensures) c.in_ok-run_cie.ensures.left in
+    let kept : c.push.new.self ≡ c.loop-cie.left ++ c.first.result.now ∷ [] = not-refused _ _ _ c.if-is_err.ensures.value c.push.ensures in
+    let front : map cie_of (take (i + 1) cies) ≡ map cie_of (take i cies) ++ cie_of x ∷ [] = front-map cie_of cies i x (omega arith) (sym c.cie-item.is) in
+    record {
+      fault = c.loop-cie.invariant.fault ∙ passed cie_of cie_fault cies i x (omega arith) (sym c.cie-item.is) c.in_ok-run_cie.ensures.fault;
+      left = rw (front, kept) (left-one (map cie_of (take i cies)) c.loop-cie.left (cie_of x) c.first.result.now c.loop-cie.invariant.left one);
+    }

@@ -1,0 +1,38 @@
+-- What the initial instructions of CIEs leave, as a checked section keeps it. No contract of a public call speaks of this.
+use Rattle.std.specs.Prelude.{◌+◌, ◌≤◌, List, [], ◌∷◌, length, map, slice_range}
+use Rattle.std.specs.Option.{option_map}
+use Rattle.std.specs.List.{AllByRecursion}
+use Rattle.dw_frame.specs.Records.{Cie}
+use Rattle.dw_rows.specs.declared.map.RuleEntry.{RuleEntry}
+use Rattle.dw_rows.specs.declared.map.TheConstants.{MAX_RULES}
+use Rattle.dw_rows.specs.declared.initial_rules.RuleSpan.{RuleSpan}
+use Rattle.dw_rows.specs.Rules.{IsTable}
+use Rattle.dw_rows.specs.Kept.{Kept}
+use Rattle.dw_rows.specs.Views.{cfa_rule_of, entries_of}
+use Rattle.dw_rows.specs.Machine.{IsLeftBy}
+
+-- what the CIEs leave, one for each, in their order
+abbrev pub AreLeftBy : List Cie → List Kept → Type 0
+AreLeftBy [] [] = Unit {0}
+AreLeftBy (c ∷ cies) (k ∷ left) = IsLeftBy c k × AreLeftBy cies left
+AreLeftBy [] (k ∷ left) = ⊥
+AreLeftBy (c ∷ cies) [] = ⊥
+
+-- ---- rules that lie one behind the other
+
+-- the rules of a span of entries
+abbrev pub kept_in_span : List RuleEntry → RuleSpan → Kept
+kept_in_span entries s = record { cfa = option_map cfa_rule_of s.cfa; rules = entries_of (slice_range entries s.start s.end) }
+
+abbrev pub kept_in_spans : List RuleEntry → List RuleSpan → List Kept
+kept_in_spans entries spans = map (kept_in_span entries) spans
+
+-- a span lies among the entries, and its rules are those of a row
+pub record IsSpan (entries : List RuleEntry) (s : RuleSpan) : Type 0 where
+  pub order : s.start ≤ s.end
+  pub within : s.end ≤ length entries
+  pub few : s.end ≤ s.start + MAX_RULES
+  pub table : IsTable 0 (entries_of (slice_range entries s.start s.end))
+
+abbrev pub AreSpans : List RuleEntry → List RuleSpan → Type 0
+AreSpans entries spans = AllByRecursion (IsSpan entries) spans
