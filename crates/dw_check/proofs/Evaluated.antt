@@ -1,6 +1,6 @@
 -- What evaluating a checked expression comes to.
-use Rattle.std.proofs.Common.{◌≡◌, ℕ, ◌^◌, ◌<◌, ◌≤◌, Bool, false, List, length, ap, sym, refl, ◌∙◌, subst, arith, nat_lt}
-use Rattle.std.specs.Prelude.{Option, Some, None, if◌then◌else◌}
+use Rattle.std.proofs.Common.{◌≡◌, ℕ, ◌^◌, ◌<◌, ◌≤◌, Bool, false, List, length, ap, refl, ◌∙◌, subst, arith, nat_lt}
+use Rattle.std.specs.Prelude.{Option, Some, if◌then◌else◌}
 use Rattle.std.proofs.lemmas.Bool.Decides.{nat_tests}
 use borrow.Author.Tests.{lt-ltb}
 use Rattle.dw_bytes.specs.declared.target.Target.{Target}
@@ -19,7 +19,7 @@ use Rattle.dw_check.specs.Text.{digits_of}
 use Rattle.dw_check.specs.Outcomes.{evaluation_text}
 use Rattle.dw_check.specs.Evaluations.{world_of, Evaluates}
 use Rattle.dw_check.specs.StateFile.{Given, Known, IsGivenBy, first_that, content_in, byte_in}
-use Rattle.dw_check.specs.Runs.{Reply, text, refusal, IsOutcome, expression_refusal}
+use Rattle.dw_check.specs.Runs.{refusal, IsOutcome}
 use Rattle.dw_check.specs.declared.lines.Place.TheVariants.{Expression}
 
 pub same_bound : (size : AddressSize) → 2 ^ width_of size ≡ 16 ^ digits_of size

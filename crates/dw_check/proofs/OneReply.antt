@@ -1,6 +1,5 @@
 -- A request has one reply.
-use Rattle.std.proofs.Common.{◌≡◌, ℕ, ◌^◌, ◌<◌, Bool, List, [], ◌∷◌, length, Option, Some, None, Result, Ok, Err, ap, sym, refl, ◌∙◌, subst, nat_lt}
-use Rattle.std.specs.Prelude.{if◌then◌else◌}
+use Rattle.std.proofs.Common.{◌≡◌, ℕ, ◌^◌, List, [], ◌∷◌, length, Option, Some, None, Result, Ok, Err, ap, sym, ◌∙◌}
 use borrow.Author.Tests.{lt-ltb}
 use Rattle.dw_bytes.specs.declared.target.Target.{Target}
 use Rattle.dw_bytes.specs.declared.fault.Fault.{Fault}
@@ -9,14 +8,12 @@ use Rattle.dw_stack.specs.Expressions.{operations_in, Checked}
 use Rattle.dw_stack.specs.FirstFault.{expression_fault}
 use Rattle.dw_stack.proofs.Unique.{one_depth}
 use Rattle.dw_stack.proofs.Named.{none_if_good}
-use Rattle.dw_eval.specs.Results.{Outcome}
 use Rattle.dw_eval.proofs.Determined.{one_evaluation}
 use Rattle.dw_check.specs.Asked.{Asked}
 use Rattle.dw_check.specs.StateFile.{Given}
 use Rattle.dw_check.specs.Outcomes.{evaluation_text}
 use Rattle.dw_check.specs.Evaluations.{world_of, Evaluates}
-use Rattle.dw_check.specs.Runs.{Reply, text, refusal, not_hex, bad_line, frame_reply, expression_refusal, IsOutcome, IsOutcomeBy, state_given, IsReplyOf, IsReplyWith, bytes_of, IsReply}
-use Rattle.dw_check.specs.declared.lines.Place.{Place}
+use Rattle.dw_check.specs.Runs.{Reply, text, refusal, not_hex, bad_line, expression_refusal, IsOutcome, IsOutcomeBy, state_given, IsReplyOf, IsReplyWith, bytes_of, IsReply}
 use Rattle.dw_check.specs.declared.asked.Task.{Task}
 use Rattle.dw_check.specs.declared.asked.Task.TheVariants.{Rows, Row, Eval}
 

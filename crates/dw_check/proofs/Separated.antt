@@ -1,8 +1,8 @@
 -- Parts are cut off at the first separator.
-use Rattle.std.proofs.Common.{◌≡◌, ℕ, zero, suc, ◌+◌, ◌-◌, ◌<◌, ◌≤◌, ◌==◌, Bool, true, false, List, [], ◌∷◌, length, take, drop, slice_index, ap, refl, sym, arith}
+use Rattle.std.proofs.Common.{◌≡◌, ℕ, zero, suc, ◌+◌, ◌-◌, ◌<◌, ◌==◌, Bool, true, false, List, [], ◌∷◌, length, take, drop, slice_index, refl, sym, arith}
 use Rattle.std.proofs.Math.Seq.{take-length}
 use Rattle.std.proofs.lemmas.List.{length-drop}
-use Rattle.dw_check.specs.Parts.{joined_on, parts_of}
+use Rattle.dw_check.specs.Parts.{parts_of}
 
 cut_step : (s b : ℕ) (bytes : List ℕ) (k : ℕ) (t : Bool) → (b == s) ≡ t → ((b == s) ≡ true → ⊥) → parts_of s bytes ≡ take k bytes ∷ parts_of s (drop (k + 1) bytes) → parts_of s (b ∷ bytes) ≡ take (suc k) (b ∷ bytes) ∷ parts_of s (drop (suc k + 1) (b ∷ bytes))
 cut_step s b bytes k true e other h = absurd (other e)

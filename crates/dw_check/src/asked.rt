@@ -18,7 +18,7 @@ pub enum Task {
     Rows,
     /// The row of an address in a frame section.
     Row { address: u64 },
-    /// What an expression of this kind gives.
+    /// What an expression of this kind comes to.
     Eval { kind: Kind },
 }
 
@@ -27,11 +27,11 @@ pub enum Task {
 pub struct Request {
     /// What is done.
     pub(crate) task: Task,
-    /// The machine of the sections.
+    /// What the numbers in sections, expressions and state files are read under.
     pub(crate) target: Target,
-    /// Whether the sections are hex text.
+    /// Whether the section or the expression is hex text; a state file never is.
     pub(crate) hex: bool,
-    /// The names of the files, in the order in which the command takes them.
+    /// The names of the files, in the order in which the command takes them, a state file's last.
     pub(crate) files: Vec<String>,
 }
 

@@ -143,7 +143,43 @@ fn many_pieces(rt: HostRuntime) -> Result<(), Fail> {
 }
 
 /// Expressions, state files, and their text but for its last LF.
-const STATES: [(&[&str], &str, Option<&str>, &str); 19] = [
+const STATES: [(&[&str], &str, Option<&str>, &str); 25] = [
+    (
+        LOCATION,
+        "30",
+        Some(""),
+        "address 0x0000000000000000\nsteps 1 depth 1",
+    ),
+    (
+        LOCATION,
+        "7700",
+        Some("reg 00007 0x1"),
+        "address 0x0000000000000001\nsteps 1 depth 1",
+    ),
+    (
+        LOCATION,
+        "0a0010 06",
+        Some("mem 0x1000 0102030405060708"),
+        "address 0x0807060504030201\nsteps 2 depth 1",
+    ),
+    (
+        BIG,
+        "0a1000 06",
+        Some("mem 0x1000 0102030405060708"),
+        "address 0x0102030405060708\nsteps 2 depth 1",
+    ),
+    (
+        SHORT,
+        "0a0010 06",
+        Some("mem 0x1000 01020304"),
+        "address 0x04030201\nsteps 2 depth 1",
+    ),
+    (
+        LOCATION,
+        "0a0010 06",
+        Some("mem 0x1000 01020304050607"),
+        "unreadable at 0x00000003\nsteps 2 depth 1",
+    ),
     (
         SHORT,
         "0c00000080 0dffffffff 1b",
@@ -435,5 +471,34 @@ fn other_words(rt: HostRuntime) -> Result<(), Fail> {
     let (end, written) = evaluated(alloc, LOCATION, "3", Some("bad"))?;
     assert_eq!(rt; end, End::BadHex(0));
     assert_eq!(rt; written.is_empty(), true);
+    Ok(())
+}
+
+/// The names of the files, the state file's last.
+#[test]
+fn names_of_files(rt: HostRuntime) -> Result<(), Fail> {
+    let words = ["dwcheck", "eval", "--state", "s", "location", "e"];
+    let request = asked(rt.alloc(), &words)?.ok().ok_or("a request")?;
+    let names = request.files();
+    assert_eq!(rt; names.len(), 2);
+    assert_eq!(rt; names[0].as_str(), "e");
+    assert_eq!(rt; names[1].as_str(), "s");
+    Ok(())
+}
+
+/// A sink that takes nothing.
+#[test]
+fn sink_that_stops(rt: HostRuntime) -> Result<(), Fail> {
+    let alloc = rt.alloc();
+    let request = asked(alloc, &["dwcheck", "eval", "location", "e"])?
+        .ok()
+        .ok_or("a request")?;
+    let files = vec![in alloc; Vec::from_slice(alloc, &[0x30])?]?;
+    if files.len() != request.files().len() {
+        return Err("its file".into());
+    }
+    let mut place = [0; 0];
+    let mut sink = Through::new(&mut place[..]);
+    assert_eq!(rt; run(alloc, &request, &files, &mut sink), End::Output);
     Ok(())
 }

@@ -18,9 +18,9 @@ use crate::lines::Place;
 use crate::machine_state::{MachineState, StateFault, read_state};
 use crate::outcomes::push_evaluation;
 use crate::output::{ReportFault, write_refused};
-use crate::runs::{SECTION_LIMIT, ended};
+use crate::runs::{SECTION_LIMIT, TOO_LONG, ended};
 use crate::sink::{Sink, put};
-use dw_bytes::{AddressSize, Fault, FaultKind, Target};
+use dw_bytes::{AddressSize, FaultKind, Target};
 use dw_eval::{Context, Evaluation, evaluate};
 use dw_ops::Expression;
 use dw_stack::{CheckedExpression, Kind, certify};
@@ -124,13 +124,9 @@ pub(crate) fn run_eval<S: Sink>(
         Err(StateFault::Memory) => return End::Memory,
     };
     if bytes.len() >= SECTION_LIMIT {
-        let fault = Fault {
-            kind: FaultKind::SectionTooLong,
-            at: 0,
-        };
         let mut line = String::new(alloc);
         return ended(
-            write_refused(&mut line, Place::Expression, fault, sink),
+            write_refused(&mut line, Place::Expression, TOO_LONG, sink),
             End::Refused,
         );
     }

@@ -1,4 +1,4 @@
-//! The texts of a checked section: what is asked for, and where its text goes.
+//! The texts of checked sections and expressions: what is asked for, and where the text goes.
 #![tactic(auto)]
 
 mod addresses;

@@ -17,6 +17,12 @@ use std::alloc::Global;
 /// Sections and expressions of this many bytes or more are refused.
 pub(crate) const SECTION_LIMIT: usize = 1 << 32;
 
+/// What refuses them.
+pub(crate) const TOO_LONG: Fault = Fault {
+    kind: FaultKind::SectionTooLong,
+    at: 0,
+};
+
 /// The end of a run that was to end so and wrote so.
 pub(crate) fn ended(written: Result<(), ReportFault>, end: End) -> End
     ensures end { result ≡ end_of written end }
@@ -60,12 +66,8 @@ fn run_rows<S: Sink>(
 {
     let mut line = String::new(alloc);
     if section.len() >= SECTION_LIMIT {
-        let fault = Fault {
-            kind: FaultKind::SectionTooLong,
-            at: 0,
-        };
         return ended(
-            write_refused(&mut line, Place::Frame, fault, sink),
+            write_refused(&mut line, Place::Frame, TOO_LONG, sink),
             End::Refused,
         );
     }

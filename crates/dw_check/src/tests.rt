@@ -469,6 +469,14 @@ fn words_that_ask_for_nothing(rt: HostRuntime) -> Result<(), Fail> {
         &["dwcheck", "row", "a"],
         &["dwcheck", "row", "a", "0x0", "b"],
         &["dwcheck", "rows", "--help"],
+        &["dwcheck", "rows", "--state", "s", "a"],
+        &["dwcheck", "eval"],
+        &["dwcheck", "eval", "location"],
+        &["dwcheck", "eval", "location", "e", "f"],
+        &["dwcheck", "eval", "location", "e", "--state"],
+        &[
+            "dwcheck", "eval", "location", "e", "--state", "s", "--state", "t",
+        ],
     ] {
         let Err(usage) = asked(rt.alloc(), words)? else {
             return Err("a request".into());

@@ -1,4 +1,4 @@
-use Rattle.std.proofs.Common.{rules, arith, ◌≡◌, ◌≤◌, ◌^◌, length, sym, subst, map}
+use Rattle.std.proofs.Common.{arith, ◌≤◌, ◌^◌, length, sym, subst, map}
 use Rattle.dw_bytes.specs.declared.fault.FaultKind.TheVariants.{SectionTooLong}
 use Rattle.dw_check.specs.declared.lines.Place.TheVariants.{Expression}
 use Rattle.dw_check.specs.Runs.{IsOutcomeBy, refusal, state_given}

@@ -1,4 +1,4 @@
-use Rattle.std.proofs.Common.{rules, ◌≡◌, List, ℕ, subst}
+use Rattle.std.proofs.Common.{rules, subst}
 use Rattle.dw_ops.specs.Views.{bytes_of, target_of}
 use Rattle.dw_stack.specs.Certificates.{checked_of}
 use Rattle.dw_stack.specs.Expressions.{IsOf}

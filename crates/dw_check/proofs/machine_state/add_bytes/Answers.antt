@@ -1,4 +1,4 @@
-use Rattle.std.proofs.Common.{◌+◌, rules, arith, slice_index}
+use Rattle.std.proofs.Common.{◌+◌, arith, slice_index}
 use Rattle.std.specs.Ordering.{nat_cmp}
 use Rattle.std.specs.BTreeMap.{get}
 use Rattle.dw_check.proofs.Known.{added, byte_added}

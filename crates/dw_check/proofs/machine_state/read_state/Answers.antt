@@ -1,5 +1,4 @@
-use Rattle.std.proofs.Common.{rules, arith, ap, ◌≡◌, ◌∷◌, ◌++◌, ◌≤◌, ◌<◌, ◌+◌, [], length, subst, sym, ◌∙◌}
-use Rattle.std.proofs.lemmas.Bool.Decides.{nat_tests}
+use Rattle.std.proofs.Common.{rules, arith, ap, ◌≡◌, ◌∷◌, ◌++◌, ◌<◌, ◌+◌, [], length, subst}
 use Rattle.dw_check.specs.Parts.{parts_of}
 use Rattle.dw_check.specs.StateViews.{given_of}
 use Rattle.dw_check.proofs.StateLines.{Reading, few_parts, reads_first, reads_line}

@@ -1,4 +1,4 @@
-use Rattle.std.proofs.Common.{rules, arith, ◌≡◌, ◌++◌, ap, sym, ◌∙◌, slice_index, take}
+use Rattle.std.proofs.Common.{rules, arith, ◌++◌, ap, sym, ◌∙◌, slice_index, take}
 use Rattle.std.specs.String.{string_bytes}
 use Rattle.std.proofs.lemmas.List.{append_assoc, append-nil}
 use Rattle.hex.specs.Hex.{encode_lower}

@@ -1,4 +1,4 @@
-use Rattle.std.proofs.Common.{rules, arith, map, subst, get_or, length, ◌<◌, ◌^◌}
+use Rattle.std.proofs.Common.{arith, map, subst, length, ◌<◌, ◌^◌}
 use Rattle.std.proofs.Math.ListN.{get_or-map}
 use Rattle.std.proofs.lemmas.List.{length-map}
 use Rattle.dw_eval.specs.Views.{piece_in}
