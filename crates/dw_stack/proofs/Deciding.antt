@@ -5,7 +5,8 @@ use Rattle.std.specs.Prelude.{slice_get, slice_set, slice_index_or, replicate, i
 use Rattle.std.specs.Option.{option_or}
 use Rattle.std.specs.List.{list_all}
 use Rattle.std.proofs.lemmas.List.{length-replicate, get_or-replicate, append_assoc}
-use Rattle.std.proofs.lemmas.Option.{slice_get_within}
+use Rattle.std.proofs.lemmas.Option.{slice_get_within, slice_get_cases, same_Some}
+use Rattle.std.proofs.lemmas.Bool.{cases_eq}
 use Rattle.std.proofs.lemmas.Bool.Decides.{leb_tells}
 use Rattle.dw_bytes.specs.declared.target.Target.{Target}
 use Rattle.dw_bytes.specs.declared.fault.Fault.{Fault}
@@ -21,9 +22,9 @@ use Rattle.dw_stack.specs.declared.step.Done.{Done}
 use Rattle.dw_stack.specs.declared.arrivals.Arrival.{Arrival}
 use Rattle.dw_stack.specs.declared.arrivals.Arrival.TheVariants.{Nothing, One, Many}
 use Rattle.dw_stack.specs.Effects.{effect_of}
-use Rattle.dw_stack.specs.States.{start_of, height_after, next_mode}
-use Rattle.dw_stack.specs.Paths.{Placed, place, aim, aimed, target_of, IsLaidOut, is_piece, pieces_before, IsGood}
-use Rattle.dw_stack.specs.Faults.{IsFirstFault}
+use Rattle.dw_stack.specs.States.{start_of, height_after, next_mode, HasResult, at_offset}
+use Rattle.dw_stack.specs.Paths.{Placed, place, aim, aimed, target_of, IsLaidOut, is_piece, pieces_before, IsGood, AreStates, IsDepth}
+use Rattle.dw_stack.specs.Faults.{Given, IsFirstFault, KnowsOnly}
 use Rattle.dw_stack.specs.Judge.{IsEffectAt, Suits, TargetIs, TargetObjects, Judged, Objects}
 use Rattle.dw_stack.specs.Arrivals.{Merges, Receives, ReceivesIf, ReceivesAt, PassesOn, Stepped}
 use Rattle.dw_stack.specs.Expressions.{operations_in, reading_fault, IsGoodExpression, IsFaultOf}
@@ -33,7 +34,7 @@ use Rattle.dw_stack.proofs.Routes.{Comes}
 use Rattle.dw_stack.proofs.Describes.{Describes}
 use Rattle.dw_stack.proofs.Judging.{objects_unsuited, objects_target, judged}
 use Rattle.dw_stack.proofs.Walks.{Walked, walked_start, walked_step}
-use Rattle.dw_stack.proofs.Verdicts.{step_fault, objects_fault, end_not_nothing, end_mismatch, end_empty, end_good}
+use Rattle.dw_stack.proofs.Verdicts.{step_fault, objects_fault, end_not_nothing, end_mismatch, end_empty, end_good, end_given, end_states, end_depth}
 use Rattle.dw_stack.proofs.Spelled.{spelled_of, laid_if_read}
 use Rattle.dw_stack.proofs.Arriving.{Has, states_come, come_states}
 use Rattle.dw_stack.proofs.Telling.{operation_tells, alone_tells, few_tells, result_tells, same_tells, others_tell, start_tells}
@@ -107,6 +108,46 @@ first_no-append ((false, f) ∷ xs) ys = refl
 at_seam : (before left : List Placed) (x : Placed) → slice_get (before ++ x ∷ left) (length before) ≡ Some x
 at_seam [] left x = refl
 at_seam (y ∷ before) left x = at_seam before left x
+
+-- ---- the given states
+
+abbrev placed_at : ℕ → StackState → State
+placed_at at s = at_offset at s
+
+abbrev stack_of : State → StackState
+stack_of t = record { height = t.height; mode = t.mode; pieced = t.pieced }
+
+same_placed : (t : State) (at : ℕ) (s : StackState) → (t ≡ at_offset at s) ⊎ (t ≢ at_offset at s)
+same_placed t at s = elim (same_tells (stack_of t) s) [
+  | inr other ↦ inr (λ e. other.1 (ap stack_of e))
+  | inl same ↦ elim (cases_eq t.offset at) [
+    | inr other ↦ inr (λ e. other (ap (λ (u : State). u.offset) e))
+    | inl here ↦
+        let one : placed_at t.offset (stack_of t) ≡ placed_at at (stack_of t) = ap (λ (n : ℕ). placed_at n (stack_of t)) here in
+        let two : placed_at at (stack_of t) ≡ placed_at at s = ap (λ (u : StackState). placed_at at u) same.1 in
+        inl (one ∙ two)
+  ]
+]
+
+-- a given state is the right one, or it isn't, and then some are given
+given_tells : (ops : List Placed) (len : ℕ) (given : Option (List State)) (k : ℕ) (s : StackState) → Given ops len given k s ⊎ ((Given ops len given k s → ⊥) × (given ≡ None → ⊥))
+given_tells ops len None k s = inl tt
+given_tells ops len (Some states) k s = elim (slice_get_cases states k).1 [
+  | inr past ↦ inr (λ is. let lt = slice_get_within states k (at_offset (place ops len k) s) is in omega (arith, lt, past.0), λ none. cc)
+  | inl found ↦ elim (same_placed found.0 (place ops len k) s) [
+    | inl same ↦ inl (found.2 ∙ ap (λ (t : State). Some t) same)
+    | inr other ↦ inr (λ is. other (same_Some found.0 (at_offset (place ops len k) s) (sym found.2 ∙ is)), λ none. cc)
+  ]
+]
+
+-- good operations, with their states and their depth, where the given states are right
+pub record Certified (kind : Kind) (ops : List Placed) (len : ℕ) (given : Option (List State)) : Type 0 where
+  pub good : IsGood kind ops len
+  pub known : KnowsOnly kind ops len given
+  pub states : List State
+  pub are : AreStates kind ops len states
+  pub depth : ℕ
+  pub deepest : IsDepth kind ops len depth
 
 module _ (kind : Kind) (ops : List Placed) (len : ℕ) (laid : IsLaidOut ops len) where
   target_tells : (k : ℕ) → k < length ops → (o : Option ℤ) → ((is_ahead (place ops len (k + 1)) o ≡ true) × (is_start ops len (aimed (place ops len (k + 1)) o) ≡ true) × (t : Option ℕ) × TargetIs ops len k o t) ⊎ (((z : ℤ) × (o ≡ Some z) × (is_ahead (place ops len (k + 1)) o ≡ false) × TargetObjects ops len k z fault.Backward) ⊎ ((z : ℤ) × (o ≡ Some z) × (is_ahead (place ops len (k + 1)) o ≡ true) × (is_start ops len (aimed (place ops len (k + 1)) o) ≡ false) × TargetObjects ops len k z fault.TargetNotStart))
@@ -196,93 +237,108 @@ module _ (kind : Kind) (ops : List Placed) (len : ℕ) (laid : IsLaidOut ops len
           ]
     ]
 
-  -- there is no fault and all is good, or it is this first one
-  abbrev Named : Option Fault → Type 0
-  Named o = ((o ≡ None) × IsGood kind ops len) ⊎ ((f : FaultKind) × (a : ℕ) × (o ≡ Some (fault_of f a)) × IsFirstFault kind ops len None f a)
+  module _ (given : Option (List State)) where
+    -- All is good, or this is the first fault. Where no states are given, the questions name no fault, or this one.
+    abbrev Named : Option Fault → Type 0
+    Named o = ((given ≡ None → o ≡ None) × Certified kind ops len given) ⊎ ((f : FaultKind) × (a : ℕ) × (given ≡ None → o ≡ Some (fault_of f a)) × IsFirstFault kind ops len given f a)
 
-  named_by : (o p : Option Fault) → o ≡ p → Named p → Named o
-  named_by o p same named = elim named [ inl good ↦ inl (same ∙ good.0, good.1) | inr bad ↦ inr (bad.0, bad.1, same ∙ bad.2, bad.3) ]
+    named_by : (o p : Option Fault) → o ≡ p → Named p → Named o
+    named_by o p same named = elim named [ inl good ↦ inl (λ none. same ∙ good.0 none, good.1) | inr bad ↦ inr (bad.0, bad.1, λ none. same ∙ bad.2 none, bad.3) ]
 
-  module _ (i : ℕ) (states : List State) (arrivals : List Arrival) (depth pieces : ℕ) (w : Walked kind ops len None i states arrivals depth pieces) (le : i ≤ length ops) (l : List StackState) (list_is : states_to kind ops len i ≡ l) where
-    comes : (t : StackState) → Has l t → Comes kind ops len i (place ops len i) t
-    comes t h = states_come kind ops len laid i t le (subst (λ (m : List StackState). Has m t) (sym list_is) h)
+    module _ (i : ℕ) (states : List State) (arrivals : List Arrival) (depth pieces : ℕ) (w : Walked kind ops len given i states arrivals depth pieces) (le : i ≤ length ops) (l : List StackState) (list_is : states_to kind ops len i ≡ l) where
+      comes : (t : StackState) → Has l t → Comes kind ops len i (place ops len i) t
+      comes t h = states_come kind ops len laid i t le (subst (λ (m : List StackState). Has m t) (sym list_is) h)
 
-    listed_there : (t : StackState) → Comes kind ops len i (place ops len i) t → Has l t
-    listed_there t c = subst (λ (m : List StackState). Has m t) list_is (come_states kind ops len laid i t le c)
+      listed_there : (t : StackState) → Comes kind ops len i (place ops len i) t → Has l t
+      listed_there t c = subst (λ (m : List StackState). Has m t) list_is (come_states kind ops len laid i t le c)
 
-    nothing_there : l ≡ [] → get_or arrivals i Nothing ≡ Nothing
-    nothing_there is = arrived_none (get_or arrivals i Nothing) (Comes kind ops len i (place ops len i)) (w.described i (omega arith) le) (λ t c. subst (λ (m : List StackState). Has m t) is (listed_there t c))
+      nothing_there : l ≡ [] → get_or arrivals i Nothing ≡ Nothing
+      nothing_there is = arrived_none (get_or arrivals i Nothing) (Comes kind ops len i (place ops len i)) (w.described i (omega arith) le) (λ t c. subst (λ (m : List StackState). Has m t) is (listed_there t c))
 
-    one_there : (s : StackState) (others : List StackState) → l ≡ s ∷ others → ((t : StackState) → Has others t → t ≡ s) → get_or arrivals i Nothing ≡ One s
-    one_there s others is same = arrived_one (get_or arrivals i Nothing) (Comes kind ops len i (place ops len i)) s (w.described i (omega arith) le) (comes s (subst (λ (m : List StackState). Has m s) (sym is) (inl refl))) (λ t c. elim (subst (λ (m : List StackState). Has m t) is (listed_there t c)) [ inl here ↦ sym here | inr later ↦ same t later ])
+      one_there : (s : StackState) (others : List StackState) → l ≡ s ∷ others → ((t : StackState) → Has others t → t ≡ s) → get_or arrivals i Nothing ≡ One s
+      one_there s others is same = arrived_one (get_or arrivals i Nothing) (Comes kind ops len i (place ops len i)) s (w.described i (omega arith) le) (comes s (subst (λ (m : List StackState). Has m s) (sym is) (inl refl))) (λ t c. elim (subst (λ (m : List StackState). Has m t) is (listed_there t c)) [ inl here ↦ sym here | inr later ↦ same t later ])
 
-    many_there : (s t : StackState) (others : List StackState) → l ≡ s ∷ others → Has others t → s ≢ t → get_or arrivals i Nothing ≡ Many
-    many_there s t others is there other = arrived_many (get_or arrivals i Nothing) (Comes kind ops len i (place ops len i)) s t (w.described i (omega arith) le) (comes s (subst (λ (m : List StackState). Has m s) (sym is) (inl refl))) (comes t (subst (λ (m : List StackState). Has m t) (sym is) (inr there))) other
+      many_there : (s t : StackState) (others : List StackState) → l ≡ s ∷ others → Has others t → s ≢ t → get_or arrivals i Nothing ≡ Many
+      many_there s t others is there other = arrived_many (get_or arrivals i Nothing) (Comes kind ops len i (place ops len i)) s t (w.described i (omega arith) le) (comes s (subst (λ (m : List StackState). Has m s) (sym is) (inl refl))) (comes t (subst (λ (m : List StackState). Has m t) (sym is) (inr there))) other
 
-  walk : (left : List Placed) (i : ℕ) (before : List Placed) (states : List State) (arrivals : List Arrival) (depth pieces : ℕ) → before ++ left ≡ ops → length before ≡ i → Walked kind ops len None i states arrivals depth pieces → Named (first_no (asked_from kind ops len i left))
-  walk [] i before states arrivals depth pieces parts count w = at_end (states_to kind ops len i) refl
-    where
-      all : i ≡ length ops
-      all = let long = ap length parts in let both = length-append before [] in omega (arith, long, both, count)
+    walk : (left : List Placed) (i : ℕ) (before : List Placed) (states : List State) (arrivals : List Arrival) (depth pieces : ℕ) → before ++ left ≡ ops → length before ≡ i → Walked kind ops len given i states arrivals depth pieces → Named (first_no (asked_from kind ops len i left))
+    walk [] i before states arrivals depth pieces parts count w = at_end (states_to kind ops len i) refl
+      where
+        all : i ≡ length ops
+        all = let long = ap length parts in let both = length-append before [] in omega (arith, long, both, count)
 
-      here : (a : Arrival) → get_or arrivals i Nothing ≡ a → get_or arrivals (length ops) Nothing ≡ a
-      here a is = ap (λ (n : ℕ). get_or arrivals n Nothing) (sym all) ∙ is
+        here : (a : Arrival) → get_or arrivals i Nothing ≡ a → get_or arrivals (length ops) Nothing ≡ a
+        here a is = ap (λ (n : ℕ). get_or arrivals n Nothing) (sym all) ∙ is
 
-      at_end : (l : List StackState) → states_to kind ops len i ≡ l → Named (first_no (asked_last kind ops len l))
-      at_end [] is = absurd (end_not_nothing kind ops len laid None i all states arrivals depth pieces w (here Nothing (nothing_there i states arrivals depth pieces w (omega (arith, all)) [] is refl)))
-      at_end (s ∷ others) is = elim (others_tell s others) [
-        | inr mixed ↦ inr (fault.Mismatch, len, fails (list_all (same_state s) others) fault.Mismatch len _ mixed.0, end_mismatch kind ops len laid None i all states arrivals depth pieces w (here Many (many_there i states arrivals depth pieces w (omega (arith, all)) (s ∷ others) is s mixed.1 others refl mixed.2 mixed.3)))
-        | inl same ↦
-            let one = here (One s) (one_there i states arrivals depth pieces w (omega (arith, all)) (s ∷ others) is s others refl same.1) in
-            let first = passes (list_all (same_state s) others) fault.Mismatch len (else_fault (has_result kind s.mode (length ops == 0) s.pieced s.height) fault.EndsEmpty len ∷ []) same.0 in
-            elim (result_tells kind s.mode (length ops == 0) s.pieced s.height) [
-              | inl has ↦ inl (first ∙ passes (has_result kind s.mode (length ops == 0) s.pieced s.height) fault.EndsEmpty len [] has.0, end_good kind ops len laid None i all states arrivals depth pieces w s one has.1)
-              | inr none ↦ inr (fault.EndsEmpty, len, first ∙ fails (has_result kind s.mode (length ops == 0) s.pieced s.height) fault.EndsEmpty len [] none.0, end_empty kind ops len laid None i all states arrivals depth pieces w s one none.1)
-            ]
-      ]
-  walk (x ∷ left) i before states arrivals depth pieces parts count w =
-      at_step (states_to kind ops len i) refl (λ more new deep many next. walk left (i + 1) (before ++ x ∷ []) more new deep many (append_assoc before (x ∷ []) left ∙ parts) (let long = length-append before (x ∷ []) in omega (arith, long, count)) next)
-    where
-      stands : slice_get ops i ≡ Some x
-      stands = ap (slice_get ops) (sym count) ∙ (ap (λ (xs : List Placed). slice_get xs (length before)) (sym parts) ∙ at_seam before left x)
+        certified : (s : StackState) → get_or arrivals (length ops) Nothing ≡ One s → HasResult kind (length ops == 0) s → Certified kind ops len given
+        certified s one result = record {
+          good = end_good kind ops len laid given i all states arrivals depth pieces w s one result;
+          known = record { each = end_given kind ops len laid given i all states arrivals depth pieces w };
+          states = states;
+          are = end_states kind ops len laid given i all states arrivals depth pieces w;
+          depth = depth;
+          deepest = end_depth kind ops len laid given i all states arrivals depth pieces w;
+        }
 
-      lt : i < length ops
-      lt = slice_get_within ops i x stands
+        at_end : (l : List StackState) → states_to kind ops len i ≡ l → Named (first_no (asked_last kind ops len l))
+        at_end [] is = absurd (end_not_nothing kind ops len laid given i all states arrivals depth pieces w (here Nothing (nothing_there i states arrivals depth pieces w (omega (arith, all)) [] is refl)))
+        at_end (s ∷ others) is = elim (others_tell s others) [
+          | inr mixed ↦ inr (fault.Mismatch, len, λ none. fails (list_all (same_state s) others) fault.Mismatch len _ mixed.0, end_mismatch kind ops len laid given i all states arrivals depth pieces w (here Many (many_there i states arrivals depth pieces w (omega (arith, all)) (s ∷ others) is s mixed.1 others refl mixed.2 mixed.3)))
+          | inl same ↦
+              let one = here (One s) (one_there i states arrivals depth pieces w (omega (arith, all)) (s ∷ others) is s others refl same.1) in
+              let first = passes (list_all (same_state s) others) fault.Mismatch len (else_fault (has_result kind s.mode (length ops == 0) s.pieced s.height) fault.EndsEmpty len ∷ []) same.0 in
+              elim (result_tells kind s.mode (length ops == 0) s.pieced s.height) [
+                | inl has ↦ inl (λ none. first ∙ passes (has_result kind s.mode (length ops == 0) s.pieced s.height) fault.EndsEmpty len [] has.0, certified s one has.1)
+                | inr bad ↦ inr (fault.EndsEmpty, len, λ none. first ∙ fails (has_result kind s.mode (length ops == 0) s.pieced s.height) fault.EndsEmpty len [] bad.0, end_empty kind ops len laid given i all states arrivals depth pieces w s one bad.1)
+              ]
+        ]
+    walk (x ∷ left) i before states arrivals depth pieces parts count w =
+        at_step (states_to kind ops len i) refl (λ more new deep many next. walk left (i + 1) (before ++ x ∷ []) more new deep many (append_assoc before (x ∷ []) left ∙ parts) (let long = length-append before (x ∷ []) in omega (arith, long, count)) next)
+      where
+        stands : slice_get ops i ≡ Some x
+        stands = ap (slice_get ops) (sym count) ∙ (ap (λ (xs : List Placed). slice_get xs (length before)) (sym parts) ∙ at_seam before left x)
 
-      here : (f : FaultKind) → IsFirstFault kind ops len None f (place ops len i) → IsFirstFault kind ops len None f x.0
-      here f first = subst (λ (n : ℕ). IsFirstFault kind ops len None f n) (place_of_some ops len i x stands) first
+        lt : i < length ops
+        lt = slice_get_within ops i x stands
 
-      at_step : (l : List StackState) → states_to kind ops len i ≡ l → ((more : List State) (new : List Arrival) (deep many : ℕ) → Walked kind ops len None (i + 1) more new deep many → Named (first_no (asked_from kind ops len (i + 1) left))) → Named (first_no (asked_of kind ops len i x l ++ asked_from kind ops len (i + 1) left))
-      at_step [] is on = inr (fault.Unreachable, x.0, refl, here fault.Unreachable (step_fault kind ops len laid None i states arrivals depth pieces w fault.Unreachable lt (nothing_there i states arrivals depth pieces w (omega (arith, lt)) [] is refl)))
-      at_step (s ∷ others) is on = elim (others_tell s others) [
-        | inr mixed ↦ inr (fault.Mismatch, x.0, fails (list_all (same_state s) others) fault.Mismatch x.0 _ mixed.0, here fault.Mismatch (step_fault kind ops len laid None i states arrivals depth pieces w fault.Mismatch lt (many_there i states arrivals depth pieces w (omega (arith, lt)) (s ∷ others) is s mixed.1 others refl mixed.2 mixed.3)))
-        | inl same ↦
-            let one = one_there i states arrivals depth pieces w (omega (arith, lt)) (s ∷ others) is s others refl same.1 in
-            let first : first_no (asked_of kind ops len i x (s ∷ others) ++ asked_from kind ops len (i + 1) left) ≡ option_or (first_no (asked_at kind ops len i (effect_of x.1) s x.0)) (first_no (asked_from kind ops len (i + 1) left)) =
-            passes (list_all (same_state s) others) fault.Mismatch x.0 (asked_at kind ops len i (effect_of x.1) s x.0 ++ asked_from kind ops len (i + 1) left) same.0 ∙ first_no-append (asked_at kind ops len i (effect_of x.1) s x.0) (asked_from kind ops len (i + 1) left) in
-            elim (asked i x s lt stands) [
-              | inr bad ↦ inr (bad.0, x.0, first ∙ ap (λ (o : Option Fault). option_or o (first_no (asked_from kind ops len (i + 1) left))) bad.1, here bad.0 (objects_fault kind ops len laid None i states arrivals depth pieces w bad.0 s lt one tt (subst (λ (n : ℕ). Objects kind ops len i n s bad.0) (sym w.counted) bad.2)))
-              | inl fine ↦
-                  let out : Outgoing = fine.1 in
-                  let done : Done = record { state = s; height = out.height; piece = out.piece } in
-                  let new = passed_on arrivals i out in
-                  let stepped : Stepped kind ops len None i pieces arrivals done new.0 = record { out = out; one = one; given_is = tt; judged = subst (λ (n : ℕ). Judged kind ops len i n s out) (sym w.counted) fine.2; height = refl; piece = refl; passes = new.1 } in
-                  named_by (first_no (asked_of kind ops len i x (s ∷ others) ++ asked_from kind ops len (i + 1) left)) (first_no (asked_from kind ops len (i + 1) left)) (first ∙ ap (λ (o : Option Fault). option_or o (first_no (asked_from kind ops len (i + 1) left))) fine.0) (on _ new.0 _ _ (walked_step kind ops len laid None i states arrivals new.0 depth pieces done lt w stepped))
-            ]
-      ]
+        here : (f : FaultKind) → IsFirstFault kind ops len given f (place ops len i) → IsFirstFault kind ops len given f x.0
+        here f first = subst (λ (n : ℕ). IsFirstFault kind ops len given f n) (place_of_some ops len i x stands) first
 
-  pub named : Named (first_fault kind ops len)
-  unfolding first_fault
-  named =
-      let first : List Arrival = One (start_of kind) ∷ replicate (length ops) Nothing in
-      walk ops 0 [] [] first (start_of kind).height 0 refl refl (walked_start kind ops len laid None first (wide (length ops)) refl (λ j pos le. others j pos le))
-    where
-      wide : (n : ℕ) → length (One (start_of kind) ∷ replicate n Nothing) ≡ n + 1
-      wide n = let long = length-replicate n Nothing in omega (arith, long)
+        at_step : (l : List StackState) → states_to kind ops len i ≡ l → ((more : List State) (new : List Arrival) (deep many : ℕ) → Walked kind ops len given (i + 1) more new deep many → Named (first_no (asked_from kind ops len (i + 1) left))) → Named (first_no (asked_of kind ops len i x l ++ asked_from kind ops len (i + 1) left))
+        at_step [] is on = inr (fault.Unreachable, x.0, λ none. refl, here fault.Unreachable (step_fault kind ops len laid given i states arrivals depth pieces w fault.Unreachable lt (nothing_there i states arrivals depth pieces w (omega (arith, lt)) [] is refl)))
+        at_step (s ∷ others) is on = elim (others_tell s others) [
+          | inr mixed ↦ inr (fault.Mismatch, x.0, λ none. fails (list_all (same_state s) others) fault.Mismatch x.0 _ mixed.0, here fault.Mismatch (step_fault kind ops len laid given i states arrivals depth pieces w fault.Mismatch lt (many_there i states arrivals depth pieces w (omega (arith, lt)) (s ∷ others) is s mixed.1 others refl mixed.2 mixed.3)))
+          | inl same ↦
+              let one = one_there i states arrivals depth pieces w (omega (arith, lt)) (s ∷ others) is s others refl same.1 in
+              let first : first_no (asked_of kind ops len i x (s ∷ others) ++ asked_from kind ops len (i + 1) left) ≡ option_or (first_no (asked_at kind ops len i (effect_of x.1) s x.0)) (first_no (asked_from kind ops len (i + 1) left)) =
+              passes (list_all (same_state s) others) fault.Mismatch x.0 (asked_at kind ops len i (effect_of x.1) s x.0 ++ asked_from kind ops len (i + 1) left) same.0 ∙ first_no-append (asked_at kind ops len i (effect_of x.1) s x.0) (asked_from kind ops len (i + 1) left) in
+              elim (given_tells ops len given i s) [
+                | inr other ↦ inr (fault.CertState, x.0, λ none. absurd (other.1 none), here fault.CertState (step_fault kind ops len laid given i states arrivals depth pieces w fault.CertState lt (s, one, other.0)))
+                | inl known ↦
+                    elim (asked i x s lt stands) [
+                      | inr bad ↦ inr (bad.0, x.0, λ none. first ∙ ap (λ (o : Option Fault). option_or o (first_no (asked_from kind ops len (i + 1) left))) bad.1, here bad.0 (objects_fault kind ops len laid given i states arrivals depth pieces w bad.0 s lt one known (subst (λ (n : ℕ). Objects kind ops len i n s bad.0) (sym w.counted) bad.2)))
+                      | inl fine ↦
+                          let out : Outgoing = fine.1 in
+                          let done : Done = record { state = s; height = out.height; piece = out.piece } in
+                          let new = passed_on arrivals i out in
+                          let stepped : Stepped kind ops len given i pieces arrivals done new.0 = record { out = out; one = one; given_is = known; judged = subst (λ (n : ℕ). Judged kind ops len i n s out) (sym w.counted) fine.2; height = refl; piece = refl; passes = new.1 } in
+                          named_by (first_no (asked_of kind ops len i x (s ∷ others) ++ asked_from kind ops len (i + 1) left)) (first_no (asked_from kind ops len (i + 1) left)) (first ∙ ap (λ (o : Option Fault). option_or o (first_no (asked_from kind ops len (i + 1) left))) fine.0) (on _ new.0 _ _ (walked_step kind ops len laid given i states arrivals new.0 depth pieces done lt w stepped))
+                    ]
+              ]
+        ]
 
-      others : (j : ℕ) → 0 < j → j ≤ length ops → get_or (One (start_of kind) ∷ replicate (length ops) Nothing) j Nothing ≡ Nothing
-      others zero pos le = absurd (omega arith)
-      others (suc j) pos le = get_or-replicate (length ops) j Nothing Nothing (omega arith)
+    pub named : Named (first_fault kind ops len)
+    unfolding first_fault
+    named =
+        let first : List Arrival = One (start_of kind) ∷ replicate (length ops) Nothing in
+        walk ops 0 [] [] first (start_of kind).height 0 refl refl (walked_start kind ops len laid given first (wide (length ops)) refl (λ j pos le. others j pos le))
+      where
+        wide : (n : ℕ) → length (One (start_of kind) ∷ replicate n Nothing) ≡ n + 1
+        wide n = let long = length-replicate n Nothing in omega (arith, long)
+
+        others : (j : ℕ) → 0 < j → j ≤ length ops → get_or (One (start_of kind) ∷ replicate (length ops) Nothing) j Nothing ≡ Nothing
+        others zero pos le = absurd (omega arith)
+        others (suc j) pos le = get_or-replicate (length ops) j Nothing Nothing (omega arith)
 
 -- the same of an expression
 pub named_expression : (kind : Kind) (target : Target) (bytes : List ℕ) → ((expression_fault kind target bytes ≡ None) × IsGoodExpression kind target bytes) ⊎ ((f : Fault) × (expression_fault kind target bytes ≡ Some f) × IsFaultOf kind target bytes None f)
@@ -293,14 +349,7 @@ named_expression kind target bytes = by_reading (reading_fault target bytes) ref
     by_reading (Some f) is = inr (f, ap (λ (o : Option Fault). option_or o (first_fault kind (operations_in target bytes) (length bytes))) is, inl is)
     by_reading None is =
         let then = ap (λ (o : Option Fault). option_or o (first_fault kind (operations_in target bytes) (length bytes))) is in
-        elim (named kind (operations_in target bytes) (length bytes) (laid_if_read target bytes is)) [
-          | inl good ↦ inl (then ∙ good.0, record { spelled = spelled_of target bytes is; good = good.1 })
-          | inr bad ↦ inr (fault_of bad.0 bad.1, then ∙ bad.2, inr (inr (is, (λ other. other), bad.3)))
+        elim (named kind (operations_in target bytes) (length bytes) (laid_if_read target bytes is) None) [
+          | inl good ↦ inl (then ∙ good.0 refl, record { spelled = spelled_of target bytes is; good = good.1.good })
+          | inr bad ↦ inr (fault_of bad.0 bad.1, then ∙ bad.2 refl, inr (inr (is, (λ other. other), bad.3)))
         ]
-
--- every expression has a verdict
-pub every_verdict : (kind : Kind) (target : Target) (bytes : List ℕ) → IsGoodExpression kind target bytes ⊎ ((f : Fault) × IsFaultOf kind target bytes None f)
-every_verdict kind target bytes = elim (named_expression kind target bytes) [
-  | inl good ↦ inl good.1
-  | inr bad ↦ inr (bad.0, bad.2)
-]

@@ -17,4 +17,5 @@ pub mod Heights
 pub mod Arriving
 pub mod Telling
 pub mod Named
+pub mod Existing
 pub mod Determined

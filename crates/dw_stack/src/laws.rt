@@ -10,7 +10,7 @@ ghost use Rattle.dw_ops.specs.Opcodes.{operation_at};
 ghost use Rattle.dw_stack.specs.States.{at_offset};
 ghost use Rattle.dw_stack.specs.Paths.{Placed, place, IsStart, IsLaidOut, Reaches};
 ghost use Rattle.dw_stack.specs.Machine.{Configuration, Meaning, Starts, Run, Agrees, Meets, IsOver};
-ghost use Rattle.dw_stack.specs.Expressions.{operations_in, reading_at, IsGoodExpression, IsDepthOf, AreStatesOf, RunsWellWithin, IsFaultOf};
+ghost use Rattle.dw_stack.specs.Expressions.{operations_in, reading_at, IsGoodExpression, IsDepthOf, AreStatesOf, RunsWellWithin, IsFaultOf, Knows};
 ghost use Rattle.dw_stack.specs.FirstFault.{expression_fault};
 
 use crate::judge::{MAX_HEIGHT, MAX_PIECES};
@@ -44,14 +44,17 @@ pub fn limits()
     ensures pieces { MAX_PIECES ≡ 32 }
 {}
 
-/// A good expression has no fault.
+/// A good expression has no fault, nor has it one where the given states are its own.
 pub fn good_expressions_have_no_fault()
-    ensures { (kind : Kind) (target : Target) (bytes : List ℕ) (f : Fault) → IsGoodExpression kind target bytes → IsFaultOf kind target bytes None f → ⊥ }
+    ensures alone { (kind : Kind) (target : Target) (bytes : List ℕ) (f : Fault) → IsGoodExpression kind target bytes → IsFaultOf kind target bytes None f → ⊥ }
+    ensures given { (kind : Kind) (target : Target) (bytes : List ℕ) (given : Option (List State)) (f : Fault) → IsGoodExpression kind target bytes → Knows kind target bytes given → IsFaultOf kind target bytes given f → ⊥ }
 {}
 
-/// Every expression is good or has a first fault.
+/// Every expression is good or has a first fault. Where states are given, it is good and they are its states, or it has a first
+/// fault.
 pub fn every_expression_has_a_verdict()
-    ensures { (kind : Kind) (target : Target) (bytes : List ℕ) → IsGoodExpression kind target bytes ⊎ ((f : Fault) × IsFaultOf kind target bytes None f) }
+    ensures alone { (kind : Kind) (target : Target) (bytes : List ℕ) → IsGoodExpression kind target bytes ⊎ ((f : Fault) × IsFaultOf kind target bytes None f) }
+    ensures given { (kind : Kind) (target : Target) (bytes : List ℕ) (given : Option (List State)) → (IsGoodExpression kind target bytes × Knows kind target bytes given) ⊎ ((f : Fault) × IsFaultOf kind target bytes given f) }
 {}
 
 /// The fault that a function of the bytes names is the first fault: none exactly where the expression is good, and f exactly
@@ -66,9 +69,19 @@ pub fn one_fault()
     ensures { (kind : Kind) (target : Target) (bytes : List ℕ) (given : Option (List State)) (f g : Fault) → IsFaultOf kind target bytes given f → IsFaultOf kind target bytes given g → f ≡ g }
 {}
 
+/// A good expression has a depth.
+pub fn each_has_a_depth()
+    ensures { (kind : Kind) (target : Target) (bytes : List ℕ) → IsGoodExpression kind target bytes → (d : ℕ) × IsDepthOf kind target bytes d }
+{}
+
 /// There is one depth.
 pub fn one_depth()
     ensures { (kind : Kind) (target : Target) (bytes : List ℕ) (d e : ℕ) → IsDepthOf kind target bytes d → IsDepthOf kind target bytes e → d ≡ e }
+{}
+
+/// A good expression has a list of states.
+pub fn each_has_a_certificate()
+    ensures { (kind : Kind) (target : Target) (bytes : List ℕ) → IsGoodExpression kind target bytes → (s : List State) × AreStatesOf kind target bytes s }
 {}
 
 /// A good expression has one list of states.

@@ -1,0 +1,5 @@
+use Rattle.dw_stack.proofs.Existing.{each_has_a_depth}
+use Rattle.dw_stack.proofs.laws.each_has_a_depth.Goals as goal
+
+pub returns : goal.returns
+returns c = each_has_a_depth
