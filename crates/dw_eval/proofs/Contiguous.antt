@@ -43,14 +43,14 @@ bytes_missing : (start : ℕ) (bytes : List ℕ) (n k : ℕ) → k ≤ length by
 unfolding bytes_from
 bytes_missing start bytes zero k le lacks = absurd (omega arith)
 bytes_missing start bytes (suc n) k le lacks = elim (cases_lt k (length bytes)) [
-    | inl within ↦
+  | inl within ↦
       let rest : bytes_from (contiguous start bytes) (start + k + 1) n ≡ None = from_next start bytes n k ∙ bytes_missing start bytes n (k + 1) (omega arith) (omega arith) in
       let first : contiguous start bytes (start + k) ≡ Some (get_or bytes k 0) = byte_at start bytes k ∙ slice_get-get_or bytes k 0 within in
       ap (λ (o : Option ℕ). joined o (bytes_from (contiguous start bytes) (start + k + 1) n)) first ∙ ap (joined (Some (get_or bytes k 0))) rest
-    | inr past ↦
+  | inr past ↦
       let first : contiguous start bytes (start + k) ≡ None = byte_at start bytes k ∙ slice_get_past bytes k past in
       ap (λ (o : Option ℕ). joined o (bytes_from (contiguous start bytes) (start + k + 1) n)) first
-  ]
+]
 
 -- no byte is read where the first isn't there
 pub number_missing : (memory : ℕ → Option ℕ) (order : Order) (a n : ℕ) → 0 < n → memory a ≡ None → None ≡ number_at memory order a n
@@ -77,13 +77,13 @@ number_there start bytes order a n o from within seen =
     let rest : length (drop (a - start) bytes) ≡ length bytes - (a - start) = length-drop (a - start) bytes in
     is ∙ elim (cases_lt (length (drop (a - start) bytes)) n) [
       | inl lacks ↦
-        let yes : nat_lt (length (drop (a - start) bytes)) n ≡ true = lt-ltb (length (drop (a - start) bytes)) n lacks in
-        ap (λ (b : Bool). if b then None else Some (number order n (take n (drop (a - start) bytes)))) yes
-        ∙ sym (ap (λ (m : ℕ). option_map (number order n) (bytes_from (contiguous start bytes) m n)) at ∙ ap (option_map (number order n)) (bytes_missing start bytes n (a - start) within (omega arith)))
+          let yes : nat_lt (length (drop (a - start) bytes)) n ≡ true = lt-ltb (length (drop (a - start) bytes)) n lacks in
+          ap (λ (b : Bool). if b then None else Some (number order n (take n (drop (a - start) bytes)))) yes
+          ∙ sym (ap (λ (m : ℕ). option_map (number order n) (bytes_from (contiguous start bytes) m n)) at ∙ ap (option_map (number order n)) (bytes_missing start bytes n (a - start) within (omega arith)))
       | inr enough ↦
-        let not_less : nat_lt (length (drop (a - start) bytes)) n ≡ false = le-ltb (length (drop (a - start) bytes)) n enough in
-        ap (λ (b : Bool). if b then None else Some (number order n (take n (drop (a - start) bytes)))) not_less
-        ∙ sym (ap (λ (m : ℕ). option_map (number order n) (bytes_from (contiguous start bytes) m n)) at ∙ ap (option_map (number order n)) (bytes_there start bytes n (a - start) (omega arith)))
+          let not_less : nat_lt (length (drop (a - start) bytes)) n ≡ false = le-ltb (length (drop (a - start) bytes)) n enough in
+          ap (λ (b : Bool). if b then None else Some (number order n (take n (drop (a - start) bytes)))) not_less
+          ∙ sym (ap (λ (m : ℕ). option_map (number order n) (bytes_from (contiguous start bytes) m n)) at ∙ ap (option_map (number order n)) (bytes_there start bytes n (a - start) (omega arith)))
     ]
 
 -- a number is refused where there are too few bytes
@@ -103,10 +103,10 @@ number_refused n size r bytes f o rest size_is is = refused n r f o is ∙ ap (�
 
 -- a read has a byte at least
 pub some_size : (n : ℕ) → IsSize n → 0 < n
-some_size n is = elim is [ | inl one ↦ omega (arith, one) | inr more ↦ elim more [ | inl two ↦ omega (arith, two) | inr most ↦ elim most [ | inl four ↦ omega (arith, four) | inr eight ↦ omega (arith, eight) ] ] ]
+some_size n is = elim is [ inl one ↦ omega (arith, one) | inr more ↦ elim more [ inl two ↦ omega (arith, two) | inr most ↦ elim most [ inl four ↦ omega (arith, four) | inr eight ↦ omega (arith, eight) ] ] ]
 
 -- zeros are 0
 pub zeros_read : (order : Order) (a n : ℕ) → IsSize n → Some 0 ≡ number_at (λ _. Some 0) order a n
 unfolding bytes_from
-zeros_read Little a n is = elim is [ | inl one ↦ rw one refl | inr more ↦ elim more [ | inl two ↦ rw two refl | inr most ↦ elim most [ | inl four ↦ rw four refl | inr eight ↦ rw eight refl ] ] ]
-zeros_read Big a n is = elim is [ | inl one ↦ rw one refl | inr more ↦ elim more [ | inl two ↦ rw two refl | inr most ↦ elim most [ | inl four ↦ rw four refl | inr eight ↦ rw eight refl ] ] ]
+zeros_read Little a n is = elim is [ inl one ↦ rw one refl | inr more ↦ elim more [ inl two ↦ rw two refl | inr most ↦ elim most [ inl four ↦ rw four refl | inr eight ↦ rw eight refl ] ] ]
+zeros_read Big a n is = elim is [ inl one ↦ rw one refl | inr more ↦ elim more [ inl two ↦ rw two refl | inr most ↦ elim most [ inl four ↦ rw four refl | inr eight ↦ rw eight refl ] ] ]

@@ -1,4 +1,4 @@
-use Rattle.std.proofs.Common.{◌≡◌, List, ℕ, Some, take, ap}
+use Rattle.std.proofs.Common.{Some, take, ap}
 use Rattle.dw_bytes.specs.Reading.{Reading}
 use Rattle.dw_bytes.specs.Spelling.{number}
 use Rattle.dw_eval.proofs.Contiguous.{number_refused}
