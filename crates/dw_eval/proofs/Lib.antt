@@ -9,3 +9,4 @@ pub mod Ends
 pub mod Going
 pub mod Loop
 pub mod Determined
+pub mod Contiguous

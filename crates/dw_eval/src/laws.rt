@@ -26,7 +26,7 @@ pub fn numbers_fit()
     ensures { (e : World) (kind : Kind) (ops : List Placed) (len n : ℕ) (s : List ℕ) (c : Configuration) → first_stack e kind ≡ Some s → Run (meaning_of e) ops len n (started s) c → NumbersFit (2 ^ width e) c }
 {}
 
-/// Expressions of a frame come to values, and locations to locations.
+/// Expressions of a frame come to a value or to no answer, and locations to a location, to pieces or to no answer.
 pub fn outcomes_are_of_their_kind()
     ensures { (c : Checked) (e : World) (o : Outcome) (n : ℕ) → IsEvaluation c e o n → IsOfKind c.kind o }
 {}

@@ -10,6 +10,8 @@ mod machine;
 mod run;
 mod stack;
 mod surroundings;
+#[cfg(test)]
+mod tests;
 mod trouble;
 mod width;
 

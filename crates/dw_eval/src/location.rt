@@ -63,7 +63,8 @@ pub enum Outcome<'a> {
     Single(Location<'a>),
     /// Where the pieces of an object are.
     Pieces(Pieces<'a>),
-    /// The operation there asks for a register, for memory or for what the context has, and it isn't handed in.
+    /// The operation there asks for a register, for memory or for what the context has, and it isn't handed in; or it reads
+    /// memory past the greatest address. It is 0, and no operation was reached, where the rule of a register lacks its CFA.
     Unreadable { at: u32 },
     /// The operation there divides by zero.
     DivisionByZero { at: u32 },

@@ -1,7 +1,7 @@
 //! What operations ask of the machine.
 
-ghost use Rattle.std.specs.Prelude.{◌≡◌, ◌+◌, ◌+ℤ◌, ◌^◌, ◌<◌, ◌≤◌, ◌⊎◌, ◌∷◌, [], pos, Ok};
-ghost use Rattle.dw_eval.specs.World.{width};
+ghost use Rattle.std.specs.Prelude.{◌≡◌, ◌+◌, ◌+ℤ◌, ◌^◌, ◌<◌, ◌∷◌, [], pos, Ok};
+ghost use Rattle.dw_eval.specs.World.{IsSize, width};
 ghost use Rattle.dw_eval.specs.Values.{pushed, present, loaded};
 ghost use Rattle.dw_eval.specs.Changes.{one_of};
 ghost use Rattle.dw_bytes.specs.Spelling.{bytes_of_address};
@@ -34,7 +34,7 @@ impl<'m, R: Registers, M: Memory> Machine<'m, R, M> {
     /// How many bytes a word has.
     pub fn word(&self) -> u8
         ensures value { result ≡ bytes_of_address self.now.target.address_size }
-        ensures size { (result ≡ 1) ⊎ (result ≡ 2) ⊎ (result ≡ 4) ⊎ (result ≡ 8) }
+        ensures size { IsSize result }
     {
         match self.target.address_size {
             AddressSize::Four => 4,
@@ -75,7 +75,7 @@ impl<'m, R: Registers, M: Memory> Machine<'m, R, M> {
     /// So many bytes at an address, of which the last is below 2^w.
     pub fn load(&self, address: u64, size: u8) -> Result<u64, Trouble>
         requires address { address < 2 ^ width (world_in R.contents M.bytes self.now) }
-        requires size { (size ≡ 1) ⊎ (size ≡ 2) ⊎ (size ≡ 4) ⊎ (size ≡ 8) }
+        requires size { IsSize size }
         ensures { one_of result ≡ loaded (world_in R.contents M.bytes self.now) address size }
     {
         let width = self.width();

@@ -1,7 +1,7 @@
 //! What an evaluation is handed.
 
-ghost use Rattle.std.specs.Prelude.{◌≡◌, ◌+◌, ◌^◌, ◌<◌, ◌≤◌, ◌⊎◌, ℕ, Option};
-ghost use Rattle.dw_eval.specs.World.{number_at};
+ghost use Rattle.std.specs.Prelude.{◌≡◌, ◌+◌, ◌^◌, ◌≤◌, ℕ, Option};
+ghost use Rattle.dw_eval.specs.World.{IsSize, number_at};
 
 use dw_bytes::Order;
 
@@ -24,7 +24,7 @@ pub trait Memory {
     /// The number that so many bytes from an address on are in this order, where all of them are known. A read has 1,
     /// 2, 4 or 8 bytes, and its last byte's address is below 2^64.
     fn read(&self, address: u64, size: u8, order: Order) -> Option<u64>
-        requires size { (size ≡ 1) ⊎ (size ≡ 2) ⊎ (size ≡ 4) ⊎ (size ≡ 8) }
+        requires size { IsSize size }
         requires within { address + size ≤ 2 ^ 64 }
         ensures { result ≡ number_at (bytes self.now) order address size };
 }

@@ -3,7 +3,7 @@
 /// Why an operation has no answer.
 #[derive(Clone, Copy, Debug, PartialEq, Eq)]
 pub enum Trouble {
-    /// A register, memory or what the context has isn't there.
+    /// A register, memory or what the context has isn't handed in, or a read goes past the greatest address.
     Unreadable,
     /// It divides by zero.
     DivisionByZero,
