@@ -1,4 +1,5 @@
 pub mod Assembled
+pub mod EachReply
 pub mod Evaluated
 pub mod Growth
 pub mod Hexes

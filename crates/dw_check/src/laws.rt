@@ -8,3 +8,8 @@ ghost use Rattle.dw_check.specs.Runs.{Reply, IsReply};
 pub fn one_reply()
     ensures { (asked : Asked) (files : List (List ℕ)) (r s : Reply) → IsReply asked files r → IsReply asked files s → r ≡ s }
 {}
+
+/// And it has one.
+pub fn each_has_a_reply()
+    ensures { (asked : Asked) (files : List (List ℕ)) → (r : Reply) × IsReply asked files r }
+{}

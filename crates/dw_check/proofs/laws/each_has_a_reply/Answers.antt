@@ -1,0 +1,5 @@
+use Rattle.dw_check.proofs.EachReply.{each_reply}
+use Rattle.dw_check.proofs.laws.each_has_a_reply.Goals as goal
+
+pub returns : goal.returns
+returns c = each_reply
