@@ -25,10 +25,19 @@ module _ (kind : Kind) (target : Target) (bytes : List ℕ) (gs : List Given) wh
   good_outcome short good =
       let deep = each_has_a_depth kind target bytes good in
       let c : Checked = record { kind = kind; target = target; bytes = bytes; depth = deep.0; count = length (operations_in target bytes) } in
-      let run = each_evaluation c (world_of target gs) (record { good = good; depth = deep.1; count = refl }) in
-      (text (evaluation_text target.address_size run.0 run.1 deep.0), record {
-        short = short; good = good; outcome = run.0; steps = run.1; run = run.2; depth = deep.0; deepest = deep.1; text = refl;
-      })
+      let run = each_evaluation c (world_of target gs) (record { good = good; depth = deep.1; count = refl }) in (
+        text (evaluation_text target.address_size run.0 run.1 deep.0),
+        record {
+          short = short;
+          good = good;
+          outcome = run.0;
+          steps = run.1;
+          run = run.2;
+          depth = deep.0;
+          deepest = deep.1;
+          text = refl;
+        },
+      )
 
   by_fault : (f : Option Fault) → expression_fault kind target bytes ≡ f → length bytes < 2 ^ 32 → (r : Reply) × IsOutcome kind target bytes gs r
   by_fault None e short = good_outcome short (good_if_none kind target bytes e)

@@ -49,6 +49,13 @@ fn add_first<K: Ord + Copy, V: Drop>(
     Ok(())
 }
 
+/// The value that there is, else another.
+fn or_value(old: Option<u64>, value: u64) -> Option<u64>
+    ensures { result ≡ option_or old (Some value) }
+{
+    old.or(Some(value))
+}
+
 /// Adds bytes at an address.
 fn add_bytes(memory: &mut BTreeMap<u64, u8>, address: u64, bytes: &[u8]) -> Result<(), AllocError>
     requires { address + length bytes.now ≤ 2 ^ 64 }
@@ -90,9 +97,9 @@ impl MachineState {
                 address,
                 bytes.as_slice(),
             )?,
-            StateLine::Cfa(value) => self.cfa = self.cfa.or(Some(value)),
-            StateLine::FrameBase(value) => self.frame_base = self.frame_base.or(Some(value)),
-            StateLine::Object(value) => self.object = self.object.or(Some(value)),
+            StateLine::Cfa(value) => self.cfa = or_value(self.cfa, value),
+            StateLine::FrameBase(value) => self.frame_base = or_value(self.frame_base, value),
+            StateLine::Object(value) => self.object = or_value(self.object, value),
         }
         Ok(())
     }

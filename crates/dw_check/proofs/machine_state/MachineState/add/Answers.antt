@@ -31,10 +31,10 @@ returns-in_ok-add_bytes-in-Memory c =
 pub returns-in-Cfa : goal.returns-in-Cfa
 returns-in-Cfa c =
     let old = known_of c.args.self.now in
-    rw c.in-Cfa.is (given_more old (record old { cfa = c.or-self.result }) (cfa c.in-Cfa.value) (record {
+    rw c.in-Cfa.is (given_more old (record old { cfa = c.or_value-self.result }) (cfa c.in-Cfa.value) (record {
       registers = λ n. sym (or_none (old.registers n));
       memory = λ a. sym (or_none (old.memory a));
-      cfa = c.or-self.ensures;
+      cfa = c.or_value-self.ensures;
       frame_base = sym (or_none old.frame_base);
       object = sym (or_none old.object);
     }))
@@ -42,21 +42,21 @@ returns-in-Cfa c =
 pub returns-in-FrameBase : goal.returns-in-FrameBase
 returns-in-FrameBase c =
     let old = known_of c.args.self.now in
-    rw c.in-FrameBase.is (given_more old (record old { frame_base = c.or-self-in-FrameBase.result }) (frame_base c.in-FrameBase.value) (record {
+    rw c.in-FrameBase.is (given_more old (record old { frame_base = c.or_value-self-in-FrameBase.result }) (frame_base c.in-FrameBase.value) (record {
       registers = λ n. sym (or_none (old.registers n));
       memory = λ a. sym (or_none (old.memory a));
       cfa = sym (or_none old.cfa);
-      frame_base = c.or-self-in-FrameBase.ensures;
+      frame_base = c.or_value-self-in-FrameBase.ensures;
       object = sym (or_none old.object);
     }))
 
 pub returns-in-Object : goal.returns-in-Object
 returns-in-Object c =
     let old = known_of c.args.self.now in
-    rw c.in-Object.is (given_more old (record old { object = c.or-self-in-Object.result }) (object c.in-Object.value) (record {
+    rw c.in-Object.is (given_more old (record old { object = c.or_value-self-in-Object.result }) (object c.in-Object.value) (record {
       registers = λ n. sym (or_none (old.registers n));
       memory = λ a. sym (or_none (old.memory a));
       cfa = sym (or_none old.cfa);
       frame_base = sym (or_none old.frame_base);
-      object = c.or-self-in-Object.ensures;
+      object = c.or_value-self-in-Object.ensures;
     }))
