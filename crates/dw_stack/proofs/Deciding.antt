@@ -1,5 +1,5 @@
 -- The questions that are asked of an expression, in their order: either all are answered with yes, and it is good, or the
--- first that isn't names the first fault.
+-- first that isn't names the first fault. Where states are given, each is compared before its operation is judged.
 use Rattle.std.proofs.Common.{◌≡◌, ◌≢◌, ◌∙◌, ◌⊎◌, ℕ, ℤ, zero, suc, negsuc, ◌+◌, ◌<◌, ◌≤◌, Bool, true, false, not, leb, ltb, ◌||◌, List, [], ◌∷◌, ◌++◌, length, get_or, Option, Some, None, refl, sym, ap, subst, inl, inr, arith, length-append}
 use Rattle.std.specs.Prelude.{slice_get, slice_set, slice_index_or, replicate, is_some, ◌==◌}
 use Rattle.std.specs.Option.{option_or}

@@ -28,7 +28,7 @@ module _ (kind : Kind) (target : Target) (bytes : List ℕ) where
   pub each_has_a_certificate : IsGoodExpression kind target bytes → (states : List State) × AreStatesOf kind target bytes states
   each_has_a_certificate good = let certified = certified_of good in (certified.states, certified.are)
 
-  -- the count of the given states is right or another
+  -- the given states are as many as the operations, or another number
   count_tells : (given : Option (List State)) → (IsOtherCount target bytes given → ⊥) ⊎ IsOtherCount target bytes given
   count_tells None = inl (λ other. other)
   count_tells (Some states) = elim (cases_eq (length states) (length (operations_in target bytes))) [
