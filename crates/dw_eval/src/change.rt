@@ -1,12 +1,10 @@
 //! What an operation does to the stack.
 
-ghost use Rattle.std.specs.Prelude.{◌≡◌, ◌+◌, ◌-◌, ◌^◌, ◌<◌, ◌≤◌, ◌%◌, ◌∷◌, [], length, pos, All, IfOk, Ok, int_div};
-ghost use Rattle.dw_eval.specs.Numbers.{width_of, reduced, signed};
-ghost use Rattle.dw_eval.specs.Values.{unless_zero};
+ghost use Rattle.std.specs.Prelude.{◌≡◌, ◌+◌, ◌-◌, ◌^◌, ◌<◌, ◌≤◌, length, All, IfOk, IfErr, Ok};
 ghost use Rattle.dw_ops.specs.Views.{operation_of};
 ghost use Rattle.dw_stack.specs.Effects.{effect_of};
 ghost use Rattle.dw_eval.specs.World.{width};
-ghost use Rattle.dw_eval.specs.Changes.{acted, one_of, changed, changed_by, IsSized, taken_by, added_by};
+ghost use Rattle.dw_eval.specs.Changes.{acted, changed, changed_by, IsSized, taken_by, added_by};
 ghost use Rattle.dw_eval.specs.Handed.{world_in};
 
 use crate::machine::Machine;
@@ -39,27 +37,15 @@ fn put(taken: usize, value: u64) -> Result<Change, Trouble>
     Ok(Change::Put { taken, value })
 }
 
-/// The quotient, signed and truncated, unless the divisor is 0.
-fn divided(width: Width, a: u64, b: u64) -> Result<u64, Trouble>
-    requires a { a < 2 ^ width_of width.size }
-    requires b { b < 2 ^ width_of width.size }
-    ensures { one_of result ≡ unless_zero b (Ok (reduced (width_of width.size) (int_div (signed (width_of width.size) a) (signed (width_of width.size) b)) ∷ [])) }
+/// A divisor, unless it is 0.
+fn divisor(b: u64) -> Result<u64, Trouble>
+    ensures ok { IfOk result (λ c. (c ≡ b) × (0 < b)) }
+    ensures err { IfErr result (λ why. (b ≡ 0) × (why ≡ Trouble.DivisionByZero)) }
 {
     if b == 0 {
         return Err(Trouble::DivisionByZero);
     }
-    Ok(width.div(a, b))
-}
-
-/// The remainder, unsigned, unless the divisor is 0.
-fn remainder(width: Width, a: u64, b: u64) -> Result<u64, Trouble>
-    requires { a < 2 ^ width_of width.size }
-    ensures { one_of result ≡ unless_zero b (Ok (reduced (width_of width.size) (pos (a % b)) ∷ [])) }
-{
-    if b == 0 {
-        return Err(Trouble::DivisionByZero);
-    }
-    Ok(width.rem(a, b))
+    Ok(b)
 }
 
 /// The change of an operation whose entries are there.
@@ -90,9 +76,15 @@ pub fn change_of<R: Registers, M: Memory>(
         Operation::Constu { value } => put(0, width.reduce(value)),
         Operation::Consts { value } => put(0, width.reduce_signed(value)),
         Operation::Lit { value } => put(0, width.reduce(u64::from(value))),
-        Operation::Fbreg { offset } => put(0, machine.framed(offset)?),
-        Operation::Breg { register, offset } => put(0, machine.based(u16::from(register), offset)?),
-        Operation::Bregx { register, offset } => put(0, machine.based(register, offset)?),
+        Operation::Fbreg { offset } => put(0, machine.sum(machine.context.frame_base, offset)?),
+        Operation::Breg { register, offset } => put(
+            0,
+            machine.sum(machine.registers.register(u16::from(register)), offset)?,
+        ),
+        Operation::Bregx { register, offset } => put(
+            0,
+            machine.sum(machine.registers.register(register), offset)?,
+        ),
         Operation::Dup => put(0, stack.entry(0)),
         Operation::Drop => Ok(Change::Pop),
         Operation::Pick { index } => put(0, stack.entry(usize::from(index))),
@@ -105,9 +97,9 @@ pub fn change_of<R: Registers, M: Memory>(
         Operation::CallFrameCfa => put(0, machine.given(machine.context.cfa)?),
         Operation::Abs => put(1, width.abs(stack.entry(0))),
         Operation::And => put(2, width.and(stack.entry(1), stack.entry(0))),
-        Operation::Div => put(2, divided(width, stack.entry(1), stack.entry(0))?),
+        Operation::Div => put(2, width.div(stack.entry(1), divisor(stack.entry(0))?)),
         Operation::Minus => put(2, width.minus(stack.entry(1), stack.entry(0))),
-        Operation::Mod => put(2, remainder(width, stack.entry(1), stack.entry(0))?),
+        Operation::Mod => put(2, width.rem(stack.entry(1), divisor(stack.entry(0))?)),
         Operation::Mul => put(2, width.mul(stack.entry(1), stack.entry(0))),
         Operation::Neg => put(1, width.neg(stack.entry(0))),
         Operation::Not => put(1, width.not(stack.entry(0))),
