@@ -1,12 +1,10 @@
 //! What an operation does to the stack.
 
-ghost use Rattle.std.specs.Prelude.{◌≡◌, ◌+◌, ◌-◌, ◌^◌, ◌<◌, ◌≤◌, ◌%◌, ◌∷◌, [], length, pos, All, IfOk, Ok, int_div};
-ghost use Rattle.dw_eval.specs.Numbers.{width_of, reduced, signed};
-ghost use Rattle.dw_eval.specs.Values.{unless_zero};
+ghost use Rattle.std.specs.Prelude.{◌≡◌, ◌+◌, ◌-◌, ◌^◌, ◌<◌, ◌≤◌, ℕ, List, length, All, IfOk, IfErr, Ok};
 ghost use Rattle.dw_ops.specs.Views.{operation_of};
 ghost use Rattle.dw_stack.specs.Effects.{effect_of};
 ghost use Rattle.dw_eval.specs.World.{width};
-ghost use Rattle.dw_eval.specs.Changes.{acted, one_of, changed, changed_by, IsSized, taken_by, added_by};
+ghost use Rattle.dw_eval.specs.Changes.{acted, changed, changed_by, IsSized, taken_by, added_by};
 ghost use Rattle.dw_eval.specs.Handed.{world_in};
 
 use crate::machine::Machine;
@@ -39,42 +37,27 @@ fn put(taken: usize, value: u64) -> Result<Change, Trouble>
     Ok(Change::Put { taken, value })
 }
 
-/// The quotient, signed and truncated, unless the divisor is 0.
-fn divided(width: Width, a: u64, b: u64) -> Result<u64, Trouble>
-    requires a { a < 2 ^ width_of width.size }
-    requires b { b < 2 ^ width_of width.size }
-    ensures { one_of result ≡ unless_zero b (Ok (reduced (width_of width.size) (int_div (signed (width_of width.size) a) (signed (width_of width.size) b)) ∷ [])) }
+/// A divisor, unless it is 0.
+fn divisor(b: u64) -> Result<u64, Trouble>
+    ensures ok { IfOk result (λ c. (c ≡ b) × (0 < b)) }
+    ensures err { IfErr result (λ why. (b ≡ 0) × (why ≡ Trouble.DivisionByZero)) }
 {
     if b == 0 {
         return Err(Trouble::DivisionByZero);
     }
-    Ok(width.div(a, b))
+    Ok(b)
 }
 
-/// The remainder, unsigned, unless the divisor is 0.
-fn remainder(width: Width, a: u64, b: u64) -> Result<u64, Trouble>
-    requires { a < 2 ^ width_of width.size }
-    ensures { one_of result ≡ unless_zero b (Ok (reduced (width_of width.size) (pos (a % b)) ∷ [])) }
-{
-    if b == 0 {
-        return Err(Trouble::DivisionByZero);
-    }
-    Ok(width.rem(a, b))
-}
-
-/// The change of an operation whose entries are there.
-#[tactic(auto, using(crate::proofs::Entries::entry_below))]
-pub fn change_of<R: Registers, M: Memory>(
+/// The change of an operation that needs no entry and pushes one value: a literal, or what is handed in.
+fn pushed<R: Registers, M: Memory>(
     machine: &Machine<'_, R, M>,
     operation: &Operation<'_>,
-    stack: &Stack,
 ) -> Result<Change, Trouble>
-    requires needs { (effect_of (operation_of operation.now)).needs ≤ length stack.now }
-    requires sized { IsSized (operation_of operation.now) }
-    requires below { All (λ n. n < 2 ^ width (world_in R.contents M.bytes machine.now)) stack.now }
-    ensures takes { IfOk result (λ change. taken_by change ≡ (effect_of (operation_of operation.now)).takes) }
-    ensures adds { IfOk result (λ change. added_by change ≡ (effect_of (operation_of operation.now)).adds) }
-    ensures acts { changed_by result stack.now ≡ acted (world_in R.contents M.bytes machine.now) (operation_of operation.now) stack.now }
+    requires none { (effect_of (operation_of operation.now)).needs ≡ 0 }
+    requires one { (effect_of (operation_of operation.now)).adds ≡ 1 }
+    ensures takes { IfOk result (λ change. taken_by change ≡ 0) }
+    ensures adds { IfOk result (λ change. added_by change ≡ 1) }
+    ensures acts { (s : List ℕ) → changed_by result s ≡ acted (world_in R.contents M.bytes machine.now) (operation_of operation.now) s }
 {
     let width = machine.width();
     match *operation {
@@ -90,24 +73,46 @@ pub fn change_of<R: Registers, M: Memory>(
         Operation::Constu { value } => put(0, width.reduce(value)),
         Operation::Consts { value } => put(0, width.reduce_signed(value)),
         Operation::Lit { value } => put(0, width.reduce(u64::from(value))),
-        Operation::Fbreg { offset } => put(0, machine.framed(offset)?),
-        Operation::Breg { register, offset } => put(0, machine.based(u16::from(register), offset)?),
-        Operation::Bregx { register, offset } => put(0, machine.based(register, offset)?),
-        Operation::Dup => put(0, stack.entry(0)),
-        Operation::Drop => Ok(Change::Pop),
-        Operation::Pick { index } => put(0, stack.entry(usize::from(index))),
-        Operation::Over => put(0, stack.entry(1)),
-        Operation::Swap => Ok(Change::Swap),
-        Operation::Rot => Ok(Change::Rot),
-        Operation::Deref => put(1, machine.load(stack.entry(0), machine.word())?),
-        Operation::DerefSize { size } => put(1, machine.load(stack.entry(0), size)?),
+        Operation::Fbreg { offset } => put(0, machine.sum(machine.context.frame_base, offset)?),
+        Operation::Breg { register, offset } => put(
+            0,
+            machine.sum(machine.registers.register(u16::from(register)), offset)?,
+        ),
+        Operation::Bregx { register, offset } => put(
+            0,
+            machine.sum(machine.registers.register(register), offset)?,
+        ),
         Operation::PushObjectAddress => put(0, machine.given(machine.context.object)?),
         Operation::CallFrameCfa => put(0, machine.given(machine.context.cfa)?),
+        _ => unreachable!(),
+    }
+}
+
+/// The change of an operation that puts one value in the place of all that it needs: a read, arithmetic, or nothing needed.
+#[tactic(auto, using(crate::proofs::Entries::entry_below))]
+fn computed<R: Registers, M: Memory>(
+    machine: &Machine<'_, R, M>,
+    operation: &Operation<'_>,
+    stack: &Stack,
+) -> Result<Change, Trouble>
+    requires all { (effect_of (operation_of operation.now)).takes ≡ (effect_of (operation_of operation.now)).needs }
+    requires one { (effect_of (operation_of operation.now)).adds ≡ 1 }
+    requires needs { (effect_of (operation_of operation.now)).needs ≤ length stack.now }
+    requires sized { IsSized (operation_of operation.now) }
+    requires below { All (λ n. n < 2 ^ width (world_in R.contents M.bytes machine.now)) stack.now }
+    ensures takes { IfOk result (λ change. taken_by change ≡ (effect_of (operation_of operation.now)).takes) }
+    ensures adds { IfOk result (λ change. added_by change ≡ (effect_of (operation_of operation.now)).adds) }
+    ensures acts { changed_by result stack.now ≡ acted (world_in R.contents M.bytes machine.now) (operation_of operation.now) stack.now }
+{
+    let width = machine.width();
+    match *operation {
+        Operation::Deref => put(1, machine.load(stack.entry(0), machine.word())?),
+        Operation::DerefSize { size } => put(1, machine.load(stack.entry(0), size)?),
         Operation::Abs => put(1, width.abs(stack.entry(0))),
         Operation::And => put(2, width.and(stack.entry(1), stack.entry(0))),
-        Operation::Div => put(2, divided(width, stack.entry(1), stack.entry(0))?),
+        Operation::Div => put(2, width.div(stack.entry(1), divisor(stack.entry(0))?)),
         Operation::Minus => put(2, width.minus(stack.entry(1), stack.entry(0))),
-        Operation::Mod => put(2, remainder(width, stack.entry(1), stack.entry(0))?),
+        Operation::Mod => put(2, width.rem(stack.entry(1), divisor(stack.entry(0))?)),
         Operation::Mul => put(2, width.mul(stack.entry(1), stack.entry(0))),
         Operation::Neg => put(1, width.neg(stack.entry(0))),
         Operation::Not => put(1, width.not(stack.entry(0))),
@@ -136,6 +141,30 @@ pub fn change_of<R: Registers, M: Memory>(
             width.truth(width.is_below(stack.entry(1), stack.entry(0))),
         ),
         Operation::Ne => put(2, width.truth(stack.entry(1) != stack.entry(0))),
+        _ => pushed(machine, operation),
+    }
+}
+
+/// The change of an operation whose entries are there.
+pub fn change_of<R: Registers, M: Memory>(
+    machine: &Machine<'_, R, M>,
+    operation: &Operation<'_>,
+    stack: &Stack,
+) -> Result<Change, Trouble>
+    requires needs { (effect_of (operation_of operation.now)).needs ≤ length stack.now }
+    requires sized { IsSized (operation_of operation.now) }
+    requires below { All (λ n. n < 2 ^ width (world_in R.contents M.bytes machine.now)) stack.now }
+    ensures takes { IfOk result (λ change. taken_by change ≡ (effect_of (operation_of operation.now)).takes) }
+    ensures adds { IfOk result (λ change. added_by change ≡ (effect_of (operation_of operation.now)).adds) }
+    ensures acts { changed_by result stack.now ≡ acted (world_in R.contents M.bytes machine.now) (operation_of operation.now) stack.now }
+{
+    match *operation {
+        Operation::Dup => put(0, stack.entry(0)),
+        Operation::Drop => Ok(Change::Pop),
+        Operation::Pick { index } => put(0, stack.entry(usize::from(index))),
+        Operation::Over => put(0, stack.entry(1)),
+        Operation::Swap => Ok(Change::Swap),
+        Operation::Rot => Ok(Change::Rot),
         Operation::Bra { .. } | Operation::StackValue => Ok(Change::Pop),
         Operation::Skip { .. }
         | Operation::Nop
@@ -144,6 +173,7 @@ pub fn change_of<R: Registers, M: Memory>(
         | Operation::ImplicitValue { .. }
         | Operation::Piece { .. }
         | Operation::BitPiece { .. } => Ok(Change::Stays),
+        _ => computed(machine, operation, stack),
     }
 }
 

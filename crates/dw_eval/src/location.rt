@@ -1,5 +1,7 @@
 //! Where an object is.
 
+ghost use Rattle.std.specs.Prelude.{◌≡◌};
+
 use arrayvec::ArrayVec;
 use dw_stack::MAX_PIECES;
 
@@ -20,7 +22,9 @@ pub enum Location<'a> {
 
 /// What fills the places of a list that aren't used.
 impl Default for Location<'_> {
-    fn default() -> Self {
+    fn default() -> Self
+        ensures { result ≡ Location.Empty }
+    {
         Location::Empty
     }
 }
@@ -43,7 +47,9 @@ pub struct Piece<'a> {
 
 /// What fills the places of a list that aren't used.
 impl Default for Piece<'_> {
-    fn default() -> Self {
+    fn default() -> Self
+        ensures { result ≡ record { location = Location.Empty; size = PieceSize.Bytes 0 } }
+    {
         Piece {
             location: Location::Empty,
             size: PieceSize::Bytes(0),

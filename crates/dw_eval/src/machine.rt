@@ -42,27 +42,17 @@ impl<'m, R: Registers, M: Memory> Machine<'m, R, M> {
         }
     }
 
-    /// A register's content and an offset.
-    pub fn based(&self, number: u16, offset: i64) -> Result<u64, Trouble>
-        ensures { one_of result ≡ present ((world_in R.contents M.bytes self.now).registers number) (λ n. pushed (world_in R.contents M.bytes self.now) (pos n +ℤ offset)) }
+    /// What is handed in and an offset, modulo 2^w.
+    pub fn sum(&self, value: Option<u64>, offset: i64) -> Result<u64, Trouble>
+        ensures { one_of result ≡ present value (λ n. pushed (world_in R.contents M.bytes self.now) (pos n +ℤ offset)) }
     {
-        match self.registers.register(number) {
-            Some(content) => Ok(self.width().offset(content, offset)),
+        match value {
+            Some(number) => Ok(self.width().offset(number, offset)),
             None => Err(Trouble::Unreadable),
         }
     }
 
-    /// The frame base and an offset.
-    pub fn framed(&self, offset: i64) -> Result<u64, Trouble>
-        ensures { one_of result ≡ present (world_in R.contents M.bytes self.now).frame_base (λ n. pushed (world_in R.contents M.bytes self.now) (pos n +ℤ offset)) }
-    {
-        match self.context.frame_base {
-            Some(base) => Ok(self.width().offset(base, offset)),
-            None => Err(Trouble::Unreadable),
-        }
-    }
-
-    /// What the context has, modulo 2^w, if it has it.
+    /// What is handed in, modulo 2^w.
     pub fn given(&self, value: Option<u64>) -> Result<u64, Trouble>
         ensures { one_of result ≡ present value (λ n. pushed (world_in R.contents M.bytes self.now) (pos n)) }
     {
