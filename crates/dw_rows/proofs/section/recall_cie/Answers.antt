@@ -18,4 +18,4 @@ returns-clause-cie c =
 pub returns-clause-first : goal.returns-clause-first
 returns-clause-first c =
     let x = c.index-cies-place.result in
-    left-at (map cie_of c.args.cies.now) c.args.initial.now c.in_ok-place.place (cie_of x) _ c.requires.left (read-map cie_of c.args.cies.now c.in_ok-place.place x c.in_ok-place.ensures.0 (sym c.index-cies-place.is)) c.keep_initial.ensures
+    left-at (map cie_of c.args.cies.now) c.args.initial.now c.in_ok-place.place (cie_of x) _ c.requires.left (read-map cie_of c.args.cies.now c.in_ok-place.place x c.in_ok-place.ensures.0 (sym c.index-cies-place.is)) c.keep_initial.ensures.first
