@@ -4,7 +4,7 @@ ghost use Rattle.std.specs.Prelude.{◌≡◌, ◌≤◌, ◌⊎◌, option_and_
 ghost use Rattle.dw_frame.specs.Sections.{top_of};
 ghost use Rattle.dw_check.specs.Addresses.{number_of, at_most, address_of};
 
-use dw_bytes::{AddressSize, Target};
+use dw_bytes::Target;
 
 /// The number that decimal or hex digits spell, at least one and at most so many.
 pub(crate) fn parse_number(digits: &[u8], radix: u32, most: usize) -> Option<u64>
@@ -33,15 +33,10 @@ fn address_within(number: Option<u64>, target: Target) -> Option<u64>
     ensures { result ≡ option_and_then (at_most (top_of target)) number }
 {
     let value = number?;
-    match target.address_size {
-        AddressSize::Four => {
-            if value <= 0xffff_ffff {
-                Some(value)
-            } else {
-                None
-            }
-        }
-        AddressSize::Eight => Some(value),
+    if value <= target.address_size.max_address() {
+        Some(value)
+    } else {
+        None
     }
 }
 

@@ -6,7 +6,7 @@ ghost use Rattle.dw_check.specs.StateViews.{given_of};
 
 use crate::addresses::{parse_address, parse_number};
 use crate::parts::Parts;
-use dw_bytes::{AddressSize, Target};
+use dw_bytes::Target;
 use hex::FromHexError;
 use std::alloc::{AllocError, Global};
 
@@ -36,10 +36,7 @@ fn memory_at(target: Target, address: u64, bytes: Vec<u8>) -> Option<StateLine>
     ensures given { option_map given_of result ≡ bytes_given target address bytes.items }
     ensures fits { IfSome result (λ line. FitsAddresses (given_of line)) }
 {
-    let top = match target.address_size {
-        AddressSize::Four => 0xffff_ffff,
-        AddressSize::Eight => u64::MAX,
-    };
+    let top = target.address_size.max_address();
     if bytes.is_empty() || address > top || (bytes.len() - 1) as u64 > top - address {
         return None;
     }

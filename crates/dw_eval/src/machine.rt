@@ -10,7 +10,7 @@ ghost use Rattle.dw_eval.specs.Handed.{world_in};
 use crate::surroundings::{Context, Memory, Registers};
 use crate::trouble::Trouble;
 use crate::width::Width;
-use dw_bytes::{AddressSize, Target};
+use dw_bytes::Target;
 
 /// What an evaluation is handed, under the target of its expression.
 #[derive(Drop)]
@@ -36,10 +36,7 @@ impl<'m, R: Registers, M: Memory> Machine<'m, R, M> {
         ensures value { result ≡ bytes_of_address self.now.target.address_size }
         ensures size { IsSize result }
     {
-        match self.target.address_size {
-            AddressSize::Four => 4,
-            AddressSize::Eight => 8,
-        }
+        self.target.address_size.bytes()
     }
 
     /// What is handed in and an offset, modulo 2^w.

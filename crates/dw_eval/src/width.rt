@@ -17,10 +17,7 @@ impl Width {
     pub fn max(self) -> u64
         ensures { result + 1 ≡ 2 ^ width_of self.size }
     {
-        match self.size {
-            AddressSize::Four => 0xffff_ffff,
-            AddressSize::Eight => u64::MAX,
-        }
+        self.size.max_address()
     }
 
     /// The number modulo 2^w.

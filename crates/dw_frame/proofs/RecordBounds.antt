@@ -164,7 +164,7 @@ all-behind target n at bytes (x ∷ records) lt (first, rest, parts, record_is, 
     let offset = record-offset target at first x record_is in
     (omega (arith, offset), all-behind target n (at + length first) rest records (omega arith) others)
 
-pub records-ascend : (target : Target) (at : ℕ) (bytes : List ℕ) (records : List Record) → AreRecords target at bytes records → Ascends records
+pub records-ascend : (target : Target) (at : ℕ) (bytes : List ℕ) (records : List Record) → AreRecords target at bytes records → Ascends offset_of records
 records-ascend target at bytes [] are = tt
 records-ascend target at bytes (x ∷ records) (first, rest, parts, record_is, others) =
     let some = some-bytes target at first x record_is in

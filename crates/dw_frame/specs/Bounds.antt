@@ -42,7 +42,7 @@ abbrev pub offset_of : Record → ℕ
 offset_of (common c) = c.offset
 offset_of (description f) = f.offset
 
--- each begins before those behind it
-abbrev pub Ascends : List Record → Type 0
-Ascends [] = Unit {0}
-Ascends (r ∷ records) = AllByRecursion (λ s. offset_of r < offset_of s) records × Ascends records
+-- each is below those behind it, by this number
+abbrev pub Ascends : {X : Type 0} → (X → ℕ) → List X → Type 0
+Ascends at [] = Unit {0}
+Ascends at (x ∷ xs) = AllByRecursion (λ y. at x < at y) xs × Ascends at xs

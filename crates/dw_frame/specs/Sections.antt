@@ -6,7 +6,7 @@ use Rattle.dw_bytes.specs.declared.target.Format.TheVariants.{Dwarf32, Dwarf64}
 use Rattle.dw_bytes.specs.declared.fault.Fault.{Fault}
 use Rattle.dw_bytes.specs.declared.fault.FaultKind.TheVariants.{Version, Augmentation, AddressSize, SegmentSize, RegisterNumber, RangePastTop}
 use Rattle.dw_bytes.specs.declared.fault.FaultKind.{FaultKind}
-use Rattle.dw_bytes.specs.Spelling.{Fixed, Address, Offset, Length, Uleb, Sleb, bytes_of_address}
+use Rattle.dw_bytes.specs.Spelling.{max_address, Fixed, Address, Offset, Length, Uleb, Sleb, bytes_of_address}
 use Rattle.dw_bytes.specs.Reading.{Reading, ◌>>=◌, take_at, fixed_at, address_at, offset_at, initial_length_at, uleb_at, sleb_at}
 use Rattle.dw_bytes.specs.Readers.{Then, then_read, Passing, passing_read, Made, made_read, fault_here}
 use Rattle.dw_bytes.specs.Sequence.{Sequence, sequence_of}
@@ -37,7 +37,7 @@ cie_id Dwarf64 = 0xffffffffffffffff
 
 -- the greatest address
 abbrev pub top_of : Target → ℕ
-top_of target = 2 ^ (8 * bytes_of_address target.address_size) - 1
+top_of target = max_address target.address_size
 
 abbrev pub ends_by : ℕ → ℕ → ℕ → Bool
 ends_by top initial range = nat_le (initial + range) top

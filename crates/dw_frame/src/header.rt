@@ -2,7 +2,7 @@
 
 ghost use Rattle.std.specs.Prelude.{◌+◌, ◌<◌, ◌^◌};
 
-use dw_bytes::{AddressSize, Cursor, Fault, FaultKind, Format, Target};
+use dw_bytes::{Cursor, Fault, FaultKind, Format, Target};
 
 /// What stands between the length of a CIE and its program.
 #[derive(Clone, Copy, Debug)]
@@ -55,13 +55,13 @@ impl CieHeader {
         ensures within { IsRefusedWithin cursor.old result }
         ensures goes_on { GoesOn cursor.old cursor.new }
     {
-        let address_size = match target.address_size {
-            AddressSize::Four => 4,
-            AddressSize::Eight => 8,
-        };
         Self::byte(cursor, 4, FaultKind::Version)?;
         Self::byte(cursor, 0, FaultKind::Augmentation)?;
-        Self::byte(cursor, address_size, FaultKind::AddressSize)?;
+        Self::byte(
+            cursor,
+            target.address_size.bytes(),
+            FaultKind::AddressSize,
+        )?;
         Self::byte(cursor, 0, FaultKind::SegmentSize)?;
         let code_alignment_factor = cursor.uleb()?;
         let data_alignment_factor = cursor.sleb()?;
@@ -92,10 +92,7 @@ impl FdeHeader {
         ensures within { IsRefusedWithin cursor.old result }
         ensures goes_on { GoesOn cursor.old cursor.new }
     {
-        let top = match target.address_size {
-            AddressSize::Four => 0xffff_ffff,
-            AddressSize::Eight => u64::MAX,
-        };
+        let top = target.address_size.max_address();
         let initial_location = cursor.address()?;
         let at = cursor.position();
         let address_range = cursor.address()?;

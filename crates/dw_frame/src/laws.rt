@@ -8,7 +8,7 @@ ghost use Rattle.dw_frame.specs.Instructions.{Instruction};
 ghost use Rattle.dw_frame.specs.Records.{Cie, Record, common};
 ghost use Rattle.dw_frame.specs.Codes.{Spells, AreInstructions, instruction_at, instructions_of};
 ghost use Rattle.dw_frame.specs.Sections.{IsRecord, AreRecords, record_at, entries_of, cie_among};
-ghost use Rattle.dw_frame.specs.Bounds.{StandsIn, Ascends, IsSound};
+ghost use Rattle.dw_frame.specs.Bounds.{StandsIn, offset_of, Ascends, IsSound};
 
 /// No spelling of an instruction begins another, and bytes spell one instruction.
 pub fn one_instruction()
@@ -52,7 +52,7 @@ pub fn sections_are_records()
 
 /// The records of a section begin one behind the other.
 pub fn records_ascend()
-    ensures { (target : Target) (at : ℕ) (section : List ℕ) (records : List Record) → AreRecords target at section records → Ascends records }
+    ensures { (target : Target) (at : ℕ) (section : List ℕ) (records : List Record) → AreRecords target at section records → Ascends offset_of records }
 {}
 
 /// Each record that a section gives, and so its program, lies inside it, an FDE's addresses are

@@ -10,7 +10,8 @@ use Rattle.dw_bytes.specs.declared.fault.FaultKind.TheVariants.{Overlap}
 use Rattle.dw_frame.specs.Records.{Fde}
 use Rattle.dw_rows.specs.Judgement.{or_else}
 use Rattle.dw_rows.specs.Section.{first_fault, overlap_fault, shares, SharesAddress, CoversOnce}
-use Rattle.dw_rows.specs.Overlap.{IsAscending, fde_offset, AreApart, IsApart, Overlaps, IsFirstOverlap}
+use Rattle.dw_rows.specs.Overlap.{fde_offset, AreApart, IsApart, Overlaps, IsFirstOverlap}
+use Rattle.dw_frame.specs.Bounds.{Ascends}
 use Rattle.dw_rows.proofs.Search.{ascending-at}
 use Rattle.dw_rows.proofs.Faults.{none-each}
 use Rattle.dw_rows.proofs.Sweeps.{covers-once}
@@ -76,7 +77,7 @@ overlaps-some fdes g (f, (k, lt, is), order, shared) =
     ap (overlap_if g) any
 
 -- the first element of a list in order that has a fault
-pub first-of : {X : Type 0} (at : X → ℕ) (t : X → Option Fault) (xs : List X) → IsAscending at xs → (x : X) (f : Fault) → Contains xs x → t x ≡ Some f → ((y : X) → Contains xs y → at y < at x → t y ≡ None) → first_fault t xs ≡ Some f
+pub first-of : {X : Type 0} (at : X → ℕ) (t : X → Option Fault) (xs : List X) → Ascends at xs → (x : X) (f : Fault) → Contains xs x → t x ≡ Some f → ((y : X) → Contains xs y → at y < at x → t y ≡ None) → first_fault t xs ≡ Some f
 first-of at t [] up x f (k, lt, is) here before = absurd (omega arith)
 first-of at t (y ∷ xs) up x f (zero, lt, is) here before = ap (λ o. or_else o (first_fault t xs)) (ap t is ∙ here)
 first-of at t (y ∷ xs) up x f (suc k, lt, is) here before =
@@ -95,11 +96,11 @@ each-none t (x ∷ xs) all = ap (λ o. or_else o (first_fault t xs)) (all x (zer
 pub none-overlap : (fdes : List Fde) → AreApart fdes → first_fault (overlap_fault fdes) fdes ≡ None
 none-overlap fdes apart = each-none (overlap_fault fdes) fdes (λ g c. apart-none fdes g (apart g c))
 
-pub first-overlaps : (fdes : List Fde) (g : Fde) → IsAscending fde_offset fdes → IsFirstOverlap fdes g → first_fault (overlap_fault fdes) fdes ≡ Some (record { kind = Overlap; at = g.offset })
+pub first-overlaps : (fdes : List Fde) (g : Fde) → Ascends fde_offset fdes → IsFirstOverlap fdes g → first_fault (overlap_fault fdes) fdes ≡ Some (record { kind = Overlap; at = g.offset })
 first-overlaps fdes g up first = first-of fde_offset (overlap_fault fdes) fdes up g (overlap_at g) first.among (overlaps-some fdes g first.fails) (λ y c lt. apart-none fdes y (first.before y c lt))
 
 -- where no FDE shares an address with an earlier one, no address is covered by two
-pub once-covered : (fdes : List Fde) → IsAscending fde_offset fdes → first_fault (overlap_fault fdes) fdes ≡ None → CoversOnce fdes
+pub once-covered : (fdes : List Fde) → Ascends fde_offset fdes → first_fault (overlap_fault fdes) fdes ≡ None → CoversOnce fdes
 once-covered fdes up none = covers-once fdes up (λ g g_in f f_in lt shared.
     let clash = overlaps-some fdes g (f, f_in, lt, shared) in
     let clear = none-each (overlap_fault fdes) fdes none g g_in in

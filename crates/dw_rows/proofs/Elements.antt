@@ -2,7 +2,7 @@
 use Rattle.std.proofs.Common.{◌≡◌, ℕ, zero, suc, ◌<◌, ◌≤◌, ◌+◌, List, [], ◌∷◌, ◌++◌, length, get_or, take, map, filter, Contains, Bool, true, false, refl, sym, ap, ◌∙◌, subst, arith, if◌then◌else◌}
 use Rattle.std.specs.List.{AllByRecursion}
 use Rattle.std.specs.List.Sorted.{IsNonDecreasingBy}
-use Rattle.dw_rows.specs.Overlap.{IsAscending}
+use Rattle.dw_frame.specs.Bounds.{Ascends}
 use Rattle.std.proofs.lemmas.List.{get_or-map, length-map, take_more, map-append}
 use Rattle.std.proofs.lemmas.Option.{slice_get-get_or}
 use Rattle.std.specs.Prelude.{Some, slice_get}
@@ -72,7 +72,7 @@ all-back f at n [] all = tt
 all-back f at n (x ∷ xs) all = (all.0, all-back f at n xs all.1)
 
 -- in order, by what elements stand for
-pub ascending-back : {X Y : Type 0} (f : X → Y) (at : Y → ℕ) (xs : List X) → IsAscending at (map f xs) → IsAscending (λ x. at (f x)) xs
+pub ascending-back : {X Y : Type 0} (f : X → Y) (at : Y → ℕ) (xs : List X) → Ascends at (map f xs) → Ascends (λ x. at (f x)) xs
 ascending-back f at [] up = tt
 ascending-back f at (x ∷ xs) up = (all-back f at (at (f x)) xs up.0, ascending-back f at xs up.1)
 

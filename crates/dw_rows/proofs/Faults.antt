@@ -7,7 +7,8 @@ use Rattle.dw_bytes.specs.declared.fault.Fault.{Fault}
 use Rattle.dw_frame.specs.Records.{Cie}
 use Rattle.dw_rows.specs.Judgement.{or_else}
 use Rattle.dw_rows.specs.Section.{first_fault, cie_at}
-use Rattle.dw_rows.specs.Overlap.{IsAscending, cie_offset}
+use Rattle.dw_rows.specs.Overlap.{cie_offset}
+use Rattle.dw_frame.specs.Bounds.{Ascends}
 use Rattle.dw_rows.proofs.Search.{ascending-same}
 
 -- what is left of a list begins with the element at the place
@@ -39,7 +40,7 @@ Contains-rest c x xs (zero, lt, is) other = absurd (other (ap cie_offset is))
 Contains-rest c x xs (suc k, lt, is) other = (k, omega arith, is)
 
 -- where a CIE is at an offset, it is found there
-pub found-at : (cies : List Cie) → IsAscending cie_offset cies → (c : Cie) (at : ℕ) → Contains cies c → c.offset ≡ at → cie_at cies at ≡ Some c
+pub found-at : (cies : List Cie) → Ascends cie_offset cies → (c : Cie) (at : ℕ) → Contains cies c → c.offset ≡ at → cie_at cies at ≡ Some c
 found-at [] up c at (k, lt, is) same = absurd (omega arith)
 found-at (x ∷ xs) up c at among same = elim (x.offset == at) as (λ b. (x.offset == at) ≡ b → (if b then Some x else find (λ y. y.offset == at) xs) ≡ Some c) [
   | true ↦ λ e. ap Some (ascending-same cie_offset (x ∷ xs) up x c (zero, omega arith, refl) among (eqb-true _ _ e ∙ sym same))

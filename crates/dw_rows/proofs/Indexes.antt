@@ -8,7 +8,8 @@ use Rattle.std.proofs.lemmas.List.Elements.{All-filter, All-contains_itself, All
 use Rattle.std.proofs.lemmas.List.Sorted.{IsPermutation-keeps, IsPermutation-sym, Contains-permutation}
 use Rattle.std.proofs.lemmas.Bool.Decides.{nat_tests}
 use Rattle.dw_rows.specs.Section.{Covers, CoversOnce}
-use Rattle.dw_rows.specs.Overlap.{IsAscending, fde_offset, initial_of, IsIndexOf}
+use Rattle.dw_rows.specs.Overlap.{fde_offset, initial_of, IsIndexOf}
+use Rattle.dw_frame.specs.Bounds.{Ascends}
 use Rattle.dw_frame.specs.Records.{Fde}
 use Rattle.dw_rows.proofs.Search.{ascending-at, squeeze, three_ways}
 use Rattle.std.proofs.lemmas.Bool.{cases_lt}
@@ -17,7 +18,7 @@ use Rattle.std.proofs.lemmas.Bool.{cases_lt}
 abbrev pub AreDistinct : List Fde → Type 0
 AreDistinct xs = (i j : ℕ) (d : Fde) → i < length xs → j < length xs → (get_or xs i d).offset ≡ (get_or xs j d).offset → i ≡ j
 
-distinct-ascending : (xs : List Fde) → IsAscending fde_offset xs → AreDistinct xs
+distinct-ascending : (xs : List Fde) → Ascends fde_offset xs → AreDistinct xs
 distinct-ascending xs up i j d i_in j_in same =
     let low : ¬ (i < j) = λ lt. let h = ascending-at fde_offset xs up i j d lt j_in in omega (arith, h, same) in
     let high : ¬ (j < i) = λ lt. let h = ascending-at fde_offset xs up j i d lt i_in in omega (arith, h, same) in
@@ -68,9 +69,9 @@ all-filter : (P : Fde → Type 0) (p : Fde → Bool) (xs : List Fde) → AllByRe
 all-filter P p [] all = tt
 all-filter P p (x ∷ xs) all = elim (p x) as (λ b. AllByRecursion P (if b then (x ∷ filter p xs) else filter p xs)) [ true ↦ (all.0, all-filter P p xs all.1) | false ↦ all-filter P p xs all.1 ]
 
-ascending-filter : (p : Fde → Bool) (xs : List Fde) → IsAscending fde_offset xs → IsAscending fde_offset (filter p xs)
+ascending-filter : (p : Fde → Bool) (xs : List Fde) → Ascends fde_offset xs → Ascends fde_offset (filter p xs)
 ascending-filter p [] up = tt
-ascending-filter p (x ∷ xs) up = elim (p x) as (λ b. IsAscending fde_offset (if b then (x ∷ filter p xs) else filter p xs)) [ true ↦ (all-filter (λ y. x.offset < y.offset) p xs up.0, ascending-filter p xs up.1) | false ↦ ascending-filter p xs up.1 ]
+ascending-filter p (x ∷ xs) up = elim (p x) as (λ b. Ascends fde_offset (if b then (x ∷ filter p xs) else filter p xs)) [ true ↦ (all-filter (λ y. x.offset < y.offset) p xs up.0, ascending-filter p xs up.1) | false ↦ ascending-filter p xs up.1 ]
 
 Contains-cons : (x y : Fde) (xs : List Fde) → Contains xs y → Contains (x ∷ xs) y
 Contains-cons x y xs (k, k_in, k_is) = (suc k, omega arith, k_is)
@@ -87,7 +88,7 @@ contains-filter p (x ∷ xs) f (suc k, k_in, k_is) passes =
 abbrev pub is_some_fde : Fde → Bool
 is_some_fde f = nat_lt 0 f.range
 
-pub indexed : (fdes index : List Fde) → IsAscending fde_offset fdes → IsPermutation (filter is_some_fde fdes) index → IsNonDecreasingBy initial_of index → IsIndexOf fdes index
+pub indexed : (fdes index : List Fde) → Ascends fde_offset fdes → IsPermutation (filter is_some_fde fdes) index → IsNonDecreasingBy initial_of index → IsIndexOf fdes index
 indexed fdes index up moved sorted =
     let kept = filter is_some_fde fdes in
     let back : (f : Fde) → Contains index f → Contains kept f = λ f h. Contains-permutation index kept f (IsPermutation-sym kept index moved) h in

@@ -5,7 +5,8 @@ use Rattle.dw_bytes.specs.declared.fault.Fault.{Fault}
 use Rattle.dw_frame.specs.Records.{Cie, Fde}
 use Rattle.dw_rows.specs.Judgement.{or_else, cie_fault, fde_fault}
 use Rattle.dw_rows.specs.Section.{first_fault, cie_at, pointer_fault, program_fault, fault_behind, overlap_fault, programs_fault, parts_fault, CoversOnce}
-use Rattle.dw_rows.specs.Overlap.{IsAscending, fde_offset}
+use Rattle.dw_rows.specs.Overlap.{fde_offset}
+use Rattle.dw_frame.specs.Bounds.{Ascends}
 use Rattle.dw_rows.proofs.Faults.{none-each, at-found}
 use Rattle.dw_rows.proofs.Clashes.{once-covered}
 
@@ -43,7 +44,7 @@ pointed cies f none = found-by (cie_at cies f.cie_pointer) _ none
 pub pointed-in : (cies : List Cie) (fdes : List Fde) → parts_fault cies fdes ≡ None → (f : Fde) → Contains fdes f → (c : Cie) × (cie_at cies f.cie_pointer ≡ Some c)
 pointed-in cies fdes none f among = pointed cies f (none-each (pointer_fault cies) fdes (parts-pass cies fdes none).pointers f among)
 
-pub covers-once-in : (cies : List Cie) (fdes : List Fde) → IsAscending fde_offset fdes → parts_fault cies fdes ≡ None → CoversOnce fdes
+pub covers-once-in : (cies : List Cie) (fdes : List Fde) → Ascends fde_offset fdes → parts_fault cies fdes ≡ None → CoversOnce fdes
 covers-once-in cies fdes up none = once-covered fdes up (parts-pass cies fdes none).overlap
 
 -- the programs of an FDE and of its CIE are good

@@ -7,7 +7,8 @@ use Rattle.std.proofs.lemmas.Cmp.{ranked}
 use Rattle.std.proofs.lemmas.List.{get_or_default}
 use Rattle.std.proofs.lemmas.List.Elements.{All-from_recursion, Contains-get_or}
 use Rattle.std.proofs.lemmas.Bool.Decides.{nat_tests}
-use Rattle.dw_rows.specs.Overlap.{IsAscending, IsFirst}
+use Rattle.dw_rows.specs.Overlap.{IsFirst}
+use Rattle.dw_frame.specs.Bounds.{Ascends}
 
 -- below, equal or above
 pub three_ways : (i j : ℕ) → (i < j) ⊎ ((i ≡ j) ⊎ (j < i))
@@ -22,7 +23,7 @@ pub squeeze : (i j : ℕ) → ¬ (i < j) → ¬ (j < i) → i ≡ j
 squeeze i j low high = elim (three_ways i j) [ inl lt ↦ absurd (low lt) | inr rest ↦ elim rest [ inl e ↦ e | inr lt ↦ absurd (high lt) ] ]
 
 -- an earlier place has the lower offset
-pub ascending-at : {X : Type 0} (at : X → ℕ) (xs : List X) → IsAscending at xs → (i j : ℕ) (d : X) → i < j → j < length xs → at (get_or xs i d) < at (get_or xs j d)
+pub ascending-at : {X : Type 0} (at : X → ℕ) (xs : List X) → Ascends at xs → (i j : ℕ) (d : X) → i < j → j < length xs → at (get_or xs i d) < at (get_or xs j d)
 ascending-at at [] up i j d lt in_range = absurd (omega arith)
 ascending-at at (x ∷ xs) up zero zero d lt in_range = absurd (omega arith)
 ascending-at at (x ∷ xs) up zero (suc j) d lt in_range = All-from_recursion (λ y. at x < at y) xs up.0 j d (omega arith)
@@ -30,11 +31,11 @@ ascending-at at (x ∷ xs) up (suc i) zero d lt in_range = absurd (omega arith)
 ascending-at at (x ∷ xs) up (suc i) (suc j) d lt in_range = ascending-at at xs up.1 i j d (omega arith) (omega arith)
 
 -- a lower offset has the earlier place
-pub ascending-place : {X : Type 0} (at : X → ℕ) (xs : List X) → IsAscending at xs → (i j : ℕ) (d : X) → i < length xs → j < length xs → at (get_or xs i d) < at (get_or xs j d) → i < j
+pub ascending-place : {X : Type 0} (at : X → ℕ) (xs : List X) → Ascends at xs → (i j : ℕ) (d : X) → i < length xs → j < length xs → at (get_or xs i d) < at (get_or xs j d) → i < j
 ascending-place at xs up i j d i_in j_in lt = grind (arith, ascending-at at xs up j i d, λ (same : i ≡ j). ap (λ k. at (get_or xs k d)) same)
 
 -- two elements at one offset are one
-pub ascending-same : {X : Type 0} (at : X → ℕ) (xs : List X) → IsAscending at xs → (x y : X) → Contains xs x → Contains xs y → at x ≡ at y → x ≡ y
+pub ascending-same : {X : Type 0} (at : X → ℕ) (xs : List X) → Ascends at xs → (x y : X) → Contains xs x → Contains xs y → at x ≡ at y → x ≡ y
 ascending-same at xs up x y (i, i_in, i_is) (j, j_in, j_is) same =
     let y_is : get_or xs j x ≡ y = get_or_default xs j x y j_in ∙ j_is in
     let low : ¬ (i < j) = λ lt. let h : at x < at y = subst (λ v. at x < at v) y_is (subst (λ v. at v < at (get_or xs j x)) i_is (ascending-at at xs up i j x lt j_in)) in omega arith in
@@ -43,7 +44,7 @@ ascending-same at xs up x y (i, i_in, i_is) (j, j_in, j_is) same =
     sym i_is ∙ (ap (λ k. get_or xs k x) place ∙ y_is)
 
 -- where each element before a place passes, each at a lower offset does
-pub first-at : {X : Type 0} (at : X → ℕ) (Passes Fails : X → Type 0) (xs : List X) → IsAscending at xs → (i : ℕ) (x : X) → i < length xs → get_or xs i x ≡ x → ((k : ℕ) (d : X) → k < i → Passes (get_or xs k d)) → Fails x → IsFirst at Passes Fails xs x
+pub first-at : {X : Type 0} (at : X → ℕ) (Passes Fails : X → Type 0) (xs : List X) → Ascends at xs → (i : ℕ) (x : X) → i < length xs → get_or xs i x ≡ x → ((k : ℕ) (d : X) → k < i → Passes (get_or xs k d)) → Fails x → IsFirst at Passes Fails xs x
 first-at at Passes Fails xs up i x i_in i_is passed failed = record {
   among = (i, i_in, i_is);
   fails = failed;
@@ -54,7 +55,7 @@ first-at at Passes Fails xs up i x i_in i_is passed failed = record {
 }
 
 -- the same of what a place reads, at any default
-pub first-read : {X : Type 0} (at : X → ℕ) (Passes Fails : X → Type 0) (xs : List X) → IsAscending at xs → (i : ℕ) (d : X) → i < length xs → ((k : ℕ) (d : X) → k < i → Passes (get_or xs k d)) → Fails (get_or xs i d) → IsFirst at Passes Fails xs (get_or xs i d)
+pub first-read : {X : Type 0} (at : X → ℕ) (Passes Fails : X → Type 0) (xs : List X) → Ascends at xs → (i : ℕ) (d : X) → i < length xs → ((k : ℕ) (d : X) → k < i → Passes (get_or xs k d)) → Fails (get_or xs i d) → IsFirst at Passes Fails xs (get_or xs i d)
 first-read at Passes Fails xs up i d i_in passed failed = first-at at Passes Fails xs up i (get_or xs i d) i_in (get_or_default xs i (get_or xs i d) d i_in) passed failed
 
 -- where each place passes, each element does
@@ -75,7 +76,7 @@ index-rises a b k le = grind (arith, nat_tests)
 pub searched-found : {X : Type 0} (key : X → ℕ) (xs : List X) (k : ℕ) (d : X) (i : ℕ) → i < length xs → IsBinarySearchResult (λ y. nat_cmp (key y) k) xs (Ok i) → Contains xs (get_or xs i d) × (key (get_or xs i d) ≡ k)
 searched-found key xs k d i in_range found = (Contains-get_or xs i d in_range, ranked _ k _ (sym (found d)))
 
-pub searched-none : {X : Type 0} (key : X → ℕ) (xs : List X) → IsAscending key xs → (k : ℕ) (i : ℕ) → i ≤ length xs → IsBinarySearchResult (λ y. nat_cmp (key y) k) xs (Err i) → (x : X) → Contains xs x → key x ≢ k
+pub searched-none : {X : Type 0} (key : X → ℕ) (xs : List X) → Ascends key xs → (k : ℕ) (i : ℕ) → i ≤ length xs → IsBinarySearchResult (λ y. nat_cmp (key y) k) xs (Err i) → (x : X) → Contains xs x → key x ≢ k
 searched-none {X} key xs up k i in_range parted =
     let not_above : (i j : ℕ) (e : X) → i ≤ j → j < length xs → key (get_or xs i e) ≤ key (get_or xs j e) =
     λ i j e le lt. grind (arith, ascending-at key xs up i j e, λ (same : i ≡ j). ap (λ n. key (get_or xs n e)) same) in

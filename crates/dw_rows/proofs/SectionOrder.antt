@@ -12,7 +12,7 @@ use Rattle.dw_frame.proofs.RecordBounds.{records-ascend, entries-sound}
 use Rattle.dw_rows.specs.Section.{frame_of, common_in, description_in, parts_fault}
 use Rattle.dw_rows.specs.Kept.{Kept}
 use Rattle.dw_rows.specs.Initial.{AreLeftBy}
-use Rattle.dw_rows.specs.Overlap.{IsAscending, cie_offset, fde_offset, IsIndexOf, IsKept}
+use Rattle.dw_rows.specs.Overlap.{cie_offset, fde_offset, IsIndexOf, IsKept}
 
 -- what is read without a fault is its values
 pub read-whole : {X : Type 0} (items : List (Result X Fault)) → fault_in items ≡ None → items ≡ map Ok (values_in items)
@@ -30,12 +30,12 @@ all-fdes n [] all = tt
 all-fdes n (common c ∷ records) all = all-fdes n records all.1
 all-fdes n (description f ∷ records) all = (all.0, all-fdes n records all.1)
 
-ascending-cies : (records : List Record) → Ascends records → IsAscending cie_offset (filter_map common_in records)
+ascending-cies : (records : List Record) → Ascends offset_of records → Ascends cie_offset (filter_map common_in records)
 ascending-cies [] up = tt
 ascending-cies (common c ∷ records) up = (all-cies c.offset records up.0, ascending-cies records up.1)
 ascending-cies (description f ∷ records) up = ascending-cies records up.1
 
-ascending-fdes : (records : List Record) → Ascends records → IsAscending fde_offset (filter_map description_in records)
+ascending-fdes : (records : List Record) → Ascends offset_of records → Ascends fde_offset (filter_map description_in records)
 ascending-fdes [] up = tt
 ascending-fdes (common c ∷ records) up = ascending-fdes records up.1
 ascending-fdes (description f ∷ records) up = (all-fdes f.offset records up.0, ascending-fdes records up.1)
@@ -44,13 +44,13 @@ ascending-fdes (description f ∷ records) up = (all-fdes f.offset records up.0,
 pub are-records : (target : Target) (section : List ℕ) → fault_in (entries_of target section) ≡ None → AreRecords target 0 section (values_in (entries_of target section))
 are-records target section none = (sections-are-records target section (values_in (entries_of target section))).0 (read-whole (entries_of target section) none)
 
-ascends : (target : Target) (section : List ℕ) → fault_in (entries_of target section) ≡ None → Ascends (values_in (entries_of target section))
+ascends : (target : Target) (section : List ℕ) → fault_in (entries_of target section) ≡ None → Ascends offset_of (values_in (entries_of target section))
 ascends target section none = records-ascend target 0 section (values_in (entries_of target section)) (are-records target section none)
 
-pub cies-ascend : (target : Target) (section : List ℕ) → fault_in (entries_of target section) ≡ None → IsAscending cie_offset (frame_of target section).cies
+pub cies-ascend : (target : Target) (section : List ℕ) → fault_in (entries_of target section) ≡ None → Ascends cie_offset (frame_of target section).cies
 cies-ascend target section none = ascending-cies (values_in (entries_of target section)) (ascends target section none)
 
-pub fdes-ascend : (target : Target) (section : List ℕ) → fault_in (entries_of target section) ≡ None → IsAscending fde_offset (frame_of target section).fdes
+pub fdes-ascend : (target : Target) (section : List ℕ) → fault_in (entries_of target section) ≡ None → Ascends fde_offset (frame_of target section).fdes
 fdes-ascend target section none = ascending-fdes (values_in (entries_of target section)) (ascends target section none)
 
 -- an FDE of the frame is one of the section's entries
@@ -83,8 +83,8 @@ fdes-sound target section f among = entries-sound target section (Ok (descriptio
 pub kept : (target : Target) (section : List ℕ) (cies : List Cie) (left : List Kept) (fdes index : List Fde) → fault_in (entries_of target section) ≡ None → cies ≡ (frame_of target section).cies → fdes ≡ (frame_of target section).fdes
     → parts_fault cies fdes ≡ None → AreLeftBy cies left → IsIndexOf fdes index → IsKept (record { target = target; cies = cies; fdes = fdes }) left index
 kept target section cies left fdes index read cies_is fdes_is none left_by index_of = record {
-  cies_up = subst (IsAscending cie_offset) (sym cies_is) (cies-ascend target section read);
-  fdes_up = subst (IsAscending fde_offset) (sym fdes_is) (fdes-ascend target section read);
+  cies_up = subst (Ascends cie_offset) (sym cies_is) (cies-ascend target section read);
+  fdes_up = subst (Ascends fde_offset) (sym fdes_is) (fdes-ascend target section read);
   left_by = left_by;
   good = none;
   index_of = index_of;

@@ -2,7 +2,8 @@
 use Rattle.std.proofs.Common.{◌≡◌, ◌≢◌, ℕ, ◌+◌, ◌<◌, ◌≤◌, List, length, get_or, Contains, refl, sym, ap, subst, ◌∙◌, arith, inl, inr, ◌⊎◌}
 use Rattle.std.proofs.lemmas.List.{get_or_default}
 use Rattle.dw_rows.specs.Section.{Covers, SharesAddress, CoversOnce}
-use Rattle.dw_rows.specs.Overlap.{IsAscending, fde_offset, Overlaps, AreApart, IsFirstOverlap, ClashWithin, ApartWithin, IsOrdered, IsIndexOf}
+use Rattle.dw_rows.specs.Overlap.{fde_offset, Overlaps, AreApart, IsFirstOverlap, ClashWithin, ApartWithin, IsOrdered, IsIndexOf}
+use Rattle.dw_frame.specs.Bounds.{Ascends}
 use Rattle.dw_frame.specs.Records.{Fde}
 use Rattle.dw_rows.proofs.Search.{ascending-at, ascending-place, ascending-same, three_ways, before_or_at}
 
@@ -85,7 +86,7 @@ swept-all xs last i end swept all f g (j, j_in, j_is) (k, k_in, k_is) lt le (a, 
 some-of : (f : Fde) (a : ℕ) → Covers f a → 0 < f.range
 some-of f a c = omega (arith, c.0, c.1)
 
-pub first-clash : (fdes index : List Fde) (i : ℕ) (x : Fde) → IsAscending fde_offset fdes → IsIndexOf fdes index → i < length fdes → get_or fdes i x ≡ x → ClashWithin index x.offset → ((k : ℕ) (d : Fde) → k < i → ApartWithin index (get_or fdes k d).offset) → IsFirstOverlap fdes x
+pub first-clash : (fdes index : List Fde) (i : ℕ) (x : Fde) → Ascends fde_offset fdes → IsIndexOf fdes index → i < length fdes → get_or fdes i x ≡ x → ClashWithin index x.offset → ((k : ℕ) (d : Fde) → k < i → ApartWithin index (get_or fdes k d).offset) → IsFirstOverlap fdes x
 first-clash fdes index i x up is i_in i_is clash apart =
     let g_in : Contains fdes clash.g = is.from clash.g clash.g_in in
     let x_in : Contains fdes x = (i, i_in, i_is) in
@@ -101,7 +102,7 @@ first-clash fdes index i x up is i_in i_is clash apart =
       before = λ y y_in lt f f_in f_lt (a, cf, cy). placed y y_in lt f y (is.to f f_in (some-of f a cf)) (is.to y y_in (some-of y a cy)) f_lt (omega arith) (a, cf, cy);
     }
 
-pub none-clash : (fdes index : List Fde) (i : ℕ) (x : Fde) → IsAscending fde_offset fdes → IsIndexOf fdes index → i < length fdes → length fdes ≤ i + 1 → get_or fdes i x ≡ x → ApartWithin index x.offset → AreApart fdes
+pub none-clash : (fdes index : List Fde) (i : ℕ) (x : Fde) → Ascends fde_offset fdes → IsIndexOf fdes index → i < length fdes → length fdes ≤ i + 1 → get_or fdes i x ≡ x → ApartWithin index x.offset → AreApart fdes
 none-clash fdes index i x up is i_in last i_is apart g (m, m_in, m_is) f f_in f_lt (a, cf, cg) =
     let x_is : get_or fdes i g ≡ x = get_or_default fdes i g x i_in ∙ i_is in
     let before : m < i → g.offset < x.offset = λ lt. subst (λ v. g.offset < v.offset) x_is (subst (λ v. v.offset < (get_or fdes i g).offset) m_is (ascending-at fde_offset fdes up m i g lt i_in)) in
@@ -113,14 +114,14 @@ pub none-apart : (fdes : List Fde) → length fdes ≡ 0 → AreApart fdes
 none-apart fdes none g (m, m_in, m_is) = absurd (omega arith)
 
 -- where no FDE shares an address with an earlier one, no address is covered by two
-pub covers-once : (fdes : List Fde) → IsAscending fde_offset fdes → AreApart fdes → CoversOnce fdes
+pub covers-once : (fdes : List Fde) → Ascends fde_offset fdes → AreApart fdes → CoversOnce fdes
 covers-once fdes up apart a f g f_in g_in cf cg =
     let low : ¬ (f.offset < g.offset) = λ lt. apart g g_in f f_in lt (a, cf, cg) in
     let high : ¬ (g.offset < f.offset) = λ lt. apart f f_in g g_in lt (a, cg, cf) in
     ascending-same fde_offset fdes up f g f_in g_in (omega (arith, low, high))
 
 -- where none share an address up to an FDE, none do up to an earlier one
-pub apart-below : (fdes index : List Fde) (i : ℕ) (x : Fde) → IsAscending fde_offset fdes → i < length fdes → get_or fdes i x ≡ x → ApartWithin index x.offset → (k : ℕ) (d : Fde) → k ≤ i → ApartWithin index (get_or fdes k d).offset
+pub apart-below : (fdes index : List Fde) (i : ℕ) (x : Fde) → Ascends fde_offset fdes → i < length fdes → get_or fdes i x ≡ x → ApartWithin index x.offset → (k : ℕ) (d : Fde) → k ≤ i → ApartWithin index (get_or fdes k d).offset
 apart-below fdes index i x up i_in i_is apart k d le f g f_in g_in order within shared =
     let x_is : get_or fdes i d ≡ x = get_or_default fdes i d x i_in ∙ i_is in
     let below : (get_or fdes k d).offset ≤ x.offset = elim (before_or_at k i (omega arith)) [

@@ -9,7 +9,8 @@ use Rattle.dw_rows.specs.Judgement.{cie_fault, fde_fault}
 use Rattle.dw_rows.specs.Good.{IsGoodCieProgram, IsGoodFdeProgram}
 use Rattle.dw_rows.specs.Section.{cie_at, pointer_fault, program_fault, fault_behind, parts_fault, section_fault, frame_of, frame_fault, CoversOnce, cies_among, fdes_among}
 use Rattle.dw_rows.specs.WellFormed.{IsWellFormed}
-use Rattle.dw_rows.specs.Overlap.{IsAscending, cie_offset, fde_offset, AreApart}
+use Rattle.dw_rows.specs.Overlap.{cie_offset, fde_offset, AreApart}
+use Rattle.dw_frame.specs.Bounds.{Ascends}
 use Rattle.dw_rows.proofs.Faults.{found-at, at-found, none-each}
 use Rattle.dw_rows.proofs.Clashes.{each-none, none-overlap}
 use Rattle.dw_rows.proofs.Parts.{or_else-none, PartsPass, parts-pass, pass-parts, pointed-in, good-behind, covers-once-in}
@@ -52,7 +53,7 @@ apart-from-once fdes once g g_in f f_in lt (a, cf, cg) = let same : f.offset ≡
 no-pointer-fault : (cies : List Cie) (f : Fde) (c : Cie) → cie_at cies f.cie_pointer ≡ Some c → pointer_fault cies f ≡ None
 no-pointer-fault cies f c is = rw is refl
 
-passes : ProgramLaws → (cies : List Cie) (fdes : List Fde) → IsAscending cie_offset cies
+passes : ProgramLaws → (cies : List Cie) (fdes : List Fde) → Ascends cie_offset cies
     → ((f : Fde) → Contains fdes f → (c : Cie) × Contains cies c × (c.offset ≡ f.cie_pointer)) → ((c : Cie) → Contains cies c → IsGoodCieProgram c)
     → ((f : Fde) (c : Cie) → Contains fdes f → Contains cies c → c.offset ≡ f.cie_pointer → IsGoodFdeProgram c f) → CoversOnce fdes → PartsPass cies fdes
 passes laws cies fdes up pointers cie_programs fde_programs once = record {
@@ -72,7 +73,7 @@ no-fault laws target section w =
     let read : entries_of target section ≡ map Ok w.records = (sections-are-records target section w.records).1 w.spelled in
     let none : fault_in (entries_of target section) ≡ None = ap fault_in read ∙ all-read-fault w.records in
     let values : values_in (entries_of target section) ≡ w.records = ap values_in read ∙ all-read-values w.records in
-    let up : IsAscending cie_offset (cies_among w.records) = subst (λ l. IsAscending cie_offset (cies_among l)) values (cies-ascend target section none) in
+    let up : Ascends cie_offset (cies_among w.records) = subst (λ l. Ascends cie_offset (cies_among l)) values (cies-ascend target section none) in
     let parts : parts_fault (cies_among w.records) (fdes_among w.records) ≡ None = pass-parts (cies_among w.records) (fdes_among w.records) (passes laws (cies_among w.records) (fdes_among w.records) up w.pointers w.cie_programs w.fde_programs w.once) in
     let frame : frame_fault (frame_of target section) ≡ None = ap (λ l. parts_fault (cies_among l) (fdes_among l)) values ∙ parts in
     rw none frame

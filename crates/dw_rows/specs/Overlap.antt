@@ -3,15 +3,11 @@ use Rattle.std.specs.Prelude.{◌≡◌, ℕ, ◌+◌, ◌<◌, ◌≤◌, None,
 use Rattle.std.specs.List.{AllByRecursion}
 use Rattle.std.specs.List.Sorted.{IsNonDecreasingBy}
 use Rattle.dw_frame.specs.Records.{Cie, Fde}
+use Rattle.dw_frame.specs.Bounds.{Ascends}
 use Rattle.dw_frame.specs.Sections.{top_of}
 use Rattle.dw_rows.specs.Section.{Frame, SharesAddress, frame_fault}
 use Rattle.dw_rows.specs.Kept.{Kept}
 use Rattle.dw_rows.specs.Initial.{AreLeftBy}
-
--- each begins before those after it
-abbrev pub IsAscending : {X : Type 0} → (X → ℕ) → List X → Type 0
-IsAscending at [] = Unit {0}
-IsAscending at (x ∷ xs) = AllByRecursion (λ y. at x < at y) xs × IsAscending at xs
 
 abbrev pub fde_offset : Fde → ℕ
 fde_offset f = f.offset
@@ -68,9 +64,9 @@ pub record IsIndexOf (fdes index : List Fde) : Type 0 where
 
 -- what a checked section keeps: its records, what its CIEs leave, and its FDEs in order of address
 pub record IsKept (s : Frame) (left : List Kept) (index : List Fde) : Type 0 where
-  pub cies_up : IsAscending cie_offset s.cies
+  pub cies_up : Ascends cie_offset s.cies
   pub left_by : AreLeftBy s.cies left
-  pub fdes_up : IsAscending fde_offset s.fdes
+  pub fdes_up : Ascends fde_offset s.fdes
   pub good : frame_fault s ≡ None
   pub index_of : IsIndexOf s.fdes index
   pub fits : (f : Fde) → Contains s.fdes f → f.initial + f.range ≤ top_of s.target

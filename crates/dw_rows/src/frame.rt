@@ -7,7 +7,8 @@ ghost use Rattle.dw_frame.specs.Views.{cie_of, fde_of};
 ghost use Rattle.dw_bytes.specs.Answers.{Judges, Answers, fault_in};
 ghost use Rattle.dw_rows.specs.Judgement.{cie_fault, fde_fault};
 ghost use Rattle.dw_rows.specs.Section.{IsCoverOf, first_fault, overlap_fault, programs_fault, parts_fault, frame_fault, section_fault, frame_of, cie_in, rows_in, IsRowFor};
-ghost use Rattle.dw_rows.specs.Overlap.{IsAscending, cie_offset, fde_offset, IsIndexOf};
+ghost use Rattle.dw_rows.specs.Overlap.{cie_offset, fde_offset, IsIndexOf};
+ghost use Rattle.dw_frame.specs.Bounds.{Ascends};
 ghost use Rattle.dw_rows.specs.Machine.{IsLeftBy};
 ghost use Rattle.dw_rows.specs.Initial.{AreLeftBy};
 
@@ -90,7 +91,7 @@ fn check_overlap(
     fdes: &[FrameDescriptionEntry<'_>],
     index: &[FrameDescriptionEntry<'_>],
 ) -> Result<(), Fault>
-    requires fdes { IsAscending fde_offset (map fde_of fdes.now) }
+    requires fdes { Ascends fde_offset (map fde_of fdes.now) }
     requires index { IsIndexOf (map fde_of fdes.now) (map fde_of index.now) }
     ensures { Judges (first_fault (overlap_fault (map fde_of fdes.now)) (map fde_of fdes.now)) result }
 {
@@ -109,7 +110,7 @@ fn check_programs(
     cies: &[CommonInformationEntry<'_>],
     fdes: &[FrameDescriptionEntry<'_>],
 ) -> Result<InitialRules, Fault>
-    requires { IsAscending cie_offset (map cie_of cies.now) }
+    requires { Ascends cie_offset (map cie_of cies.now) }
     ensures answer { Answers (programs_fault (map cie_of cies.now) (map fde_of fdes.now)) result }
     ensures left { IfOk result (λ initial. AreLeftBy (map cie_of cies.now) initial) }
 {
@@ -127,8 +128,8 @@ fn check_parts<'a>(
     cies: &[CommonInformationEntry<'a>],
     fdes: &[FrameDescriptionEntry<'a>],
 ) -> Result<(InitialRules, Vec<FrameDescriptionEntry<'a>>), Fault>
-    requires cies { IsAscending cie_offset (map cie_of cies.now) }
-    requires fdes { IsAscending fde_offset (map fde_of fdes.now) }
+    requires cies { Ascends cie_offset (map cie_of cies.now) }
+    requires fdes { Ascends fde_offset (map fde_of fdes.now) }
     ensures answer { Answers (parts_fault (map cie_of cies.now) (map fde_of fdes.now)) result }
     ensures left { IfOk result (λ parts. AreLeftBy (map cie_of cies.now) parts.0) }
     ensures index { IfOk result (λ parts. IsIndexOf (map fde_of fdes.now) (map fde_of parts.1.items)) }

@@ -4,7 +4,8 @@ ghost use Rattle.std.specs.Prelude.{◌≡◌, ◌<◌, ◌≤◌, length, map, 
 ghost use Rattle.dw_frame.specs.Views.{fde_of};
 ghost use Rattle.dw_frame.specs.declared.entry.FrameDescriptionEntry.{FrameDescriptionEntry};
 ghost use Rattle.dw_rows.specs.Section.{CoversOnce, IsCoverOf};
-ghost use Rattle.dw_rows.specs.Overlap.{IsAscending, fde_offset, IsIndexOf, IsOrdered, ClashWithin, ApartWithin, AreApart, IsFirstOverlap};
+ghost use Rattle.dw_rows.specs.Overlap.{fde_offset, IsIndexOf, IsOrdered, ClashWithin, ApartWithin, AreApart, IsFirstOverlap};
+ghost use Rattle.dw_frame.specs.Bounds.{Ascends};
 
 use dw_frame::FrameDescriptionEntry;
 use std::alloc::{AllocError, Global};
@@ -27,7 +28,7 @@ pub fn index_of<'a>(
     alloc: Global,
     fdes: &[FrameDescriptionEntry<'a>],
 ) -> Result<Vec<FrameDescriptionEntry<'a>>, AllocError>
-    requires { IsAscending fde_offset (map fde_of fdes.now) }
+    requires { Ascends fde_offset (map fde_of fdes.now) }
     ensures { IfOk result (λ index. IsIndexOf (map fde_of fdes.now) (map fde_of index.items)) }
 {
     let mut index = covering_some(alloc, fdes)?;
@@ -58,7 +59,7 @@ pub fn first_overlap<'a>(
     fdes: &[FrameDescriptionEntry<'a>],
     index: &[FrameDescriptionEntry<'a>],
 ) -> Option<FrameDescriptionEntry<'a>>
-    requires fdes { IsAscending fde_offset (map fde_of fdes.now) }
+    requires fdes { Ascends fde_offset (map fde_of fdes.now) }
     requires index { IsIndexOf (map fde_of fdes.now) (map fde_of index.now) }
     ensures { MatchOption result (AreApart (map fde_of fdes.now)) (λ g. IsFirstOverlap (map fde_of fdes.now) (fde_of g)) }
 {

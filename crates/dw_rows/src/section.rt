@@ -5,7 +5,8 @@ ghost use Rattle.dw_bytes.specs.Answers.{Judges, Answers};
 ghost use Rattle.dw_frame.specs.Views.{cie_of, fde_of};
 ghost use Rattle.dw_rows.specs.Judgement.{cie_fault};
 ghost use Rattle.dw_rows.specs.Section.{cie_at, first_fault, pointer_fault, program_fault};
-ghost use Rattle.dw_rows.specs.Overlap.{IsAscending, cie_offset};
+ghost use Rattle.dw_rows.specs.Overlap.{cie_offset};
+ghost use Rattle.dw_frame.specs.Bounds.{Ascends};
 ghost use Rattle.dw_rows.specs.Machine.{IsLeftBy};
 ghost use Rattle.dw_rows.specs.Initial.{AreLeftBy};
 
@@ -25,7 +26,7 @@ pub const MEMORY: Fault = Fault {
 
 /// The place of the CIE that begins at an offset, by halving the CIEs in order of offset.
 fn place_of_cie(cies: &[CommonInformationEntry<'_>], offset: u64) -> Option<usize>
-    requires { IsAscending cie_offset (map cie_of cies.now) }
+    requires { Ascends cie_offset (map cie_of cies.now) }
     ensures { MatchOption result
         (cie_at (map cie_of cies.now) offset ≡ None)
         (λ place. (place < length cies.now) × (cie_at (map cie_of cies.now) offset ≡ slice_get (map cie_of cies.now) place)) }
@@ -41,7 +42,7 @@ pub fn find_cie<'a>(
     cies: &[CommonInformationEntry<'a>],
     offset: u64,
 ) -> Option<CommonInformationEntry<'a>>
-    requires { IsAscending cie_offset (map cie_of cies.now) }
+    requires { Ascends cie_offset (map cie_of cies.now) }
     ensures { option_map cie_of result ≡ cie_at (map cie_of cies.now) offset }
 {
     let place = place_of_cie(cies, offset)?;
@@ -55,7 +56,7 @@ pub fn recall_cie<'a>(
     initial: &InitialRules,
     offset: u64,
 ) -> Option<CommonInformationEntry<'a>>
-    requires order { IsAscending cie_offset (map cie_of cies.now) }
+    requires order { Ascends cie_offset (map cie_of cies.now) }
     requires left { AreLeftBy (map cie_of cies.now) initial.now }
     ensures cie { option_map cie_of result ≡ cie_at (map cie_of cies.now) offset }
     ensures first { IfSome result (λ cie. IsLeftBy (cie_of cie) position.new.first) }
@@ -70,7 +71,7 @@ pub fn check_pointers(
     cies: &[CommonInformationEntry<'_>],
     fdes: &[FrameDescriptionEntry<'_>],
 ) -> Result<(), Fault>
-    requires { IsAscending cie_offset (map cie_of cies.now) }
+    requires { Ascends cie_offset (map cie_of cies.now) }
     ensures { Judges (first_fault (pointer_fault (map cie_of cies.now)) (map fde_of fdes.now)) result }
 {
     for fde in fdes {
@@ -110,7 +111,7 @@ pub fn check_fdes(
     initial: &InitialRules,
     fdes: &[FrameDescriptionEntry<'_>],
 ) -> Result<(), Fault>
-    requires order { IsAscending cie_offset (map cie_of cies.now) }
+    requires order { Ascends cie_offset (map cie_of cies.now) }
     requires left { AreLeftBy (map cie_of cies.now) initial.now }
     ensures { Judges (first_fault (program_fault (map cie_of cies.now)) (map fde_of fdes.now)) result }
 {

@@ -4,7 +4,8 @@ use Rattle.dw_frame.specs.declared.entry.CommonInformationEntry.{CommonInformati
 use Rattle.dw_frame.specs.declared.entry.FrameDescriptionEntry.{FrameDescriptionEntry}
 use Rattle.dw_rows.specs.Section.{parts_fault, section_fault, frame_of}
 use Rattle.dw_rows.specs.Initial.{AreLeftBy}
-use Rattle.dw_rows.specs.Overlap.{IsAscending, cie_offset, fde_offset, IsIndexOf}
+use Rattle.dw_rows.specs.Overlap.{cie_offset, fde_offset, IsIndexOf}
+use Rattle.dw_frame.specs.Bounds.{Ascends}
 use Rattle.dw_rows.proofs.Standing.{section-answered}
 use Rattle.dw_rows.proofs.SectionOrder.{cies-ascend, fdes-ascend, kept}
 use Rattle.dw_rows.proofs.frame.check_frame.Goals as goal
@@ -12,12 +13,12 @@ use Rattle.dw_rows.proofs.frame.check_frame.Goals as goal
 pub check_parts-requires-clause-cies : goal.check_parts-requires-clause-cies
 check_parts-requires-clause-cies c =
     let cies : map cie_of c.deref.result.now ≡ (frame_of c.args.target c.args.section.now).cies = ap (λ (l : List CommonInformationEntry). map cie_of l) c.deref.ensures.value ∙ c.in_ok-cies.ensures.cies in
-    subst (IsAscending cie_offset) (sym cies) (cies-ascend c.args.target c.args.section.now c.in_ok-cies.ensures.read)
+    subst (Ascends cie_offset) (sym cies) (cies-ascend c.args.target c.args.section.now c.in_ok-cies.ensures.read)
 
 pub check_parts-requires-clause-fdes : goal.check_parts-requires-clause-fdes
 check_parts-requires-clause-fdes c =
     let fdes : map fde_of c.deref-2.result.now ≡ (frame_of c.args.target c.args.section.now).fdes = ap (λ (l : List FrameDescriptionEntry). map fde_of l) c.deref-2.ensures.value ∙ c.in_ok-cies.ensures.fdes in
-    subst (IsAscending fde_offset) (sym fdes) (fdes-ascend c.args.target c.args.section.now c.in_ok-cies.ensures.read)
+    subst (Ascends fde_offset) (sym fdes) (fdes-ascend c.args.target c.args.section.now c.in_ok-cies.ensures.read)
 
 pub invariant_of-result : goal.invariant_of-result
 invariant_of-result c =
