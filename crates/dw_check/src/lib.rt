@@ -25,6 +25,8 @@ pub use sink::{Sink, Stopped, Through};
 pub use words::request;
 
 #[cfg(test)]
+mod edge_tests;
+#[cfg(test)]
 mod eval_tests;
 #[cfg(test)]
 mod tests;

@@ -1,21 +1,19 @@
-//! Worked rows through `request` and `run`, and sinks that take little and stop.
+//! Frame sections through `request` and `run`.
 
 ghost use Rattle.std.specs.Prelude.{◌≡◌, length};
 
 use super::*;
 use std::alloc::Global;
-use std::io;
-use std::io::{Error, ErrorKind, Write};
 use std::test::Fail;
 
 /// A CIE of 24 bytes.
-const C1: &str = "14000000 ffffffff 04 00 08 00 01 78 10 0c0708 9001 00000000";
+pub(crate) const C1: &str = "14000000 ffffffff 04 00 08 00 01 78 10 0c0708 9001 00000000";
 
 /// The same with nops for instructions.
 const C1_NOPS: &str = "14000000 ffffffff 04 00 08 00 01 78 10 000000 0000 00000000";
 
 /// The head of an FDE of 32 bytes.
-const H1: &str = "1c000000 00000000 0010000000000000 2000000000000000";
+pub(crate) const H1: &str = "1c000000 00000000 0010000000000000 2000000000000000";
 
 /// The head of another up to its addresses.
 const H2: &str = "1c000000 00000000";
@@ -28,9 +26,10 @@ const LONG_C1: &str = "ffffffff 1400000000000000 ffffffffffffffff 04 00 08 00 01
 
 const FIRST_ROW: &str = "row 0x0000000000001000..0x0000000000001020 cfa=r7+8 r16=[c-8]\n";
 
-const FDE: &str = "fde 0x00000018 cie 0x00000000 0x0000000000001000..0x0000000000001020 ra r16\n";
+pub(crate) const FDE: &str =
+    "fde 0x00000018 cie 0x00000000 0x0000000000001000..0x0000000000001020 ra r16\n";
 
-const ROWS: &str = "\
+pub(crate) const ROWS: &str = "\
 row 0x0000000000001000..0x0000000000001001 cfa=r7+8 r16=[c-8]
 row 0x0000000000001001..0x0000000000001004 cfa=r7+16 r6=[c-16] r16=[c-8]
 row 0x0000000000001004..0x0000000000001020 cfa=r6+16 r6=[c-16] r16=[c-8]
@@ -46,7 +45,7 @@ pub(crate) fn asked(alloc: Global, words: &[&str]) -> Result<Result<Request, Usa
 }
 
 /// How a run of these words ends with this content of its file, and what it writes.
-fn shown(alloc: Global, words: &[&str], content: &[u8]) -> Result<(End, Vec<u8>), Fail> {
+pub(crate) fn shown(alloc: Global, words: &[&str], content: &[u8]) -> Result<(End, Vec<u8>), Fail> {
     let request = asked(alloc, words)?.ok().ok_or("a request")?;
     let files = vec![in alloc; Vec::from_slice(alloc, content)?]?;
     let files = files.as_slice();
@@ -427,131 +426,5 @@ fn rows_by_address(rt: HostRuntime) -> Result<(), Fail> {
         written.as_slice(),
         "refused 3 ReservedLength frame 0x00000000\n".as_bytes()
     );
-    Ok(())
-}
-
-#[test]
-fn bad_addresses(rt: HostRuntime) -> Result<(), Fail> {
-    for words in [
-        ["dwcheck", "row", "--hex", "f", "1000"],
-        ["dwcheck", "row", "--hex", "f", "0x"],
-        ["dwcheck", "row", "--hex", "f", "0X10"],
-        ["dwcheck", "row", "--hex", "f", "0x+1"],
-        ["dwcheck", "row", "--hex", "f", "0x1g"],
-        ["dwcheck", "row", "--hex", "f", "0x00000000000000001"],
-        ["dwcheck", "row", "--addr4", "f", "0x100000000"],
-    ] {
-        let Err(usage) = asked(rt.alloc(), &words)? else {
-            return Err("a request".into());
-        };
-        assert!(rt; matches!(usage, Usage::BadArgument));
-        assert_eq!(rt; usage.status(), 2);
-    }
-    for words in [
-        ["dwcheck", "row", "--big", "f", "0xFFFFffffFFFFffff"],
-        ["dwcheck", "row", "--addr4", "f", "0x00000000ffffffff"],
-    ] {
-        assert!(rt; asked(rt.alloc(), &words)?.is_ok());
-    }
-    Ok(())
-}
-
-#[test]
-fn words_that_ask_for_nothing(rt: HostRuntime) -> Result<(), Fail> {
-    for words in [
-        &["dwcheck"] as &[&str],
-        &["dwcheck", "rows"],
-        &["dwcheck", "rows", "a", "b"],
-        &["dwcheck", "rows", "--what", "a"],
-        &["dwcheck", "rows", "--hex", "--hex", "a"],
-        &["dwcheck", "--hex", "rows", "a"],
-        &["dwcheck", "columns", "a"],
-        &["dwcheck", "row", "a"],
-        &["dwcheck", "row", "a", "0x0", "b"],
-        &["dwcheck", "rows", "--help"],
-        &["dwcheck", "rows", "--state", "s", "a"],
-        &["dwcheck", "eval"],
-        &["dwcheck", "eval", "location"],
-        &["dwcheck", "eval", "location", "e", "f"],
-        &["dwcheck", "eval", "location", "e", "--state"],
-        &[
-            "dwcheck", "eval", "location", "e", "--state", "s", "--state", "t",
-        ],
-    ] {
-        let Err(usage) = asked(rt.alloc(), words)? else {
-            return Err("a request".into());
-        };
-        assert!(rt; matches!(usage, Usage::Line(_)));
-        assert_eq!(rt; usage.status(), 2);
-    }
-    Ok(())
-}
-
-/// A writer over an array that takes at most so many bytes a call, and fails after so many calls.
-struct Little {
-    bytes: [u8; 512],
-    len: usize,
-    most: usize,
-    calls: usize,
-}
-
-impl Write for Little {
-    fn write(&mut self, piece: &[u8]) -> io::Result<usize> {
-        if self.calls == 0 {
-            return Err(Error::from(ErrorKind::Other));
-        }
-        self.calls -= 1;
-        let room = 512usize.saturating_sub(self.len);
-        let n = piece.len().min(self.most).min(room);
-        for byte in &piece[..n] {
-            if self.len < 512 {
-                self.bytes[self.len] = *byte;
-                self.len += 1;
-            }
-        }
-        Ok(n)
-    }
-
-    fn flush(&mut self) -> io::Result<()> {
-        Ok(())
-    }
-}
-
-#[test]
-fn sinks_that_stop(rt: HostRuntime) -> Result<(), Fail> {
-    let request = asked(rt.alloc(), &["dwcheck", "rows", "--hex", "f"])?
-        .ok()
-        .ok_or("a request")?;
-    let text = format!(in rt.alloc(); "{C1}{H1} 41 0e10 8602 43 0d06")?;
-    let files = vec![in rt.alloc(); Vec::from_slice(rt.alloc(), text.as_bytes())?]?;
-    let files = files.as_slice();
-    assert!(rt; files.len() == request.files().len());
-    let whole = format!(in rt.alloc(); "{FDE}{ROWS}")?;
-    for (most, calls, len, end) in [
-        (1usize, 1000usize, whole.len(), End::Done),
-        (7, 1000, whole.len(), End::Done),
-        (50, 3, 126, End::Output),
-        (500, 0, 0, End::Output),
-        (0, 1, 0, End::Output),
-    ] {
-        let mut sink = Through::new(Little {
-            bytes: [0; 512],
-            len: 0,
-            most,
-            calls,
-        });
-        assert_eq!(rt; run(rt.alloc(), &request, files, &mut sink), end);
-        assert_eq!(rt; sink.stopped(), end == End::Output);
-        let Little {
-            bytes,
-            len: taken,
-            most: _,
-            calls: _,
-        } = sink.into_inner();
-        assert_eq!(rt; taken, len);
-        for (a, b) in bytes.iter().take(len).zip(whole.as_bytes()) {
-            assert_eq!(rt; *a, *b);
-        }
-    }
     Ok(())
 }
