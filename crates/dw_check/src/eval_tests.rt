@@ -8,7 +8,7 @@ use std::alloc::Global;
 use std::test::Fail;
 
 /// How `eval` of an expression as hex text ends, with the text of a state file where there is one, and what it writes.
-fn evaluated(
+pub(crate) fn evaluated(
     alloc: Global,
     words: &[&str],
     expression: &str,

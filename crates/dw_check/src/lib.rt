@@ -29,4 +29,6 @@ mod edge_tests;
 #[cfg(test)]
 mod eval_tests;
 #[cfg(test)]
+mod operation_tests;
+#[cfg(test)]
 mod tests;

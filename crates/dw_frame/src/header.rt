@@ -57,11 +57,7 @@ impl CieHeader {
     {
         Self::byte(cursor, 4, FaultKind::Version)?;
         Self::byte(cursor, 0, FaultKind::Augmentation)?;
-        Self::byte(
-            cursor,
-            target.address_size.bytes(),
-            FaultKind::AddressSize,
-        )?;
+        Self::byte(cursor, target.address_size.bytes(), FaultKind::AddressSize)?;
         Self::byte(cursor, 0, FaultKind::SegmentSize)?;
         let code_alignment_factor = cursor.uleb()?;
         let data_alignment_factor = cursor.sleb()?;
