@@ -1,0 +1,173 @@
+#!/usr/bin/env python3
+"""Random expressions and state files: what the program writes, against the model in expression_model.py.
+
+    bench/compare_expressions.py DWCHECK COUNT [SEED]
+
+Most expressions are good ones with branches, the others operations and bytes in any order.
+"""
+import random
+import subprocess
+import sys
+import tempfile
+
+from expression_model import answer
+
+BINARY = bytes([0x1a, 0x1b, 0x1c, 0x1d, 0x1e, 0x21, 0x22, 0x24, 0x25, 0x26, 0x27, 0x29, 0x2a, 0x2b, 0x2c, 0x2d, 0x2e])
+EDGES = [0, 1, 2, 7, 31, 32, 63, 64, 127, 128, 255, 0x1000, 0x7fffffff, 0x80000000, 0xffffffff, 1 << 32,
+         (1 << 63) - 1, 1 << 63, (1 << 64) - 1]
+
+
+class Maker:
+    def __init__(self, seed):
+        self.random = random.Random(seed)
+
+    def start(self):
+        """Another target and kind."""
+        self.big = self.random.random() < 0.3
+        self.size = self.random.choice([4, 8])
+        self.kind = self.random.choice(["cfa", "register", "location", "location"])
+
+    def number(self):
+        return self.random.choice([*EDGES, self.random.getrandbits(16), self.random.getrandbits(64)])
+
+    def unsigned(self, value):
+        out = bytearray()
+        while value >= 0x80:
+            out.append(value & 0x7f | 0x80)
+            value >>= 7
+        return bytes(out) + bytes([value])
+
+    def signed(self):
+        value = self.number() - (1 << 64) if self.random.random() < 0.5 else self.number() >> 1
+        value = max(value, -1 << 63)
+        out = bytearray()
+        while not -0x40 <= value < 0x40:
+            out.append(value & 0x7f | 0x80)
+            value >>= 7
+        return bytes(out) + bytes([value & 0x7f])
+
+    def fixed(self, value, count):
+        return (value % (1 << 8 * count)).to_bytes(count, "big" if self.big else "little")
+
+    def push(self):
+        """An operation that needs nothing and pushes one entry."""
+        width = self.random.choice([1, 2, 4, 8])
+        shapes = [
+            bytes([0x30 + self.random.randrange(32)]),
+            b"\x03" + self.fixed(self.number(), self.size),
+            bytes([6 + 2 * width.bit_length() + self.random.randrange(2)]) + self.fixed(self.number(), width),
+            b"\x10" + self.unsigned(self.number()),
+            b"\x11" + self.signed(),
+            bytes([0x70 + self.random.randrange(4)]) + self.signed(),
+            b"\x92" + self.unsigned(self.random.randrange(5)) + self.signed(),
+        ]
+        if self.kind == "location":
+            shapes += [b"\x9c", b"\x97", b"\x91" + self.signed()]
+        return self.random.choice(shapes)
+
+    def any(self):
+        """Any operation, or any byte."""
+        jump = self.random.randrange(-4, 20)
+        return self.random.choice([
+            self.push(), self.push(), self.push(), bytes([self.random.choice(BINARY)]), b"\x06", b"\x96", b"\x9f",
+            bytes([0x12 + self.random.randrange(6)]), b"\x94" + bytes([self.random.choice([1, 2, 3, 4, 8])]),
+            bytes([self.random.choice([0x28, 0x2f])]) + self.fixed(jump, 2), b"\x93" + self.unsigned(self.number()),
+            b"\x9d" + self.unsigned(self.number()) + self.unsigned(8), bytes([0x50 + self.random.randrange(32)]),
+            b"\x90" + self.unsigned(self.number()), b"\x9e\x02\xca\xfe", bytes([self.random.getrandbits(8)]),
+        ])
+
+    def one(self):
+        """What leaves one entry more."""
+        parts = [b"\x1f", b"\x20", b"\x19", b"\x96", b"\x12\x22", b"\x12\x1e", b"\x31\x24", b"\x23\x7f"]
+        return self.push() + b"".join(self.random.choices(parts, k=self.random.randrange(3)))
+
+    def diamond(self):
+        """A branch whose ways meet with one entry more."""
+        way, other = self.one(), self.one()
+        way += b"\x2f" + self.fixed(len(other), 2)
+        condition = bytes([0x30 + self.random.randrange(2)])
+        return condition + b"\x28" + self.fixed(len(way), 2) + way + other
+
+    def good(self):
+        """A good expression, but for a height above the limit."""
+        height = int(self.kind == "register")
+        out = b""
+        for _ in range(self.random.randrange(1, 16)):
+            if height >= 2 and self.random.random() < 0.5:
+                out, height = out + bytes([self.random.choice(BINARY)]), height - 1
+            elif height >= 1 and self.random.random() < 0.3:
+                out += self.random.choice([b"\x06", b"\x94\x01", b"\x94\x04", b"\x19", b"\x1f", b"\x20", b"\x23\x05"])
+            else:
+                out, height = out + self.random.choice([self.one, self.diamond])(), height + 1
+        if height == 0:
+            out, height = out + self.one(), 1
+        return out + (self.place(height) if self.kind == "location" else b"")
+
+    def place(self, height):
+        """What makes a location of an expression with entries."""
+        if self.random.random() < 0.5:
+            return self.random.choice([b"", b"\x9f"])
+        out = b"\x13" * (height - 1) + self.random.choice([b"", b"\x9f"]) + b"\x93\x04"
+        for _ in range(self.random.randrange(4)):
+            out += self.random.choice([b"", b"\x53", b"\x90\x81\x01", b"\x9e\x01\xff", self.one(), self.one() + b"\x9f"])
+            out += self.random.choice([b"\x93\x08", b"\x9d\x07\x03"])
+        return out
+
+    def expression(self):
+        if self.random.random() < 0.7:
+            return self.good()
+        out = b"".join(self.any() for _ in range(self.random.randrange(12)))
+        return out[:self.random.randrange(len(out) + 1)] if self.random.random() < 0.2 else out
+
+    def state(self):
+        """What a machine has, and the lines that say it."""
+        top = 1 << 8 * self.size
+        state = {"reg": {}, "mem": {}, "cfa": None, "frame": None, "object": None}
+        lines = []
+        for number in self.random.choices(range(4), k=5):
+            value = self.number() % top
+            state["reg"].setdefault(number, value)
+            lines.append(f"reg {number} {value:#x}")
+        for name in ["cfa", "frame", "object"]:
+            if self.random.random() < 0.8:
+                state[name] = self.number() % top
+                lines.append(f"{name} {state[name]:#x}")
+        for _ in range(3):
+            address = self.random.choice([0, 1, 7, 31, 0x1000, top - 8, top - 1])
+            held = bytes(self.random.getrandbits(8) for _ in range(min(self.random.randrange(1, 12), top - address)))
+            for i, byte in enumerate(held):
+                state["mem"].setdefault(address + i, byte)
+            lines.append(f"mem {address:#x} {held.hex()}")
+        return state, "\n".join(lines)
+
+
+def written(program, maker, expression, lines, folder):
+    for name, content in [("e", expression), ("s", lines.encode())]:
+        with open(f"{folder}/{name}", "wb") as file:
+            file.write(content)
+    flags = ["--big"] * maker.big + ["--addr4"] * (maker.size == 4)
+    words = [program, "eval", *flags, maker.kind, f"{folder}/e", "--state", f"{folder}/s"]
+    return subprocess.run(words, capture_output=True, text=True, check=False).stdout
+
+
+def main():
+    if len(sys.argv) not in (3, 4):
+        raise SystemExit(__doc__)
+    maker = Maker(int(sys.argv[3]) if len(sys.argv) == 4 else 0)
+    counts = {}
+    with tempfile.TemporaryDirectory() as folder:
+        for _ in range(int(sys.argv[2])):
+            maker.start()
+            expression, (state, lines) = maker.expression(), maker.state()
+            wanted = answer(expression, maker.kind, maker.big, maker.size, state)
+            text = written(sys.argv[1], maker, expression, lines, folder)
+            if text != wanted:
+                raise SystemExit(f"{expression.hex()} as {maker.kind}, {lines!r}\nwanted {wanted}\nwritten {text}")
+            word = " ".join(wanted.split()[:3:2] if wanted.startswith("refused") else wanted.split()[:1])
+            counts[word] = counts.get(word, 0) + 1
+    for word in sorted(counts):
+        print(f"{counts[word]:8} {word}")
+
+
+if __name__ == "__main__":
+    main()
