@@ -81,6 +81,13 @@ class Maker:
         parts = [b"\x1f", b"\x20", b"\x19", b"\x96", b"\x12\x22", b"\x12\x1e", b"\x31\x24", b"\x23\x7f"]
         return self.push() + b"".join(self.random.choices(parts, k=self.random.randrange(3)))
 
+    def read(self):
+        """A read in the place of an entry, mostly where the state may have memory."""
+        if self.random.random() < 0.1:
+            return b"\x06"
+        address = self.random.choice([b"\x30", b"\x31", b"\x37", b"\x4f", b"\x0a" + self.fixed(0x1000, 2)])
+        return b"\x13" + address + self.random.choice([b"\x94\x01", b"\x94\x02", b"\x94\x04"])
+
     def diamond(self):
         """A branch whose ways meet with one entry more."""
         way, other = self.one(), self.one()
@@ -96,7 +103,7 @@ class Maker:
             if height >= 2 and self.random.random() < 0.5:
                 out, height = out + bytes([self.random.choice(BINARY)]), height - 1
             elif height >= 1 and self.random.random() < 0.3:
-                out += self.random.choice([b"\x06", b"\x94\x01", b"\x94\x04", b"\x19", b"\x1f", b"\x20", b"\x23\x05"])
+                out += self.random.choice([self.read(), b"\x16" * (height > 1), b"\x19", b"\x1f", b"\x20", b"\x23\x05"])
             else:
                 out, height = out + self.random.choice([self.one, self.diamond])(), height + 1
         if height == 0:
