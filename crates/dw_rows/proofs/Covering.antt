@@ -95,6 +95,13 @@ covered-found c f a found none e = rw e (find-covered a f.initial (f.initial + f
 pub not-found-below : (c : Cie) (f : Fde) (a : ℕ) → fde_fault c f ≡ None → a < f.initial → find (has_address a) (rows_of c f) ≡ None
 not-found-below c f a none h = find-below a f.initial (f.initial + f.range) (rows_of c f) (cover-rows c f none) h
 
+pub not-found-above : (c : Cie) (f : Fde) (a : ℕ) → fde_fault c f ≡ None → f.initial + f.range ≤ a → find (has_address a) (rows_of c f) ≡ None
+not-found-above c f a none h = find-above a f.initial (f.initial + f.range) (rows_of c f) (cover-rows c f none) h
+
+-- a covered address has a row
+pub not-missed : (c : Cie) (f : Fde) (a : ℕ) → fde_fault c f ≡ None → f.initial ≤ a → a < f.initial + f.range → find (has_address a) (rows_of c f) ≡ None → ⊥
+not-missed c f a none low high missed = none-some _ missed (find-some a f.initial (f.initial + f.range) (rows_of c f) (cover-rows c f none) low high)
+
 -- a row that is found among rows up to an address begins and ends by it
 pub found-by : (p : Row → Bool) (from to : ℕ) (rows : List Row) (row : Row) → Cover from rows to → find p rows ≡ Some row → (row.start ≤ to) × (row.end ≤ to)
 found-by p from to [] row covered found = cc

@@ -1,5 +1,5 @@
 -- The index: filtered and sorted.
-use Rattle.std.proofs.Common.{◌≡◌, ◌≢◌, ℕ, zero, suc, ◌+◌, ◌-◌, ◌<◌, ◌≤◌, List, [], ◌∷◌, length, get_or, Contains, refl, sym, ap, subst, ◌∙◌, arith, inl, inr, ◌⊎◌, ◌==◌, Bool, true, false, nat_lt, ltb-true, lt-ltb, filter, if◌then◌else◌}
+use Rattle.std.proofs.Common.{◌≡◌, ◌≢◌, ℕ, zero, suc, ◌+◌, ◌-◌, ◌<◌, ◌≤◌, List, [], ◌∷◌, length, get_or, Contains, refl, sym, ap, subst, ◌∙◌, arith, inl, inr, ◌⊎◌, ◌==◌, Bool, true, false, nat_lt, ltb-true, lt-ltb, filter, if◌then◌else◌, Option, Some, None}
 use Rattle.std.specs.List.{AllByRecursion, swap}
 use Rattle.std.specs.List.Sorted.{IsPermutation, IsNonDecreasingBy}
 use Rattle.std.proofs.lemmas.List.{get_or_default}
@@ -7,8 +7,8 @@ use Rattle.std.proofs.lemmas.List.Edits.{swapped_from_swap, length-swap, Swapped
 use Rattle.std.proofs.lemmas.List.Elements.{All-filter, All-contains_itself, All-contains, filter_passes}
 use Rattle.std.proofs.lemmas.List.Sorted.{IsPermutation-keeps, IsPermutation-sym, Contains-permutation}
 use Rattle.std.proofs.lemmas.Bool.Decides.{nat_tests}
-use Rattle.dw_rows.specs.Section.{Covers, CoversOnce}
-use Rattle.dw_rows.specs.Overlap.{fde_offset, initial_of, IsIndexOf}
+use Rattle.dw_rows.specs.Section.{Covers, CoversOnce, IsCoverOf}
+use Rattle.dw_rows.specs.Overlap.{fde_offset, initial_of, IsIndexOf, IsOrdered}
 use Rattle.dw_frame.specs.Bounds.{Ascends}
 use Rattle.dw_frame.specs.Records.{Fde}
 use Rattle.dw_rows.proofs.Search.{ascending-at, squeeze, three_ways}
@@ -103,10 +103,8 @@ indexed fdes index up moved sorted =
     }
 
 -- where the last FDE that begins at or below an address ends before it, none covers it
-pub not-covered : (fdes index : List Fde) → IsIndexOf fdes index → (place a : ℕ) (x : Fde) → CoversOnce fdes → 0 < place → place ≤ length index → get_or index (place - 1) x ≡ x → x.initial ≤ a → ((k : ℕ) (d : Fde) → place ≤ k → k < length index → a < (get_or index k d).initial) → x.initial + x.range ≤ a → (f : Fde) → Contains fdes f → ¬ Covers f a
-not-covered fdes index is place a x once some in_range x_is low above short f f_in covered =
-    let ordered = is.ordered in
-    let (k, k_in, k_is) = is.to f f_in (omega (arith, covered.0, covered.1)) in
+pub not-covered : (index : List Fde) → IsOrdered index → (place a : ℕ) (x : Fde) → CoversOnce index → 0 < place → place ≤ length index → get_or index (place - 1) x ≡ x → x.initial ≤ a → ((k : ℕ) (d : Fde) → place ≤ k → k < length index → a < (get_or index k d).initial) → x.initial + x.range ≤ a → (f : Fde) → Contains index f → ¬ Covers f a
+not-covered index ordered place a x once some in_range x_is low above short f (k, k_in, k_is) covered =
     elim (cases_lt k place) [
       | inr le ↦ let h : a < f.initial = subst (λ v. a < v.initial) k_is (above k f le k_in) in omega (arith, h, covered.0)
       | inl not_above ↦
@@ -114,14 +112,21 @@ not-covered fdes index is place a x once some in_range x_is low above short f f_
           let f_low : f.initial ≤ x.initial = subst (λ v. f.initial ≤ v.initial) at_x (subst (λ v. v.initial ≤ (get_or index (place - 1) f).initial) k_is (ordered.sorted k (place - 1) f (omega arith) (omega arith))) in
           let x_in : Contains index x = (place - 1, omega arith, x_is) in
           let x_some : 0 < x.range = ordered.some x x_in in
-          let same : f ≡ x = once x.initial f x f_in (is.from x x_in) (f_low, omega (arith, covered.1)) (omega arith, omega arith) in
+          let same : f ≡ x = once x.initial f x (k, k_in, k_is) x_in (f_low, omega (arith, covered.1)) (omega arith, omega arith) in
           let end : f.initial + f.range ≡ x.initial + x.range = ap (λ v. v.initial + v.range) same in
           omega (arith, end, covered.1)
     ]
 
 -- where each FDE begins above an address, none covers it
-pub none-covered : (fdes index : List Fde) → IsIndexOf fdes index → (a : ℕ) → ((k : ℕ) (d : Fde) → k < length index → a < (get_or index k d).initial) → (f : Fde) → Contains fdes f → ¬ Covers f a
-none-covered fdes index is a above f f_in covered =
-    let (k, k_in, k_is) = is.to f f_in (omega (arith, covered.0, covered.1)) in
+pub none-covered : (index : List Fde) → (a : ℕ) → ((k : ℕ) (d : Fde) → k < length index → a < (get_or index k d).initial) → (f : Fde) → Contains index f → ¬ Covers f a
+none-covered index a above f (k, k_in, k_is) covered =
     let h : a < f.initial = subst (λ v. a < v.initial) k_is (above k f k_in) in
     omega (arith, h, covered.0)
+
+-- what covers an address among those in the index does so among all
+pub once-indexed : (fdes index : List Fde) → IsIndexOf fdes index → CoversOnce fdes → CoversOnce index
+once-indexed fdes index is once a f g f_in g_in = once a f g (is.from f f_in) (is.from g g_in)
+
+pub cover-indexed : (fdes index : List Fde) → IsIndexOf fdes index → (a : ℕ) (o : Option Fde) → IsCoverOf index a o → IsCoverOf fdes a o
+cover-indexed fdes index is a None none = λ f f_in covered. none f (is.to f f_in (omega (arith, covered.0, covered.1))) covered
+cover-indexed fdes index is a (Some f) only = (is.from f only.0, only.1, λ g g_in covered. only.2 g (is.to g g_in (omega (arith, covered.0, covered.1))) covered)

@@ -24,3 +24,6 @@ mod WellFormedSections
 pub mod Initials
 pub mod Standing
 pub mod Stacks
+pub mod CheckedSections
+mod OneMatch
+mod OneRow

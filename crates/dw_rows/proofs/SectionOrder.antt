@@ -1,5 +1,5 @@
 -- What is read of a section: in order of offset, and with addresses of the target.
-use Rattle.std.proofs.Common.{◌≡◌, ℕ, suc, zero, ◌<◌, List, [], ◌∷◌, length, map, Some, None, Result, Ok, Err, Contains, refl, sym, ap, subst, arith}
+use Rattle.std.proofs.Common.{◌≡◌, ℕ, suc, zero, ◌<◌, List, [], ◌∷◌, length, map, Some, None, Result, Ok, Err, Contains, refl, ap, arith}
 use Rattle.std.specs.List.{AllByRecursion, filter_map}
 use Rattle.dw_bytes.specs.declared.target.Target.{Target}
 use Rattle.dw_bytes.specs.declared.fault.Fault.{Fault}
@@ -9,10 +9,8 @@ use Rattle.dw_frame.specs.Sections.{entries_of, AreRecords}
 use Rattle.dw_frame.specs.Bounds.{Ascends, offset_of, IsSoundCie, IsSoundFde}
 use Rattle.dw_frame.proofs.EachRecord.{sections-are-records}
 use Rattle.dw_frame.proofs.RecordBounds.{records-ascend, entries-sound}
-use Rattle.dw_rows.specs.Section.{frame_of, common_in, description_in, parts_fault}
-use Rattle.dw_rows.specs.Kept.{Kept}
-use Rattle.dw_rows.specs.Initial.{AreLeftBy}
-use Rattle.dw_rows.specs.Overlap.{cie_offset, fde_offset, IsIndexOf, IsKept}
+use Rattle.dw_rows.specs.Section.{frame_of, common_in, description_in}
+use Rattle.dw_rows.specs.Overlap.{cie_offset, fde_offset}
 
 -- what is read without a fault is its values
 pub read-whole : {X : Type 0} (items : List (Result X Fault)) → fault_in items ≡ None → items ≡ map Ok (values_in items)
@@ -78,15 +76,3 @@ cies-sound target section c among = entries-sound target section (Ok (common c))
 -- its addresses are addresses of the target
 pub fdes-sound : (target : Target) (section : List ℕ) (f : Fde) → Contains (frame_of target section).fdes f → IsSoundFde target (length section) f
 fdes-sound target section f among = entries-sound target section (Ok (description f)) (among-entries (entries_of target section) f among)
-
--- what a section without a fault keeps
-pub kept : (target : Target) (section : List ℕ) (cies : List Cie) (left : List Kept) (fdes index : List Fde) → fault_in (entries_of target section) ≡ None → cies ≡ (frame_of target section).cies → fdes ≡ (frame_of target section).fdes
-    → parts_fault cies fdes ≡ None → AreLeftBy cies left → IsIndexOf fdes index → IsKept (record { target = target; cies = cies; fdes = fdes }) left index
-kept target section cies left fdes index read cies_is fdes_is none left_by index_of = record {
-  cies_up = subst (Ascends cie_offset) (sym cies_is) (cies-ascend target section read);
-  fdes_up = subst (Ascends fde_offset) (sym fdes_is) (fdes-ascend target section read);
-  left_by = left_by;
-  good = none;
-  index_of = index_of;
-  fits = λ f among. (fdes-sound target section f (subst (λ l. Contains l f) fdes_is among)).range;
-}

@@ -7,24 +7,25 @@ use Rattle.dw_frame.specs.Sections.{entries_of}
 use Rattle.dw_frame.proofs.EachRecord.{sections-are-records}
 use Rattle.dw_rows.specs.Judgement.{cie_fault, fde_fault}
 use Rattle.dw_rows.specs.Good.{IsGoodCieProgram, IsGoodFdeProgram}
-use Rattle.dw_rows.specs.Section.{cie_at, pointer_fault, program_fault, fault_behind, parts_fault, section_fault, frame_of, frame_fault, CoversOnce, cies_among, fdes_among}
+use Rattle.dw_rows.specs.Section.{cie_at, pointer_fault, program_fault, fault_behind, parts_fault, section_fault, frame_of, CoversOnce, cies_among, fdes_among}
 use Rattle.dw_rows.specs.WellFormed.{IsWellFormed}
 use Rattle.dw_rows.specs.Overlap.{cie_offset, fde_offset, AreApart}
 use Rattle.dw_frame.specs.Bounds.{Ascends}
 use Rattle.dw_rows.proofs.Faults.{found-at, at-found, none-each}
 use Rattle.dw_rows.proofs.Clashes.{each-none, none-overlap}
 use Rattle.dw_rows.proofs.Parts.{or_else-none, PartsPass, parts-pass, pass-parts, pointed-in, good-behind, covers-once-in}
+use Rattle.dw_rows.proofs.Programs.{good-from-cie, cie-from-good, good-from-fde, fde-from-good}
 use Rattle.dw_rows.proofs.SectionOrder.{are-records, cies-ascend, fdes-ascend}
 
 -- what the laws of programs say
-pub record ProgramLaws : Type 0 where
-  pub cie : (c : Cie) → (cie_fault c ≡ None) ↔ IsGoodCieProgram c
-  pub fde : (c : Cie) (f : Fde) → cie_fault c ≡ None → (fde_fault c f ≡ None) ↔ IsGoodFdeProgram c f
+record ProgramLaws : Type 0 where
+  cie : (c : Cie) → (cie_fault c ≡ None) ↔ IsGoodCieProgram c
+  fde : (c : Cie) (f : Fde) → cie_fault c ≡ None → (fde_fault c f ≡ None) ↔ IsGoodFdeProgram c f
 
 well-formed : ProgramLaws → (target : Target) (section : List ℕ) → section_fault target section ≡ None → IsWellFormed target section
 unfolding section_fault
 well-formed laws target section none =
-    let split = or_else-none (fault_in (entries_of target section)) (frame_fault (frame_of target section)) none in
+    let split = or_else-none (fault_in (entries_of target section)) (parts_fault (frame_of target section).cies (frame_of target section).fdes) none in
     let records = values_in (entries_of target section) in
     let cies = cies_among records in
     let fdes = fdes_among records in
@@ -75,8 +76,17 @@ no-fault laws target section w =
     let values : values_in (entries_of target section) ≡ w.records = ap values_in read ∙ all-read-values w.records in
     let up : Ascends cie_offset (cies_among w.records) = subst (λ l. Ascends cie_offset (cies_among l)) values (cies-ascend target section none) in
     let parts : parts_fault (cies_among w.records) (fdes_among w.records) ≡ None = pass-parts (cies_among w.records) (fdes_among w.records) (passes laws (cies_among w.records) (fdes_among w.records) up w.pointers w.cie_programs w.fde_programs w.once) in
-    let frame : frame_fault (frame_of target section) ≡ None = ap (λ l. parts_fault (cies_among l) (fdes_among l)) values ∙ parts in
+    let frame : parts_fault (frame_of target section).cies (frame_of target section).fdes ≡ None = ap (λ l. parts_fault (cies_among l) (fdes_among l)) values ∙ parts in
     rw none frame
 
-pub faultless-iff : ProgramLaws → (target : Target) (section : List ℕ) → (section_fault target section ≡ None) ↔ IsWellFormed target section
+faultless-iff : ProgramLaws → (target : Target) (section : List ℕ) → (section_fault target section ≡ None) ↔ IsWellFormed target section
 faultless-iff laws target section = (well-formed laws target section, no-fault laws target section)
+
+program-laws : ProgramLaws
+program-laws = record {
+  cie = λ cie. ((λ h. good-from-cie cie h), (λ g. cie-from-good cie g));
+  fde = λ cie fde none. ((λ h. good-from-fde cie fde (good-from-cie cie none) h), (λ g. fde-from-good cie fde g));
+}
+
+pub faultless-well-formed : (target : Target) (section : List ℕ) → (section_fault target section ≡ None) ↔ IsWellFormed target section
+faultless-well-formed = faultless-iff program-laws

@@ -15,3 +15,4 @@ pub mod Walks
 pub mod Good
 pub mod Clauses
 pub mod WellFormed
+pub mod ExactRows

@@ -1,11 +1,10 @@
 -- FDEs in order of offset, and in order of address. No contract of a public call speaks of these.
-use Rattle.std.specs.Prelude.{◌≡◌, ℕ, ◌+◌, ◌<◌, ◌≤◌, None, List, [], ◌∷◌, length, Contains, slice_index_or}
+use Rattle.std.specs.Prelude.{◌≡◌, ℕ, ◌+◌, ◌<◌, ◌≤◌, List, [], ◌∷◌, length, Contains, slice_index_or}
 use Rattle.std.specs.List.{AllByRecursion}
 use Rattle.std.specs.List.Sorted.{IsNonDecreasingBy}
 use Rattle.dw_frame.specs.Records.{Cie, Fde}
 use Rattle.dw_frame.specs.Bounds.{Ascends}
-use Rattle.dw_frame.specs.Sections.{top_of}
-use Rattle.dw_rows.specs.Section.{Frame, SharesAddress, frame_fault}
+use Rattle.dw_rows.specs.Section.{Frame, SharesAddress, IsChecked}
 use Rattle.dw_rows.specs.Kept.{Kept}
 use Rattle.dw_rows.specs.Initial.{AreLeftBy}
 
@@ -64,9 +63,6 @@ pub record IsIndexOf (fdes index : List Fde) : Type 0 where
 
 -- what a checked section keeps: its records, what its CIEs leave, and its FDEs in order of address
 pub record IsKept (s : Frame) (left : List Kept) (index : List Fde) : Type 0 where
-  pub cies_up : Ascends cie_offset s.cies
+  pub checked : IsChecked s
   pub left_by : AreLeftBy s.cies left
-  pub fdes_up : Ascends fde_offset s.fdes
-  pub good : frame_fault s ≡ None
   pub index_of : IsIndexOf s.fdes index
-  pub fits : (f : Fde) → Contains s.fdes f → f.initial + f.range ≤ top_of s.target

@@ -11,9 +11,11 @@ use Rattle.dw_rows.specs.Rules.{Row}
 use Rattle.dw_rows.specs.Judgement.{or_else, cie_fault, fde_fault}
 use Rattle.dw_rows.specs.UnwindRows.{rows_of, has_address}
 
--- The records of a section, the CIEs and the FDEs apart, each in the order of the section.
+-- A section under a target, and what is read of it before its first fault: the CIEs and the FDEs apart, each in the order of
+-- the section.
 pub record Frame : Type 0 where
   pub target : Target
+  pub section : List ℕ
   pub cies : List Cie
   pub fdes : List Fde
 
@@ -31,12 +33,10 @@ cies_among records = filter_map common_in records
 abbrev pub fdes_among : List Record → List Fde
 fdes_among records = filter_map description_in records
 
-abbrev pub frame_from : Target → List Record → Frame
-frame_from target records = record { target = target; cies = cies_among records; fdes = fdes_among records }
-
--- what is read of a section before its first fault
 abbrev pub frame_of : Target → List ℕ → Frame
-frame_of target section = frame_from target (values_in (entries_of target section))
+frame_of target section =
+    let records = values_in (entries_of target section) in
+    record { target = target; section = section; cies = cies_among records; fdes = fdes_among records }
 
 -- ---- what FDEs cover
 
@@ -94,12 +94,14 @@ programs_fault cies fdes = or_else (first_fault (pointer_fault cies) fdes) (or_e
 unfoldable pub parts_fault : List Cie → List Fde → Option Fault
 parts_fault cies fdes = or_else (programs_fault cies fdes) (first_fault (overlap_fault fdes) fdes)
 
-abbrev pub frame_fault : Frame → Option Fault
-frame_fault s = parts_fault s.cies s.fdes
-
 -- the first fault of a section: of its records, or else of what was read
 unfoldable pub section_fault : Target → List ℕ → Option Fault
-section_fault target section = or_else (fault_in (entries_of target section)) (frame_fault (frame_of target section))
+section_fault target section = or_else (fault_in (entries_of target section)) (parts_fault (frame_of target section).cies (frame_of target section).fdes)
+
+-- A section that is accepted: it is its bytes, and these have no fault.
+pub record IsChecked (s : Frame) : Type 0 where
+  pub whole : s ≡ frame_of s.target s.section
+  pub faultless : section_fault s.target s.section ≡ None
 
 -- ---- rows
 

@@ -1,12 +1,13 @@
 //! A checked section.
 
-ghost use Rattle.std.specs.Prelude.{◌≡◌, ◌+◌, ◌<◌, ◌≤◌, ◌^◌, None, Some, Contains, length, map, option_map, IfOk, IfErr, IfSome};
-ghost use Rattle.dw_frame.specs.Records.{Fde};
+ghost use Rattle.std.specs.Prelude.{◌≡◌, ◌+◌, ◌<◌, ◌≤◌, ◌^◌, None, Some, Contains, length, map, option_map, find, IfOk, IfErr, IfSome, IfNone};
+ghost use Rattle.dw_frame.specs.Records.{Cie, Fde};
 ghost use Rattle.dw_frame.specs.Sections.{entries_of, top_of};
 ghost use Rattle.dw_frame.specs.Views.{cie_of, fde_of};
 ghost use Rattle.dw_bytes.specs.Answers.{Judges, Answers, fault_in};
 ghost use Rattle.dw_rows.specs.Judgement.{cie_fault, fde_fault};
-ghost use Rattle.dw_rows.specs.Section.{IsCoverOf, first_fault, overlap_fault, programs_fault, parts_fault, frame_fault, section_fault, frame_of, cie_in, rows_in, IsRowFor};
+ghost use Rattle.dw_rows.specs.Section.{IsCoverOf, first_fault, overlap_fault, programs_fault, parts_fault, section_fault, IsChecked, frame_of, cie_in, rows_in, IsRowFor};
+ghost use Rattle.dw_rows.specs.UnwindRows.{has_address};
 ghost use Rattle.dw_rows.specs.Overlap.{cie_offset, fde_offset, IsIndexOf};
 ghost use Rattle.dw_frame.specs.Bounds.{Ascends};
 ghost use Rattle.dw_rows.specs.Machine.{IsLeftBy};
@@ -14,7 +15,7 @@ ghost use Rattle.dw_rows.specs.Initial.{AreLeftBy};
 
 use crate::index::{covering, first_overlap, index_of};
 use crate::initial_rules::InitialRules;
-use crate::lookup::row_from;
+use crate::lookup::write_row_at;
 use crate::machine::Machine;
 use crate::position::Position;
 use crate::row::UnwindTableRow;
@@ -29,6 +30,7 @@ use std::marker::Model;
 #[derive(Drop)]
 pub struct CheckedFrame<'a> {
     target: Target,
+    section: &'a [u8],
     cies: Vec<CommonInformationEntry<'a>>,
     /// What the initial instructions of each CIE leave.
     initial: InitialRules,
@@ -45,9 +47,9 @@ impl<'a> Model for CheckedFrame<'a> {
 
     ghost Value = { Frame };
 
-    ghost view = { λ c. record { target = c.target; cies = map cie_of c.cies.items; fdes = map fde_of c.fdes.items } };
+    ghost view = { λ c. record { target = c.target; section = c.section.now; cies = map cie_of c.cies.items; fdes = map fde_of c.fdes.items } };
 
-    ghost invariant = { λ c. IsKept (record { target = c.target; cies = map cie_of c.cies.items; fdes = map fde_of c.fdes.items }) c.initial (map fde_of c.index.items) };
+    ghost invariant = { λ c. IsKept (record { target = c.target; section = c.section.now; cies = map cie_of c.cies.items; fdes = map fde_of c.fdes.items }) c.initial (map fde_of c.index.items) };
 }
 
 /// The records of a section, the CIEs and the FDEs apart. One pass.
@@ -160,6 +162,7 @@ pub fn check_frame<'a>(
     let (initial, index) = check_parts(alloc, &cies, &fdes)?;
     Ok(CheckedFrame {
         target,
+        section,
         cies,
         initial,
         fdes,
@@ -175,17 +178,25 @@ impl<'a> CheckedFrame<'a> {
         self.target
     }
 
-    /// All CIEs, in the order of the section.
+    /// The bytes of the section, which have no fault.
+    pub fn section(&self) -> &'a [u8]
+        ensures section { result.now ≡ self.now.section }
+        ensures checked { IsChecked self.now }
+    {
+        self.section
+    }
+
+    /// All CIEs, in the order of the section. Their programs are good.
     pub fn cies(&self) -> &[CommonInformationEntry<'a>]
-        ensures { map cie_of result.now ≡ self.now.cies }
+        ensures cies { map cie_of result.now ≡ self.now.cies }
+        ensures good { (c : Cie) → Contains self.now.cies c → cie_fault c ≡ None }
     {
         self.cies.as_slice()
     }
 
-    /// All FDEs, in the order of the section. No fault is left in them, and their addresses are addresses of the target.
+    /// All FDEs, in the order of the section. Their addresses are addresses of the target.
     pub fn fdes(&self) -> &[FrameDescriptionEntry<'a>]
         ensures fdes { map fde_of result.now ≡ self.now.fdes }
-        ensures checked { frame_fault self.now ≡ None }
         ensures fit { (f : Fde) → Contains self.now.fdes f → f.initial + f.range ≤ top_of self.now.target }
     {
         self.fdes.as_slice()
@@ -196,7 +207,7 @@ impl<'a> CheckedFrame<'a> {
         ensures only { IsCoverOf self.now.fdes address (option_map fde_of result) }
         ensures fit { IfSome result (λ fde. fde.initial_location + fde.address_range ≤ top_of self.now.target) }
     {
-        covering(&self.fdes, &self.index, address)
+        covering(&self.index, address)
     }
 
     /// The CIE of one of the FDEs, found by halving. Both have good programs.
@@ -252,9 +263,28 @@ impl<'a> CheckedFrame<'a> {
         ensures row { IsRowFor self.now address result }
         ensures fit { IfSome result (λ row. (row.start ≤ top_of self.now.target) × (row.end ≤ top_of self.now.target)) }
     {
+        let mut row = UnwindTableRow::empty();
+        self.row_for_address_into(address, &mut row)?;
+        Some(row)
+    }
+
+    /// Writes the row of an address into the place of another, and answers the FDE that covers the address and its CIE.
+    /// Where none does it answers none, and the place is as before. One halving finds the FDE, and one its CIE.
+    pub fn row_for_address_into(
+        &self,
+        address: u64,
+        row: &mut UnwindTableRow,
+    ) -> Option<(CommonInformationEntry<'a>, FrameDescriptionEntry<'a>)>
+        ensures only { IsCoverOf self.now.fdes address (option_map (λ found. fde_of found.1) result) }
+        ensures cie { IfSome result (λ found. cie_in self.now (fde_of found.1) ≡ Some (cie_of found.0)) }
+        ensures row { IfSome result (λ found. find (has_address address) (rows_in self.now (fde_of found.1)) ≡ Some row.new) }
+        ensures fit { IfSome result (λ _. (row.new.start ≤ top_of self.now.target) × (row.new.end ≤ top_of self.now.target)) }
+        ensures rest { IfNone result (row.new ≡ row.old) }
+    {
         let fde = self.fde_for_address(address)?;
         let mut position = Position::new();
         let cie = self.recall_cie(&mut position, &fde);
-        row_from(&mut position, &cie, &fde, address)
+        write_row_at(&mut position, &cie, &fde, address, row);
+        Some((cie, fde))
     }
 }

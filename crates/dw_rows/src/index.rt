@@ -80,17 +80,15 @@ pub fn first_overlap<'a>(
     Some(fdes[high])
 }
 
-/// The FDE that covers an address, by halving the FDEs in order of address.
+/// The FDE that covers an address, by halving FDEs in order of address.
 pub fn covering<'a>(
-    fdes: &[FrameDescriptionEntry<'a>],
     index: &[FrameDescriptionEntry<'a>],
     address: u64,
 ) -> Option<FrameDescriptionEntry<'a>>
-    requires index { IsIndexOf (map fde_of fdes.now) (map fde_of index.now) }
-    requires once { CoversOnce (map fde_of fdes.now) }
-    ensures { IsCoverOf (map fde_of fdes.now) address (option_map fde_of result) }
+    requires order { IsOrdered (map fde_of index.now) }
+    requires once { CoversOnce (map fde_of index.now) }
+    ensures { IsCoverOf (map fde_of index.now) address (option_map fde_of result) }
 {
-    let _ = fdes;
     let place = index.partition_point(|fde| fde.initial_location <= address);
     if place == 0 {
         return None;

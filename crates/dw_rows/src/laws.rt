@@ -1,7 +1,7 @@
 //! What the definitions say, in the standard's words: functions that do nothing, each with the law as
 //! its contract.
 
-ghost use Rattle.std.specs.Prelude.{◌≡◌, ℕ, ◌+◌, ◌<◌, ◌≤◌, ◌↔◌, List, length, Option, Some, None, slice_get, filter, [], ◌∷◌, Err};
+ghost use Rattle.std.specs.Prelude.{◌≡◌, ℕ, ◌+◌, ◌<◌, ◌≤◌, ◌↔◌, List, length, Option, Some, None, slice_get, filter, [], ◌∷◌, Err, Contains};
 ghost use Rattle.dw_frame.specs.Records.{Cie, Fde};
 ghost use Rattle.dw_rows.specs.Rules.{Rule, Cfa, Row, IsTable, rule_in, rule_list};
 ghost use Rattle.dw_rows.specs.Effects.{Effect, pops};
@@ -12,8 +12,9 @@ ghost use Rattle.dw_rows.specs.Good.{rule_after, cfa_after, Match, IsGoodCieProg
 ghost use Rattle.dw_rows.specs.Clauses.{AreRules, AreRowsOf};
 ghost use Rattle.dw_bytes.specs.declared.target.Target.{Target};
 ghost use Rattle.dw_bytes.specs.declared.fault.Fault.{Fault};
-ghost use Rattle.dw_frame.specs.Bounds.{StandsIn};
-ghost use Rattle.dw_rows.specs.Section.{section_fault};
+ghost use Rattle.dw_frame.specs.Bounds.{StandsIn, IsSoundCie, IsSoundFde, Ascends};
+ghost use Rattle.dw_rows.specs.ExactRows.{HasOneRow};
+ghost use Rattle.dw_rows.specs.Section.{Frame, Covers, IsRowFor, IsChecked, section_fault};
 ghost use Rattle.dw_rows.specs.WellFormed.{IsWellFormed};
 ghost use Rattle.dw_rows.specs.declared.map.TheConstants.{MAX_RULES};
 ghost use Rattle.dw_rows.specs.declared.remembered.TheConstants.{MAX_REMEMBERED};
@@ -58,6 +59,29 @@ pub fn rule_lists_are_rules()
 /// with good programs, and no address covered by two FDEs.
 pub fn sections_without_fault_are_well_formed()
     ensures { (target : Target) (section : List ℕ) → (section_fault target section ≡ None) ↔ IsWellFormed target section }
+{}
+
+/// In a section that is accepted each address that an FDE covers has exactly one row, the standard's: one FDE covers it,
+/// one of that FDE's rows has it, and that row is the answer of a look-up. Any other address has none.
+pub fn exact_rows()
+    ensures covered { (s : Frame) (a : ℕ) → IsChecked s → (f : Fde) → Contains s.fdes f → Covers f a → HasOneRow s a }
+    ensures others { (s : Frame) (a : ℕ) → ((f : Fde) → Contains s.fdes f → ¬ Covers f a) →
+        (answer : Option Row) → IsRowFor s a answer → answer ≡ None }
+{}
+
+/// What a section that is accepted holds: good programs that lie in it and are of its target, in order of offset.
+pub fn checked_sections()
+    ensures well_formed { (s : Frame) → IsChecked s → IsWellFormed s.target s.section }
+    ensures cies { (s : Frame) → IsChecked s → (c : Cie) → Contains s.cies c → IsSoundCie s.target (length s.section) c }
+    ensures fdes { (s : Frame) → IsChecked s → (f : Fde) → Contains s.fdes f → IsSoundFde s.target (length s.section) f }
+    ensures cies_ascend { (s : Frame) → IsChecked s → Ascends (λ (c : Cie). c.offset) s.cies }
+    ensures fdes_ascend { (s : Frame) → IsChecked s → Ascends (λ (f : Fde). f.offset) s.fdes }
+{}
+
+/// Each restore_state has at most one match, and so has each remember_state.
+pub fn matches_are_unique()
+    ensures restore { (program : List Effect) (i j k : ℕ) → Match program i j → Match program i k → j ≡ k }
+    ensures remember { (program : List Effect) (i k j : ℕ) → Match program i j → Match program k j → i ≡ k }
 {}
 
 /// At most so many registers of a row have a rule other than default, and at most so many rows are remembered at once.

@@ -1,6 +1,6 @@
 //! The rows of an FDE whose program is good.
 
-ghost use Rattle.std.specs.Prelude.{◌≡◌, ◌+◌, ◌<◌, ◌≤◌, ◌↔◌, None, IsSome, find};
+ghost use Rattle.std.specs.Prelude.{◌≡◌, ◌+◌, ◌<◌, ◌≤◌, ◌↔◌, None, Some, IsSome, find};
 ghost use Rattle.dw_frame.specs.Views.{cie_of, fde_of};
 ghost use Rattle.dw_rows.specs.Judgement.{cie_fault, fde_fault};
 ghost use Rattle.dw_rows.specs.UnwindRows.{rows_of, has_address};
@@ -36,65 +36,78 @@ pub fn row_at<'a>(
     ensures row { result ≡ find (has_address address) (rows_of (cie_of cie.now) (fde_of fde.now)) }
     ensures covered { IsSome result ↔ ((fde.now.initial_location ≤ address) × (address < fde.now.initial_location + fde.now.address_range)) }
 {
+    if address < fde.initial_location {
+        return None;
+    }
+    if address - fde.initial_location >= fde.address_range {
+        return None;
+    }
     let mut position = Position::new();
     run_good(&mut position, cie);
-    row_from(&mut position, cie, fde, address)
+    let mut row = UnwindTableRow::empty();
+    write_row_at(&mut position, cie, fde, address, &mut row);
+    Some(row)
 }
 
-/// The same where the position has kept what the CIE's program leaves.
-pub(crate) fn row_from<'a>(
+/// Writes the row that has an address into the place of another. The FDE covers the address, and the position has kept what
+/// the CIE's program leaves.
+pub(crate) fn write_row_at<'a>(
     position: &mut Position,
     cie: &CommonInformationEntry<'a>,
     fde: &FrameDescriptionEntry<'a>,
     address: u64,
-) -> Option<UnwindTableRow>
+    row: &mut UnwindTableRow,
+)
     requires left { IsLeftBy (cie_of cie.now) position.old.first }
     requires fde { fde_fault (cie_of cie.now) (fde_of fde.now) ≡ None }
-    ensures row { result ≡ find (has_address address) (rows_of (cie_of cie.now) (fde_of fde.now)) }
-    ensures covered { IsSome result ↔ ((fde.now.initial_location ≤ address) × (address < fde.now.initial_location + fde.now.address_range)) }
+    requires low { fde.now.initial_location ≤ address }
+    requires high { address < fde.now.initial_location + fde.now.address_range }
+    ensures { find (has_address address) (rows_of (cie_of cie.now) (fde_of fde.now)) ≡ Some row.new }
 {
-    if address < fde.initial_location {
-        return None;
-    }
     let limit = fde.initial_location + fde.address_range;
     let mut instructions = begin_at(position, fde);
     loop {
         match next_plain(position, &mut instructions, cie, limit) {
             Next::Row(start, end) => {
                 if address < end {
-                    let mut row = UnwindTableRow::empty();
-                    position.write_row(start, end, &mut row);
-                    return Some(row);
+                    position.write_row(start, end, row);
+                    return;
                 }
             }
-            Next::Remembers => return row_behind(position, instructions, cie, fde, address),
-            Next::End => return None,
+            Next::Remembers => {
+                write_row_behind(position, instructions, cie, fde, address, row);
+                return;
+            }
+            Next::End => unreachable!(),
         }
     }
 }
 
-/// The row that has an address, where it isn't before the remember_state at the position. Most programs
-/// have none: only here is room made for what is remembered.
+/// The same where the row isn't before the remember_state at the position. Most programs have none: only here is room made for
+/// what is remembered.
 #[inline(never)]
-fn row_behind<'a>(
+fn write_row_behind<'a>(
     position: &Position,
     mut instructions: Instructions<'a>,
     cie: &CommonInformationEntry<'a>,
     fde: &FrameDescriptionEntry<'a>,
     address: u64,
-) -> Option<UnwindTableRow>
-    requires { Seeks (cie_of cie.now) (fde_of fde.now) address (remembering (record { cie = cie_of cie.now; end = fde.now.initial_location + fde.now.address_range; machine = position.now; instructions = instructions })) }
-    ensures { result ≡ find (has_address address) (rows_of (cie_of cie.now) (fde_of fde.now)) }
+    row: &mut UnwindTableRow,
+)
+    requires fde { fde_fault (cie_of cie.now) (fde_of fde.now) ≡ None }
+    requires low { fde.now.initial_location ≤ address }
+    requires high { address < fde.now.initial_location + fde.now.address_range }
+    requires seeks { Seeks (cie_of cie.now) (fde_of fde.now) address (remembering (record { cie = cie_of cie.now; end = fde.now.initial_location + fde.now.address_range; machine = position.now; instructions = instructions })) }
+    ensures { find (has_address address) (rows_of (cie_of cie.now) (fde_of fde.now)) ≡ Some row.new }
 {
     let limit = fde.initial_location + fde.address_range;
     let mut machine = Machine::new();
     machine.remember_at(position);
     while let Some((start, end)) = next_range(&mut machine, &mut instructions, cie, limit) {
         if address < end {
-            let mut row = UnwindTableRow::empty();
-            machine.write_row(start, end, &mut row);
-            return Some(row);
+            machine.write_row(start, end, row);
+            return;
         }
     }
-    None
+    unreachable!()
 }

@@ -173,9 +173,11 @@ impl RegisterRuleMap {
         }
     }
 
-    /// The rules other than `Default`.
+    /// The rules other than `Default`, in ascending order of registers.
     pub fn iter(&self) -> RegisterRules<'_>
-        ensures { result ≡ self.now }
+        ensures rules { result ≡ self.now }
+        ensures ascending { IsTable 0 self.now }
+        ensures few { length self.now ≤ MAX_RULES }
     {
         RegisterRules::new(self.entries.as_slice())
     }

@@ -1,10 +1,10 @@
 //! Rows and their rules.
 
-ghost use Rattle.std.specs.Prelude.{◌≡◌, Some, [], pos};
-ghost use Rattle.dw_rows.specs.Rules.{Cfa, rule_in};
+ghost use Rattle.std.specs.Prelude.{◌≡◌, ◌≤◌, Some, [], length, pos};
+ghost use Rattle.dw_rows.specs.Rules.{Cfa, IsTable, rule_in};
 ghost use Rattle.dw_rows.specs.Views.{rule_of, cfa_rule_of, numbered_rule_of};
 
-use crate::map::{RegisterRuleMap, RuleEntry, rule_of_entry};
+use crate::map::{MAX_RULES, RegisterRuleMap, RuleEntry, rule_of_entry};
 use std::marker::Model;
 
 /// What a register of the caller is (DWARF 5, section 6.4.1). An offset counts from the CFA.
@@ -105,9 +105,11 @@ impl UnwindTableRow {
         self.rules.register(number)
     }
 
-    /// The rules other than `Default`, each with its register, in ascending order of registers.
+    /// The rules other than `Default`, each with its register, in ascending order of registers: at most `MAX_RULES`.
     pub fn rules(&self) -> RegisterRules<'_>
-        ensures { result ≡ self.now.rules }
+        ensures rules { result ≡ self.now.rules }
+        ensures ascending { IsTable 0 self.now.rules }
+        ensures few { length self.now.rules ≤ MAX_RULES }
     {
         self.rules.iter()
     }

@@ -7,7 +7,8 @@ use Rattle.dw_rows.specs.Initial.{AreLeftBy}
 use Rattle.dw_rows.specs.Overlap.{cie_offset, fde_offset, IsIndexOf}
 use Rattle.dw_frame.specs.Bounds.{Ascends}
 use Rattle.dw_rows.proofs.Standing.{section-answered}
-use Rattle.dw_rows.proofs.SectionOrder.{cies-ascend, fdes-ascend, kept}
+use Rattle.dw_rows.proofs.SectionOrder.{cies-ascend, fdes-ascend}
+use Rattle.dw_rows.proofs.CheckedSections.{kept}
 use Rattle.dw_rows.proofs.frame.check_frame.Goals as goal
 
 pub check_parts-requires-clause-cies : goal.check_parts-requires-clause-cies

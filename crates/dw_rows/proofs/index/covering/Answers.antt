@@ -14,16 +14,16 @@ initial_location f = f.initial_location
 pub returns-then-place-eq0 : goal.returns-then-place-eq0
 returns-then-place-eq0 c =
     let index = c.args.index.now in
-    let sorted = sorted-back fde_of initial_of index c.requires.index.ordered.sorted in
+    let sorted = sorted-back fde_of initial_of index c.requires.order.sorted in
     let parted = IsPartitionedBy-leb initial_location index c.args.address sorted in
     let point = IsPartitionPoint-from_clause (λ (f : FrameDescriptionEntry). leb f.initial_location c.args.address) _ _ c.partition_point-place.ensures.partitioned parted (λ a r q k. search rules) in
     let above = above-map index c.partition_point-place.result c.args.address (λ k d le lt. leb-false _ _ (point.1 k d le lt)) in
-    none-covered (map fde_of c.args.fdes.now) (map fde_of index) c.requires.index c.args.address (λ k d lt. above k d (omega arith) lt)
+    none-covered (map fde_of index) c.args.address (λ k d lt. above k d (omega arith) lt)
 
 pub overflow_sub-address : goal.overflow_sub-address
 overflow_sub-address c =
     let index = c.args.index.now in
-    let sorted = sorted-back fde_of initial_of index c.requires.index.ordered.sorted in
+    let sorted = sorted-back fde_of initial_of index c.requires.order.sorted in
     let parted = IsPartitionedBy-leb initial_location index c.args.address sorted in
     let point = IsPartitionPoint-from_clause (λ (f : FrameDescriptionEntry). leb f.initial_location c.args.address) _ _ c.partition_point-place.ensures.partitioned parted (λ a r q k. search rules) in
     subst (λ v. v.initial_location ≤ c.args.address) (sym c.index-index-place.is) (leb-true _ _ (point.0 (c.partition_point-place.result - 1) c.index-index-place.result (omega arith) (omega arith)))
@@ -33,23 +33,23 @@ returns-then-address-fde c =
     let index = c.args.index.now in
     let place = c.partition_point-place.result in
     let x = c.index-index-place.result in
-    let sorted = sorted-back fde_of initial_of index c.requires.index.ordered.sorted in
+    let sorted = sorted-back fde_of initial_of index c.requires.order.sorted in
     let parted = IsPartitionedBy-leb initial_location index c.args.address sorted in
     let point = IsPartitionPoint-from_clause (λ (f : FrameDescriptionEntry). leb f.initial_location c.args.address) _ _ c.partition_point-place.ensures.partitioned parted (λ a r q k. search rules) in
     let low : x.initial_location ≤ c.args.address = subst (λ v. v.initial_location ≤ c.args.address) (sym c.index-index-place.is) (leb-true _ _ (point.0 (place - 1) x (omega arith) (omega arith))) in
     let long = length-map index fde_of in
     let x_in : Contains (map fde_of index) (fde_of x) = (place - 1, omega arith, placed-map fde_of index (place - 1) x (sym c.index-index-place.is)) in
-    (c.requires.index.from (fde_of x) x_in, (low, omega arith), λ g g_in covered. c.requires.once c.args.address g (fde_of x) g_in (c.requires.index.from (fde_of x) x_in) covered (low, omega arith))
+    (x_in, (low, omega arith), λ g g_in covered. c.requires.once c.args.address g (fde_of x) g_in x_in covered (low, omega arith))
 
 pub returns : goal.returns
 returns c =
     let index = c.args.index.now in
     let place = c.partition_point-place.result in
     let x = c.index-index-place.result in
-    let sorted = sorted-back fde_of initial_of index c.requires.index.ordered.sorted in
+    let sorted = sorted-back fde_of initial_of index c.requires.order.sorted in
     let parted = IsPartitionedBy-leb initial_location index c.args.address sorted in
     let point = IsPartitionPoint-from_clause (λ (f : FrameDescriptionEntry). leb f.initial_location c.args.address) _ _ c.partition_point-place.ensures.partitioned parted (λ a r q k. search rules) in
     let low : x.initial_location ≤ c.args.address = subst (λ v. v.initial_location ≤ c.args.address) (sym c.index-index-place.is) (leb-true _ _ (point.0 (place - 1) x (omega arith) (omega arith))) in
     let long = length-map index fde_of in
     let above = above-map index place c.args.address (λ k d le lt. leb-false _ _ (point.1 k d le lt)) in
-    not-covered (map fde_of c.args.fdes.now) (map fde_of index) c.requires.index place c.args.address (fde_of x) c.requires.once (omega arith) (omega (arith, c.partition_point-place.ensures.bound)) (placed-map fde_of index (place - 1) x (sym c.index-index-place.is)) low above (omega arith)
+    not-covered (map fde_of index) c.requires.order place c.args.address (fde_of x) c.requires.once (omega arith) (omega (arith, c.partition_point-place.ensures.bound)) (placed-map fde_of index (place - 1) x (sym c.index-index-place.is)) low above (omega arith)

@@ -1,7 +1,7 @@
 use Rattle.std.proofs.Common.{◌-◌}
 use Rattle.dw_frame.specs.Views.{cie_of, fde_of}
 use Rattle.dw_rows.specs.Walks.{IsWalk, Seeks}
-use Rattle.dw_rows.proofs.lookup.row_from.Given as goal
+use Rattle.dw_rows.proofs.lookup.write_row_at.Given as goal
 
 abbrev pub invariant-loop-start : goal.invariant-loop-start
 invariant-loop-start l = record {

@@ -2,7 +2,7 @@ use Rattle.std.proofs.Common.{◌-◌}
 use Rattle.dw_frame.specs.Views.{cie_of, fde_of}
 use Rattle.dw_rows.specs.Walks.{IsWalk}
 use Rattle.dw_rows.specs.Walks.{Seeks}
-use Rattle.dw_rows.proofs.lookup.row_behind.Given as goal
+use Rattle.dw_rows.proofs.lookup.write_row_behind.Given as goal
 
 abbrev pub invariant-loop-start : goal.invariant-loop-start
 invariant-loop-start l = record {

@@ -1,15 +1,11 @@
-use Rattle.std.proofs.Common.{◌≡◌, ◌+◌, Option, Some, None, sym, ap, ◌∙◌}
+use Rattle.std.proofs.Common.{◌≡◌, ◌+◌, Some, None, sym, ap, ◌∙◌}
 use Rattle.std.specs.Prelude.{find}
 use Rattle.dw_frame.specs.Views.{cie_of, fde_of}
-use Rattle.dw_rows.specs.Rules.{Row}
 use Rattle.dw_rows.specs.UnwindRows.{rows_of, has_address}
 use Rattle.dw_rows.specs.Walks.{Walk}
-use Rattle.dw_rows.proofs.Covering.{covered-found, not-found-below}
+use Rattle.dw_rows.proofs.Covering.{not-missed}
 use Rattle.dw_rows.proofs.Coming.{seeks-found, seeks-on, seeks-walk, seeks-nearer, seeks-cfa, seeks-remembers, seeks-end}
-use Rattle.dw_rows.proofs.lookup.row_from.Goals as goal
-
-pub returns-then-address-fde-clause-row : goal.returns-then-address-fde-clause-row
-returns-then-address-fde-clause-row c = sym (not-found-below (cie_of c.args.cie.now) (fde_of c.args.fde.now) c.args.address c.requires.fde c.if-address-fde.true)
+use Rattle.dw_rows.proofs.lookup.write_row_at.Goals as goal
 
 pub write_row-requires : goal.write_row-requires
 write_row-requires c =
@@ -25,8 +21,7 @@ returns-then-address-end c =
     let fde = fde_of c.args.fde.now in
     let w : Walk = record { cie = cie; end = fde.initial + fde.range; machine = c.loop-start.position; instructions = c.loop-start.instructions } in
     let new : Walk = record { cie = cie; end = fde.initial + fde.range; machine = c.next_plain.new.position; instructions = c.next_plain.new.instructions } in
-    let found : find (has_address c.args.address) (rows_of cie fde) ≡ Some c.write_row.new.row = seeks-found cie fde c.args.address w new c.in-Row.start c.in-Row.end c.loop-start.invariant.seeks c.in-Row.ensures c.if-address-end.true ∙ ap Some (sym c.write_row.ensures) in
-    record { row = sym found; covered = covered-found cie fde c.args.address (Some c.write_row.new.row) c.requires.fde (sym found) }
+    seeks-found cie fde c.args.address w new c.in-Row.start c.in-Row.end c.loop-start.invariant.seeks c.in-Row.ensures c.if-address-end.true ∙ ap Some (sym c.write_row.ensures)
 
 pub loop-start-smaller : goal.loop-start-smaller
 loop-start-smaller c =
@@ -45,23 +40,19 @@ loop-start-preserved c =
     let k = seeks-on cie fde c.args.address w new c.in-Row.start c.in-Row.end c.loop-start.invariant.seeks c.in-Row.ensures c.if-address-end.false in
     record { walk = seeks-walk cie fde c.args.address new k; seeks = k }
 
-pub row_behind-requires : goal.row_behind-requires
-row_behind-requires c =
+pub write_row_behind-requires-clause-seeks : goal.write_row_behind-requires-clause-seeks
+write_row_behind-requires-clause-seeks c =
     let cie = cie_of c.args.cie.now in
     let fde = fde_of c.args.fde.now in
     let w : Walk = record { cie = cie; end = fde.initial + fde.range; machine = c.loop-start.position; instructions = c.loop-start.instructions } in
     let new : Walk = record { cie = cie; end = fde.initial + fde.range; machine = c.next_plain.new.position; instructions = c.next_plain.new.instructions } in
     seeks-remembers cie fde c.args.address w new c.loop-start.invariant.seeks c.in-Remembers.ensures
 
-pub returns-in-Remembers-clause-covered : goal.returns-in-Remembers-clause-covered
-returns-in-Remembers-clause-covered c = covered-found (cie_of c.args.cie.now) (fde_of c.args.fde.now) c.args.address c.row_behind.result c.requires.fde c.row_behind.ensures
-
-pub returns-in-End : goal.returns-in-End
-returns-in-End c =
+pub unreachable-requires : goal.unreachable-requires
+unreachable-requires c =
     let cie = cie_of c.args.cie.now in
     let fde = fde_of c.args.fde.now in
     let w : Walk = record { cie = cie; end = fde.initial + fde.range; machine = c.loop-start.position; instructions = c.loop-start.instructions } in
     let new : Walk = record { cie = cie; end = fde.initial + fde.range; machine = c.next_plain.new.position; instructions = c.next_plain.new.instructions } in
     let none : find (has_address c.args.address) (rows_of cie fde) ≡ None = seeks-end cie fde c.args.address w new c.loop-start.invariant.seeks c.in-End.ensures in
-    let empty : Option Row = None in
-    record { row = sym none; covered = covered-found cie fde c.args.address empty c.requires.fde (sym none) }
+    not-missed cie fde c.args.address c.requires.fde c.requires.low c.requires.high none

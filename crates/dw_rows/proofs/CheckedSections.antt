@@ -1,0 +1,69 @@
+-- What a checked section is known to be.
+use Rattle.std.proofs.Common.{◌≡◌, ℕ, ◌+◌, ◌≤◌, List, length, None, Contains, sym, ap, subst}
+use Rattle.dw_bytes.specs.declared.target.Target.{Target}
+use Rattle.dw_bytes.specs.Answers.{fault_in}
+use Rattle.dw_frame.specs.Records.{Cie, Fde}
+use Rattle.dw_frame.specs.Sections.{entries_of, top_of}
+use Rattle.dw_frame.specs.Bounds.{Ascends, IsSoundCie, IsSoundFde}
+use Rattle.dw_rows.specs.Judgement.{cie_fault}
+use Rattle.dw_rows.specs.Section.{Frame, CoversOnce, IsChecked, section_fault, frame_of, parts_fault}
+use Rattle.dw_rows.specs.Kept.{Kept}
+use Rattle.dw_rows.specs.Initial.{AreLeftBy}
+use Rattle.dw_rows.specs.Overlap.{cie_offset, fde_offset, IsIndexOf, IsKept}
+use Rattle.dw_rows.proofs.Faults.{none-each}
+use Rattle.dw_rows.proofs.Parts.{or_else-none, parts-pass, covers-once-in}
+use Rattle.dw_rows.proofs.SectionOrder.{cies-ascend, fdes-ascend, cies-sound, fdes-sound}
+
+-- its records were read, and no part has a fault
+pub checked-read : (s : Frame) → IsChecked s → fault_in (entries_of s.target s.section) ≡ None
+unfolding section_fault
+checked-read s k =
+    let frame = frame_of s.target s.section in
+    (or_else-none (fault_in (entries_of s.target s.section)) (parts_fault frame.cies frame.fdes) k.faultless).0
+
+pub checked-parts : (s : Frame) → IsChecked s → parts_fault s.cies s.fdes ≡ None
+unfolding section_fault
+checked-parts s k =
+    let frame = frame_of s.target s.section in
+    let none = (or_else-none (fault_in (entries_of s.target s.section)) (parts_fault frame.cies frame.fdes) k.faultless).1 in
+    subst (λ (t : Frame). parts_fault t.cies t.fdes ≡ None) (sym k.whole) none
+
+pub checked-cies-ascend : (s : Frame) → IsChecked s → Ascends cie_offset s.cies
+checked-cies-ascend s k = subst (λ (t : Frame). Ascends cie_offset t.cies) (sym k.whole) (cies-ascend s.target s.section (checked-read s k))
+
+pub checked-fdes-ascend : (s : Frame) → IsChecked s → Ascends fde_offset s.fdes
+checked-fdes-ascend s k = subst (λ (t : Frame). Ascends fde_offset t.fdes) (sym k.whole) (fdes-ascend s.target s.section (checked-read s k))
+
+pub checked-cies-good : (s : Frame) → IsChecked s → (c : Cie) → Contains s.cies c → cie_fault c ≡ None
+checked-cies-good s k = none-each cie_fault s.cies (parts-pass s.cies s.fdes (checked-parts s k)).cie_programs
+
+pub checked-once : (s : Frame) → IsChecked s → CoversOnce s.fdes
+checked-once s k = covers-once-in s.cies s.fdes (checked-fdes-ascend s k) (checked-parts s k)
+
+-- programs are of its target and lie in it, and so do addresses
+pub checked-cies-sound : (s : Frame) → IsChecked s → (c : Cie) → Contains s.cies c → IsSoundCie s.target (length s.section) c
+checked-cies-sound s k c among = cies-sound s.target s.section c (subst (λ (t : Frame). Contains t.cies c) k.whole among)
+
+pub checked-fdes-sound : (s : Frame) → IsChecked s → (f : Fde) → Contains s.fdes f → IsSoundFde s.target (length s.section) f
+checked-fdes-sound s k f among = fdes-sound s.target s.section f (subst (λ (t : Frame). Contains t.fdes f) k.whole among)
+
+pub checked-fits : (s : Frame) → IsChecked s → (f : Fde) → Contains s.fdes f → f.initial + f.range ≤ top_of s.target
+checked-fits s k f among = (checked-fdes-sound s k f among).range
+
+-- what a section without a fault keeps
+pub kept : (target : Target) (section : List ℕ) (cies : List Cie) (left : List Kept) (fdes index : List Fde)
+    → fault_in (entries_of target section) ≡ None → cies ≡ (frame_of target section).cies → fdes ≡ (frame_of target section).fdes
+    → parts_fault cies fdes ≡ None → AreLeftBy cies left → IsIndexOf fdes index
+    → IsKept (record { target = target; section = section; cies = cies; fdes = fdes }) left index
+unfolding section_fault
+kept target section cies left fdes index read cies_is fdes_is none left_by index_of = record {
+  checked = record {
+    whole = λ i. record { target = target; section = section; cies = cies_is i; fdes = fdes_is i };
+    faultless =
+        let parts : parts_fault (frame_of target section).cies (frame_of target section).fdes ≡ None =
+        subst (λ l. parts_fault l (frame_of target section).fdes ≡ None) cies_is (subst (λ l. parts_fault cies l ≡ None) fdes_is none) in
+        rw read parts;
+  };
+  left_by = left_by;
+  index_of = index_of;
+}

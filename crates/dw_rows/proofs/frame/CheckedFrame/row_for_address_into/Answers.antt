@@ -1,0 +1,25 @@
+use Rattle.std.proofs.Common.{◌≡◌, ◌+◌, ◌≤◌, ◌<◌, ℕ, arith, sym, ap, ◌∙◌}
+use Rattle.std.specs.Prelude.{Some, find}
+use Rattle.dw_frame.specs.Views.{cie_of, fde_of}
+use Rattle.dw_rows.specs.Section.{rows_behind}
+use Rattle.dw_rows.specs.UnwindRows.{has_address}
+use Rattle.dw_rows.proofs.Covering.{cover-rows, found-by}
+use Rattle.dw_rows.proofs.frame.CheckedFrame.row_for_address_into.Goals as goal
+
+pub write_row_at-requires-clause-low : goal.write_row_at-requires-clause-low
+write_row_at-requires-clause-low c = c.in_ok-fde.ensures.only.1.0
+
+pub write_row_at-requires-clause-high : goal.write_row_at-requires-clause-high
+write_row_at-requires-clause-high c = c.in_ok-fde.ensures.only.1.1
+
+pub returns-clause-row : goal.returns-clause-row
+returns-clause-row c =
+    ap (λ o. find (has_address c.args.address) (rows_behind o (fde_of c.in_ok-fde.fde))) c.recall_cie-cie.ensures.cie ∙ c.write_row_at.ensures
+
+-- a row that is found among rows up to an address has no addresses above it
+pub returns-clause-fit : goal.returns-clause-fit
+returns-clause-fit c =
+    let cie = cie_of c.recall_cie-cie.result in
+    let fde = fde_of c.in_ok-fde.fde in
+    let by = found-by (has_address c.args.address) fde.initial (fde.initial + fde.range) _ _ (cover-rows cie fde c.recall_cie-cie.ensures.fde_program) c.write_row_at.ensures in
+    (omega (arith, by.0, c.in_ok-fde.ensures.fit), omega (arith, by.1, c.in_ok-fde.ensures.fit))

@@ -1,0 +1,31 @@
+-- The one row of an address in a section that is accepted, in the standard's words (DWARF 5, section 6.4.1).
+use Rattle.std.specs.Prelude.{◌≡◌, ℕ, List, [], ◌∷◌, Option, Some, Contains, filter}
+use Rattle.dw_frame.specs.Records.{Cie, Fde}
+use Rattle.dw_rows.specs.Rules.{Row}
+use Rattle.dw_rows.specs.UnwindRows.{has_address}
+use Rattle.dw_rows.specs.Good.{IsLast, IsGoodFdeProgram}
+use Rattle.dw_rows.specs.Clauses.{IsRowAt, start_in, program_in}
+use Rattle.dw_rows.specs.Section.{Frame, IsCoverOf, rows_in, IsRowFor}
+
+-- The address has exactly one row, and it is the standard's.
+pub record HasOneRow (s : Frame) (a : ℕ) : Type 0 where
+  -- one FDE covers it, whose CIE_pointer is the offset of this CIE
+  pub fde : Fde
+  pub covers : IsCoverOf s.fdes a (Some fde)
+  pub cie : Cie
+  pub among : Contains s.cies cie
+  pub pointed : cie.offset ≡ fde.cie_pointer
+  -- both programs are good: brackets are balanced, and locations never go back
+  pub good : IsGoodFdeProgram cie fde
+  -- one of the FDE's rows has the address
+  pub row : Row
+  pub one : filter (has_address a) (rows_in s fde) ≡ row ∷ []
+  -- It has the rules after the longest beginning of the program whose location is at most the address, and its range is all
+  -- covered addresses with that beginning.
+  pub last : ℕ
+  pub longest : IsLast (start_in cie fde good) (program_in cie fde good) a last
+  pub standard : IsRowAt (start_in cie fde good) (program_in cie fde good) last row
+  -- no other row is so
+  pub only : (other : Row) → IsRowAt (start_in cie fde good) (program_in cie fde good) last other → other ≡ row
+  -- and it is what a look-up answers
+  pub found : (answer : Option Row) → IsRowFor s a answer → answer ≡ Some row
