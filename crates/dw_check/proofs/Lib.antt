@@ -4,7 +4,6 @@ pub mod Evaluated
 pub mod Growth
 pub mod Hexes
 pub mod Known
-pub mod Lookups
 pub mod OneReply
 pub mod Padded
 pub mod Parsed

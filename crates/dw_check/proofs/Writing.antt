@@ -7,10 +7,10 @@ use Rattle.std.specs.Io.KnownBytes.{Appends}
 use Rattle.dw_bytes.specs.declared.target.AddressSize.{AddressSize}
 use Rattle.dw_frame.specs.Records.{Cie, Fde}
 use Rattle.dw_rows.specs.Rules.{Row}
-use Rattle.dw_rows.specs.Section.{Frame, cie_in, rows_in, rows_behind}
+use Rattle.dw_rows.specs.Section.{Frame, cie_in, rows_in, rows_behind, row_of}
 use Rattle.dw_rows.specs.UnwindRows.{rows_of}
 use Rattle.dw_check.specs.Taken.{AppendsFront}
-use Rattle.dw_check.specs.Text.{fde_line, row_line, lines_of, fde_text, row_of, found_text, lookup_text}
+use Rattle.dw_check.specs.Text.{fde_line, row_line, lines_of, fde_text, found_text, lookup_text}
 use Rattle.dw_check.specs.Written.{Writes}
 use Rattle.dw_check.specs.declared.output.ReportFault.{ReportFault}
 use Rattle.dw_check.proofs.Growth.{appends_more, front_more, front_wider}

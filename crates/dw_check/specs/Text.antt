@@ -1,5 +1,5 @@
 -- The texts that a run writes, a definition a form of line.
-use Rattle.std.specs.Prelude.{ℕ, zero, suc, ◌+◌, ◌/◌, ◌%◌, ◌<◌, ◌^◌, ℤ, pos, negsuc, if◌then◌else◌, nat_lt, nat_le, ◌&&◌, Bool, find, option_and_then, List, [], ◌∷◌, ◌++◌, Option, Some, None, codes, decimal}
+use Rattle.std.specs.Prelude.{ℕ, zero, suc, ◌+◌, ◌/◌, ◌%◌, ◌<◌, ◌^◌, ℤ, pos, negsuc, if◌then◌else◌, nat_lt, List, [], ◌∷◌, ◌++◌, Option, Some, None, codes, decimal}
 use Rattle.std.specs.List.{flat_map}
 use Rattle.hex.specs.Hex.{encode_lower}
 use Rattle.dw_bytes.specs.Faults.{number_of}
@@ -9,8 +9,7 @@ use Rattle.dw_bytes.specs.declared.target.AddressSize.{AddressSize}
 use Rattle.dw_bytes.specs.declared.target.AddressSize.TheVariants.{Four, Eight}
 use Rattle.dw_frame.specs.Records.{Cie, Fde}
 use Rattle.dw_rows.specs.Rules.{Rule, Cfa, Row, default, undefined, same_value, offset, val_offset, register, expression, val_expression, register_and_offset, cfa_expression}
-use Rattle.dw_rows.specs.UnwindRows.{has_address}
-use Rattle.dw_rows.specs.Section.{Frame, cie_in, rows_in}
+use Rattle.dw_rows.specs.Section.{Frame, cie_in, rows_in, row_of}
 use Rattle.dw_check.specs.Names.{name_of}
 use Rattle.dw_check.specs.declared.lines.Place.{Place}
 use Rattle.dw_check.specs.declared.lines.Place.TheVariants as places
@@ -126,14 +125,6 @@ unfoldable pub frame_text : Frame → List ℕ
 frame_text frame = flat_map (fde_text frame) frame.fdes
 
 -- ---- the row of an address
-
--- an FDE covers an address
-abbrev pub covers : ℕ → Fde → Bool
-covers address fde = nat_le fde.initial address && nat_lt address (fde.initial + fde.range)
-
--- that of the FDE that covers it, if one does
-abbrev pub row_of : Frame → ℕ → Option Row
-row_of frame address = option_and_then (λ fde. find (has_address address) (rows_in frame fde)) (find (covers address) frame.fdes)
 
 abbrev pub found_text : AddressSize → Option Row → List ℕ
 found_text size (Some row) = row_line size row

@@ -25,5 +25,6 @@ pub mod Initials
 pub mod Standing
 pub mod Stacks
 pub mod CheckedSections
+pub mod Lookups
 mod OneMatch
 mod OneRow

@@ -10,7 +10,7 @@ use Rattle.dw_rows.specs.Meaning.{Start}
 use Rattle.dw_rows.specs.UnwindRows.{rows_of, has_address}
 use Rattle.dw_rows.specs.Good.{IsLast}
 use Rattle.dw_rows.specs.Clauses.{IsRowAt, IsRow, AreRowsFrom, start_in, program_in}
-use Rattle.dw_rows.specs.Section.{Frame, Covers, IsCoverOf, IsRowFor, IsChecked, rows_in, rows_behind}
+use Rattle.dw_rows.specs.Section.{Frame, Covers, IsCoverOf, IsChecked, rows_in, rows_behind}
 use Rattle.dw_rows.specs.ExactRows.{HasOneRow}
 use Rattle.dw_rows.proofs.Tables.{rule_list-table, rule_list-same}
 use Rattle.dw_rows.proofs.Parts.{pointed-in, good-behind}
@@ -18,6 +18,7 @@ use Rattle.dw_rows.proofs.Faults.{at-found}
 use Rattle.dw_rows.proofs.Programs.{good-from-cie, good-from-fde}
 use Rattle.dw_rows.proofs.Covering.{cover-rows}
 use Rattle.dw_rows.proofs.RowsOf.{rows-of-good, one-row}
+use Rattle.dw_rows.proofs.Lookups.{row-found}
 use Rattle.dw_rows.proofs.CheckedSections.{checked-parts, checked-once}
 
 -- ---- the row that alone passes a test
@@ -80,13 +81,6 @@ row-same s p k x y r t =
 
 -- ---- the law
 
--- what a look-up answers is that row
-answered : (s : Frame) (a : ℕ) (f : Fde) (row : Row) → Contains s.fdes f → Covers f a → find (has_address a) (rows_in s f) ≡ Some row → (o : Option Row) → IsRowFor s a o → o ≡ Some row
-answered s a f row among covers found None none = absurd (none f among covers)
-answered s a f row among covers found (Some other) (g, only, is) =
-    let same : f ≡ g = only.2 f among covers in
-    sym is ∙ ap (λ h. find (has_address a) (rows_in s h)) (sym same) ∙ found
-
 pub has-one-row : (s : Frame) (a : ℕ) → IsChecked s → (f : Fde) → Contains s.fdes f → Covers f a → HasOneRow s a
 has-one-row s a checked f among covers =
     let parts = checked-parts s checked in
@@ -99,10 +93,11 @@ has-one-row s a checked f among covers =
     let row = one.0 in
     let is = row-alone (start_in c f good) (program_in c f good) (has_address a) f.initial (f.initial + f.range) (rows_of c f) row (rows-of-good c f good) one.1 in
     let rows : rows_in s f ≡ rows_of c f = ap (λ o. rows_behind o f) pointed.1 in
+    let only : IsCoverOf s.fdes a (Some f) = (among, covers, λ g g_in g_covers. checked-once s checked a g f g_in among g_covers covers) in
     let alone : filter (has_address a) (rows_in s f) ≡ row ∷ [] = ap (filter (has_address a)) rows ∙ one.1 in
     record {
       fde = f;
-      covers = (among, covers, λ g g_in g_covers. checked-once s checked a g f g_in among g_covers covers);
+      covers = only;
       cie = c;
       among = cie_found.0;
       pointed = cie_found.1;
@@ -113,9 +108,5 @@ has-one-row s a checked f among covers =
       longest = (is.0.1.range a covers.0 covers.1).0 (has-both a row is.1);
       standard = is.0.1;
       only = λ other at. row-same (start_in c f good) (program_in c f good) is.0.0 other row at is.0.1;
-      found = answered s a f row among covers (found-alone (has_address a) (rows_in s f) row alone);
+      found = row-found s a f row only (found-alone (has_address a) (rows_in s f) row alone);
     }
-
-pub has-no-row : (s : Frame) (a : ℕ) → ((f : Fde) → Contains s.fdes f → ¬ Covers f a) → (o : Option Row) → IsRowFor s a o → o ≡ None
-has-no-row s a none None is = refl
-has-no-row s a none (Some row) (f, only, found) = absurd (none f only.0 only.1)

@@ -1,11 +1,11 @@
 -- The one row of an address in a section that is accepted, in the standard's words (DWARF 5, section 6.4.1).
-use Rattle.std.specs.Prelude.{◌≡◌, ℕ, List, [], ◌∷◌, Option, Some, Contains, filter}
+use Rattle.std.specs.Prelude.{◌≡◌, ℕ, List, [], ◌∷◌, Some, Contains, filter}
 use Rattle.dw_frame.specs.Records.{Cie, Fde}
 use Rattle.dw_rows.specs.Rules.{Row}
 use Rattle.dw_rows.specs.UnwindRows.{has_address}
 use Rattle.dw_rows.specs.Good.{IsLast, IsGoodFdeProgram}
 use Rattle.dw_rows.specs.Clauses.{IsRowAt, start_in, program_in}
-use Rattle.dw_rows.specs.Section.{Frame, IsCoverOf, rows_in, IsRowFor}
+use Rattle.dw_rows.specs.Section.{Frame, IsCoverOf, rows_in, row_of}
 
 -- The address has exactly one row, and it is the standard's.
 pub record HasOneRow (s : Frame) (a : ℕ) : Type 0 where
@@ -28,4 +28,4 @@ pub record HasOneRow (s : Frame) (a : ℕ) : Type 0 where
   -- no other row is so
   pub only : (other : Row) → IsRowAt (start_in cie fde good) (program_in cie fde good) last other → other ≡ row
   -- and it is what a look-up answers
-  pub found : (answer : Option Row) → IsRowFor s a answer → answer ≡ Some row
+  pub found : row_of s a ≡ Some row

@@ -1,5 +1,5 @@
 -- A whole `.debug_frame` section: what is right in it, and its first fault (DWARF 5, section 6.4.1).
-use Rattle.std.specs.Prelude.{◌≡◌, ℕ, ◌+◌, ◌<◌, ◌≤◌, ◌==◌, ◌&&◌, nat_lt, Bool, if◌then◌else◌, Option, Some, None, is_some, List, [], ◌∷◌, Contains, find}
+use Rattle.std.specs.Prelude.{◌≡◌, ℕ, ◌+◌, ◌<◌, ◌≤◌, ◌==◌, ◌&&◌, nat_lt, nat_le, Bool, if◌then◌else◌, Option, Some, None, is_some, List, [], ◌∷◌, Contains, find, option_and_then}
 use Rattle.std.specs.List.{filter_map, list_any}
 use Rattle.dw_bytes.specs.declared.target.Target.{Target}
 use Rattle.dw_bytes.specs.declared.fault.Fault.{Fault}
@@ -117,7 +117,11 @@ rows_behind (Some c) f = rows_of c f
 abbrev pub rows_in : Frame → Fde → List Row
 rows_in s f = rows_behind (cie_in s f) f
 
--- the row of an address: that of the FDE that covers it which has the address, or that no FDE covers it
-abbrev pub IsRowFor : Frame → ℕ → Option Row → Type 0
-IsRowFor s a None = (f : Fde) → Contains s.fdes f → ¬ Covers f a
-IsRowFor s a (Some row) = (f : Fde) × IsCoverOf s.fdes a (Some f) × (find (has_address a) (rows_in s f) ≡ Some row)
+-- ---- the row of an address
+
+abbrev pub covers : ℕ → Fde → Bool
+covers a f = nat_le f.initial a && nat_lt a (f.initial + f.range)
+
+-- that of the FDE that covers it, if one does
+abbrev pub row_of : Frame → ℕ → Option Row
+row_of s a = option_and_then (λ f. find (has_address a) (rows_in s f)) (find (covers a) s.fdes)

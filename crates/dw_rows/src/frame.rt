@@ -1,13 +1,12 @@
 //! A checked section.
 
-ghost use Rattle.std.specs.Prelude.{◌≡◌, ◌+◌, ◌<◌, ◌≤◌, ◌^◌, None, Some, Contains, length, map, option_map, find, IfOk, IfErr, IfSome, IfNone};
+ghost use Rattle.std.specs.Prelude.{◌≡◌, ◌+◌, ◌<◌, ◌≤◌, ◌^◌, None, Some, Contains, length, map, option_map, IfOk, IfErr, IfSome, IfNone};
 ghost use Rattle.dw_frame.specs.Records.{Cie, Fde};
 ghost use Rattle.dw_frame.specs.Sections.{entries_of, top_of};
 ghost use Rattle.dw_frame.specs.Views.{cie_of, fde_of};
 ghost use Rattle.dw_bytes.specs.Answers.{Judges, Answers, fault_in};
 ghost use Rattle.dw_rows.specs.Judgement.{cie_fault, fde_fault};
-ghost use Rattle.dw_rows.specs.Section.{IsCoverOf, first_fault, overlap_fault, programs_fault, parts_fault, section_fault, IsChecked, frame_of, cie_in, rows_in, IsRowFor};
-ghost use Rattle.dw_rows.specs.UnwindRows.{has_address};
+ghost use Rattle.dw_rows.specs.Section.{IsCoverOf, first_fault, overlap_fault, programs_fault, parts_fault, section_fault, IsChecked, frame_of, cie_in, rows_in, row_of};
 ghost use Rattle.dw_rows.specs.Overlap.{cie_offset, fde_offset, IsIndexOf};
 ghost use Rattle.dw_frame.specs.Bounds.{Ascends};
 ghost use Rattle.dw_rows.specs.Machine.{IsLeftBy};
@@ -260,7 +259,7 @@ impl<'a> CheckedFrame<'a> {
     /// The row of an address, or none where no FDE covers it. It takes no memory: the FDE is found by halving, and its
     /// program is run up to that row, behind what was kept of its CIE's.
     pub fn row_for_address(&self, address: u64) -> Option<UnwindTableRow>
-        ensures row { IsRowFor self.now address result }
+        ensures row { result ≡ row_of self.now address }
         ensures fit { IfSome result (λ row. (row.start ≤ top_of self.now.target) × (row.end ≤ top_of self.now.target)) }
     {
         let mut row = UnwindTableRow::empty();
@@ -277,9 +276,9 @@ impl<'a> CheckedFrame<'a> {
     ) -> Option<(CommonInformationEntry<'a>, FrameDescriptionEntry<'a>)>
         ensures only { IsCoverOf self.now.fdes address (option_map (λ found. fde_of found.1) result) }
         ensures cie { IfSome result (λ found. cie_in self.now (fde_of found.1) ≡ Some (cie_of found.0)) }
-        ensures row { IfSome result (λ found. find (has_address address) (rows_in self.now (fde_of found.1)) ≡ Some row.new) }
+        ensures row { IfSome result (λ _. row_of self.now address ≡ Some row.new) }
         ensures fit { IfSome result (λ _. (row.new.start ≤ top_of self.now.target) × (row.new.end ≤ top_of self.now.target)) }
-        ensures rest { IfNone result (row.new ≡ row.old) }
+        ensures none { IfNone result ((row_of self.now address ≡ None) × (row.new ≡ row.old)) }
     {
         let fde = self.fde_for_address(address)?;
         let mut position = Position::new();

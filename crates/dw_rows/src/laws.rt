@@ -14,7 +14,7 @@ ghost use Rattle.dw_bytes.specs.declared.target.Target.{Target};
 ghost use Rattle.dw_bytes.specs.declared.fault.Fault.{Fault};
 ghost use Rattle.dw_frame.specs.Bounds.{StandsIn, IsSoundCie, IsSoundFde, Ascends};
 ghost use Rattle.dw_rows.specs.ExactRows.{HasOneRow};
-ghost use Rattle.dw_rows.specs.Section.{Frame, Covers, IsRowFor, IsChecked, section_fault};
+ghost use Rattle.dw_rows.specs.Section.{Frame, Covers, row_of, IsChecked, section_fault};
 ghost use Rattle.dw_rows.specs.WellFormed.{IsWellFormed};
 ghost use Rattle.dw_rows.specs.declared.map.TheConstants.{MAX_RULES};
 ghost use Rattle.dw_rows.specs.declared.remembered.TheConstants.{MAX_REMEMBERED};
@@ -65,8 +65,7 @@ pub fn sections_without_fault_are_well_formed()
 /// one of that FDE's rows has it, and that row is the answer of a look-up. Any other address has none.
 pub fn exact_rows()
     ensures covered { (s : Frame) (a : ℕ) → IsChecked s → (f : Fde) → Contains s.fdes f → Covers f a → HasOneRow s a }
-    ensures others { (s : Frame) (a : ℕ) → ((f : Fde) → Contains s.fdes f → ¬ Covers f a) →
-        (answer : Option Row) → IsRowFor s a answer → answer ≡ None }
+    ensures others { (s : Frame) (a : ℕ) → ((f : Fde) → Contains s.fdes f → ¬ Covers f a) → row_of s a ≡ None }
 {}
 
 /// What a section that is accepted holds: good programs that lie in it and are of its target, in order of offset.

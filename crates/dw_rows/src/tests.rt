@@ -217,6 +217,14 @@ fn checks_a_section(rt: HostRuntime) -> Result<(), Fail> {
     let mut row = UnwindTableRow::empty();
     assert!(rt; rows.next_into(&mut row));
     assert_eq!(rt; row.end_address(), 0x1001);
+    let (cie, fde) = frame
+        .row_for_address_into(0x1001, &mut row)
+        .ok_or("the second row")?;
+    assert_eq!(rt; (cie.offset, fde.offset), (0, 24));
+    assert_eq!(rt; row.end_address(), 0x1004);
+    assert!(rt; frame.row_for_address_into(0x1020, &mut row).is_none());
+    assert_eq!(rt; row.end_address(), 0x1004);
+    assert_eq!(rt; frame.section(), FUNCTION.as_slice());
     Ok(())
 }
 

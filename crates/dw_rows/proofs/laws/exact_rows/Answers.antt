@@ -1,5 +1,6 @@
-use Rattle.dw_rows.proofs.OneRow.{has-one-row, has-no-row}
+use Rattle.dw_rows.proofs.Lookups.{row-none}
+use Rattle.dw_rows.proofs.OneRow.{has-one-row}
 use Rattle.dw_rows.proofs.laws.exact_rows.Goals as goal
 
 pub returns : goal.returns
-returns c = record { covered = has-one-row; others = has-no-row }
+returns c = record { covered = has-one-row; others = row-none }

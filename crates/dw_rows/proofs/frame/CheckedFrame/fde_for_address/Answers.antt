@@ -30,7 +30,7 @@ pub returns-clause-only : goal.returns-clause-only
 returns-clause-only c =
     subst (λ (s : Frame). IsCoverOf s.fdes c.args.address (option_map fde_of c.covering.result)) c.self.view_is
     (cover-indexed _ _ c.self.invariant.index_of c.args.address _
-      (subst (λ (l : List FrameDescriptionEntry). IsCoverOf (map fde_of l) c.args.address (option_map fde_of c.covering.result)) c.deref.ensures.value c.covering.ensures))
+    (subst (λ (l : List FrameDescriptionEntry). IsCoverOf (map fde_of l) c.args.address (option_map fde_of c.covering.result)) c.deref.ensures.value c.covering.ensures))
 
 pub returns-clause-fit : goal.returns-clause-fit
 returns-clause-fit c =
