@@ -10,7 +10,7 @@ use Rattle.dw_bytes.specs.declared.fault.FaultKind.{FaultKind}
 use Rattle.dw_bytes.specs.declared.fault.FaultKind.TheVariants.{Truncated}
 use Rattle.dw_bytes.specs.Spelling.{Bytes, Fixed, Length, Uleb, Sleb, bytes_of_address, bytes_of_offset}
 use Rattle.dw_bytes.specs.Reading.{Reading, IsExact, IsRefusedAt, ◌>>=◌, placed, take_at, fixed_at, address_at, offset_at, initial_length_at, uleb_at, sleb_at}
-use Rattle.dw_bytes.specs.Readers.{then_read, passing_read, made_read, both_read, fault_here}
+use Rattle.dw_bytes.specs.Readers.{then_read, passing_read, made_read, fault_here}
 use Rattle.dw_bytes.specs.Sequence.{located_read, and_then, at_most_of, sequence_of}
 use Rattle.dw_bytes.proofs.Fields.{take_exact, fixed_exact, initial_length_exact, uleb_exact, sleb_exact}
 use Rattle.dw_bytes.proofs.Refused.{fixed_refused, initial_length_refused, uleb_refused, sleb_refused}
@@ -32,7 +32,7 @@ moved : {B : Type 0} (from : ℕ) (r mid : Reading) (y : Result (B × Reading) F
 moved from r mid (Ok y) on same k = (omega (arith, k.0), omega (arith, k.1))
 moved from r mid (Err fault) on same k = (k.0, omega (arith, k.1))
 
-bind-stays : {A B : Type 0} (from : ℕ) (r : Reading) (x : Result (A × Reading) Fault) (second : A → Reading → Result (B × Reading) Fault) → from ≤ r.position → Stays from r x → ((a : A) → AlwaysStays from (second a)) → Stays from r (x >>= λ a. second a.0 a.1)
+pub bind-stays : {A B : Type 0} (from : ℕ) (r : Reading) (x : Result (A × Reading) Fault) (second : A → Reading → Result (B × Reading) Fault) → from ≤ r.position → Stays from r x → ((a : A) → AlwaysStays from (second a)) → Stays from r (x >>= λ a. second a.0 a.1)
 bind-stays from r (Ok a) second h one two = moved from r a.1 (second a.0 a.1) one.0 one.1 (two a.0 a.1 (omega (arith, one.0)))
 bind-stays from r (Err fault) second h one two = one
 
@@ -52,9 +52,6 @@ passing-stays {A} from test fault read one refused r h = passed-stays {A = A} fr
 
 pub made-stays : {A : Type 0} (from : ℕ) (a : A) → AlwaysStays from (made_read a)
 made-stays from a r h = (omega arith, refl)
-
-pub both-stays : {A B : Type 0} (from : ℕ) (first : Reading → Result (A × Reading) Fault) (second : Reading → Result (B × Reading) Fault) → AlwaysStays from first → AlwaysStays from second → AlwaysStays from (both_read first second)
-both-stays {A} {B} from first second one two = then-stays from first _ one (λ a. then-stays from second _ two (λ b. made-stays {A = A × B} from (a, b)))
 
 located : {A : Type 0} (from at : ℕ) (r : Reading) (x : Result (A × Reading) Fault) → Stays from r x → Stays {X = ℕ × A} from r (x >>= λ a. Ok ((at, a.0), a.1))
 located from at r (Ok a) h = h

@@ -1,11 +1,22 @@
 -- What is coded, and the faults of reading it, stand in what is read.
-use Rattle.std.proofs.Common.{◌≡◌, ℕ, ◌+◌, ◌≤◌, length, Option, Some, None, Result, Ok, Err, arith}
+use Rattle.std.proofs.Common.{◌≡◌, ℕ, ◌≤◌, Bool, true, false, cond, List, [], ◌∷◌, Option, Some, None, Result, Ok, Err, refl, arith}
 use Rattle.std.specs.Int.{byte_len, cast_signed}
+use Rattle.dw_bytes.specs.declared.target.Target.{Target}
+use Rattle.dw_bytes.specs.declared.fault.Fault.{Fault}
 use Rattle.dw_bytes.specs.declared.fault.FaultKind.{FaultKind}
-use Rattle.dw_bytes.specs.Reading.{Reading, take_at, fixed_at, uleb_at}
-use Rattle.dw_bytes.specs.Readers.{made_read, both_read}
-use Rattle.dw_bytes.specs.Operands.{Kind, address, fixed, signed_fixed, unsigned, signed, register_number, read_size, piece_size, block, Operand, operand_at, fits, range_fault, Line, none, one, two, both_fit, one_at, two_at, operands_at, coded_at}
-use Rattle.dw_bytes.proofs.Bounds.{Stays, AlwaysStays, then-stays, passing-stays, made-stays, both-stays, fixed-stays, address-stays, uleb-stays, sleb-stays, take-stays}
+use Rattle.dw_bytes.specs.Reading.{Reading, ◌>>=◌, take_at, fixed_at, uleb_at}
+use Rattle.dw_bytes.specs.Readers.{made_read}
+use Rattle.dw_bytes.specs.Operands.{Kind, address, fixed, signed_fixed, unsigned, signed, register_number, read_size, piece_size, block, Block, operand_at, fits, range_fault, Operands, values_at, in_range, in_ranges, given_at, Line, line, operands_at, coded_at}
+use Rattle.dw_bytes.proofs.Bounds.{Stays, AlwaysStays, bind-stays, then-stays, made-stays, fixed-stays, address-stays, uleb-stays, sleb-stays, take-stays}
+
+abbrev block-of : ℕ → Target → List ℕ → Block
+block-of offset target bytes = record { offset = offset; target = target; bytes = bytes }
+
+abbrev block-behind : Target → ℕ → Reading → Result (Block × Reading) Fault
+block-behind target n s = take_at n s >>= λ b. Ok (block-of s.position target b.0, b.1)
+
+block-stays : (from : ℕ) (target : Target) (n : ℕ) → AlwaysStays from (block-behind target n)
+block-stays from target n s h = bind-stays from s (take_at n s) (λ b t. Ok (block-of s.position target b, t)) h (take-stays from n s h) (λ b. made-stays from (block-of s.position target b))
 
 operand-stays : (from : ℕ) (kind : Kind) → AlwaysStays from (operand_at kind)
 operand-stays from address = address-stays from
@@ -16,19 +27,46 @@ operand-stays from signed = sleb-stays from
 operand-stays from register_number = uleb-stays from
 operand-stays from read_size = fixed-stays from 1
 operand-stays from piece_size = uleb-stays from
-operand-stays from block = then-stays from uleb_at take_at (uleb-stays from) (take-stays from)
+operand-stays from block = λ r h. bind-stays from r (uleb_at r) (block-behind r.target) h (uleb-stays from r h) (block-stays from r.target)
 
-one-stays : (at : ℕ) (kind : Kind) → AlwaysStays at (one_at at kind)
-one-stays at kind r h = passing-stays at (fits r.target kind) (λ _. record { kind = range_fault kind; at = at }) (operand_at kind) (operand-stays at kind) (λ s le. (omega arith, omega arith)) r h
+values-stay : (from : ℕ) (kinds : List Kind) → AlwaysStays from (values_at kinds)
+values-stay from [] = λ r h. (omega arith, refl)
+values-stay from (kind ∷ kinds) = λ r h.
+    bind-stays from r (operand_at kind r) (λ v s. values_at kinds s >>= λ vs. Ok ((v, vs.0), vs.1)) h (operand-stays from kind r h)
+    (λ v s k. bind-stays from s (values_at kinds s) (λ vs t. Ok ((v, vs), t)) k (values-stay from kinds s k) (λ vs. made-stays {A = Operands (kind ∷ kinds)} from (v, vs)))
 
-two-stays : (at : ℕ) (first second : Kind) → AlwaysStays at (two_at at first second)
-two-stays at first second r h = passing-stays at (both_fit r.target first second) (λ _. record { kind = range_fault first; at = at }) (both_read (operand_at first) (operand_at second)) (both-stays at (operand_at first) (operand_at second) (operand-stays at first) (operand-stays at second)) (λ s le. (omega arith, omega arith)) r h
+-- ---- ranges, which are refused at the code
 
-operands-stay : {I : Type 0} (unknown : FaultKind) (at : ℕ) (line : Option (Line I)) → AlwaysStays at (operands_at unknown at line)
+abbrev IsAt : {A : Type 0} → ℕ → Result A Fault → Type 0
+IsAt at (Ok a) = Unit {0}
+IsAt at (Err fault) = fault.at ≡ at
+
+bind-at : {A B : Type 0} (at : ℕ) (x : Result A Fault) (f : A → Result B Fault) → IsAt at x → ((a : A) → IsAt at (f a)) → IsAt at (x >>= f)
+bind-at at (Ok a) f h k = k a
+bind-at at (Err fault) f h k = h
+
+range-at : {A : Type 0} (at : ℕ) (b : Bool) (a : A) (kind : FaultKind) → IsAt {A = A} at (cond b (Ok a) (Err (record { kind = kind; at = at })))
+range-at at true a kind = tt
+range-at at false a kind = refl
+
+ranges-at : (target : Target) (at : ℕ) (kinds : List Kind) (vs : Operands kinds) → IsAt at (in_ranges target at kinds vs)
+ranges-at target at [] vs = tt
+ranges-at target at (kind ∷ kinds) vs =
+    bind-at at (in_range target at kind vs.0) (λ v. in_ranges target at kinds vs.1 >>= λ others. Ok (v, others)) (range-at at (fits target kind vs.0) vs.0 (range_fault kind))
+    (λ v. bind-at at (in_ranges target at kinds vs.1) (λ others. Ok (v, others)) (ranges-at target at kinds vs.1) (λ others. tt))
+
+judged-stays : {A : Type 0} (at : ℕ) (r : Reading) (x : Result A Fault) → at ≤ r.position → IsAt at x → Stays {X = A} at r (x >>= λ a. Ok (a, r))
+judged-stays at r (Ok a) h k = (omega arith, refl)
+judged-stays at r (Err fault) h k = (omega (arith, k), omega (arith, k))
+
+given-stays : (at : ℕ) (kinds : List Kind) → AlwaysStays at (given_at at kinds)
+given-stays at kinds r h =
+    bind-stays at r (values_at kinds r) (λ vs s. in_ranges r.target at kinds vs >>= λ given. Ok (given, s)) h (values-stay at kinds r h)
+    (λ vs s k. judged-stays at s (in_ranges r.target at kinds vs) k (ranges-at r.target at kinds vs))
+
+operands-stay : {I : Type 0} (unknown : FaultKind) (at : ℕ) (of : Option (Line I)) → AlwaysStays at (operands_at unknown at of)
 operands-stay unknown at None r h = (omega arith, omega arith)
-operands-stay unknown at (Some (none made)) r h = made-stays at made r h
-operands-stay unknown at (Some (one kind make)) r h = then-stays at (one_at at kind) (λ v. made_read (make v)) (one-stays at kind) (λ v. made-stays at (make v)) r h
-operands-stay unknown at (Some (two first second make)) r h = then-stays at (two_at at first second) (λ v. made_read (make v.0 v.1)) (two-stays at first second) (λ v. made-stays at (make v.0 v.1)) r h
+operands-stay unknown at (Some (line kinds make)) r h = bind-stays at r (given_at at kinds r) (λ vs s. Ok (make vs, s)) h (given-stays at kinds r h) (λ vs. made-stays at (make vs))
 
 pub coded-stays : {I : Type 0} (table : ℕ → Option (Line I)) (unknown : FaultKind) (r : Reading) → Stays r.position r (coded_at table unknown r)
-coded-stays table unknown r = then-stays r.position (fixed_at 1) (λ code. operands_at unknown r.position (table code)) (fixed-stays r.position 1) (λ code. operands-stay unknown r.position (table code)) r (omega arith)
+coded-stays table unknown r = bind-stays r.position r (fixed_at 1 r) (λ code. operands_at unknown r.position (table code)) (omega arith) (fixed-stays r.position 1 r (omega arith)) (λ code. operands-stay unknown r.position (table code))

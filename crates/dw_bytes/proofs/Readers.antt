@@ -7,12 +7,16 @@ use Rattle.dw_bytes.specs.declared.target.Format.{Format}
 use Rattle.dw_bytes.specs.declared.fault.Fault.{Fault}
 use Rattle.dw_bytes.specs.Spelling.{Bytes, Fixed, Offset, Address, Length, Uleb, Sleb, bytes_of_address, bytes_of_offset}
 use Rattle.dw_bytes.specs.Reading.{Reading, Next, IsExact, ◌>>=◌, take_at as taken_at, fixed_at, offset_at, address_at, initial_length_at, uleb_at, sleb_at}
-use Rattle.dw_bytes.specs.Readers.{Then, then_read, Passing, passing_read, Made, made_read, Both, both_read}
+use Rattle.dw_bytes.specs.Readers.{Then, then_read, Passing, passing_read, Made, made_read}
 use Rattle.dw_bytes.proofs.Fields.{take_exact, fixed_exact, initial_length_exact, uleb_exact, sleb_exact}
 
 -- a reader that is exact wherever the target is this one
 abbrev pub Exact : {X : Type 0} → Target → (Reading → Result (X × Reading) Fault) → (List ℕ → X → Type 0) → Type 0
 Exact target read Spells = (r : Reading) → r.target ≡ target → IsExact read Spells r
+
+-- the same of a reader of what is spelled at an offset
+abbrev pub ExactAt : {X : Type 0} → Target → (Reading → Result (X × Reading) Fault) → (ℕ → List ℕ → X → Type 0) → Type 0
+ExactAt target read Spells = (r : Reading) → r.target ≡ target → IsExact read (Spells r.position) r
 
 -- the value of a step that did not fail
 pub bind-ok : {A B : Type 0} (r : Result A Fault) (f : A → Result B Fault) (y : B) → (r >>= f) ≡ Ok y → (x : A) × (r ≡ Ok x) × (f x ≡ Ok y)
@@ -84,11 +88,6 @@ passing-exact {A} target test fault read Spells exact r same = record {
       ap (λ x. x >>= λ (a : A × Reading). cond (test a.0) (finish a) (Err (fault r))) is ∙ ap (λ t. cond t (finish (b, after)) (Err (fault r))) h.spelled.1;
 }
 
-pub both-exact : {A B : Type 0} (target : Target) (first : Reading → Result (A × Reading) Fault) (second : Reading → Result (B × Reading) Fault) (First : List ℕ → A → Type 0) (Second : List ℕ → B → Type 0)
-    → Exact target first First → Exact target second Second → Exact target (both_read first second) (Both First Second)
-both-exact target first second First Second one two =
-    then-exact target first _ First _ one (λ a. then-exact target second _ Second _ two (λ b. made-exact target (a, b)))
-
 -- ---- the fields
 
 pub take-exact : (target : Target) (n : ℕ) → Exact target (taken_at n) (Bytes n)
@@ -120,17 +119,18 @@ length-exact target r same = subst (λ (t : Target). IsExact initial_length_at (
 
 -- ---- no spelling begins another
 
-at-start : {X : Type 0} (Spells : List ℕ → X → Type 0) (target : Target) (bytes a x : List ℕ) (v : X) → bytes ≡ a ++ x → Spells a v → Next Spells (reading-of target 0 bytes) v (reading-of target (length a) x)
-at-start Spells target bytes a x v e h = record { bytes = a; spelled = h; parts = e; position = omega arith; target = refl }
+at-start : {X : Type 0} (Spells : List ℕ → X → Type 0) (target : Target) (at : ℕ) (bytes a x : List ℕ) (v : X) → bytes ≡ a ++ x → Spells a v → Next Spells (reading-of target at bytes) v (reading-of target (at + length a) x)
+at-start Spells target at bytes a x v e h = record { bytes = a; spelled = h; parts = e; position = refl; target = refl }
 
-pub one-spelling : {X : Type 0} (target : Target) (read : Reading → Result (X × Reading) Fault) (Spells : List ℕ → X → Type 0) → Exact target read Spells
-    → (a b x y : List ℕ) (m n : X) → Spells a m → Spells b n → a ++ x ≡ b ++ y → (a ≡ b) × (m ≡ n)
-one-spelling {X} target read Spells exact a b x y m n p q e =
-    let r = reading-of target 0 (a ++ x) in
-    let first = (exact r refl).only m (reading-of target (length a) x) (at-start Spells target (a ++ x) a x m refl p) in
-    let second = (exact r refl).only n (reading-of target (length b) y) (at-start Spells target (a ++ x) b y n e q) in
-    let both : (m, reading-of target (length a) x) ≡ (n, reading-of target (length b) y) = ok-is (m, reading-of target (length a) x) (n, reading-of target (length b) y) (sym first ∙ second) in
-    let len : length a ≡ length b = ap (λ (w : X × Reading). w.1.position) both in
+pub one-spelling : {X : Type 0} (target : Target) (read : Reading → Result (X × Reading) Fault) (Spells : ℕ → List ℕ → X → Type 0) → ExactAt target read Spells
+    → (at : ℕ) (a b x y : List ℕ) (m n : X) → Spells at a m → Spells at b n → a ++ x ≡ b ++ y → (a ≡ b) × (m ≡ n)
+one-spelling {X} target read Spells exact at a b x y m n p q e =
+    let r = reading-of target at (a ++ x) in
+    let first = (exact r refl).only m (reading-of target (at + length a) x) (at-start (Spells at) target at (a ++ x) a x m refl p) in
+    let second = (exact r refl).only n (reading-of target (at + length b) y) (at-start (Spells at) target at (a ++ x) b y n e q) in
+    let both : (m, reading-of target (at + length a) x) ≡ (n, reading-of target (at + length b) y) = ok-is (m, reading-of target (at + length a) x) (n, reading-of target (at + length b) y) (sym first ∙ second) in
+    let behind : at + length a ≡ at + length b = ap (λ (w : X × Reading). w.1.position) both in
+    let len : length a ≡ length b = omega (arith, behind) in
     (sym (take_at a x (length a) refl) ∙ ap (take (length a)) e ∙ take_at b y (length a) (sym len), ap (λ (w : X × Reading). w.0) both)
 
 -- ---- what is left of a section
@@ -144,7 +144,7 @@ suffix section bytes rest at inside parts =
     ∙ (ap (λ n. drop (n + length bytes) (take at section ++ (bytes ++ rest))) front ∙ ap (drop (at + length bytes)) whole))
 
 -- A reader that is exact leaves what the section has from where it ends.
-pub leaves-suffix : {X : Type 0} (target : Target) (read : Reading → Result (X × Reading) Fault) (Spells : List ℕ → X → Type 0) → Exact target read Spells
+pub leaves-suffix : {X : Type 0} (target : Target) (read : Reading → Result (X × Reading) Fault) (Spells : ℕ → List ℕ → X → Type 0) → ExactAt target read Spells
     → (section : List ℕ) (at : ℕ) (v : X) (after : Reading) → at ≤ length section → read (reading-of target at (drop at section)) ≡ Ok (v, after) → after ≡ reading-of target after.position (drop after.position section)
 leaves-suffix target read Spells exact section at v after inside e =
     let next = (exact (reading-of target at (drop at section)) refl).found v after e in

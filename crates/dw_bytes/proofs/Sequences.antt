@@ -6,7 +6,7 @@ use Rattle.dw_bytes.specs.declared.target.Target.{Target}
 use Rattle.dw_bytes.specs.declared.fault.Fault.{Fault}
 use Rattle.dw_bytes.specs.Reading.{Reading, Next, IsExact, ◌>>=◌}
 use Rattle.dw_bytes.specs.Sequence.{Sequence, Located, located_read, and_then, at_most_of, sequence_of}
-use Rattle.dw_bytes.proofs.Readers.{Exact, bind-ok, ok-is}
+use Rattle.dw_bytes.proofs.Readers.{ExactAt, bind-ok, ok-is}
 
 -- A reader of one thing: exact wherever the target is this one, and no spelling is empty.
 pub record ReadsEach {X : Type 0} (target : Target) (read : Reading → Result (X × Reading) Fault) (Spells : ℕ → List ℕ → X → Type 0) : Type 0 where
@@ -18,7 +18,7 @@ abbrev pub Forward : {X : Type 0} → (Reading → Result (X × Reading) Fault) 
 Forward {X} read = (r : Reading) (x : X) (after : Reading) → read r ≡ Ok (x, after) → length after.rest < length r.rest
 
 -- a thing that is exact without its offset is exact with it
-pub located-exact : {X : Type 0} (target : Target) (read : Reading → Result (X × Reading) Fault) (Spells : List ℕ → X → Type 0) → Exact target read Spells → (r : Reading) → r.target ≡ target → IsExact (located_read read) (Located Spells r.position) r
+pub located-exact : {X : Type 0} (target : Target) (read : Reading → Result (X × Reading) Fault) (Spells : ℕ → List ℕ → X → Type 0) → ExactAt target read Spells → (r : Reading) → r.target ≡ target → IsExact (located_read read) (Located Spells r.position) r
 located-exact {X} target read Spells exact r same = record {
   found = λ item after e.
       let a = bind-ok (read r) (λ x. Ok ((r.position, x.0), x.1)) (item, after) e in

@@ -29,13 +29,6 @@ Made a bytes b = (bytes ≡ []) × (b ≡ a)
 abbrev pub made_read : {A : Type 0} → A → Reading → Result (A × Reading) Fault
 made_read a r = Ok (a, r)
 
--- Two parts, with both values.
-abbrev pub Both : {A B : Type 0} → (List ℕ → A → Type 0) → (List ℕ → B → Type 0) → List ℕ → A × B → Type 0
-Both First Second = Then First (λ a. Then Second (λ b. Made (a, b)))
-
-abbrev pub both_read : {A B : Type 0} → (Reading → Result (A × Reading) Fault) → (Reading → Result (B × Reading) Fault) → Reading → Result ((A × B) × Reading) Fault
-both_read first second = then_read first (λ a. then_read second (λ b. made_read (a, b)))
-
 -- A call that answers with result and leaves new read as read says. A refusal may leave what is left anywhere.
 abbrev pub ParsesBy : {X Y : Type 0} → (X → Y) → (Reading → Result (Y × Reading) Fault) → Reading → Result X Fault → Reading → Type 0
 ParsesBy view read old (Ok v) new = read old ≡ Ok (view v, new)

@@ -9,8 +9,8 @@ Sequence Spells at bytes [] = bytes ≡ []
 Sequence Spells at bytes (x ∷ xs) = (first rest : List ℕ) × (bytes ≡ first ++ rest) × Spells at first x × Sequence Spells (at + length first) rest xs
 
 -- a thing and its offset
-abbrev pub Located : {X : Type 0} → (List ℕ → X → Type 0) → ℕ → List ℕ → ℕ × X → Type 0
-Located Spells at bytes item = (item.0 ≡ at) × Spells bytes item.1
+abbrev pub Located : {X : Type 0} → (ℕ → List ℕ → X → Type 0) → ℕ → List ℕ → ℕ × X → Type 0
+Located Spells at bytes item = (item.0 ≡ at) × Spells at bytes item.1
 
 abbrev pub located_read : {X : Type 0} → (Reading → Result (X × Reading) Fault) → Reading → Result ((ℕ × X) × Reading) Fault
 located_read read r = read r >>= λ x. Ok ((r.position, x.0), x.1)

@@ -1,11 +1,12 @@
 //! Operands that have to be in a range. Where they aren't, the fault stands at the code that they follow, whose offset each
 //! call is given. A refused read leaves the cursor where it was.
 
-ghost use Rattle.std.specs.Prelude.{◌≡◌, ◌<◌, ◌≤◌, ◌^◌, length, IfOk};
-ghost use Rattle.dw_bytes.specs.Reading.{GoesOn, Reads, ReadsBy};
+ghost use Rattle.std.specs.Prelude.{◌≡◌, ◌≤◌, [], ◌∷◌};
+ghost use Rattle.dw_bytes.specs.Reading.{GoesOn, ReadsBy};
 ghost use Rattle.dw_bytes.specs.Readers.{IsRefusedWithin};
-ghost use Rattle.dw_bytes.specs.Operands.{unsigned, signed, register_number, read_size, piece_size, block, in_range, one_at, two_at};
+ghost use Rattle.dw_bytes.specs.Operands.{unsigned, signed, register_number, read_size, piece_size, block, in_range, given_at, one_value, two_values, block_of};
 
+use crate::block::Block;
 use crate::cursor::Cursor;
 use crate::fault::{Fault, FaultKind};
 use crate::target::{AddressSize, Target};
@@ -56,7 +57,7 @@ fn size_of_read(size: u8, at: u32, target: Target) -> Result<u8, Fault>
 /// A register: unsigned LEB128, at most 65535, else `RegisterNumber` at the code.
 pub fn register(cursor: &mut Cursor<'_>, at: u32) -> Result<u16, Fault>
     requires { at ≤ cursor.old.position }
-    ensures exact { Reads (one_at at register_number) cursor.old result cursor.new }
+    ensures exact { ReadsBy one_value (given_at at (register_number ∷ [])) cursor.old result cursor.new }
     ensures within { IsRefusedWithin cursor.old result }
     ensures goes_on { GoesOn cursor.old cursor.new }
 {
@@ -69,7 +70,7 @@ pub fn register(cursor: &mut Cursor<'_>, at: u32) -> Result<u16, Fault>
 /// Two registers.
 pub fn two_registers(cursor: &mut Cursor<'_>, at: u32) -> Result<(u16, u16), Fault>
     requires { at ≤ cursor.old.position }
-    ensures exact { Reads (two_at at register_number register_number) cursor.old result cursor.new }
+    ensures exact { ReadsBy two_values (given_at at (register_number ∷ register_number ∷ [])) cursor.old result cursor.new }
     ensures within { IsRefusedWithin cursor.old result }
     ensures goes_on { GoesOn cursor.old cursor.new }
 {
@@ -88,7 +89,7 @@ pub fn two_registers(cursor: &mut Cursor<'_>, at: u32) -> Result<(u16, u16), Fau
 /// A register and an unsigned number.
 pub fn register_and_unsigned(cursor: &mut Cursor<'_>, at: u32) -> Result<(u16, u64), Fault>
     requires { at ≤ cursor.old.position }
-    ensures exact { Reads (two_at at register_number unsigned) cursor.old result cursor.new }
+    ensures exact { ReadsBy two_values (given_at at (register_number ∷ unsigned ∷ [])) cursor.old result cursor.new }
     ensures within { IsRefusedWithin cursor.old result }
     ensures goes_on { GoesOn cursor.old cursor.new }
 {
@@ -103,7 +104,7 @@ pub fn register_and_unsigned(cursor: &mut Cursor<'_>, at: u32) -> Result<(u16, u
 /// A register and a signed number.
 pub fn register_and_signed(cursor: &mut Cursor<'_>, at: u32) -> Result<(u16, i64), Fault>
     requires { at ≤ cursor.old.position }
-    ensures exact { Reads (two_at at register_number signed) cursor.old result cursor.new }
+    ensures exact { ReadsBy two_values (given_at at (register_number ∷ signed ∷ [])) cursor.old result cursor.new }
     ensures within { IsRefusedWithin cursor.old result }
     ensures goes_on { GoesOn cursor.old cursor.new }
 {
@@ -115,41 +116,44 @@ pub fn register_and_signed(cursor: &mut Cursor<'_>, at: u32) -> Result<(u16, i64
     Ok((register, value))
 }
 
-/// A register and the bytes of a block.
-pub fn register_and_block<'a>(cursor: &mut Cursor<'a>, at: u32) -> Result<(u16, &'a [u8]), Fault>
+/// A register and a block.
+pub fn register_and_block<'a>(cursor: &mut Cursor<'a>, at: u32) -> Result<(u16, Block<'a>), Fault>
     requires { at ≤ cursor.old.position }
-    ensures exact { ReadsBy (λ v. (v.0, v.1.now)) (two_at at register_number block) cursor.old result cursor.new }
-    ensures short { IfOk result (λ v. length v.1.now < 2 ^ 32) }
+    ensures exact { ReadsBy (λ v. two_values (v.0, block_of v.1)) (given_at at (register_number ∷ block ∷ [])) cursor.old result cursor.new }
     ensures within { IsRefusedWithin cursor.old result }
     ensures goes_on { GoesOn cursor.old cursor.new }
 {
     let mut ahead = cursor.copy();
     let number = ahead.uleb()?;
-    let bytes = block(&mut ahead, at)?;
+    let block = block(&mut ahead, at)?;
     let register = number_of_register(number, at, cursor.target())?;
     *cursor = ahead;
-    Ok((register, bytes))
+    Ok((register, block))
 }
 
-/// The bytes of a block, which has their count as unsigned LEB128 before them.
-pub fn block<'a>(cursor: &mut Cursor<'a>, at: u32) -> Result<&'a [u8], Fault>
-    ensures exact { ReadsBy (λ bytes. bytes.now) (one_at at block) cursor.old result cursor.new }
-    ensures short { IfOk result (λ bytes. length bytes.now < 2 ^ 32) }
+/// A block, which has the count of its bytes as unsigned LEB128 before it.
+pub fn block<'a>(cursor: &mut Cursor<'a>, at: u32) -> Result<Block<'a>, Fault>
+    ensures exact { ReadsBy (λ v. one_value (block_of v)) (given_at at (block ∷ [])) cursor.old result cursor.new }
     ensures within { IsRefusedWithin cursor.old result }
     ensures goes_on { GoesOn cursor.old cursor.new }
 {
     let _ = at;
     let mut ahead = cursor.copy();
     let length = ahead.uleb()?;
+    let offset = ahead.position();
     let bytes = ahead.take(length)?;
     *cursor = ahead;
-    Ok(bytes)
+    Ok(Block {
+        offset,
+        target: cursor.target(),
+        bytes,
+    })
 }
 
 /// The size of a piece: unsigned LEB128, at most 2^32 - 1, else `PieceSize` at the code.
 pub fn piece_size(cursor: &mut Cursor<'_>, at: u32) -> Result<u32, Fault>
     requires { at ≤ cursor.old.position }
-    ensures exact { Reads (one_at at piece_size) cursor.old result cursor.new }
+    ensures exact { ReadsBy one_value (given_at at (piece_size ∷ [])) cursor.old result cursor.new }
     ensures within { IsRefusedWithin cursor.old result }
     ensures goes_on { GoesOn cursor.old cursor.new }
 {
@@ -163,7 +167,7 @@ pub fn piece_size(cursor: &mut Cursor<'_>, at: u32) -> Result<u32, Fault>
 /// The size of a piece and an offset.
 pub fn two_piece_sizes(cursor: &mut Cursor<'_>, at: u32) -> Result<(u32, u32), Fault>
     requires { at ≤ cursor.old.position }
-    ensures exact { Reads (two_at at piece_size piece_size) cursor.old result cursor.new }
+    ensures exact { ReadsBy two_values (given_at at (piece_size ∷ piece_size ∷ [])) cursor.old result cursor.new }
     ensures within { IsRefusedWithin cursor.old result }
     ensures goes_on { GoesOn cursor.old cursor.new }
 {
@@ -182,7 +186,7 @@ pub fn two_piece_sizes(cursor: &mut Cursor<'_>, at: u32) -> Result<(u32, u32), F
 /// The size of a read in one byte: 1, 2, 4 or 8 and at most that of an address, else `BadSize` at the code.
 pub fn read_size(cursor: &mut Cursor<'_>, at: u32) -> Result<u8, Fault>
     requires { at ≤ cursor.old.position }
-    ensures exact { Reads (one_at at read_size) cursor.old result cursor.new }
+    ensures exact { ReadsBy one_value (given_at at (read_size ∷ [])) cursor.old result cursor.new }
     ensures within { IsRefusedWithin cursor.old result }
     ensures goes_on { GoesOn cursor.old cursor.new }
 {

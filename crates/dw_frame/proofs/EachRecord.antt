@@ -8,10 +8,11 @@ use Rattle.dw_bytes.specs.declared.target.Format.TheVariants.{Dwarf32, Dwarf64}
 use Rattle.dw_bytes.specs.declared.fault.Fault.{Fault}
 use Rattle.dw_bytes.specs.Spelling.{Len, Length}
 use Rattle.dw_bytes.specs.Reading.{Reading, Next, IsExact, ◌>>=◌, take_at, initial_length_at}
-use Rattle.dw_bytes.proofs.Readers.{bind-ok, ok-is, same-reading, length-exact, take-exact}
+use Rattle.dw_bytes.proofs.Readers.{bind-ok, ok-is, same-reading, length-exact, take-exact, leaves-suffix}
 use Rattle.dw_bytes.proofs.Sequences.{ReadsEach, Forward, forward, goes-on, stops, ends, all-read, sequence-exact}
 use Rattle.dw_frame.specs.Records.{Record}
 use Rattle.dw_frame.specs.Sections.{Header, IsRecord, AreRecords, record_from, header_at, body_of, framed_at, record_at, section_from, entries_from, entries_of}
+use Rattle.dw_frame.specs.Bounds.{IsBehind}
 use Rattle.dw_frame.proofs.Headers.{header-exact}
 
 -- ---- a length and its body
@@ -167,3 +168,13 @@ at-fault target section at fault h is = stops record_at (section_from target sec
 pub at-record : (target : Target) (section : List ℕ) (at next : ℕ) (x : Record) → record_at (section_from target section at) ≡ Ok (x, section_from target section next) → entries_from target section at ≡ Ok x ∷ entries_from target section next
 unfolding entries_from
 at-record target section at next x is = goes-on record_at records-forward (section_from target section at) x (section_from target section next) is
+
+pub record-leaves : (target : Target) (section : List ℕ) (at : ℕ) (x : Record) (after : Reading) → at ≤ length section → record_at (section_from target section at) ≡ Ok (x, after) → IsBehind target section at after
+record-leaves target section at x after inside is =
+    let next = record-found (section_from target section at) x after is in
+    let some = some-bytes target at next.bytes x next.spelled in
+    record {
+      later = omega (arith, next.position, some);
+      inside = omega (arith, next.position, ap length next.parts, length-append next.bytes after.rest, length-drop at section);
+      left = leaves-suffix target record_at (IsRecord target) (each-record target).exact section at x after inside is;
+    }

@@ -28,10 +28,10 @@ pub framed-window : (target : Target) (section : List ℕ) (at : ℕ) (format : 
     → framed_at (section_from target section at) ≡ Ok ((format, section_from target (take after.position section) mid.position), section_from target section after.position)
 unfolding framed_at
 framed-window target section at format n mid bytes after inside first second mid_inside =
-    let mid_is : mid ≡ section_from target section mid.position = leaves-suffix target initial_length_at (Length target.order) (length-exact target) section at (format, n) mid inside first in
+    let mid_is : mid ≡ section_from target section mid.position = leaves-suffix target initial_length_at (λ here. Length target.order) (length-exact target) section at (format, n) mid inside first in
     let from_mid : taken_at n (section_from target section mid.position) ≡ Ok (bytes, after) = ap (taken_at n) (sym mid_is) ∙ second in
     let next = (take-exact target n (section_from target section mid.position) refl).found bytes after from_mid in
-    let after_is : after ≡ section_from target section after.position = leaves-suffix target (taken_at n) (Bytes n) (take-exact target n) section mid.position bytes after mid_inside from_mid in
+    let after_is : after ≡ section_from target section after.position = leaves-suffix target (taken_at n) (λ here. Bytes n) (take-exact target n) section mid.position bytes after mid_inside from_mid in
     let parts : drop mid.position section ≡ bytes ++ after.rest = next.parts ∙ ap (λ (t : List ℕ). t ++ after.rest) (sym next.spelled.value) in
     let long : after.position ≡ mid.position + length bytes = next.position ∙ ap (λ (t : List ℕ). mid.position + length t) (sym next.spelled.value) in
     let bytes_are : drop mid.position (take after.position section) ≡ bytes = body-is section bytes after.rest mid.position after.position long parts in
@@ -56,6 +56,6 @@ framed-program target section at format n mid bytes after p inside first second 
     ∙ ap (λ k. framed format (reading_of p) (section_from target section k)) end_is)))
 
 pub header-leaves : (p : Program) (at : ℕ) (format : Format) (h : Header) (after : Reading) → at ≤ length p.section.now → header_at p.target format (reading_from p at) ≡ Ok (h, after) → after ≡ reading_from p after.position
-header-leaves p at format h after inside is = leaves-suffix p.target (header_at p.target format) (IsHeader p.target format) (header-exact p.target format) p.section.now at h after inside is
+header-leaves p at format h after inside is = leaves-suffix p.target (header_at p.target format) (λ here. IsHeader p.target format) (header-exact p.target format) p.section.now at h after inside is
 
 pub ruleset leaves_laws = (header-leaves)

@@ -15,8 +15,9 @@ use Rattle.dw_bytes.specs.Reading.{Reading, ◌>>=◌, take_at, fixed_at, addres
 use Rattle.dw_bytes.specs.Readers.{passing_read, fault_here}
 use Rattle.dw_bytes.proofs.Bounds.{Stays, AlwaysStays, end-of, then-stays, passing-stays, made-stays, here-stays, fixed-stays, address-stays, offset-stays, length-stays, uleb-stays, sleb-stays, take-stays, each-along}
 use Rattle.dw_frame.specs.Records.{Record}
-use Rattle.dw_frame.specs.Sections.{Header, common_header, description_header, cie_id, top_of, ends_by, is_register, byte_at, cie_header_at, fde_header_at, from_id_at, IsFrom, header_at, IsHeader, record_from, IsRecord, AreRecords, body_of, framed_at, record_at, section_from, entries_from, entries_of}
+use Rattle.dw_frame.specs.Sections.{Header, common_header, description_header, cie_id, top_of, ends_by, is_register, byte_at, cie_header_at, fde_header_at, from_id_at, IsFrom, header_at, IsHeader, record_from, IsRecord, AreRecords, body_of, framed_at, record_at, section_from, entries_from, entries_of, cie_among}
 use Rattle.dw_frame.specs.Bounds.{IsSoundRecord, IsSound, offset_of, Ascends}
+use Rattle.dw_frame.proofs.CieAmong.{cie-fault}
 use Rattle.dw_frame.proofs.EachRecord.{framed-found, record-found, some-bytes, some-length}
 
 -- ---- refusals
@@ -148,6 +149,12 @@ entries-sound target section item h =
     (sound-record target (length section) r.position next.bytes x spelled (omega (arith, long, on.same_end)), record { same_target = next.target ∙ on.same_target; same_end = omega (arith, next.position, long, on.same_end) }))
     (λ r fault on is. let stands = record-refused r fault is in omega (arith, stands, on.same_end))
     (section_from target section 0) item (record { same_target = refl; same_end = omega (arith, length-drop 0 section) }) h
+
+-- the fault of a search stands in the section
+pub cie-inside : (target : Target) (section : List ℕ) (offset : ℕ) (fault : Fault) → cie_among offset (entries_of target section) ≡ Err fault → fault.at ≤ length section
+cie-inside target section offset fault is = entries-sound target section (Err fault) (cie-fault offset (entries_of target section) fault is)
+
+pub ruleset cie_laws = (cie-inside)
 
 -- ---- the order of records
 

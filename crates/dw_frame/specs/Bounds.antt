@@ -6,12 +6,18 @@ use Rattle.dw_bytes.specs.declared.fault.Fault.{Fault}
 use Rattle.dw_bytes.specs.Reading.{Reading}
 use Rattle.dw_frame.specs.Instructions.{Instruction}
 use Rattle.dw_frame.specs.Records.{Cie, Fde, Record, common, description}
-use Rattle.dw_frame.specs.Sections.{top_of}
+use Rattle.dw_frame.specs.Sections.{top_of, section_from}
 
 -- An instruction begins in its program. A fault may stand at its end, too.
 abbrev pub StandsIn : Reading → Result (ℕ × Instruction) Fault → Type 0
 StandsIn r (Ok item) = (r.position ≤ item.0) × (item.0 < r.position + length r.rest)
 StandsIn r (Err fault) = (r.position ≤ fault.at) × (fault.at ≤ r.position + length r.rest)
+
+-- What is left behind something of a section, which begins at an offset.
+pub record IsBehind (target : Target) (section : List ℕ) (at : ℕ) (after : Reading) : Type 0 where
+  pub later : at < after.position
+  pub inside : after.position ≤ length section
+  pub left : after ≡ section_from target section after.position
 
 -- The program of a record lies behind its offset, inside a section of so many bytes, and is of the same target.
 pub record LiesIn (target : Target) (size offset : ℕ) (program : Reading) : Type 0 where

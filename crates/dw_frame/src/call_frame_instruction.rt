@@ -2,6 +2,15 @@
 
 use dw_ops::Expression;
 
+/// The expression of an instruction, and where it stands.
+#[derive(Clone, Copy, Debug)]
+pub struct UnwindExpression<'a> {
+    /// The offset of its first byte in the section. Offsets inside it count from there.
+    pub offset: u32,
+    /// Its bytes and the target of the section.
+    pub expression: Expression<'a>,
+}
+
 /// A call frame instruction, its operands as they are spelled (DWARF 5, sections 6.4.2 and 7.24): a
 /// delta is to be multiplied by the code alignment factor of the CIE, and a factored offset by its data
 /// alignment factor. Offsets are in bytes, and register numbers are those of the rules' columns.
@@ -79,12 +88,12 @@ pub enum CallFrameInstruction<'a> {
     },
     /// The CFA is what an expression gives.
     DefCfaExpression {
-        expression: Expression<'a>,
+        expression: UnwindExpression<'a>,
     },
     /// A register is saved at the address that an expression gives.
     Expression {
         register: u16,
-        expression: Expression<'a>,
+        expression: UnwindExpression<'a>,
     },
     /// A register is saved at a signed offset from the CFA.
     OffsetExtendedSf {
@@ -113,6 +122,6 @@ pub enum CallFrameInstruction<'a> {
     /// A register's content is what an expression gives.
     ValExpression {
         register: u16,
-        expression: Expression<'a>,
+        expression: UnwindExpression<'a>,
     },
 }

@@ -1,23 +1,23 @@
 //! Laws of the records and instructions: functions that do nothing, each with the law as its contract.
 
-ghost use Rattle.std.specs.Prelude.{◌≡◌, ◌<◌, ◌↔◌, ℕ, List, [], ◌∷◌, ◌++◌, length, map, Contains, Result, Ok, Err, Some, None};
+ghost use Rattle.std.specs.Prelude.{◌≡◌, ◌<◌, ◌≤◌, ◌↔◌, ℕ, List, [], ◌∷◌, ◌++◌, length, map, Contains, Result, Ok, Err, Some, None};
 ghost use Rattle.dw_bytes.specs.declared.target.Target.{Target};
 ghost use Rattle.dw_bytes.specs.declared.fault.Fault.{Fault};
 ghost use Rattle.dw_bytes.specs.Reading.{Reading, IsExact};
 ghost use Rattle.dw_frame.specs.Instructions.{Instruction};
 ghost use Rattle.dw_frame.specs.Records.{Cie, Record, common};
 ghost use Rattle.dw_frame.specs.Codes.{Spells, AreInstructions, instruction_at, instructions_of};
-ghost use Rattle.dw_frame.specs.Sections.{IsRecord, AreRecords, record_at, entries_of, cie_among};
-ghost use Rattle.dw_frame.specs.Bounds.{StandsIn, offset_of, Ascends, IsSound};
+ghost use Rattle.dw_frame.specs.Sections.{IsRecord, AreRecords, record_at, section_from, entries_from, entries_of, cie_among};
+ghost use Rattle.dw_frame.specs.Bounds.{StandsIn, IsBehind, offset_of, Ascends, IsSound};
 
 /// No spelling of an instruction begins another, and bytes spell one instruction.
 pub fn one_instruction()
-    ensures { (target : Target) (a b x y : List ℕ) (i j : Instruction) → Spells target a i → Spells target b j → a ++ x ≡ b ++ y → (a ≡ b) × (i ≡ j) }
+    ensures { (target : Target) (at : ℕ) (a b x y : List ℕ) (i j : Instruction) → Spells target at a i → Spells target at b j → a ++ x ≡ b ++ y → (a ≡ b) × (i ≡ j) }
 {}
 
 /// The instruction that is read is the one that is spelled, and one that is spelled is read.
 pub fn instructions_are_exact()
-    ensures { (r : Reading) → IsExact instruction_at (Spells r.target) r }
+    ensures { (r : Reading) → IsExact instruction_at (Spells r.target r.position) r }
 {}
 
 /// A program is read without a fault exactly where its bytes are the spellings of instructions one
@@ -48,6 +48,19 @@ pub fn records_are_exact()
 /// gap, and then it gives these.
 pub fn sections_are_records()
     ensures { (target : Target) (section : List ℕ) (records : List Record) → (entries_of target section ≡ map Ok records) ↔ AreRecords target 0 section records }
+{}
+
+/// What a section gives from an offset on: the record there and then what is behind it, or the fault
+/// there alone, or nothing at its end.
+pub fn records_come_in_order()
+    ensures entry { (target : Target) (section : List ℕ) (at next : ℕ) (x : Record) → record_at (section_from target section at) ≡ Ok (x, section_from target section next) → entries_from target section at ≡ Ok x ∷ entries_from target section next }
+    ensures fault { (target : Target) (section : List ℕ) (at : ℕ) (fault : Fault) → at < length section → record_at (section_from target section at) ≡ Err fault → entries_from target section at ≡ Err fault ∷ [] }
+    ensures nothing { (target : Target) (section : List ℕ) (at : ℕ) → length section ≤ at → entries_from target section at ≡ [] }
+{}
+
+/// What is left behind a record that is read is the section from a later offset on, its end at most.
+pub fn records_lie_behind_each_other()
+    ensures { (target : Target) (section : List ℕ) (at : ℕ) (x : Record) (after : Reading) → at ≤ length section → record_at (section_from target section at) ≡ Ok (x, after) → IsBehind target section at after }
 {}
 
 /// The records of a section begin one behind the other.

@@ -12,7 +12,7 @@ mod program;
 mod records;
 mod sections;
 
-pub use call_frame_instruction::CallFrameInstruction;
+pub use call_frame_instruction::{CallFrameInstruction, UnwindExpression};
 pub use decode::instruction;
 pub use entry::{CommonInformationEntry, Entry, FrameDescriptionEntry};
 pub use instructions::Instructions;

@@ -99,13 +99,15 @@ pub fn entries<'a>(section: &'a [u8], target: Target) -> Entries<'a>
 /// The CIE at an offset of a section of fewer than 2^32 bytes, or the first fault before one is found,
 /// or none. It looks at the records in order up to that CIE, so it takes as long as there are records
 /// before it, and as there are in all where there is none. Takes no memory.
+#[tactic(auto, using(crate::proofs::RecordBounds::cie_laws))]
 pub fn cie_at<'a>(
     section: &'a [u8],
     target: Target,
     offset: u64,
 ) -> Result<Option<CommonInformationEntry<'a>>, Fault>
     requires { length section.now < 2 ^ 32 }
-    ensures { found_cie result ≡ cie_among offset (entries_of target section.now) }
+    ensures found { found_cie result ≡ cie_among offset (entries_of target section.now) }
+    ensures inside { IfErr result (λ fault. fault.at ≤ length section.now) }
 {
     for entry in entries(section, target) {
         if let Entry::Cie(cie) = entry? {

@@ -102,12 +102,12 @@ fn every_instruction(rt: HostRuntime) -> Result<(), Fail> {
         (
             &[0x0f, 1, 0x96],
             2,
-            b"DefCfaExpression { expression: Expression { bytes: [150], target: Target { order: Big, address_size: Four } } }",
+            b"DefCfaExpression { expression: UnwindExpression { offset: 2, expression: Expression { bytes: [150], target: Target { order: Big, address_size: Four } } } }",
         ),
         (
             &[0x10, 5, 0],
             2,
-            b"Expression { register: 5, expression: Expression { bytes: [], target: Target { order: Big, address_size: Four } } }",
+            b"Expression { register: 5, expression: UnwindExpression { offset: 3, expression: Expression { bytes: [], target: Target { order: Big, address_size: Four } } } }",
         ),
         (
             &[0x11, 6, 0x7e],
@@ -133,13 +133,38 @@ fn every_instruction(rt: HostRuntime) -> Result<(), Fail> {
         (
             &[0x16, 6, 2, 0x30, 0x9f],
             3,
-            b"ValExpression { register: 6, expression: Expression { bytes: [48, 159], target: Target { order: Big, address_size: Four } } }",
+            b"ValExpression { register: 6, expression: UnwindExpression { offset: 3, expression: Expression { bytes: [48, 159], target: Target { order: Big, address_size: Four } } } }",
         ),
     ];
     for (bytes, last, wanted) in lines {
         assert_eq!(rt; shown(rt.alloc(), bytes)?.as_bytes(), wanted);
         let fault = Some((FaultKind::Truncated, last));
         assert_eq!(rt; cut_short(bytes), fault, "{bytes:?}");
+    }
+    Ok(())
+}
+
+#[test]
+fn where_expressions_stand(rt: HostRuntime) -> Result<(), Fail> {
+    // The program, and where its expression begins: behind a count of one byte, and of two.
+    let programs: [([u8; 8], u32); 2] = [
+        ([0x0f, 3, 0x77, 8, 6, 0, 0, 0], 50),
+        ([0x0f, 0x83, 0, 0x77, 8, 6, 0, 0], 51),
+    ];
+    for (program, wanted) in programs {
+        let mut section = FUNCTION;
+        section[48..].copy_from_slice(&program);
+        let entry = entries(&section, LITTLE).nth(1).ok_or("a record")?;
+        let Ok(Entry::Fde(fde)) = entry else {
+            return Err(Fail::from("no FDE"));
+        };
+        let item = fde.program.instructions().next().ok_or("an instruction")?;
+        let (at, instruction) = item.ok().ok_or("no fault")?;
+        let CallFrameInstruction::DefCfaExpression { expression } = instruction else {
+            return Err(Fail::from("another instruction"));
+        };
+        assert_eq!(rt; (at, expression.offset), (48, wanted));
+        assert_eq!(rt; expression.expression.bytes(), [0x77, 8, 6].as_slice());
     }
     Ok(())
 }

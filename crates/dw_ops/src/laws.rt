@@ -9,12 +9,12 @@ ghost use Rattle.dw_ops.specs.Opcodes.{Spells, AreOperations, operation_at, oper
 
 /// No spelling of an operation begins another, and bytes spell one operation.
 pub fn one_operation()
-    ensures { (target : Target) (a b x y : List ℕ) (i j : Operation) → Spells target a i → Spells target b j → a ++ x ≡ b ++ y → (a ≡ b) × (i ≡ j) }
+    ensures { (target : Target) (at : ℕ) (a b x y : List ℕ) (i j : Operation) → Spells target at a i → Spells target at b j → a ++ x ≡ b ++ y → (a ≡ b) × (i ≡ j) }
 {}
 
 /// An operation is read exactly where it is spelled.
 pub fn operations_are_exact()
-    ensures { (r : Reading) → IsExact operation_at (Spells r.target) r }
+    ensures { (r : Reading) → IsExact operation_at (Spells r.target r.position) r }
 {}
 
 /// The operations of bytes are read to the end exactly where the bytes are their spellings, one after the other.
@@ -31,5 +31,5 @@ pub fn operations_come_in_order()
 
 /// An operation has a byte at least.
 pub fn no_operation_is_empty()
-    ensures { (target : Target) (bytes : List ℕ) (i : Operation) → Spells target bytes i → 0 < length bytes }
+    ensures { (target : Target) (at : ℕ) (bytes : List ℕ) (i : Operation) → Spells target at bytes i → 0 < length bytes }
 {}

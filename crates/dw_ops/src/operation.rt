@@ -116,8 +116,13 @@ pub enum Operation<'a> {
     StackValue,
 }
 
-/// What fills the places of a list that aren't used.
+/// What fills the places of a list that aren't used: nop.
 impl Default for Operation<'_> {
+    ghost use Rattle.std.specs.Prelude.{◌≡◌};
+    ghost use Rattle.dw_ops.specs.declared.operation.Operation.TheVariants.{Nop};
+
+    ghost is_default = { λ operation. operation ≡ Nop };
+
     fn default() -> Self {
         Operation::Nop
     }

@@ -6,8 +6,7 @@ ghost use Rattle.dw_rows.specs.Effects.{effect_of};
 ghost use Rattle.dw_rows.specs.Actions.{effect_by};
 
 use crate::row::RegisterRule;
-use dw_frame::{CallFrameInstruction, CommonInformationEntry};
-use dw_ops::Expression;
+use dw_frame::{CallFrameInstruction, CommonInformationEntry, UnwindExpression};
 
 /// What an instruction does to the location, the rules and what is remembered. Its numbers are
 /// whole: an offset is not yet judged to fit.
@@ -20,7 +19,7 @@ pub enum Action<'a> {
         register: u16,
         offset: i128,
     },
-    DefinesCfaExpression(Expression<'a>),
+    DefinesCfaExpression(UnwindExpression<'a>),
     ChangesRegister(u16),
     ChangesOffset(i128),
     Sets {
@@ -37,11 +36,11 @@ pub enum Action<'a> {
     },
     SetsExpression {
         register: u16,
-        expression: Expression<'a>,
+        expression: UnwindExpression<'a>,
     },
     SetsValExpression {
         register: u16,
-        expression: Expression<'a>,
+        expression: UnwindExpression<'a>,
     },
     Restores(u16),
     Pushes,

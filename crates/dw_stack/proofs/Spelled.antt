@@ -17,7 +17,7 @@ first_place target at bytes (x ∷ xs) (first, rest, parts, spelled, others) = s
 next_place : (target : Target) (at : ℕ) (bytes : List ℕ) (ops : List Placed) → AreOperations target at bytes ops → (j : ℕ) → j < length ops → place ops (at + length bytes) j < place ops (at + length bytes) (suc j)
 next_place target at bytes [] are j lt = absurd (omega arith)
 next_place target at bytes (x ∷ xs) (first, rest, parts, spelled, others) zero lt =
-    let some = some-bytes target first x.1 spelled.1 in
+    let some = some-bytes target at first x.1 spelled.1 in
     let next = first_place target (at + length first) rest xs others in
     let same : place xs (at + length bytes) 0 ≡ place xs (at + length first + length rest) 0 = ap (λ (n : ℕ). place xs n 0) (omega (arith, ap length parts, length-append first rest)) in
     omega (arith, some, next, same, spelled.0)

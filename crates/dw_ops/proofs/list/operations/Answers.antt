@@ -2,7 +2,6 @@ use Rattle.std.proofs.Common.{◌≡◌, ◌∙◌, ◌∷◌, ◌++◌, [], Lis
 use Rattle.std.proofs.lemmas.List.{append-nil}
 use Rattle.dw_bytes.specs.Answers.{fault_in, values_in}
 use Rattle.dw_ops.specs.declared.operation.Operation as coded
-use Rattle.dw_ops.specs.Operations.{Operation}
 use Rattle.dw_ops.specs.Opcodes.{operations_of}
 use Rattle.dw_ops.specs.Views.{reading_from, operation_of, located_of}
 use Rattle.dw_ops.proofs.Lists.{at-end, at-fault, at-operation, grown}
