@@ -1,6 +1,7 @@
 pub mod Numbers
 pub mod World
 pub mod Values
+pub mod Needs
 pub mod Meaning
 pub mod Changes
 pub mod Handed
