@@ -4,18 +4,18 @@ ghost use Rattle.std.specs.Prelude.{◌≡◌, ◌≤◌, length};
 ghost use Rattle.std.specs.Option.{option_map};
 ghost use Rattle.dw_ops.specs.Views.{operation_of};
 ghost use Rattle.dw_stack.specs.Effects.{effect_of};
-ghost use Rattle.dw_stack.specs.Machine.{named};
+ghost use Rattle.dw_stack.specs.Machine.{named, LeadsTo};
 ghost use Rattle.dw_eval.specs.Views.{whereabouts_of};
-ghost use Rattle.dw_eval.specs.Moves.{LeadsTo, HasTarget, EndsPiece};
+ghost use Rattle.dw_eval.specs.Moves.{GoesForward, EndsPiece};
 
 use crate::location::{Location, PieceSize};
 use crate::stack::Stack;
 use dw_ops::Operation;
 
-/// Where the operation leads.
+/// Where the operation leads, which may be a jump forward.
 pub fn target_of(operation: &Operation<'_>, stack: &Stack, next: u32) -> u32
     requires needs { (effect_of (operation_of operation.now)).needs ≤ length stack.now }
-    requires target { HasTarget (operation_of operation.now) stack.now next }
+    requires target { GoesForward (operation_of operation.now) stack.now next }
     ensures { LeadsTo (operation_of operation.now) stack.now next result }
 {
     match *operation {

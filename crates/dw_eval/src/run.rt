@@ -40,7 +40,7 @@ impl<'a> Run<'a> {
     ghost use Rattle.dw_eval.specs.Views.{whereabouts_of, extent_in, piece_in, some_pieces, outcome_of};
     ghost use Rattle.dw_eval.specs.Results.{result_of};
     ghost use Rattle.dw_eval.specs.Ends.{HasEnd};
-    ghost use Rattle.dw_eval.specs.Moves.{configured, HasTarget, Moves};
+    ghost use Rattle.dw_eval.specs.Moves.{configured, GoesForward, Moves};
 
     /// A run with an empty stack.
     pub fn new() -> Self
@@ -114,7 +114,7 @@ impl<'a> Run<'a> {
         requires can { CanDo (effect_of (operation_of operation.now)).role (length self.old.stack) (option_map whereabouts_of self.old.pending) }
         requires room { length self.old.stack - (effect_of (operation_of operation.now)).takes + (effect_of (operation_of operation.now)).adds ≤ MAX_HEIGHT }
         requires few { is_piece (effect_of (operation_of operation.now)).role ≡ true → length (some_pieces self.old.pieces) < MAX_PIECES }
-        requires target { HasTarget (operation_of operation.now) self.old.stack next }
+        requires target { GoesForward (operation_of operation.now) self.old.stack next }
         requires sized { IsSized (operation_of operation.now) }
         requires below { All (λ n. n < 2 ^ width (world_in R.contents M.bytes machine.now)) self.old.stack }
         ensures { MatchResult result (λ to. Moves (world_in R.contents M.bytes machine.now) (operation_of operation.now) next (configured 0 self.old) (configured to self.new)) (λ why. answer (world_in R.contents M.bytes machine.now) (operation_of operation.now) self.old.stack ≡ Err (trouble_of why)) }

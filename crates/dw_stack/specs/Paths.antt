@@ -32,7 +32,7 @@ pub record IsLaidOut (ops : List Placed) (len : ℕ) : Type 0 where
   pub first : place ops len 0 ≡ 0
   pub each : (j : ℕ) → j < length ops → place ops len j < place ops len (j + 1)
 
--- where a jump leads that is counted from the next operation; nowhere for one backward
+-- where a jump leads on paths, counted from the next operation: nowhere, if it is backward
 abbrev pub aim : ℕ → ℤ → Option ℕ
 aim next (pos n) = Some (next + n)
 aim next (negsuc n) = None
