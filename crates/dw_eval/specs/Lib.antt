@@ -9,4 +9,3 @@ pub mod Results
 pub mod Fits
 pub mod Views
 pub mod Moves
-pub mod Ends

@@ -32,14 +32,13 @@ impl<'a> Run<'a> {
     ghost use Rattle.dw_ops.specs.Views.{operation_of};
     ghost use Rattle.dw_stack.specs.Effects.{effect_of};
     ghost use Rattle.dw_stack.specs.Paths.{is_piece};
-    ghost use Rattle.dw_stack.specs.Machine.{location_of, CanDo};
+    ghost use Rattle.dw_stack.specs.Machine.{location_of, CanDo, GivesResult};
     ghost use Rattle.dw_eval.specs.World.{width};
     ghost use Rattle.dw_eval.specs.Values.{answer};
     ghost use Rattle.dw_eval.specs.Changes.{IsSized, trouble_of};
     ghost use Rattle.dw_eval.specs.Handed.{world_in};
     ghost use Rattle.dw_eval.specs.Views.{whereabouts_of, extent_in, piece_in, some_pieces, outcome_of};
     ghost use Rattle.dw_eval.specs.Results.{result_of};
-    ghost use Rattle.dw_eval.specs.Ends.{HasEnd};
     ghost use Rattle.dw_eval.specs.Moves.{configured, GoesForward, Moves};
 
     /// A run with an empty stack.
@@ -134,7 +133,7 @@ impl<'a> Run<'a> {
 
     /// Where the object is, at the end of a location with operations.
     fn into_location(self) -> Outcome<'a>
-        requires { HasEnd Kind.Location false (configured 0 self) }
+        requires { GivesResult Kind.Location false (configured 0 self) }
         ensures { outcome_of result ≡ result_of Kind.Location false (configured 0 self.entry) }
     {
         let Run {
@@ -153,7 +152,7 @@ impl<'a> Run<'a> {
 
     /// What the end gives, of an expression with or without operations.
     pub fn into_outcome(self, kind: Kind, is_empty: bool) -> Outcome<'a>
-        requires { HasEnd kind is_empty (configured 0 self) }
+        requires { GivesResult kind is_empty (configured 0 self) }
         ensures { outcome_of result ≡ result_of kind is_empty (configured 0 self.entry) }
     {
         match kind {

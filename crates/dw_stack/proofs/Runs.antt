@@ -1,6 +1,6 @@
 -- Each run of a good expression follows a path.
 use Rattle.std.proofs.Common.{◌≡◌, ℕ, ℤ, pos, negsuc, zero, suc, ◌+◌, ◌-◌, ◌<◌, ◌≤◌, ◌⊎◌, Bool, true, false, cond, not, eqb, List, [], ◌∷◌, ◌++◌, length, take, Option, Some, None, Result, Ok, Err, refl, sym, ap, ◌∙◌, subst, inl, inr, arith, IsTrue, length-append, length-take}
-use Rattle.std.specs.Prelude.{slice_get, MatchBool}
+use Rattle.std.specs.Prelude.{slice_get, MatchBool, ◌==◌}
 use Rattle.std.proofs.lemmas.Option.{slice_get_within, slice_get_cases}
 use Rattle.dw_ops.specs.Operations.{Operation, bra, skip, reg, regx, implicit_value, stack_value, piece, bit_piece}
 use Rattle.dw_stack.specs.declared.effect.Role.{Role}
@@ -20,6 +20,7 @@ use Rattle.dw_stack.specs.Machine.{Whereabouts, Piece, Configuration, Trouble, M
 use Rattle.dw_stack.proofs.Places.{place_of_some, place_past, place_mono, place_inj}
 use Rattle.dw_stack.proofs.Heights.{next_height_le}
 use Rattle.dw_stack.proofs.Pieces.{pieces_mono, pieces_with, length-pieces_after}
+use Rattle.dw_stack.proofs.Ends.{pieced_after, result_there}
 use Rattle.dw_stack.proofs.Routes.{reach_from, extend, at_start, reached_place, edge_lands}
 
 -- per operation: what it names is what its role says
@@ -248,7 +249,7 @@ module _ (kind : Kind) (ops : List Placed) (len : ℕ) (laid : IsLaidOut ops len
         | inr past ↦
             let here : c.offset ≡ len = sym p.2 ∙ place_past ops len p.0 past.0 in
             let reached = reach_from kind ops len c.offset len r.0 r.0 here refl r.1 in
-            inl (record { there = here; state = r.0; reaches = reached; agrees = r.2; result = good.ends r.0 reached })
+            inl (record { there = here; result = result_there kind (length ops == 0) r.0 c (pieced_after kind ops len len r.0 reached) r.2 (good.ends r.0 reached) })
       ]
 
   -- no stack is above the depth
@@ -374,6 +375,10 @@ module _ (kind : Kind) (ops : List Placed) (len : ℕ) (laid : IsLaidOut ops len
     short = λ m c d n s run. let l = run_later m n 0 c d (omega arith) (laid.first ∙ sym s.offset) run in omega (arith, l.1, l.2);
     stops = λ m c d n why s run stop. let l = run_later m n 0 c d (omega arith) (laid.first ∙ sym s.offset) run in let b = before_end l.0 d l.2 l.3 stop.meets in omega (arith, l.1, b);
     goes_on = λ m c d n s run. on_from m d (run_follows m n c d (starts c s) run);
+    ends = λ m c d n s run at.
+        let r = run_follows m n c d (starts c s) run in
+        let reached = reach_from kind ops len d.offset len r.0 r.0 at refl r.1 in
+        (r.0, reached, r.2, good.ends r.0 reached);
     finishes = λ m c s. finish_in (length ops) m c s 0 c (omega arith) refl (starts c s);
   }
 
