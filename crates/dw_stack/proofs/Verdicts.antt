@@ -50,14 +50,6 @@ few_before ops k x s is few =
     room k n lt = omega arith
 
 module _ (kind : Kind) (ops : List Placed) (len : ℕ) (laid : IsLaidOut ops len) where
-  -- a target of a judged operation is not backward
-  pub forward : (i t : ℕ) → i < length ops → IsTarget ops len i t → place ops len (i + 1) ≤ t
-  forward i t lt target =
-      elim (cases_lt (i + 1) target.number) [
-        | inl more ↦ omega (arith, place_mono ops len laid (i + 1) target.number more target.within, target.there)
-        | inr least ↦ let same : place ops len target.number ≡ place ops len (i + 1) = ap (place ops len) (omega (arith, target.later)) in omega (arith, target.there)
-      ]
-
   -- what is fine is objected to by no judgement
   fine_objection : (f : FaultKind) (k : ℕ) (x : Placed) (s : StackState) → k < length ops → Fine kind ops len k x s → Objection kind ops len k (pieces_before ops k) x s f → ⊥
   fine_objection fault.NotInFrame k x s lt fine o = o fine.allowed
