@@ -22,13 +22,13 @@ use Rattle.dw_stack.specs.declared.step.Done.{Done}
 use Rattle.dw_stack.specs.declared.arrivals.Arrival.{Arrival}
 use Rattle.dw_stack.specs.declared.arrivals.Arrival.TheVariants.{Nothing, One, Many}
 use Rattle.dw_stack.specs.Effects.{effect_of}
-use Rattle.dw_stack.specs.States.{start_of, height_after, next_mode, HasResult, at_offset}
-use Rattle.dw_stack.specs.Paths.{Placed, place, aim, aimed, target_of, IsLaidOut, is_piece, pieces_before, IsGood, AreStates, IsDepth}
+use Rattle.dw_stack.specs.States.{start_of, stands_alone, height_after, next_mode, has_result, HasResult, at_offset}
+use Rattle.dw_stack.specs.Paths.{Placed, place, aim, aimed, target_of, IsLaidOut, has_operation, is_piece, pieces_before, IsGood, AreStates, IsDepth}
 use Rattle.dw_stack.specs.Faults.{Given, IsFirstFault, KnowsOnly}
 use Rattle.dw_stack.specs.Judge.{IsEffectAt, Suits, TargetIs, TargetObjects, Judged, Objects}
 use Rattle.dw_stack.specs.Arrivals.{Merges, Receives, ReceivesIf, ReceivesAt, PassesOn, Stepped}
 use Rattle.dw_stack.specs.Expressions.{operations_in, reading_fault, IsGoodExpression, IsFaultOf}
-use Rattle.dw_stack.specs.FirstFault.{states_to, has_operation, stands_alone, has_result, same_state, is_ahead, is_start, Question, else_fault, first_no, asked_at, asked_of, asked_last, asked_from, first_fault, expression_fault}
+use Rattle.dw_stack.specs.FirstFault.{states_to, same_state, is_ahead, is_start, Question, else_fault, first_no, asked_at, asked_of, asked_last, asked_from, first_fault, expression_fault}
 use Rattle.dw_stack.proofs.Places.{place_of_some, later_place}
 use Rattle.dw_stack.proofs.Routes.{Comes}
 use Rattle.dw_stack.proofs.Describes.{Describes}
@@ -37,7 +37,7 @@ use Rattle.dw_stack.proofs.Walks.{Walked, walked_start, walked_step}
 use Rattle.dw_stack.proofs.Verdicts.{step_fault, objects_fault, end_not_nothing, end_mismatch, end_empty, end_good, end_given, end_states, end_depth}
 use Rattle.dw_stack.proofs.Spelled.{spelled_of, laid_if_read}
 use Rattle.dw_stack.proofs.Arriving.{Has, states_come, come_states}
-use Rattle.dw_stack.proofs.Telling.{operation_tells, alone_tells, few_tells, result_tells, same_tells, others_tell, start_tells}
+use Rattle.dw_stack.proofs.Telling.{bool_tells, few_tells, same_tells, others_tell, start_tells}
 
 -- ---- what one arrival says
 
@@ -207,11 +207,11 @@ module _ (kind : Kind) (ops : List Placed) (len : ℕ) (laid : IsLaidOut ops len
 
     -- the judgement of the operation, question by question
     asked : Asked k x s
-    asked = elim (operation_tells kind e) [
+    asked = elim (bool_tells (has_operation kind e)) [
       | inr bad ↦ inr (fault.NotInFrame, fails (has_operation kind e) fault.NotInFrame x.0 asked_alone bad.0, objects_unsuited kind ops len k n s e at fault.NotInFrame bad.1)
       | inl allowed ↦
           let to_alone = passes (has_operation kind e) fault.NotInFrame x.0 asked_alone allowed.0 in
-          elim (alone_tells e.role s.mode s.height) [
+          elim (bool_tells (stands_alone e.role s.mode s.height)) [
             | inr bad ↦ inr (fault.NotAlone, to_alone ∙ fails (stands_alone e.role s.mode s.height) fault.NotAlone x.0 asked_needs bad.0, objects_unsuited kind ops len k n s e at fault.NotAlone (allowed.1, bad.1))
             | inl alone ↦
                 let to_needs = to_alone ∙ passes (stands_alone e.role s.mode s.height) fault.NotAlone x.0 asked_needs alone.0 in
@@ -287,7 +287,7 @@ module _ (kind : Kind) (ops : List Placed) (len : ℕ) (laid : IsLaidOut ops len
           | inl same ↦
               let one = here (One s) (one_there i states arrivals depth pieces w (omega (arith, all)) (s ∷ others) is s others refl same.1) in
               let first = passes (list_all (same_state s) others) fault.Mismatch len (else_fault (has_result kind s.mode (length ops == 0) s.pieced s.height) fault.EndsEmpty len ∷ []) same.0 in
-              elim (result_tells kind s.mode (length ops == 0) s.pieced s.height) [
+              elim (bool_tells (has_result kind s.mode (length ops == 0) s.pieced s.height)) [
                 | inl has ↦ inl (λ none. first ∙ passes (has_result kind s.mode (length ops == 0) s.pieced s.height) fault.EndsEmpty len [] has.0, certified s one has.1)
                 | inr bad ↦ inr (fault.EndsEmpty, len, λ none. first ∙ fails (has_result kind s.mode (length ops == 0) s.pieced s.height) fault.EndsEmpty len [] bad.0, end_empty kind ops len laid given i all states arrivals depth pieces w s one bad.1)
               ]

@@ -1,6 +1,7 @@
 -- Each run of a good expression follows a path.
 use Rattle.std.proofs.Common.{◌≡◌, ℕ, ℤ, pos, negsuc, zero, suc, ◌+◌, ◌-◌, ◌<◌, ◌≤◌, ◌⊎◌, Bool, true, false, cond, not, eqb, List, [], ◌∷◌, ◌++◌, length, take, Option, Some, None, Result, Ok, Err, refl, sym, ap, ◌∙◌, subst, inl, inr, arith, IsTrue, length-append, length-take}
 use Rattle.std.specs.Prelude.{slice_get, MatchBool, ◌==◌}
+use Rattle.std.proofs.lemmas.Bool.{eqb-true, leb-true}
 use Rattle.std.proofs.lemmas.Option.{slice_get_within, slice_get_cases}
 use Rattle.dw_ops.specs.Operations.{Operation, bra, skip, reg, regx, implicit_value, stack_value, piece, bit_piece}
 use Rattle.dw_stack.specs.declared.effect.Role.{Role}
@@ -84,26 +85,26 @@ agrees_after m ops len s c d t a = record {
 
 -- where the roles agree with the state, the step is there
 can_do : (r : Role) (m : Mode) (h n : ℕ) (p : Option Whereabouts) → n ≡ h → StandsAlone r m h → PendingIs m p h → CanDo r n p
-can_do role.Piece mode.Stack h n None e alone is = omega (arith, alone, e)
+can_do role.Piece mode.Stack h n None e alone is = omega (arith, leb-true h 1 alone, e)
 can_do role.Piece mode.AfterPiece h n None e alone is = let z = is.1 in omega (arith, z, e)
-can_do role.Piece mode.Register h n None e alone is = omega (arith, alone, e)
-can_do role.Piece mode.Value h n None e alone is = omega (arith, alone, e)
+can_do role.Piece mode.Register h n None e alone is = omega (arith, eqb-true h 0 alone, e)
+can_do role.Piece mode.Value h n None e alone is = omega (arith, eqb-true h 0 alone, e)
 can_do role.Piece mode.Stack h n (Some p) e alone is = absurd (cc)
 can_do role.Piece mode.AfterPiece h n (Some p) e alone is = let no_p = is.0 in absurd (cc)
-can_do role.Piece mode.Register h n (Some p) e alone is = e ∙ alone
-can_do role.Piece mode.Value h n (Some p) e alone is = e ∙ alone
-can_do role.Register mode.Stack h n None e alone is = e ∙ alone
-can_do role.Register mode.AfterPiece h n None e alone is = e ∙ alone
-can_do role.Bytes mode.Stack h n None e alone is = e ∙ alone
-can_do role.Bytes mode.AfterPiece h n None e alone is = e ∙ alone
+can_do role.Piece mode.Register h n (Some p) e alone is = e ∙ eqb-true h 0 alone
+can_do role.Piece mode.Value h n (Some p) e alone is = e ∙ eqb-true h 0 alone
+can_do role.Register mode.Stack h n None e alone is = e ∙ eqb-true h 0 alone
+can_do role.Register mode.AfterPiece h n None e alone is = e ∙ eqb-true h 0 alone
+can_do role.Bytes mode.Stack h n None e alone is = e ∙ eqb-true h 0 alone
+can_do role.Bytes mode.AfterPiece h n None e alone is = e ∙ eqb-true h 0 alone
 can_do role.Plain mode.Stack h n None e alone is = tt
 can_do role.Plain mode.AfterPiece h n None e alone is = tt
 can_do role.Top mode.Stack h n None e alone is = tt
 can_do role.Top mode.AfterPiece h n None e alone is = tt
 can_do r mode.Stack h n (Some p) e alone is = absurd (cc)
 can_do r mode.AfterPiece h n (Some p) e alone is = let no_p = is.0 in absurd (cc)
-can_do r mode.Register h n p e alone is = absurd alone
-can_do r mode.Value h n p e alone is = absurd alone
+can_do r mode.Register h n p e alone is = absurd (cc)
+can_do r mode.Value h n p e alone is = absurd (cc)
 
 module _ (kind : Kind) (ops : List Placed) (len : ℕ) (laid : IsLaidOut ops len) (good : IsGood kind ops len) where
   -- no jump goes back

@@ -10,17 +10,14 @@ use Rattle.dw_bytes.specs.declared.fault.Fault.{Fault}
 use Rattle.dw_bytes.specs.declared.fault.FaultKind.{FaultKind}
 use Rattle.dw_bytes.specs.declared.fault.FaultKind.TheVariants as fault
 use Rattle.dw_stack.specs.declared.judge.TheConstants.{MAX_HEIGHT, MAX_PIECES}
-use Rattle.dw_stack.specs.declared.effect.Role.{Role}
-use Rattle.dw_stack.specs.declared.effect.Role.TheVariants as role
 use Rattle.dw_stack.specs.declared.effect.StackEffect.{StackEffect}
 use Rattle.dw_stack.specs.declared.state.Mode.{Mode}
 use Rattle.dw_stack.specs.declared.state.Mode.TheVariants as mode
 use Rattle.dw_stack.specs.declared.state.StackState.{StackState}
 use Rattle.dw_stack.specs.declared.state.Kind.{Kind}
-use Rattle.dw_stack.specs.declared.state.Kind.TheVariants.{Location}
 use Rattle.dw_stack.specs.Effects.{effect_of}
-use Rattle.dw_stack.specs.States.{start_of, height_after, state_after}
-use Rattle.dw_stack.specs.Paths.{Placed, place, aim, target_of, is_piece, pieces_before}
+use Rattle.dw_stack.specs.States.{start_of, stands_alone, height_after, state_after, has_result}
+use Rattle.dw_stack.specs.Paths.{Placed, place, aim, target_of, has_operation, is_piece, pieces_before}
 use Rattle.dw_stack.specs.Expressions.{operations_in, reading_fault}
 
 -- ---- what comes to an offset
@@ -54,28 +51,7 @@ arriving kind ops len (suc k) =
 abbrev pub states_to : Kind → List Placed → ℕ → ℕ → List StackState
 states_to kind ops len k = states_at (place ops len k) (arriving kind ops len k)
 
--- ---- what is asked, as tests (`IsAllowed`, `StandsAlone` and `ResultOf` say the same as facts)
-
-abbrev pub has_operation : Kind → StackEffect → Bool
-has_operation Location e = true
-has_operation _ e = e.framed
-
-abbrev pub stands_alone : Role → Mode → ℕ → Bool
-stands_alone role.Piece mode.AfterPiece h = true
-stands_alone role.Piece mode.Stack h = nat_le h 1
-stands_alone role.Piece _ h = h == 0
-stands_alone _ mode.Register h = false
-stands_alone _ mode.Value h = false
-stands_alone role.Plain _ h = true
-stands_alone role.Top _ h = true
-stands_alone _ _ h = h == 0
-
-abbrev pub has_result : Kind → Mode → Bool → Bool → ℕ → Bool
-has_result Location mode.AfterPiece empty pieced h = true
-has_result Location mode.Stack empty pieced h = empty || (not pieced && nat_le 1 h)
-has_result Location _ empty pieced h = not pieced
-has_result _ mode.Stack empty pieced h = nat_le 1 h
-has_result _ _ empty pieced h = false
+-- ---- what is asked
 
 abbrev pub number_of : Mode → ℕ
 number_of mode.Stack = 0

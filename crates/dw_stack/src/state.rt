@@ -1,7 +1,7 @@
 //! The states of the stack.
 
 ghost use Rattle.std.specs.Prelude.{◌≡◌, ◌↔◌, IsTrue, true, false};
-ghost use Rattle.dw_stack.specs.States.{start_of, StandsAlone, HasResult, next_mode, at_offset};
+ghost use Rattle.dw_stack.specs.States.{start_of, stands_alone, has_result, next_mode, at_offset};
 
 use crate::effect::Role;
 
@@ -101,7 +101,7 @@ pub fn start(kind: Kind) -> StackState
 
 /// Whether an operation of this role may stand at this state.
 pub fn stands_alone(role: Role, state: StackState) -> bool
-    ensures { IsTrue result ↔ StandsAlone role state.mode state.height }
+    ensures { result ≡ stands_alone role state.mode state.height }
 {
     match role {
         Role::Piece => match state.mode {
@@ -139,7 +139,7 @@ pub fn next(role: Role, height: u8, pieced: bool) -> StackState
 
 /// Whether the end gives a result, of an expression with or without operations.
 pub fn has_result(kind: Kind, is_empty: bool, state: StackState) -> bool
-    ensures { IsTrue result ↔ HasResult kind is_empty state }
+    ensures { result ≡ has_result kind state.mode is_empty state.pieced state.height }
 {
     match kind {
         Kind::Location => match state.mode {

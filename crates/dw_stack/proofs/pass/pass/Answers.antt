@@ -109,7 +109,7 @@ returns-then-not-has_result-clause-first c =
     let e = last_read c.as_slice.result.now c.loop-i.arrivals.items (length c.args.operations.now) (length (listed c.args.operations.now)) c.as_slice.ensures long in
     let one = end_state c.args.kind (listed c.args.operations.now) c.args.end c.requires.laid (given_of c.args.given) c.loop-i.i all c.loop-i.states.items c.loop-i.arrivals.items c.loop-i.depth c.loop-i.pieces c.loop-i.invariant (get_or c.as_slice.result.now (length c.args.operations.now) Nothing) c.in-Ok-state_at.state e c.in-Ok-state_at.ensures in
     let empty : (length (listed c.args.operations.now) == 0) ≡ c.is_empty.result = ap (λ (n : ℕ). n == 0) long ∙ sym c.is_empty.ensures in
-    let f = end_empty c.args.kind (listed c.args.operations.now) c.args.end c.requires.laid (given_of c.args.given) c.loop-i.i all c.loop-i.states.items c.loop-i.arrivals.items c.loop-i.depth c.loop-i.pieces c.loop-i.invariant c.in-Ok-state_at.state one (λ has. let yes = c.has_result.ensures.1 (subst (λ (b : Bool). HasResult c.args.kind b c.in-Ok-state_at.state) empty has) in let other = c.if-not-has_result.true in absurd (cc)) in
+    let f = end_empty c.args.kind (listed c.args.operations.now) c.args.end c.requires.laid (given_of c.args.given) c.loop-i.i all c.loop-i.states.items c.loop-i.arrivals.items c.loop-i.depth c.loop-i.pieces c.loop-i.invariant c.in-Ok-state_at.state one (λ has. let yes = subst (λ (b : Bool). HasResult c.args.kind b c.in-Ok-state_at.state) empty has in let same = c.has_result.ensures in let other = c.if-not-has_result.true in absurd (cc)) in
     refusal_of c.args.kind (listed c.args.operations.now) c.args.end (given_of c.args.given) c.refusal-then-not-has_result.result EndsEmpty _ _ c.refusal-then-not-has_result.ensures refl f
 
 pub returns-clause-good : goal.returns-clause-good
@@ -119,7 +119,7 @@ returns-clause-good c =
     let e = last_read c.as_slice.result.now c.loop-i.arrivals.items (length c.args.operations.now) (length (listed c.args.operations.now)) c.as_slice.ensures long in
     let one = end_state c.args.kind (listed c.args.operations.now) c.args.end c.requires.laid (given_of c.args.given) c.loop-i.i all c.loop-i.states.items c.loop-i.arrivals.items c.loop-i.depth c.loop-i.pieces c.loop-i.invariant (get_or c.as_slice.result.now (length c.args.operations.now) Nothing) c.in-Ok-state_at.state e c.in-Ok-state_at.ensures in
     let empty : (length (listed c.args.operations.now) == 0) ≡ c.is_empty.result = ap (λ (n : ℕ). n == 0) long ∙ sym c.is_empty.ensures in
-    end_good c.args.kind (listed c.args.operations.now) c.args.end c.requires.laid (given_of c.args.given) c.loop-i.i all c.loop-i.states.items c.loop-i.arrivals.items c.loop-i.depth c.loop-i.pieces c.loop-i.invariant c.in-Ok-state_at.state one (subst (λ (b : Bool). HasResult c.args.kind b c.in-Ok-state_at.state) (sym empty) (c.has_result.ensures.0 c.if-not-has_result.false))
+    end_good c.args.kind (listed c.args.operations.now) c.args.end c.requires.laid (given_of c.args.given) c.loop-i.i all c.loop-i.states.items c.loop-i.arrivals.items c.loop-i.depth c.loop-i.pieces c.loop-i.invariant c.in-Ok-state_at.state one (subst (λ (b : Bool). HasResult c.args.kind b c.in-Ok-state_at.state) (sym empty) (sym c.has_result.ensures ∙ c.if-not-has_result.false))
 
 pub returns-clause-states : goal.returns-clause-states
 returns-clause-states c =
