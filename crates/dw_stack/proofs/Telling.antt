@@ -13,7 +13,8 @@ use Rattle.dw_stack.specs.declared.state.Mode.TheVariants as mode
 use Rattle.dw_stack.specs.declared.state.Kind.{Kind}
 use Rattle.dw_stack.specs.declared.state.Kind.TheVariants.{FrameCfa, FrameRegister, Location}
 use Rattle.dw_stack.specs.Paths.{Placed, place, IsAllowed}
-use Rattle.dw_stack.specs.FirstFault.{number_of, same_state, is_start}
+use Rattle.dw_stack.specs.Faults.{is_start}
+use Rattle.dw_stack.specs.FirstFault.{number_of, same_state}
 use Rattle.dw_stack.proofs.Arriving.{Has}
 use Rattle.dw_stack.proofs.Stable.{mode_stable}
 
@@ -31,14 +32,7 @@ equal_tells a b = elim (cases_Bool (eqb a b)) [ inl is ↦ inl (is, eqb-true a b
 pub le_tells : (a b : ℕ) → Tells (leb a b) (a ≤ b)
 le_tells a b = elim (cases_Bool (leb a b)) [ inl is ↦ inl (is, leb-true a b is) | inr is ↦ inr (is, λ le. let lt = leb-false a b is in omega (arith, le, lt)) ]
 
--- ---- numbers of pieces, states and targets
-
-pub few_tells : (piece : Bool) (pieces : ℕ) → ((not piece || ltb pieces MAX_PIECES ≡ true) × (piece ≡ true → pieces < MAX_PIECES)) ⊎ ((not piece || ltb pieces MAX_PIECES ≡ false) × (piece ≡ true) × (MAX_PIECES ≤ pieces))
-few_tells false pieces = inl (refl, λ e. absurd (cc))
-few_tells true pieces = elim (cases_Bool (ltb pieces MAX_PIECES)) [
-  | inl is ↦ inl (is, λ _. ltb-true pieces MAX_PIECES is)
-  | inr is ↦ inr (is, refl, ltb-false pieces MAX_PIECES is)
-]
+-- ---- states and targets
 
 flag_tells : (b c : Bool) → Tells (if b then c else not c) (b ≡ c)
 flag_tells true true = inl (refl, refl)

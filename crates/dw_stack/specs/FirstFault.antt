@@ -9,15 +9,15 @@ use Rattle.dw_bytes.specs.declared.target.Target.{Target}
 use Rattle.dw_bytes.specs.declared.fault.Fault.{Fault}
 use Rattle.dw_bytes.specs.declared.fault.FaultKind.{FaultKind}
 use Rattle.dw_bytes.specs.declared.fault.FaultKind.TheVariants as fault
-use Rattle.dw_stack.specs.declared.judge.TheConstants.{MAX_HEIGHT, MAX_PIECES}
 use Rattle.dw_stack.specs.declared.effect.StackEffect.{StackEffect}
 use Rattle.dw_stack.specs.declared.state.Mode.{Mode}
 use Rattle.dw_stack.specs.declared.state.Mode.TheVariants as mode
 use Rattle.dw_stack.specs.declared.state.StackState.{StackState}
 use Rattle.dw_stack.specs.declared.state.Kind.{Kind}
 use Rattle.dw_stack.specs.Effects.{effect_of}
-use Rattle.dw_stack.specs.States.{start_of, stands_alone, height_after, state_after, has_result}
-use Rattle.dw_stack.specs.Paths.{Placed, place, aim, target_of, has_operation, is_piece, pieces_before}
+use Rattle.dw_stack.specs.States.{start_of, state_after, has_result}
+use Rattle.dw_stack.specs.Paths.{Placed, place, target_of, pieces_before}
+use Rattle.dw_stack.specs.Faults.{judgements, passes}
 use Rattle.dw_stack.specs.Expressions.{operations_in, reading_fault}
 
 -- ---- what comes to an offset
@@ -64,16 +64,6 @@ abbrev pub same_state : StackState → StackState → Bool
 same_state s t =
     (s.height == t.height) && (number_of s.mode == number_of t.mode) && (if s.pieced then t.pieced else not t.pieced)
 
--- the jump, if there is one, isn't backward
-abbrev pub is_ahead : ℕ → Option ℤ → Bool
-is_ahead next None = true
-is_ahead next (Some z) = is_some (aim next z)
-
--- some operation begins at the target, or it is the end
-abbrev pub is_start : List Placed → ℕ → Option ℕ → Bool
-is_start ops len None = true
-is_start ops len (Some t) = (len == t) || list_any (λ (x : Placed). x.0 == t) ops
-
 -- ---- the questions, each with the fault where the answer is no
 
 abbrev pub Question : Type 0
@@ -92,14 +82,7 @@ first_no ((false, f) ∷ asked) = Some f
 -- of an operation, numbered k, of this effect and at this offset, where paths come to it with the state s
 abbrev pub asked_at : Kind → List Placed → ℕ → ℕ → StackEffect → StackState → ℕ → List Question
 asked_at kind ops len k e s at =
-    else_fault (has_operation kind e) fault.NotInFrame at
-    ∷ else_fault (stands_alone e.role s.mode s.height) fault.NotAlone at
-    ∷ else_fault (nat_le e.needs s.height) fault.Underflow at
-    ∷ else_fault (nat_le (height_after e s) MAX_HEIGHT) fault.TooDeep at
-    ∷ else_fault (not (is_piece e.role) || nat_lt (pieces_before ops k) MAX_PIECES) fault.TooManyPieces at
-    ∷ else_fault (is_ahead (place ops len (k + 1)) e.jump) fault.Backward at
-    ∷ else_fault (is_start ops len (target_of ops len k e)) fault.TargetNotStart at
-    ∷ []
+    map (λ f. else_fault (passes kind ops len k (pieces_before ops k) e s f) f at) judgements
 
 -- of the operation x, numbered k, by the states with which paths come to it
 abbrev pub asked_of : Kind → List Placed → ℕ → ℕ → Placed → List StackState → List Question

@@ -1,8 +1,9 @@
 //! Judging one operation.
 
-ghost use Rattle.std.specs.Prelude.{◌≡◌, ◌<◌, ◌≤◌, length, IfOk, IfErr};
+ghost use Rattle.std.specs.Prelude.{◌≡◌, ◌<◌, ◌≤◌, length, Some, IfOk, IfErr};
 ghost use Rattle.dw_stack.specs.Paths.{IsLaidOut};
-ghost use Rattle.dw_stack.specs.Judge.{IsEffectAt, Suits, Unsuited, Judged, Objects};
+ghost use Rattle.dw_stack.specs.Judge.{IsEffectAt, Suits, Judged, Objects};
+ghost use Rattle.dw_stack.specs.Faults.{suits, first_failed};
 ghost use Rattle.dw_stack.specs.Views.{listed};
 
 use crate::effect::{Role, StackEffect, effect};
@@ -54,7 +55,7 @@ fn suits(
     requires fair { effect.now.takes ≤ effect.now.needs }
     requires few { effect.now.adds ≤ 3 }
     ensures ok { IfOk result (Suits kind effect.now pieces state) }
-    ensures err { IfErr result (Unsuited kind effect.now pieces state) }
+    ensures err { IfErr result (λ f. first_failed (suits kind pieces effect.now state) ≡ Some f) }
 {
     let located = matches!(kind, Kind::Location);
     if !located && !effect.framed {

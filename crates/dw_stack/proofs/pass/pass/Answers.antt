@@ -18,6 +18,7 @@ use Rattle.dw_stack.specs.Paths.{Placed, place, IsLaidOut}
 use Rattle.dw_stack.specs.Faults.{IsFirstFault}
 use Rattle.dw_stack.specs.Arrivals.{given_of, arrived, Stepped, StepObjects}
 use Rattle.dw_stack.specs.Views.{listed}
+use Rattle.dw_stack.proofs.Describes.{arrived_is}
 use Rattle.dw_stack.proofs.Lists.{listed_length}
 use Rattle.dw_stack.proofs.Places.{place_le}
 use Rattle.dw_stack.proofs.Walks.{Walked, length-passed, walked_start, walked_step}
@@ -83,9 +84,7 @@ module _ (kind : Kind) (ops : List Placed) (len : ℕ) (laid : IsLaidOut ops len
       subst (λ (g : FaultKind). IsFirstFault kind ops len given g len) same (end_mismatch kind ops len laid given i all states arrivals depth pieces w e)
 
   end_state : (a : Arrival) (s : StackState) → get_or arrivals (length ops) Nothing ≡ a → Ok s ≡ arrived a → get_or arrivals (length ops) Nothing ≡ One s
-  end_state Nothing s e is = absurd (cc)
-  end_state (One t) s e is = let same : t ≡ s = cc in e ∙ ap (λ (x : StackState). One x) same
-  end_state Many s e is = absurd (cc)
+  end_state a s e is = e ∙ arrived_is a s is
 
 -- the arrival at the end, as it was read
 last_read : (xs items : List Arrival) (n m : ℕ) → xs ≡ items → m ≡ n → get_or items m Nothing ≡ get_or xs n Nothing
