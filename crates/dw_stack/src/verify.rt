@@ -83,6 +83,21 @@ pub fn certify<'a>(
     check(alloc, expression, kind, None)
 }
 
+/// Certifies an expression, without the states: as `certify` and then `Certificate::into_checked`.
+pub fn check_expression<'a>(
+    alloc: Global,
+    expression: Expression<'a>,
+    kind: Kind,
+) -> Result<CheckedExpression<'a>, Fault>
+    ensures checked { IfOk result (λ c. IsChecked (checked_of c)) }
+    ensures same { IfOk result (λ c. IsOf kind (target_of expression.entry) (bytes_of expression.entry) (checked_of c)) }
+    ensures answer { Answers (expression_fault kind (target_of expression.entry) (bytes_of expression.entry)) result }
+    ensures inside { IfErr result (λ f. f.at ≤ length (bytes_of expression.entry)) }
+{
+    let certificate = certify(alloc, expression, kind)?;
+    Ok(certificate.into_checked())
+}
+
 /// Takes states that anyone made: they are accepted exactly where the expression is good and they are the states on its
 /// paths, their offsets included.
 ///
