@@ -13,6 +13,7 @@ use crate::stack::Stack;
 use dw_ops::Operation;
 
 /// Where the operation leads, which may be a jump forward.
+#[inline(always)]
 pub fn target_of(operation: &Operation<'_>, stack: &Stack, next: u32) -> u32
     requires needs { (effect_of (operation_of operation.now)).needs ≤ length stack.now }
     requires target { GoesForward (operation_of operation.now) stack.now next }
@@ -32,6 +33,7 @@ pub fn target_of(operation: &Operation<'_>, stack: &Stack, next: u32) -> u32
 }
 
 /// The location that the operation names.
+#[inline(always)]
 pub fn location_named<'a>(operation: &Operation<'a>, stack: &Stack) -> Option<Location<'a>>
     requires { (effect_of (operation_of operation.now)).needs ≤ length stack.now }
     ensures { option_map whereabouts_of result ≡ named (operation_of operation.now) stack.now }
@@ -46,6 +48,7 @@ pub fn location_named<'a>(operation: &Operation<'a>, stack: &Stack) -> Option<Lo
 }
 
 /// The size of the piece that the operation ends, if it ends one.
+#[inline(always)]
 pub fn piece_size(operation: &Operation<'_>) -> Option<PieceSize>
     ensures { EndsPiece (operation_of operation.now) result }
 {

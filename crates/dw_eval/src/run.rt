@@ -55,6 +55,7 @@ impl<'a> Run<'a> {
     }
 
     /// The location before the operation: what was named, the address on the stack, or nothing.
+    #[inline(always)]
     fn location(&self) -> Location<'a>
         requires { self.now.pending ≡ None → length self.now.stack ≤ 1 }
         ensures { whereabouts_of result ≡ location_of self.now.stack (option_map whereabouts_of self.now.pending) }
@@ -72,6 +73,7 @@ impl<'a> Run<'a> {
     }
 
     /// Adds a piece.
+    #[inline(always)]
     fn push_piece(&mut self, piece: Piece<'a>)
         requires { length (some_pieces self.old.pieces) < MAX_PIECES }
         ensures pieces { some_pieces self.new.pieces ≡ some_pieces self.old.pieces ++ piece_in piece.entry ∷ [] }
@@ -89,6 +91,7 @@ impl<'a> Run<'a> {
     }
 
     /// Ends a piece of this size.
+    #[inline(always)]
     fn end_piece(&mut self, size: PieceSize)
         requires alone { self.old.pending ≡ None → length self.old.stack ≤ 1 }
         requires few { length (some_pieces self.old.pieces) < MAX_PIECES }
@@ -103,6 +106,7 @@ impl<'a> Run<'a> {
     }
 
     /// One step, to the offset that is answered. The next operation is at `next`.
+    #[inline(always)]
     pub fn step<R: Registers, M: Memory>(
         &mut self,
         machine: &Machine<'_, R, M>,

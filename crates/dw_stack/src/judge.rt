@@ -35,6 +35,7 @@ pub struct Outgoing {
 
 /// What the operation numbered `i` does.
 #[tactic(auto, using(crate::proofs::Lists::reads))]
+#[inline(always)]
 fn effect_at(operations: &[(u32, Operation<'_>)], i: usize) -> StackEffect
     requires { i < length operations.now }
     ensures effect { IsEffectAt (listed operations.now) i result }
@@ -46,6 +47,7 @@ fn effect_at(operations: &[(u32, Operation<'_>)], i: usize) -> StackEffect
 
 /// Whether an operation of this effect may stand at this state, behind so many pieces. The height behind it, before a
 /// piece clears it.
+#[inline(always)]
 fn suits(
     kind: Kind,
     effect: &StackEffect,
@@ -78,6 +80,7 @@ fn suits(
 }
 
 /// Judges the operation numbered `i` at this state, behind so many pieces.
+#[inline(always)]
 pub fn judge(
     kind: Kind,
     operations: &[(u32, Operation<'_>)],

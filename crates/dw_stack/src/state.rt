@@ -65,6 +65,7 @@ pub struct StackState {
 
 impl StackState {
     /// The same at an offset.
+    #[inline(always)]
     pub fn at(self, offset: u32) -> State
         ensures { result ≡ at_offset offset self }
     {
@@ -77,6 +78,7 @@ impl StackState {
     }
 
     /// Whether it is the same as another.
+    #[inline(always)]
     pub fn is(self, other: StackState) -> bool
         ensures { IsTrue result ↔ (self ≡ other) }
     {
@@ -100,6 +102,7 @@ pub fn start(kind: Kind) -> StackState
 }
 
 /// Whether an operation of this role may stand at this state.
+#[inline(always)]
 pub fn stands_alone(role: Role, state: StackState) -> bool
     ensures { result ≡ stands_alone role state.mode state.height }
 {
@@ -121,6 +124,7 @@ pub fn stands_alone(role: Role, state: StackState) -> bool
 }
 
 /// The state behind an operation of this role that leaves this height.
+#[inline(always)]
 pub fn next(role: Role, height: u8, pieced: bool) -> StackState
     ensures { result ≡ next_mode role height pieced }
 {
