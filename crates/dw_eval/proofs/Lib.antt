@@ -2,6 +2,7 @@ pub mod Shifts
 pub mod Writes
 pub mod Entries
 pub mod Steps
+pub mod Topmost
 pub mod Sizes
 pub mod Pushes
 pub mod Ahead

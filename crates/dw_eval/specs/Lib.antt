@@ -1,6 +1,7 @@
 pub mod Numbers
 pub mod World
 pub mod Values
+pub mod Needs
 pub mod Meaning
 pub mod Changes
 pub mod Handed
@@ -8,4 +9,3 @@ pub mod Results
 pub mod Fits
 pub mod Views
 pub mod Moves
-pub mod Ends

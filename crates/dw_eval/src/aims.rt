@@ -4,18 +4,19 @@ ghost use Rattle.std.specs.Prelude.{◌≡◌, ◌≤◌, length};
 ghost use Rattle.std.specs.Option.{option_map};
 ghost use Rattle.dw_ops.specs.Views.{operation_of};
 ghost use Rattle.dw_stack.specs.Effects.{effect_of};
-ghost use Rattle.dw_stack.specs.Machine.{named};
+ghost use Rattle.dw_stack.specs.Machine.{named, LeadsTo};
 ghost use Rattle.dw_eval.specs.Views.{whereabouts_of};
-ghost use Rattle.dw_eval.specs.Moves.{LeadsTo, HasTarget, EndsPiece};
+ghost use Rattle.dw_eval.specs.Moves.{GoesForward, EndsPiece};
 
 use crate::location::{Location, PieceSize};
 use crate::stack::Stack;
 use dw_ops::Operation;
 
-/// Where the operation leads.
+/// Where the operation leads, which may be a jump forward.
+#[inline(always)]
 pub fn target_of(operation: &Operation<'_>, stack: &Stack, next: u32) -> u32
     requires needs { (effect_of (operation_of operation.now)).needs ≤ length stack.now }
-    requires target { HasTarget (operation_of operation.now) stack.now next }
+    requires target { GoesForward (operation_of operation.now) stack.now next }
     ensures { LeadsTo (operation_of operation.now) stack.now next result }
 {
     match *operation {
@@ -32,6 +33,7 @@ pub fn target_of(operation: &Operation<'_>, stack: &Stack, next: u32) -> u32
 }
 
 /// The location that the operation names.
+#[inline(always)]
 pub fn location_named<'a>(operation: &Operation<'a>, stack: &Stack) -> Option<Location<'a>>
     requires { (effect_of (operation_of operation.now)).needs ≤ length stack.now }
     ensures { option_map whereabouts_of result ≡ named (operation_of operation.now) stack.now }
@@ -46,6 +48,7 @@ pub fn location_named<'a>(operation: &Operation<'a>, stack: &Stack) -> Option<Lo
 }
 
 /// The size of the piece that the operation ends, if it ends one.
+#[inline(always)]
 pub fn piece_size(operation: &Operation<'_>) -> Option<PieceSize>
     ensures { EndsPiece (operation_of operation.now) result }
 {

@@ -31,6 +31,7 @@ pub enum Change {
 }
 
 /// A value in the place of so many entries.
+#[inline(always)]
 fn put(taken: usize, value: u64) -> Result<Change, Trouble>
     ensures { result ≡ Ok (Change.Put taken value) }
 {
@@ -38,6 +39,7 @@ fn put(taken: usize, value: u64) -> Result<Change, Trouble>
 }
 
 /// A divisor, unless it is 0.
+#[inline(always)]
 fn divisor(b: u64) -> Result<u64, Trouble>
     ensures ok { IfOk result (λ c. (c ≡ b) × (0 < b)) }
     ensures err { IfErr result (λ why. (b ≡ 0) × (why ≡ Trouble.DivisionByZero)) }
@@ -49,6 +51,7 @@ fn divisor(b: u64) -> Result<u64, Trouble>
 }
 
 /// The change of an operation that needs no entry and pushes one value: a literal, or what is handed in.
+#[inline(always)]
 fn pushed<R: Registers, M: Memory>(
     machine: &Machine<'_, R, M>,
     operation: &Operation<'_>,
@@ -90,6 +93,7 @@ fn pushed<R: Registers, M: Memory>(
 
 /// The change of an operation that puts one value in the place of all that it needs: a read, arithmetic, or nothing needed.
 #[tactic(auto, using(crate::proofs::Entries::entry_below))]
+#[inline(always)]
 fn computed<R: Registers, M: Memory>(
     machine: &Machine<'_, R, M>,
     operation: &Operation<'_>,
@@ -146,6 +150,7 @@ fn computed<R: Registers, M: Memory>(
 }
 
 /// The change of an operation whose entries are there.
+#[inline(always)]
 pub fn change_of<R: Registers, M: Memory>(
     machine: &Machine<'_, R, M>,
     operation: &Operation<'_>,
@@ -178,6 +183,7 @@ pub fn change_of<R: Registers, M: Memory>(
 }
 
 /// Makes the change.
+#[inline(always)]
 pub fn make(change: Change, stack: &mut Stack)
     requires enough { taken_by change ≤ length stack.old }
     requires room { length stack.old - taken_by change + added_by change ≤ MAX_HEIGHT }

@@ -1,14 +1,25 @@
 //! Laws of evaluations: functions that do nothing, each with the law as its contract.
 
-ghost use Rattle.std.specs.Prelude.{◌≡◌, ◌^◌, ◌≤◌, ℕ, List, Some};
+ghost use Rattle.std.specs.Prelude.{◌≡◌, ◌^◌, ◌≤◌, ℕ, List, [], ◌∷◌, length, Some, None};
+ghost use Rattle.dw_ops.specs.Operations.{Operation};
+ghost use Rattle.dw_stack.specs.declared.effect.Role.TheVariants as role;
 ghost use Rattle.dw_stack.specs.declared.state.Kind.{Kind};
 ghost use Rattle.dw_stack.specs.Paths.{Placed};
-ghost use Rattle.dw_stack.specs.Machine.{Configuration, Run};
+ghost use Rattle.dw_stack.specs.Machine.{AtAddress, location_of, CanDo, Configuration, Run};
+ghost use Rattle.dw_stack.specs.Effects.{effect_of};
 ghost use Rattle.dw_stack.specs.Expressions.{Checked, IsChecked, IsGoodExpression};
 ghost use Rattle.dw_eval.specs.World.{World, width};
 ghost use Rattle.dw_eval.specs.Meaning.{meaning_of};
+ghost use Rattle.dw_eval.specs.Needs.{UsesTopAlone};
 ghost use Rattle.dw_eval.specs.Fits.{NumbersFit};
 ghost use Rattle.dw_eval.specs.Results.{Outcome, IsOfKind, first_stack, started, IsEvaluation};
+
+/// An operation uses the topmost entries alone, as many as it needs: whatever lies below them, it pushes the same, names and
+/// jumps alike, and leaves what lies there. A piece needs no entry, and where it gives an address, that is the one entry.
+pub fn operations_use_the_top_alone()
+    ensures top { (e : World) (op : Operation) (below top : List ℕ) → length top ≡ (effect_of op).needs → UsesTopAlone e op below top }
+    ensures piece { (s : List ℕ) (a : ℕ) → CanDo role.Piece (length s) None → location_of s None ≡ AtAddress a → s ≡ a ∷ [] }
+{}
 
 /// An evaluation of a good expression comes to one outcome, after one number of steps.
 pub fn one_evaluation()

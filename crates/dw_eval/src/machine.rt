@@ -23,6 +23,7 @@ pub struct Machine<'m, R: Registers, M: Memory> {
 
 impl<'m, R: Registers, M: Memory> Machine<'m, R, M> {
     /// The width of an entry.
+    #[inline(always)]
     pub fn width(&self) -> Width
         ensures { result.size ≡ self.now.target.address_size }
     {
@@ -32,6 +33,7 @@ impl<'m, R: Registers, M: Memory> Machine<'m, R, M> {
     }
 
     /// How many bytes a word has.
+    #[inline(always)]
     pub fn word(&self) -> u8
         ensures value { result ≡ bytes_of_address self.now.target.address_size }
         ensures size { IsSize result }
@@ -40,6 +42,7 @@ impl<'m, R: Registers, M: Memory> Machine<'m, R, M> {
     }
 
     /// What is handed in and an offset, modulo 2^w.
+    #[inline(always)]
     pub fn sum(&self, value: Option<u64>, offset: i64) -> Result<u64, Trouble>
         ensures { one_of result ≡ present value (λ n. pushed (world_in R.contents M.bytes self.now) (pos n +ℤ offset)) }
     {
@@ -50,6 +53,7 @@ impl<'m, R: Registers, M: Memory> Machine<'m, R, M> {
     }
 
     /// What is handed in, modulo 2^w.
+    #[inline(always)]
     pub fn given(&self, value: Option<u64>) -> Result<u64, Trouble>
         ensures { one_of result ≡ present value (λ n. pushed (world_in R.contents M.bytes self.now) (pos n)) }
     {
@@ -60,6 +64,7 @@ impl<'m, R: Registers, M: Memory> Machine<'m, R, M> {
     }
 
     /// So many bytes at an address, of which the last is below 2^w.
+    #[inline(always)]
     pub fn load(&self, address: u64, size: u8) -> Result<u64, Trouble>
         requires address { address < 2 ^ width (world_in R.contents M.bytes self.now) }
         requires size { IsSize size }

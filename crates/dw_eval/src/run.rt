@@ -32,15 +32,14 @@ impl<'a> Run<'a> {
     ghost use Rattle.dw_ops.specs.Views.{operation_of};
     ghost use Rattle.dw_stack.specs.Effects.{effect_of};
     ghost use Rattle.dw_stack.specs.Paths.{is_piece};
-    ghost use Rattle.dw_stack.specs.Machine.{location_of, CanDo};
+    ghost use Rattle.dw_stack.specs.Machine.{location_of, CanDo, GivesResult};
     ghost use Rattle.dw_eval.specs.World.{width};
     ghost use Rattle.dw_eval.specs.Values.{answer};
     ghost use Rattle.dw_eval.specs.Changes.{IsSized, trouble_of};
     ghost use Rattle.dw_eval.specs.Handed.{world_in};
     ghost use Rattle.dw_eval.specs.Views.{whereabouts_of, extent_in, piece_in, some_pieces, outcome_of};
     ghost use Rattle.dw_eval.specs.Results.{result_of};
-    ghost use Rattle.dw_eval.specs.Ends.{HasEnd};
-    ghost use Rattle.dw_eval.specs.Moves.{configured, HasTarget, Moves};
+    ghost use Rattle.dw_eval.specs.Moves.{configured, GoesForward, Moves};
 
     /// A run with an empty stack.
     pub fn new() -> Self
@@ -56,6 +55,7 @@ impl<'a> Run<'a> {
     }
 
     /// The location before the operation: what was named, the address on the stack, or nothing.
+    #[inline(always)]
     fn location(&self) -> Location<'a>
         requires { self.now.pending ≡ None → length self.now.stack ≤ 1 }
         ensures { whereabouts_of result ≡ location_of self.now.stack (option_map whereabouts_of self.now.pending) }
@@ -73,6 +73,7 @@ impl<'a> Run<'a> {
     }
 
     /// Adds a piece.
+    #[inline(always)]
     fn push_piece(&mut self, piece: Piece<'a>)
         requires { length (some_pieces self.old.pieces) < MAX_PIECES }
         ensures pieces { some_pieces self.new.pieces ≡ some_pieces self.old.pieces ++ piece_in piece.entry ∷ [] }
@@ -90,6 +91,7 @@ impl<'a> Run<'a> {
     }
 
     /// Ends a piece of this size.
+    #[inline(always)]
     fn end_piece(&mut self, size: PieceSize)
         requires alone { self.old.pending ≡ None → length self.old.stack ≤ 1 }
         requires few { length (some_pieces self.old.pieces) < MAX_PIECES }
@@ -104,6 +106,7 @@ impl<'a> Run<'a> {
     }
 
     /// One step, to the offset that is answered. The next operation is at `next`.
+    #[inline(always)]
     pub fn step<R: Registers, M: Memory>(
         &mut self,
         machine: &Machine<'_, R, M>,
@@ -114,7 +117,7 @@ impl<'a> Run<'a> {
         requires can { CanDo (effect_of (operation_of operation.now)).role (length self.old.stack) (option_map whereabouts_of self.old.pending) }
         requires room { length self.old.stack - (effect_of (operation_of operation.now)).takes + (effect_of (operation_of operation.now)).adds ≤ MAX_HEIGHT }
         requires few { is_piece (effect_of (operation_of operation.now)).role ≡ true → length (some_pieces self.old.pieces) < MAX_PIECES }
-        requires target { HasTarget (operation_of operation.now) self.old.stack next }
+        requires target { GoesForward (operation_of operation.now) self.old.stack next }
         requires sized { IsSized (operation_of operation.now) }
         requires below { All (λ n. n < 2 ^ width (world_in R.contents M.bytes machine.now)) self.old.stack }
         ensures { MatchResult result (λ to. Moves (world_in R.contents M.bytes machine.now) (operation_of operation.now) next (configured 0 self.old) (configured to self.new)) (λ why. answer (world_in R.contents M.bytes machine.now) (operation_of operation.now) self.old.stack ≡ Err (trouble_of why)) }
@@ -134,7 +137,7 @@ impl<'a> Run<'a> {
 
     /// Where the object is, at the end of a location with operations.
     fn into_location(self) -> Outcome<'a>
-        requires { HasEnd Kind.Location false (configured 0 self) }
+        requires { GivesResult Kind.Location false (configured 0 self) }
         ensures { outcome_of result ≡ result_of Kind.Location false (configured 0 self.entry) }
     {
         let Run {
@@ -153,7 +156,7 @@ impl<'a> Run<'a> {
 
     /// What the end gives, of an expression with or without operations.
     pub fn into_outcome(self, kind: Kind, is_empty: bool) -> Outcome<'a>
-        requires { HasEnd kind is_empty (configured 0 self) }
+        requires { GivesResult kind is_empty (configured 0 self) }
         ensures { outcome_of result ≡ result_of kind is_empty (configured 0 self.entry) }
     {
         match kind {

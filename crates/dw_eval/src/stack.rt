@@ -45,6 +45,7 @@ impl Stack {
     }
 
     /// The entry so many below the top.
+    #[inline(always)]
     pub fn entry(&self, below: usize) -> u64
         requires { below < length self.now }
         ensures { result ≡ entry self.now below }
@@ -53,6 +54,7 @@ impl Stack {
     }
 
     /// Puts a value in the place of so many entries at the top.
+    #[inline(always)]
     pub fn put(&mut self, taken: usize, value: u64)
         requires taken { taken ≤ length self.old }
         requires room { length self.old - taken < MAX_HEIGHT }
@@ -64,6 +66,7 @@ impl Stack {
     }
 
     /// Takes the top.
+    #[inline(always)]
     pub fn pop(&mut self)
         requires { 1 ≤ length self.old }
         ensures { self.new ≡ take (length self.old - 1) self.old }
@@ -72,6 +75,7 @@ impl Stack {
     }
 
     /// Exchanges the top and the second entry.
+    #[inline(always)]
     pub fn swap(&mut self)
         requires { 2 ≤ length self.old }
         ensures { self.new ≡ take (length self.old - 2) self.old ++ entry self.old 0 ∷ entry self.old 1 ∷ [] }
@@ -83,6 +87,7 @@ impl Stack {
     }
 
     /// Makes the top the third entry, the second the top and the third the second.
+    #[inline(always)]
     pub fn rot(&mut self)
         requires { 3 ≤ length self.old }
         ensures { self.new ≡ take (length self.old - 3) self.old ++ entry self.old 0 ∷ entry self.old 2 ∷ entry self.old 1 ∷ [] }
@@ -95,6 +100,7 @@ impl Stack {
     }
 
     /// Takes all entries.
+    #[inline(always)]
     pub fn clear(&mut self)
         ensures { self.new ≡ [] }
     {

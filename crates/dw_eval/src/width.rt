@@ -14,6 +14,7 @@ pub struct Width {
 
 impl Width {
     /// The greatest entry.
+    #[inline(always)]
     pub fn max(self) -> u64
         ensures { result + 1 ≡ 2 ^ width_of self.size }
     {
@@ -21,6 +22,7 @@ impl Width {
     }
 
     /// The number modulo 2^w.
+    #[inline(always)]
     pub fn reduce(self, n: u64) -> u64
         ensures { result ≡ reduced (width_of self.size) (pos n) }
     {
@@ -31,6 +33,7 @@ impl Width {
     }
 
     /// The signed number modulo 2^w.
+    #[inline(always)]
     pub fn reduce_signed(self, z: i64) -> u64
         ensures { result ≡ reduced (width_of self.size) z }
     {
@@ -38,6 +41,7 @@ impl Width {
     }
 
     /// The entry as a signed number.
+    #[inline(always)]
     fn sign(self, n: u64) -> i64
         requires { n < 2 ^ width_of self.size }
         ensures { result ≡ signed (width_of self.size) n }
@@ -55,24 +59,28 @@ impl Width {
     }
 
     /// The sum of a number and an offset.
+    #[inline(always)]
     pub fn offset(self, n: u64, offset: i64) -> u64
         ensures { result ≡ reduced (width_of self.size) (pos n +ℤ offset) }
     {
         self.reduce(n.wrapping_add(offset.cast_unsigned()))
     }
 
+    #[inline(always)]
     pub fn plus(self, a: u64, b: u64) -> u64
         ensures { result ≡ reduced (width_of self.size) (pos (a + b)) }
     {
         self.reduce(a.wrapping_add(b))
     }
 
+    #[inline(always)]
     pub fn minus(self, a: u64, b: u64) -> u64
         ensures { result ≡ reduced (width_of self.size) (pos a -ℤ pos b) }
     {
         self.reduce(a.wrapping_sub(b))
     }
 
+    #[inline(always)]
     pub fn mul(self, a: u64, b: u64) -> u64
         ensures { result ≡ reduced (width_of self.size) (pos (a * b)) }
     {
@@ -80,6 +88,7 @@ impl Width {
     }
 
     /// The quotient, signed and truncated.
+    #[inline(always)]
     pub fn div(self, a: u64, b: u64) -> u64
         requires a { a < 2 ^ width_of self.size }
         requires b { b < 2 ^ width_of self.size }
@@ -90,6 +99,7 @@ impl Width {
     }
 
     /// The absolute value, signed. The most negative number keeps its value.
+    #[inline(always)]
     pub fn abs(self, b: u64) -> u64
         requires { b < 2 ^ width_of self.size }
         ensures { result ≡ reduced (width_of self.size) (pos (unsigned_abs (signed (width_of self.size) b))) }
@@ -97,6 +107,7 @@ impl Width {
         self.reduce(self.sign(b).unsigned_abs())
     }
 
+    #[inline(always)]
     pub fn neg(self, b: u64) -> u64
         ensures { result ≡ reduced (width_of self.size) (pos 0 -ℤ pos b) }
     {
@@ -104,6 +115,7 @@ impl Width {
     }
 
     /// All w bits inverted.
+    #[inline(always)]
     pub fn not(self, b: u64) -> u64
         requires { b < 2 ^ width_of self.size }
         ensures { result ≡ reduced (width_of self.size) (pos (2 ^ width_of self.size - 1 - b)) }
@@ -111,6 +123,7 @@ impl Width {
         self.reduce(!b)
     }
 
+    #[inline(always)]
     pub fn and(self, a: u64, b: u64) -> u64
         requires a { a < 2 ^ width_of self.size }
         requires b { b < 2 ^ width_of self.size }
@@ -119,6 +132,7 @@ impl Width {
         a & b
     }
 
+    #[inline(always)]
     pub fn or(self, a: u64, b: u64) -> u64
         requires a { a < 2 ^ width_of self.size }
         requires b { b < 2 ^ width_of self.size }
@@ -127,6 +141,7 @@ impl Width {
         a | b
     }
 
+    #[inline(always)]
     pub fn xor(self, a: u64, b: u64) -> u64
         requires a { a < 2 ^ width_of self.size }
         requires b { b < 2 ^ width_of self.size }
@@ -136,6 +151,7 @@ impl Width {
     }
 
     /// The remainder, unsigned.
+    #[inline(always)]
     pub fn rem(self, a: u64, b: u64) -> u64
         requires a { a < 2 ^ width_of self.size }
         requires nonzero { 0 < b }
@@ -145,12 +161,14 @@ impl Width {
     }
 
     /// 1 for true, 0 for false.
+    #[inline(always)]
     pub fn truth(self, holds: bool) -> u64
         ensures { result ≡ reduced (width_of self.size) (truth holds) }
     {
         u64::from(holds)
     }
 
+    #[inline(always)]
     pub fn shl(self, a: u64, b: u64) -> u64
         ensures { result ≡ reduced (width_of self.size) (pos (a * 2 ^ b)) }
     {
@@ -158,6 +176,7 @@ impl Width {
     }
 
     /// Shifted right, zeros in.
+    #[inline(always)]
     pub fn shr(self, a: u64, b: u64) -> u64
         requires { a < 2 ^ width_of self.size }
         ensures { result ≡ reduced (width_of self.size) (pos (a / 2 ^ b)) }
@@ -166,6 +185,7 @@ impl Width {
     }
 
     /// Shifted right, the sign in.
+    #[inline(always)]
     pub fn shra(self, a: u64, b: u64) -> u64
         requires { a < 2 ^ width_of self.size }
         ensures { result ≡ reduced (width_of self.size) (int_shr (signed (width_of self.size) a) b) }
@@ -174,6 +194,7 @@ impl Width {
     }
 
     /// Whether `a` is below `b`, signed.
+    #[inline(always)]
     pub fn is_below(self, a: u64, b: u64) -> bool
         requires a { a < 2 ^ width_of self.size }
         requires b { b < 2 ^ width_of self.size }
@@ -183,6 +204,7 @@ impl Width {
     }
 
     /// Whether `a` is at most `b`, signed.
+    #[inline(always)]
     pub fn is_at_most(self, a: u64, b: u64) -> bool
         requires a { a < 2 ^ width_of self.size }
         requires b { b < 2 ^ width_of self.size }

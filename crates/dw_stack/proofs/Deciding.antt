@@ -1,8 +1,8 @@
 -- The questions that are asked of an expression, in their order: either all are answered with yes, and it is good, or the
 -- first that isn't names the first fault. Where states are given, each is compared before its operation is judged.
-use Rattle.std.proofs.Common.{◌≡◌, ◌≢◌, ◌∙◌, ◌⊎◌, ℕ, ℤ, zero, suc, negsuc, ◌+◌, ◌<◌, ◌≤◌, Bool, true, false, not, leb, ltb, ◌||◌, List, [], ◌∷◌, ◌++◌, length, get_or, Option, Some, None, refl, sym, ap, subst, inl, inr, arith, length-append}
-use Rattle.std.specs.Prelude.{slice_get, slice_set, slice_index_or, replicate, is_some, ◌==◌}
-use Rattle.std.specs.Option.{option_or}
+use Rattle.std.proofs.Common.{◌≡◌, ◌≢◌, ◌∙◌, ◌⊎◌, ℕ, ℤ, pos, negsuc, zero, suc, ◌+◌, ◌<◌, ◌≤◌, Bool, true, false, not, cond, map, List, [], ◌∷◌, ◌++◌, length, get_or, Option, Some, None, refl, sym, ap, subst, inl, inr, arith, length-append}
+use Rattle.std.specs.Prelude.{slice_get, slice_set, slice_index_or, replicate, find, ◌==◌}
+use Rattle.std.specs.Option.{option_or, option_map}
 use Rattle.std.specs.List.{list_all}
 use Rattle.std.proofs.lemmas.List.{length-replicate, get_or-replicate, append_assoc}
 use Rattle.std.proofs.lemmas.Option.{slice_get_within, slice_get_cases, same_Some}
@@ -22,22 +22,22 @@ use Rattle.dw_stack.specs.declared.step.Done.{Done}
 use Rattle.dw_stack.specs.declared.arrivals.Arrival.{Arrival}
 use Rattle.dw_stack.specs.declared.arrivals.Arrival.TheVariants.{Nothing, One, Many}
 use Rattle.dw_stack.specs.Effects.{effect_of}
-use Rattle.dw_stack.specs.States.{start_of, height_after, next_mode, HasResult, at_offset}
-use Rattle.dw_stack.specs.Paths.{Placed, place, aim, aimed, target_of, IsLaidOut, is_piece, pieces_before, IsGood, AreStates, IsDepth}
-use Rattle.dw_stack.specs.Faults.{Given, IsFirstFault, KnowsOnly}
+use Rattle.dw_stack.specs.States.{start_of, stands_alone, height_after, next_mode, has_result, HasResult, at_offset}
+use Rattle.dw_stack.specs.Paths.{Placed, place, aim, aimed, target_of, IsLaidOut, has_operation, is_piece, pieces_before, IsGood, AreStates, IsDepth}
+use Rattle.dw_stack.specs.Faults.{Given, judgements, is_ahead, is_start, passes, first_failed, IsFirstFault, KnowsOnly}
 use Rattle.dw_stack.specs.Judge.{IsEffectAt, Suits, TargetIs, TargetObjects, Judged, Objects}
 use Rattle.dw_stack.specs.Arrivals.{Merges, Receives, ReceivesIf, ReceivesAt, PassesOn, Stepped}
 use Rattle.dw_stack.specs.Expressions.{operations_in, reading_fault, IsGoodExpression, IsFaultOf}
-use Rattle.dw_stack.specs.FirstFault.{states_to, has_operation, stands_alone, has_result, same_state, is_ahead, is_start, Question, else_fault, first_no, asked_at, asked_of, asked_last, asked_from, first_fault, expression_fault}
+use Rattle.dw_stack.specs.FirstFault.{states_to, same_state, Question, else_fault, first_no, asked_at, asked_of, asked_last, asked_from, first_fault, expression_fault}
 use Rattle.dw_stack.proofs.Places.{place_of_some, later_place}
 use Rattle.dw_stack.proofs.Routes.{Comes}
 use Rattle.dw_stack.proofs.Describes.{Describes}
-use Rattle.dw_stack.proofs.Judging.{objects_unsuited, objects_target, judged}
+use Rattle.dw_stack.proofs.Judging.{all_passed, judged}
 use Rattle.dw_stack.proofs.Walks.{Walked, walked_start, walked_step}
 use Rattle.dw_stack.proofs.Verdicts.{step_fault, objects_fault, end_not_nothing, end_mismatch, end_empty, end_good, end_given, end_states, end_depth}
 use Rattle.dw_stack.proofs.Spelled.{spelled_of, laid_if_read}
 use Rattle.dw_stack.proofs.Arriving.{Has, states_come, come_states}
-use Rattle.dw_stack.proofs.Telling.{operation_tells, alone_tells, few_tells, result_tells, same_tells, others_tell, start_tells}
+use Rattle.dw_stack.proofs.Telling.{bool_tells, same_tells, others_tell, start_tells}
 
 -- ---- what one arrival says
 
@@ -85,20 +85,25 @@ passed_on old i out =
     let new = received_at out.target mid.0 out.state in
     (new.0, record { mid = mid.0; next = mid.1; target = new.1 })
 
-aim_or : (next : ℕ) (z : ℤ) → (aim next z ≡ None) ⊎ ((t : ℕ) × (aim next z ≡ Some t) × (next ≤ t))
-aim_or next (negsuc n) = inl refl
-aim_or next z = inr (_, refl, omega arith)
-
 -- ---- the questions
 
 abbrev fault_of : FaultKind → ℕ → Fault
 fault_of kind at = record { kind = kind; at = at }
 
-passes : (b : Bool) (f : FaultKind) (at : ℕ) (rest : List Question) → b ≡ true → first_no (else_fault b f at ∷ rest) ≡ first_no rest
-passes b f at rest is = ap (λ (c : Bool). first_no (else_fault c f at ∷ rest)) is
+answered_yes : (b : Bool) (f : FaultKind) (at : ℕ) (rest : List Question) → b ≡ true → first_no (else_fault b f at ∷ rest) ≡ first_no rest
+answered_yes b f at rest is = ap (λ (c : Bool). first_no (else_fault c f at ∷ rest)) is
 
-fails : (b : Bool) (f : FaultKind) (at : ℕ) (rest : List Question) → b ≡ false → first_no (else_fault b f at ∷ rest) ≡ Some (fault_of f at)
-fails b f at rest is = ap (λ (c : Bool). first_no (else_fault c f at ∷ rest)) is
+answered_no : (b : Bool) (f : FaultKind) (at : ℕ) (rest : List Question) → b ≡ false → first_no (else_fault b f at ∷ rest) ≡ Some (fault_of f at)
+answered_no b f at rest is = ap (λ (c : Bool). first_no (else_fault c f at ∷ rest)) is
+
+-- the questions of an operation name the first judgement that it doesn't pass
+first_no-map : (p : FaultKind → Bool) (at : ℕ) (fs : List FaultKind) → first_no (map (λ f. else_fault (p f) f at) fs) ≡ option_map (λ f. fault_of f at) (find (λ f. not (p f)) fs)
+first_no-map p at [] = refl
+first_no-map p at (f ∷ fs) = by (p f) (first_no-map p at fs)
+  where
+    by : (b : Bool) → first_no (map (λ g. else_fault (p g) g at) fs) ≡ option_map (λ g. fault_of g at) (find (λ g. not (p g)) fs) → first_no (else_fault b f at ∷ map (λ g. else_fault (p g) g at) fs) ≡ option_map (λ g. fault_of g at) (cond (not b) (Some f) (find (λ g. not (p g)) fs))
+    by true rest = rest
+    by false rest = refl
 
 first_no-append : (xs ys : List Question) → first_no (xs ++ ys) ≡ option_or (first_no xs) (first_no ys)
 first_no-append [] ys = refl
@@ -150,17 +155,13 @@ pub record Certified (kind : Kind) (ops : List Placed) (len : ℕ) (given : Opti
   pub deepest : IsDepth kind ops len depth
 
 module _ (kind : Kind) (ops : List Placed) (len : ℕ) (laid : IsLaidOut ops len) where
-  target_tells : (k : ℕ) → k < length ops → (o : Option ℤ) → ((is_ahead (place ops len (k + 1)) o ≡ true) × (is_start ops len (aimed (place ops len (k + 1)) o) ≡ true) × (t : Option ℕ) × TargetIs ops len k o t) ⊎ (((z : ℤ) × (o ≡ Some z) × (is_ahead (place ops len (k + 1)) o ≡ false) × TargetObjects ops len k z fault.Backward) ⊎ ((z : ℤ) × (o ≡ Some z) × (is_ahead (place ops len (k + 1)) o ≡ true) × (is_start ops len (aimed (place ops len (k + 1)) o) ≡ false) × TargetObjects ops len k z fault.TargetNotStart))
-  target_tells k lt None = inl (refl, refl, None, tt)
-  target_tells k lt (Some z) = elim (aim_or (place ops len (k + 1)) z) [
-    | inl back ↦ inr (inl (z, refl, ap (λ (o : Option ℕ). is_some o) back, back))
-    | inr goes ↦
-        let ahead = ap (λ (o : Option ℕ). is_some o) goes.1 in
-        let to = ap (λ (o : Option ℕ). is_start ops len o) goes.1 in
-        elim (start_tells ops len goes.0) [
-          | inl found ↦ inl (ahead, to ∙ found.0, Some found.1, record { later = later_place ops len laid k found.1 lt (omega (arith, goes.2, found.3)); within = found.2; there = goes.1 ∙ ap (λ (n : ℕ). Some n) (sym found.3) })
-          | inr none ↦ inr (inr (z, refl, ahead, to ∙ none.0, (goes.0, goes.1, none.1)))
-        ]
+  -- a jump that isn't backward, to where an operation begins or to the end, has a target
+  target_there : (k : ℕ) → k < length ops → (o : Option ℤ) → is_ahead (place ops len (k + 1)) o ≡ true → is_start ops len (aimed (place ops len (k + 1)) o) ≡ true → (t : Option ℕ) × TargetIs ops len k o t
+  target_there k lt None ahead start = (None, tt)
+  target_there k lt (Some (negsuc n)) ahead start = absurd (cc)
+  target_there k lt (Some (pos n)) ahead start = elim (start_tells ops len (place ops len (k + 1) + n)) [
+    | inl found ↦ (Some found.1, record { later = later_place ops len laid k found.1 lt (omega (arith, found.3)); within = found.2; there = ap (λ (t : ℕ). Some t) (sym found.3) })
+    | inr none ↦ let no = none.0 in absurd (cc)
   ]
 
   abbrev Asked : ℕ → Placed → StackState → Type 0
@@ -176,66 +177,23 @@ module _ (kind : Kind) (ops : List Placed) (len : ℕ) (laid : IsLaidOut ops len
     at : IsEffectAt ops k (effect_of x.1)
     at = record { placed = x; stands = stands; is = refl }
 
-    abbrev asked_start : List Question
-    asked_start = else_fault (is_start ops len (target_of ops len k e)) fault.TargetNotStart x.0 ∷ []
+    abbrev judged_by : FaultKind → Bool
+    judged_by = passes kind ops len k n e s
 
-    abbrev asked_ahead : List Question
-    asked_ahead = else_fault (is_ahead (place ops len (k + 1)) e.jump) fault.Backward x.0 ∷ asked_start
+    questions : first_no (asked_at kind ops len k e s x.0) ≡ option_map (λ f. fault_of f x.0) (first_failed judged_by)
+    questions = first_no-map judged_by x.0 judgements
 
-    abbrev asked_few : List Question
-    asked_few = else_fault (not (is_piece e.role) || ltb n MAX_PIECES) fault.TooManyPieces x.0 ∷ asked_ahead
-
-    abbrev asked_low : List Question
-    asked_low = else_fault (leb (height_after e s) MAX_HEIGHT) fault.TooDeep x.0 ∷ asked_few
-
-    abbrev asked_needs : List Question
-    asked_needs = else_fault (leb e.needs s.height) fault.Underflow x.0 ∷ asked_low
-
-    abbrev asked_alone : List Question
-    asked_alone = else_fault (stands_alone e.role s.mode s.height) fault.NotAlone x.0 ∷ asked_needs
-
-    asked_targets : (height : ℕ) → Suits kind e n s height → ((first_no asked_ahead ≡ None) × (out : Outgoing) × Judged kind ops len k n s out) ⊎ ((f : FaultKind) × (first_no asked_ahead ≡ Some (fault_of f x.0)) × Objects kind ops len k n s f)
-    asked_targets height fits = elim (target_tells k lt e.jump) [
-      | inl fine ↦
-          let out : Outgoing = record { state = next_mode e.role height s.pieced; height = height; piece = is_piece e.role; falls = e.falls; target = fine.2 } in
-          inl (passes (is_ahead (place ops len (k + 1)) e.jump) fault.Backward x.0 asked_start fine.0 ∙ passes (is_start ops len (target_of ops len k e)) fault.TargetNotStart x.0 [] fine.1, out, judged kind ops len k n s e at height fits fine.2 out fine.3 refl refl refl refl refl)
-      | inr bad ↦ elim bad [
-        | inl back ↦ inr (fault.Backward, fails (is_ahead (place ops len (k + 1)) e.jump) fault.Backward x.0 asked_start back.2, objects_target kind ops len k n s e at height fits back.0 fault.Backward back.1 back.3)
-        | inr none ↦ inr (fault.TargetNotStart, passes (is_ahead (place ops len (k + 1)) e.jump) fault.Backward x.0 asked_start none.2 ∙ fails (is_start ops len (target_of ops len k e)) fault.TargetNotStart x.0 [] none.3, objects_target kind ops len k n s e at height fits none.0 fault.TargetNotStart none.1 none.4)
-      ]
-    ]
-
-    -- the judgement of the operation, question by question
     asked : Asked k x s
-    asked = elim (operation_tells kind e) [
-      | inr bad ↦ inr (fault.NotInFrame, fails (has_operation kind e) fault.NotInFrame x.0 asked_alone bad.0, objects_unsuited kind ops len k n s e at fault.NotInFrame bad.1)
-      | inl allowed ↦
-          let to_alone = passes (has_operation kind e) fault.NotInFrame x.0 asked_alone allowed.0 in
-          elim (alone_tells e.role s.mode s.height) [
-            | inr bad ↦ inr (fault.NotAlone, to_alone ∙ fails (stands_alone e.role s.mode s.height) fault.NotAlone x.0 asked_needs bad.0, objects_unsuited kind ops len k n s e at fault.NotAlone (allowed.1, bad.1))
-            | inl alone ↦
-                let to_needs = to_alone ∙ passes (stands_alone e.role s.mode s.height) fault.NotAlone x.0 asked_needs alone.0 in
-                elim (leb_tells e.needs s.height) [
-                  | inr bad ↦ inr (fault.Underflow, to_needs ∙ fails (leb e.needs s.height) fault.Underflow x.0 asked_low bad.0, objects_unsuited kind ops len k n s e at fault.Underflow (allowed.1, alone.1, bad.1))
-                  | inl needs ↦
-                      let to_low = to_needs ∙ passes (leb e.needs s.height) fault.Underflow x.0 asked_low needs.0 in
-                      elim (leb_tells (height_after e s) MAX_HEIGHT) [
-                        | inr bad ↦ inr (fault.TooDeep, to_low ∙ fails (leb (height_after e s) MAX_HEIGHT) fault.TooDeep x.0 asked_few bad.0, objects_unsuited kind ops len k n s e at fault.TooDeep (allowed.1, alone.1, needs.1, bad.1))
-                        | inl low ↦
-                            let to_few = to_low ∙ passes (leb (height_after e s) MAX_HEIGHT) fault.TooDeep x.0 asked_few low.0 in
-                            elim (few_tells (is_piece e.role) n) [
-                              | inr bad ↦ inr (fault.TooManyPieces, to_few ∙ fails (not (is_piece e.role) || ltb n MAX_PIECES) fault.TooManyPieces x.0 asked_ahead bad.0, objects_unsuited kind ops len k n s e at fault.TooManyPieces (allowed.1, alone.1, needs.1, low.1, bad.1, bad.2))
-                              | inl few ↦
-                                  let to_ahead = to_few ∙ passes (not (is_piece e.role) || ltb n MAX_PIECES) fault.TooManyPieces x.0 asked_ahead few.0 in
-                                  elim (asked_targets (height_after e s) (record { allowed = allowed.1; alone = alone.1; needs = needs.1; limit = low.1; few = few.1; height_is = refl })) [
-                                    | inl fine ↦ inl (to_ahead ∙ fine.0, fine.1, fine.2)
-                                    | inr bad ↦ inr (bad.0, to_ahead ∙ bad.1, bad.2)
-                                  ]
-                            ]
-                      ]
-                ]
-          ]
-    ]
+    asked = by (first_failed judged_by) refl
+      where
+        by : (o : Option FaultKind) → first_failed judged_by ≡ o → Asked k x s
+        by (Some f) is = inr (f, questions ∙ ap (option_map (λ g. fault_of g x.0)) is, record { placed = x; stands = stands; first = is })
+        by None is =
+            let all = all_passed kind ops len k n s e is in
+            let target = target_there k lt e.jump all.1 all.2 in
+            let height : ℕ = height_after e s in
+            let out : Outgoing = record { state = next_mode e.role height s.pieced; height = height; piece = is_piece e.role; falls = e.falls; target = target.0 } in
+            inl (questions ∙ ap (option_map (λ g. fault_of g x.0)) is, out, judged kind ops len k n s e at height all.0 target.0 out target.1 refl refl refl refl refl)
 
   module _ (given : Option (List State)) where
     -- All is good, or this is the first fault. Where no states are given, the questions name no fault, or this one.
@@ -283,13 +241,13 @@ module _ (kind : Kind) (ops : List Placed) (len : ℕ) (laid : IsLaidOut ops len
         at_end : (l : List StackState) → states_to kind ops len i ≡ l → Named (first_no (asked_last kind ops len l))
         at_end [] is = absurd (end_not_nothing kind ops len laid given i all states arrivals depth pieces w (here Nothing (nothing_there i states arrivals depth pieces w (omega (arith, all)) [] is refl)))
         at_end (s ∷ others) is = elim (others_tell s others) [
-          | inr mixed ↦ inr (fault.Mismatch, len, λ none. fails (list_all (same_state s) others) fault.Mismatch len _ mixed.0, end_mismatch kind ops len laid given i all states arrivals depth pieces w (here Many (many_there i states arrivals depth pieces w (omega (arith, all)) (s ∷ others) is s mixed.1 others refl mixed.2 mixed.3)))
+          | inr mixed ↦ inr (fault.Mismatch, len, λ none. answered_no (list_all (same_state s) others) fault.Mismatch len _ mixed.0, end_mismatch kind ops len laid given i all states arrivals depth pieces w (here Many (many_there i states arrivals depth pieces w (omega (arith, all)) (s ∷ others) is s mixed.1 others refl mixed.2 mixed.3)))
           | inl same ↦
               let one = here (One s) (one_there i states arrivals depth pieces w (omega (arith, all)) (s ∷ others) is s others refl same.1) in
-              let first = passes (list_all (same_state s) others) fault.Mismatch len (else_fault (has_result kind s.mode (length ops == 0) s.pieced s.height) fault.EndsEmpty len ∷ []) same.0 in
-              elim (result_tells kind s.mode (length ops == 0) s.pieced s.height) [
-                | inl has ↦ inl (λ none. first ∙ passes (has_result kind s.mode (length ops == 0) s.pieced s.height) fault.EndsEmpty len [] has.0, certified s one has.1)
-                | inr bad ↦ inr (fault.EndsEmpty, len, λ none. first ∙ fails (has_result kind s.mode (length ops == 0) s.pieced s.height) fault.EndsEmpty len [] bad.0, end_empty kind ops len laid given i all states arrivals depth pieces w s one bad.1)
+              let first = answered_yes (list_all (same_state s) others) fault.Mismatch len (else_fault (has_result kind s.mode (length ops == 0) s.pieced s.height) fault.EndsEmpty len ∷ []) same.0 in
+              elim (bool_tells (has_result kind s.mode (length ops == 0) s.pieced s.height)) [
+                | inl has ↦ inl (λ none. first ∙ answered_yes (has_result kind s.mode (length ops == 0) s.pieced s.height) fault.EndsEmpty len [] has.0, certified s one has.1)
+                | inr bad ↦ inr (fault.EndsEmpty, len, λ none. first ∙ answered_no (has_result kind s.mode (length ops == 0) s.pieced s.height) fault.EndsEmpty len [] bad.0, end_empty kind ops len laid given i all states arrivals depth pieces w s one bad.1)
               ]
         ]
     walk (x ∷ left) i before states arrivals depth pieces parts count w =
@@ -307,11 +265,11 @@ module _ (kind : Kind) (ops : List Placed) (len : ℕ) (laid : IsLaidOut ops len
         at_step : (l : List StackState) → states_to kind ops len i ≡ l → ((more : List State) (new : List Arrival) (deep many : ℕ) → Walked kind ops len given (i + 1) more new deep many → Named (first_no (asked_from kind ops len (i + 1) left))) → Named (first_no (asked_of kind ops len i x l ++ asked_from kind ops len (i + 1) left))
         at_step [] is on = inr (fault.Unreachable, x.0, λ none. refl, here fault.Unreachable (step_fault kind ops len laid given i states arrivals depth pieces w fault.Unreachable lt (nothing_there i states arrivals depth pieces w (omega (arith, lt)) [] is refl)))
         at_step (s ∷ others) is on = elim (others_tell s others) [
-          | inr mixed ↦ inr (fault.Mismatch, x.0, λ none. fails (list_all (same_state s) others) fault.Mismatch x.0 _ mixed.0, here fault.Mismatch (step_fault kind ops len laid given i states arrivals depth pieces w fault.Mismatch lt (many_there i states arrivals depth pieces w (omega (arith, lt)) (s ∷ others) is s mixed.1 others refl mixed.2 mixed.3)))
+          | inr mixed ↦ inr (fault.Mismatch, x.0, λ none. answered_no (list_all (same_state s) others) fault.Mismatch x.0 _ mixed.0, here fault.Mismatch (step_fault kind ops len laid given i states arrivals depth pieces w fault.Mismatch lt (many_there i states arrivals depth pieces w (omega (arith, lt)) (s ∷ others) is s mixed.1 others refl mixed.2 mixed.3)))
           | inl same ↦
               let one = one_there i states arrivals depth pieces w (omega (arith, lt)) (s ∷ others) is s others refl same.1 in
               let first : first_no (asked_of kind ops len i x (s ∷ others) ++ asked_from kind ops len (i + 1) left) ≡ option_or (first_no (asked_at kind ops len i (effect_of x.1) s x.0)) (first_no (asked_from kind ops len (i + 1) left)) =
-              passes (list_all (same_state s) others) fault.Mismatch x.0 (asked_at kind ops len i (effect_of x.1) s x.0 ++ asked_from kind ops len (i + 1) left) same.0 ∙ first_no-append (asked_at kind ops len i (effect_of x.1) s x.0) (asked_from kind ops len (i + 1) left) in
+              answered_yes (list_all (same_state s) others) fault.Mismatch x.0 (asked_at kind ops len i (effect_of x.1) s x.0 ++ asked_from kind ops len (i + 1) left) same.0 ∙ first_no-append (asked_at kind ops len i (effect_of x.1) s x.0) (asked_from kind ops len (i + 1) left) in
               elim (given_tells ops len given i s) [
                 | inr other ↦ inr (fault.CertState, x.0, λ none. absurd (other.1 none), here fault.CertState (step_fault kind ops len laid given i states arrivals depth pieces w fault.CertState lt (s, one, other.0)))
                 | inl known ↦
@@ -331,14 +289,14 @@ module _ (kind : Kind) (ops : List Placed) (len : ℕ) (laid : IsLaidOut ops len
     unfolding first_fault
     named =
         let first : List Arrival = One (start_of kind) ∷ replicate (length ops) Nothing in
-        walk ops 0 [] [] first (start_of kind).height 0 refl refl (walked_start kind ops len laid given first (wide (length ops)) refl (λ j pos le. others j pos le))
+        walk ops 0 [] [] first (start_of kind).height 0 refl refl (walked_start kind ops len laid given first (wide (length ops)) refl (λ j above le. others j above le))
       where
         wide : (n : ℕ) → length (One (start_of kind) ∷ replicate n Nothing) ≡ n + 1
         wide n = let long = length-replicate n Nothing in omega (arith, long)
 
         others : (j : ℕ) → 0 < j → j ≤ length ops → get_or (One (start_of kind) ∷ replicate (length ops) Nothing) j Nothing ≡ Nothing
-        others zero pos le = absurd (omega arith)
-        others (suc j) pos le = get_or-replicate (length ops) j Nothing Nothing (omega arith)
+        others zero above le = absurd (omega arith)
+        others (suc j) above le = get_or-replicate (length ops) j Nothing Nothing (omega arith)
 
 -- the same of an expression
 pub named_expression : (kind : Kind) (target : Target) (bytes : List ℕ) → ((expression_fault kind target bytes ≡ None) × IsGoodExpression kind target bytes) ⊎ ((f : Fault) × (expression_fault kind target bytes ≡ Some f) × IsFaultOf kind target bytes None f)

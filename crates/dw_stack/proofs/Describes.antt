@@ -1,17 +1,23 @@
 -- What an arrival says of a set of states.
-use Rattle.std.proofs.Common.{◌≡◌, ◌≢◌, ℕ, ◌<◌, ◌⊎◌, Bool, true, false, List, length, get_or, Option, Some, None, refl, sym, ap, ◌∙◌, subst, inl, inr, length-set, IsTrue, get_or-set_same, get_or-set_other}
+use Rattle.std.proofs.Common.{◌≡◌, ◌≢◌, ℕ, ◌<◌, ◌⊎◌, Bool, true, false, List, length, get_or, Option, Some, None, Ok, Err, refl, sym, ap, ◌∙◌, subst, inl, inr, length-set, IsTrue, get_or-set_same, get_or-set_other}
 use Rattle.std.proofs.lemmas.Bool.{cases_eq}
 use Rattle.std.proofs.lemmas.Option.{same_Some}
 use Rattle.dw_stack.specs.declared.arrivals.Arrival.{Arrival}
 use Rattle.dw_stack.specs.declared.arrivals.Arrival.TheVariants.{Nothing, One, Many}
 use Rattle.dw_stack.specs.declared.state.StackState.{StackState}
-use Rattle.dw_stack.specs.Arrivals.{Merges, Receives, ReceivesIf, ReceivesAt}
+use Rattle.dw_stack.specs.Arrivals.{Merges, Receives, ReceivesIf, ReceivesAt, arrived}
 
 -- none, this one alone, or two
 abbrev pub Describes : Arrival → (StackState → Type 0) → Type 0
 Describes Nothing P = (h : StackState) → P h → ⊥
 Describes (One s) P = P s × ((h : StackState) → P h → h ≡ s)
 Describes Many P = (g : StackState) × (h : StackState) × P g × P h × (g ≢ h)
+
+-- where one state is read, it is the one
+pub arrived_is : (a : Arrival) (s : StackState) → Ok s ≡ arrived a → a ≡ One s
+arrived_is Nothing s is = absurd (cc)
+arrived_is (One t) s is = let same : t ≡ s = cc in ap (λ (x : StackState). One x) same
+arrived_is Many s is = absurd (cc)
 
 pub describes_same : (a : Arrival) (P Q : StackState → Type 0) → ((h : StackState) → P h → Q h) → ((h : StackState) → Q h → P h) → Describes a P → Describes a Q
 describes_same Nothing P Q to from d = λ h q. d h (from h q)

@@ -1,11 +1,11 @@
 -- A configuration has one next, and a run one end.
-use Rattle.std.proofs.Common.{◌≡◌, ◌∙◌, ℕ, zero, suc, ◌+◌, ◌-◌, ◌<◌, Bool, true, false, List, length, take, Option, Some, Result, Ok, Err, refl, sym, ap, subst, inl, inr, arith}
+use Rattle.std.proofs.Common.{◌≡◌, ◌∙◌, ℕ, ℤ, pos, zero, suc, ◌+◌, ◌-◌, ◌<◌, Bool, true, false, List, length, take, Option, Some, None, Result, Ok, Err, refl, sym, ap, subst, inl, inr, arith}
 use Rattle.std.specs.Prelude.{slice_get, MatchBool}
 use Rattle.std.proofs.lemmas.Option.{slice_get_within, same_Some}
 use Rattle.dw_stack.specs.declared.state.Kind.{Kind}
 use Rattle.dw_stack.specs.Effects.{effect_of}
-use Rattle.dw_stack.specs.Paths.{Placed, place, IsLaidOut, target_of}
-use Rattle.dw_stack.specs.Machine.{Whereabouts, Piece, Configuration, Trouble, Meaning, named, jumps, extent_of, location_of, stack_after, pieces_after, Meets, Step, Run, IsOver}
+use Rattle.dw_stack.specs.Paths.{Placed, place, IsLaidOut}
+use Rattle.dw_stack.specs.Machine.{Whereabouts, Piece, Configuration, Trouble, Meaning, named, jumps, JumpsTo, LeadsTo, extent_of, location_of, stack_after, pieces_after, Meets, Step, Stops, Run, Ended, IsOver}
 use Rattle.dw_stack.proofs.Places.{place_of_some, place_past, place_mono, place_inj}
 
 abbrev made : ℕ → List ℕ → Option Whereabouts → List Piece → Configuration
@@ -19,8 +19,9 @@ same_configuration d e offset stack pending pieces =
     let fourth : made e.offset e.stack e.pending d.pieces ≡ made e.offset e.stack e.pending e.pieces = ap (λ (ps : List Piece). made e.offset e.stack e.pending ps) pieces in
     first ∙ (second ∙ (third ∙ fourth))
 
-one_offset : (j : Bool) (o : Option ℕ) (next a b : ℕ) → MatchBool j (o ≡ Some a) (a ≡ next) → MatchBool j (o ≡ Some b) (b ≡ next) → a ≡ b
-one_offset true o next a b here there = same_Some a b (sym here ∙ there)
+one_offset : (j : Bool) (o : Option ℤ) (next a b : ℕ) → MatchBool j (JumpsTo o next a) (a ≡ next) → MatchBool j (JumpsTo o next b) (b ≡ next) → a ≡ b
+one_offset true None next a b here there = absurd here
+one_offset true (Some z) next a b here there = let same : pos a ≡ pos b = here ∙ sym there in cc
 one_offset false o next a b here there = here ∙ sym there
 
 answered_with : Result (List ℕ) Trouble → List ℕ → List ℕ
@@ -49,23 +50,33 @@ module _ (m : Meaning) (ops : List Placed) (len : ℕ) (laid : IsLaidOut ops len
       let number : u.meets.number ≡ t.meets.number = one_number c u.meets t.meets in
       let placed : u.meets.placed ≡ t.meets.placed = one_operation c u.meets t.meets in
       let new : t.new ≡ u.new = one_answer (m.answer t.meets.placed.1 c.stack) t.new u.new t.answered (ap (λ (x : Placed). m.answer x.1 c.stack) (sym placed) ∙ u.answered) in
-      let to : MatchBool (jumps t.meets.placed.1 c.stack) (target_of ops len t.meets.number (effect_of t.meets.placed.1) ≡ Some e.offset) (e.offset ≡ place ops len (t.meets.number + 1)) =
-      subst (λ (x : Placed). MatchBool (jumps x.1 c.stack) (target_of ops len t.meets.number (effect_of x.1) ≡ Some e.offset) (e.offset ≡ place ops len (t.meets.number + 1))) placed
-      (subst (λ (n : ℕ). MatchBool (jumps u.meets.placed.1 c.stack) (target_of ops len n (effect_of u.meets.placed.1) ≡ Some e.offset) (e.offset ≡ place ops len (n + 1))) number u.to) in
-      let offset = one_offset (jumps t.meets.placed.1 c.stack) (target_of ops len t.meets.number (effect_of t.meets.placed.1)) (place ops len (t.meets.number + 1)) d.offset e.offset t.to to in
+      let to : LeadsTo t.meets.placed.1 c.stack (place ops len (t.meets.number + 1)) e.offset =
+      subst (λ (x : Placed). LeadsTo x.1 c.stack (place ops len (t.meets.number + 1)) e.offset) placed
+      (subst (λ (n : ℕ). LeadsTo u.meets.placed.1 c.stack (place ops len (n + 1)) e.offset) number u.to) in
+      let offset = one_offset (jumps t.meets.placed.1 c.stack) (effect_of t.meets.placed.1).jump (place ops len (t.meets.number + 1)) d.offset e.offset t.to to in
       let stack : d.stack ≡ e.stack = t.stack ∙ (ap (λ (xs : List ℕ). stack_after (effect_of t.meets.placed.1).role xs (take (length c.stack - (effect_of t.meets.placed.1).takes) c.stack)) new ∙ (ap (λ (x : Placed). stack_after (effect_of x.1).role u.new (take (length c.stack - (effect_of x.1).takes) c.stack)) (sym placed) ∙ sym u.stack)) in
       let pending : d.pending ≡ e.pending = t.pending ∙ (ap (λ (x : Placed). named x.1 c.stack) (sym placed) ∙ sym u.pending) in
       let pieces : d.pieces ≡ e.pieces = t.pieces ∙ (ap (λ (x : Placed). pieces_after (effect_of x.1).role c.pieces (record { location = location_of c.stack c.pending; size = extent_of x.1 })) (sym placed) ∙ sym u.pieces) in
       same_configuration d e offset stack pending pieces
 
+  -- no operation stands at the end
+  pub ended_stands : (kind : Kind) (c : Configuration) → Ended kind ops len c → Meets ops c → ⊥
+  ended_stands kind c ended t =
+      let lt = within c t in
+      let before = place_mono ops len laid t.number (length ops) lt (omega arith) in
+      let past = place_past ops len (length ops) (omega arith) in
+      let at = stands_at c t in
+      omega (arith, before, past, at, ended.there)
+
+  -- a step that has no answer has none for one reason
+  pub one_trouble : (c : Configuration) (w v : Trouble) → Stops m ops c w → Stops m ops c v → w ≡ v
+  one_trouble c w v a b =
+      let both : Err w ≡ Err v = sym a.answered ∙ (ap (λ (x : Placed). m.answer x.1 c.stack) (one_operation c a.meets b.meets) ∙ b.answered) in
+      cc
+
   no_step : (kind : Kind) (c d : Configuration) → IsOver kind m ops len c → Step m ops len c d → ⊥
   no_step kind c d over t = elim over [
-    | inl ended ↦
-        let lt = within c t.meets in
-        let before = place_mono ops len laid t.meets.number (length ops) lt (omega arith) in
-        let past = place_past ops len (length ops) (omega arith) in
-        let at = stands_at c t.meets in
-        omega (arith, before, past, at, ended.there)
+    | inl ended ↦ ended_stands kind c ended t.meets
     | inr stopped ↦
         let stop = stopped.1 in
         let both : Ok t.new ≡ Err stopped.0 = sym t.answered ∙ (ap (λ (x : Placed). m.answer x.1 c.stack) (one_operation c t.meets stop.meets) ∙ stop.answered) in

@@ -6,6 +6,7 @@ pub mod Judging
 pub mod Walks
 pub mod Verdicts
 pub mod Spelled
+pub mod Ends
 pub mod Runs
 pub mod Stable
 pub mod Whole

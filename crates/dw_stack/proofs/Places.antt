@@ -5,11 +5,6 @@ use Rattle.std.proofs.lemmas.Bool.{cases_eq, cases_lt, cases_order}
 use Rattle.dw_stack.specs.Paths.{Placed}
 use Rattle.dw_stack.specs.Paths.{place, IsLaidOut}
 
-pub place_at : (ops : List Placed) (len j : ℕ) (d : Placed) → j < length ops → place ops len j ≡ (get_or ops j d).0
-place_at [] len j d h = absurd (omega arith)
-place_at (x ∷ xs) len zero d h = refl
-place_at (x ∷ xs) len (suc j) d h = place_at xs len j d (omega arith)
-
 pub place_past : (ops : List Placed) (len j : ℕ) → length ops ≤ j → place ops len j ≡ len
 place_past [] len j h = refl
 place_past (x ∷ xs) len zero h = absurd (omega arith)

@@ -1,6 +1,7 @@
 -- Each run of a good expression follows a path.
-use Rattle.std.proofs.Common.{◌≡◌, ℕ, ℤ, negsuc, zero, suc, ◌+◌, ◌-◌, ◌<◌, ◌≤◌, ◌⊎◌, Bool, true, false, cond, not, eqb, List, [], ◌∷◌, ◌++◌, length, take, Option, Some, None, Result, Ok, Err, refl, sym, ap, ◌∙◌, subst, inl, inr, arith, IsTrue, length-append, length-take}
-use Rattle.std.specs.Prelude.{slice_get, MatchBool}
+use Rattle.std.proofs.Common.{◌≡◌, ℕ, ℤ, pos, negsuc, zero, suc, ◌+◌, ◌-◌, ◌<◌, ◌≤◌, ◌⊎◌, Bool, true, false, cond, not, eqb, List, [], ◌∷◌, ◌++◌, length, take, Option, Some, None, Result, Ok, Err, refl, sym, ap, ◌∙◌, subst, inl, inr, arith, IsTrue, length-append, length-take}
+use Rattle.std.specs.Prelude.{slice_get, MatchBool, ◌==◌}
+use Rattle.std.proofs.lemmas.Bool.{eqb-true, leb-true}
 use Rattle.std.proofs.lemmas.Option.{slice_get_within, slice_get_cases}
 use Rattle.dw_ops.specs.Operations.{Operation, bra, skip, reg, regx, implicit_value, stack_value, piece, bit_piece}
 use Rattle.dw_stack.specs.declared.effect.Role.{Role}
@@ -15,11 +16,12 @@ use Rattle.dw_stack.specs.declared.state.Mode.{Mode}
 use Rattle.dw_stack.specs.declared.state.Mode.TheVariants as mode
 use Rattle.dw_stack.specs.Effects.{effect_of}
 use Rattle.dw_stack.specs.States.{start_of, next_mode, height_after, state_after, StandsAlone, at_offset}
-use Rattle.dw_stack.specs.Paths.{Placed, place, IsLaidOut, aim, aimed, target_of, Leads, Edge, Follows, Reaches, IsStart, is_piece, pieces_before, IsGood, AreStates, IsDepth}
-use Rattle.dw_stack.specs.Machine.{Whereabouts, Piece, Configuration, Trouble, Meaning, entry, named, jumps, extent_of, location_of, stack_after, pieces_after, CanDo, Meets, Step, Run, offsets_of, Starts, PendingIs, has_pieces, Agrees, GoesOn, IsOver, RunsWell}
-use Rattle.dw_stack.proofs.Places.{place_of_some, place_past, place_inj}
+use Rattle.dw_stack.specs.Paths.{Placed, place, IsLaidOut, aimed, Leads, Edge, Follows, Reaches, IsStart, is_piece, pieces_before, IsGood, AreStates, IsDepth}
+use Rattle.dw_stack.specs.Machine.{Whereabouts, Piece, Configuration, Trouble, Meaning, entry, named, jumps, JumpsTo, extent_of, location_of, stack_after, pieces_after, CanDo, Meets, Step, Run, offsets_of, Starts, PendingIs, has_pieces, Agrees, GoesOn, IsOver, RunsWell}
+use Rattle.dw_stack.proofs.Places.{place_of_some, place_past, place_mono, place_inj}
 use Rattle.dw_stack.proofs.Heights.{next_height_le}
 use Rattle.dw_stack.proofs.Pieces.{pieces_mono, pieces_with, length-pieces_after}
+use Rattle.dw_stack.proofs.Ends.{pieced_after, result_there}
 use Rattle.dw_stack.proofs.Routes.{reach_from, extend, at_start, reached_place, edge_lands}
 
 -- per operation: what it names is what its role says
@@ -83,30 +85,41 @@ agrees_after m ops len s c d t a = record {
 
 -- where the roles agree with the state, the step is there
 can_do : (r : Role) (m : Mode) (h n : ℕ) (p : Option Whereabouts) → n ≡ h → StandsAlone r m h → PendingIs m p h → CanDo r n p
-can_do role.Piece mode.Stack h n None e alone is = omega (arith, alone, e)
+can_do role.Piece mode.Stack h n None e alone is = omega (arith, leb-true h 1 alone, e)
 can_do role.Piece mode.AfterPiece h n None e alone is = let z = is.1 in omega (arith, z, e)
-can_do role.Piece mode.Register h n None e alone is = omega (arith, alone, e)
-can_do role.Piece mode.Value h n None e alone is = omega (arith, alone, e)
+can_do role.Piece mode.Register h n None e alone is = omega (arith, eqb-true h 0 alone, e)
+can_do role.Piece mode.Value h n None e alone is = omega (arith, eqb-true h 0 alone, e)
 can_do role.Piece mode.Stack h n (Some p) e alone is = absurd (cc)
 can_do role.Piece mode.AfterPiece h n (Some p) e alone is = let no_p = is.0 in absurd (cc)
-can_do role.Piece mode.Register h n (Some p) e alone is = e ∙ alone
-can_do role.Piece mode.Value h n (Some p) e alone is = e ∙ alone
-can_do role.Register mode.Stack h n None e alone is = e ∙ alone
-can_do role.Register mode.AfterPiece h n None e alone is = e ∙ alone
-can_do role.Bytes mode.Stack h n None e alone is = e ∙ alone
-can_do role.Bytes mode.AfterPiece h n None e alone is = e ∙ alone
+can_do role.Piece mode.Register h n (Some p) e alone is = e ∙ eqb-true h 0 alone
+can_do role.Piece mode.Value h n (Some p) e alone is = e ∙ eqb-true h 0 alone
+can_do role.Register mode.Stack h n None e alone is = e ∙ eqb-true h 0 alone
+can_do role.Register mode.AfterPiece h n None e alone is = e ∙ eqb-true h 0 alone
+can_do role.Bytes mode.Stack h n None e alone is = e ∙ eqb-true h 0 alone
+can_do role.Bytes mode.AfterPiece h n None e alone is = e ∙ eqb-true h 0 alone
 can_do role.Plain mode.Stack h n None e alone is = tt
 can_do role.Plain mode.AfterPiece h n None e alone is = tt
 can_do role.Top mode.Stack h n None e alone is = tt
 can_do role.Top mode.AfterPiece h n None e alone is = tt
 can_do r mode.Stack h n (Some p) e alone is = absurd (cc)
 can_do r mode.AfterPiece h n (Some p) e alone is = let no_p = is.0 in absurd (cc)
-can_do r mode.Register h n p e alone is = absurd alone
-can_do r mode.Value h n p e alone is = absurd alone
+can_do r mode.Register h n p e alone is = absurd (cc)
+can_do r mode.Value h n p e alone is = absurd (cc)
 
 module _ (kind : Kind) (ops : List Placed) (len : ℕ) (laid : IsLaidOut ops len) (good : IsGood kind ops len) where
-  leads_there : (k b : ℕ) (x : Placed) (j : Bool) → slice_get ops k ≡ Some x → MatchBool j ((z : ℤ) × ((effect_of x.1).jump ≡ Some z)) (IsTrue (effect_of x.1).falls) → MatchBool j (target_of ops len k (effect_of x.1) ≡ Some b) (b ≡ place ops len (k + 1)) → Leads ops len k (effect_of x.1) b
-  leads_there k b x true stands br to = inr (to, good.targets k b x stands to)
+  -- no jump goes back
+  pub ahead_of : (k : ℕ) (x : Placed) (z : ℤ) → slice_get ops k ≡ Some x → (effect_of x.1).jump ≡ Some z → (n : ℕ) × (z ≡ pos n)
+  ahead_of k x (pos n) stands jump = (n, refl)
+  ahead_of k x (negsuc n) stands jump = absurd (good.ahead k (negsuc n) x stands jump refl)
+
+  -- where a jump leads is its target on paths
+  target_is : (k b : ℕ) (x : Placed) (o : Option ℤ) → slice_get ops k ≡ Some x → (effect_of x.1).jump ≡ o → JumpsTo o (place ops len (k + 1)) b → aimed (place ops len (k + 1)) o ≡ Some b
+  target_is k b x None stands jump to = absurd to
+  target_is k b x (Some (pos n)) stands jump to = let same : pos b ≡ pos (place ops len (k + 1) + n) = to in cc
+  target_is k b x (Some (negsuc n)) stands jump to = absurd (good.ahead k (negsuc n) x stands jump refl)
+
+  leads_there : (k b : ℕ) (x : Placed) (j : Bool) → slice_get ops k ≡ Some x → MatchBool j ((z : ℤ) × ((effect_of x.1).jump ≡ Some z)) (IsTrue (effect_of x.1).falls) → MatchBool j (JumpsTo (effect_of x.1).jump (place ops len (k + 1)) b) (b ≡ place ops len (k + 1)) → Leads ops len k (effect_of x.1) b
+  leads_there k b x true stands br to = let there = target_is k b x (effect_of x.1).jump stands refl to in inr (there, good.targets k b x stands there)
   leads_there k b x false stands br to = inl (br, to)
 
   -- a step goes along an edge
@@ -175,6 +188,13 @@ module _ (kind : Kind) (ops : List Placed) (len : ℕ) (laid : IsLaidOut ops len
       let same : t.number ≡ j = place_inj ops len laid t.number j (omega (arith, within)) le (place_of_some ops len t.number t.placed t.stands ∙ t.from ∙ sym at) in
       omega (arith, same, within)
 
+  -- a step leads to a later offset
+  pub step_later : (m : Meaning) (c d : Configuration) → Step m ops len c d → c.offset < d.offset
+  step_later m c d t =
+      let e = step_edge m (start_of kind) c d t in
+      let l = edge_lands ops len c.offset (start_of kind) d.offset (state_after (effect_of t.meets.placed.1) (start_of kind)) e in
+      omega (arith, l.there, e.from, place_of_some ops len e.number e.placed e.stands, place_mono ops len laid e.number l.number l.later l.within)
+
   -- the configuration behind a step
   behind : (x : Placed) (c : Configuration) (new : List ℕ) → ℕ → Configuration
   behind x c new at = record {
@@ -184,22 +204,18 @@ module _ (kind : Kind) (ops : List Placed) (len : ℕ) (laid : IsLaidOut ops len
     pieces = pieces_after (effect_of x.1).role c.pieces (record { location = location_of c.stack c.pending; size = extent_of x.1 });
   }
 
-  goal_at : (next : ℕ) (z : ℤ) → (aim next z ≡ None) ⊎ ((t : ℕ) × (aim next z ≡ Some t))
-  goal_at next (negsuc n) = inl refl
-  goal_at next z = inr (_, refl)
-
   -- a step from an operation that is there
   go_to : (m : Meaning) (c : Configuration) (new : List ℕ) (t : Meets ops c) (j : Bool) → m.answer t.placed.1 c.stack ≡ Ok new → j ≡ jumps t.placed.1 c.stack → MatchBool j ((z : ℤ) × ((effect_of t.placed.1).jump ≡ Some z)) (IsTrue (effect_of t.placed.1).falls) → (e : Configuration) × Step m ops len c e
   unfolding behind
   go_to m c new t true answered is br =
-      elim (goal_at (place ops len (t.number + 1)) br.0) [
-        | inl back ↦ absurd (good.ahead t.number br.0 t.placed t.stands br.1 back)
-        | inr found ↦
-            let aimed_at : target_of ops len t.number (effect_of t.placed.1) ≡ Some found.0 = ap (aimed (place ops len (t.number + 1))) br.1 ∙ found.1 in
-            (behind t.placed c new found.0, record { meets = t; new = new; answered = answered; to = subst (λ (b : Bool). MatchBool b (target_of ops len t.number (effect_of t.placed.1) ≡ Some found.0) (found.0 ≡ place ops len (t.number + 1))) is aimed_at; stack = refl; pending = refl; pieces = refl })
-      ]
+      let next : ℕ = place ops len (t.number + 1) in
+      let ahead = ahead_of t.number t.placed br.0 t.stands br.1 in
+      let jump : (effect_of t.placed.1).jump ≡ Some (pos ahead.0) = br.1 ∙ ap (λ (z : ℤ). Some z) ahead.1 in
+      let there : JumpsTo (effect_of t.placed.1).jump next (next + ahead.0) = subst (λ (o : Option ℤ). JumpsTo o next (next + ahead.0)) (sym jump) refl in
+      (behind t.placed c new (next + ahead.0), record { meets = t; new = new; answered = answered; to = subst (λ (b : Bool). MatchBool b (JumpsTo (effect_of t.placed.1).jump next (next + ahead.0)) (next + ahead.0 ≡ next)) is there; stack = refl; pending = refl; pieces = refl })
   go_to m c new t false answered is br =
-      (behind t.placed c new (place ops len (t.number + 1)), record { meets = t; new = new; answered = answered; to = subst (λ (b : Bool). MatchBool b (target_of ops len t.number (effect_of t.placed.1) ≡ Some (place ops len (t.number + 1))) (place ops len (t.number + 1) ≡ place ops len (t.number + 1))) is refl; stack = refl; pending = refl; pieces = refl })
+      let next : ℕ = place ops len (t.number + 1) in
+      (behind t.placed c new next, record { meets = t; new = new; answered = answered; to = subst (λ (b : Bool). MatchBool b (JumpsTo (effect_of t.placed.1).jump next next) (next ≡ next)) is refl; stack = refl; pending = refl; pieces = refl })
 
   -- an operation that is there answers, or says why it doesn't
   answer_of : (m : Meaning) (c : Configuration) (t : Meets ops c) (a : Result (List ℕ) Trouble) → m.answer t.placed.1 c.stack ≡ a → GoesOn kind m ops len c
@@ -234,7 +250,7 @@ module _ (kind : Kind) (ops : List Placed) (len : ℕ) (laid : IsLaidOut ops len
         | inr past ↦
             let here : c.offset ≡ len = sym p.2 ∙ place_past ops len p.0 past.0 in
             let reached = reach_from kind ops len c.offset len r.0 r.0 here refl r.1 in
-            inl (record { there = here; state = r.0; reaches = reached; agrees = r.2; result = good.ends r.0 reached })
+            inl (record { there = here; result = result_there kind (length ops == 0) r.0 c (pieced_after kind ops len len r.0 reached) r.2 (good.ends r.0 reached) })
       ]
 
   -- no stack is above the depth
@@ -351,6 +367,7 @@ module _ (kind : Kind) (ops : List Placed) (len : ℕ) (laid : IsLaidOut ops len
   good_runs depth deep = record {
     follows = λ m c d n s run. run_follows m n c d (starts c s) run;
     path = path_from_start;
+    forward = λ m c d e n s run t. step_later m d e t;
     stands = stands_on_start;
     room = λ m c d n s run t. room_at m depth c d n deep s run t;
     pieces = few_pieces;
@@ -359,6 +376,10 @@ module _ (kind : Kind) (ops : List Placed) (len : ℕ) (laid : IsLaidOut ops len
     short = λ m c d n s run. let l = run_later m n 0 c d (omega arith) (laid.first ∙ sym s.offset) run in omega (arith, l.1, l.2);
     stops = λ m c d n why s run stop. let l = run_later m n 0 c d (omega arith) (laid.first ∙ sym s.offset) run in let b = before_end l.0 d l.2 l.3 stop.meets in omega (arith, l.1, b);
     goes_on = λ m c d n s run. on_from m d (run_follows m n c d (starts c s) run);
+    ends = λ m c d n s run at.
+        let r = run_follows m n c d (starts c s) run in
+        let reached = reach_from kind ops len d.offset len r.0 r.0 at refl r.1 in
+        (r.0, reached, r.2, good.ends r.0 reached);
     finishes = λ m c s. finish_in (length ops) m c s 0 c (omega arith) refl (starts c s);
   }
 

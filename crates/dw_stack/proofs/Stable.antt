@@ -17,53 +17,12 @@ use Rattle.dw_stack.specs.declared.state.StackState.{StackState}
 use Rattle.dw_stack.specs.declared.state.Kind.{Kind}
 use Rattle.dw_stack.specs.declared.state.Kind.TheVariants.{FrameCfa, FrameRegister, Location}
 use Rattle.dw_stack.specs.Effects.{effect_of}
-use Rattle.dw_stack.specs.States.{StandsAlone, ResultOf, at_offset}
+use Rattle.dw_stack.specs.States.{at_offset}
 use Rattle.dw_stack.specs.Paths.{Placed, place, IsLaidOut, target_of, IsTarget, IsAllowed, IsGood, AreStates}
 use Rattle.dw_stack.specs.FirstFault.{number_of}
 use Rattle.dw_stack.specs.Expressions.{operations_in, reading_fault, Checked, IsChecked}
 use Rattle.dw_stack.proofs.Places.{place_inj}
 use Rattle.dw_stack.proofs.Spelled.{spelled_of, read_of, laid_out}
-
-allowed-prop : (kind : Kind) (e : StackEffect) → IsProp (IsAllowed kind e)
-allowed-prop Location e = Unit-prop
-allowed-prop FrameCfa e = Coded-set coded_bool _ _
-allowed-prop FrameRegister e = Coded-set coded_bool _ _
-
-alone-prop : (r : Role) (m : Mode) (h : ℕ) → IsProp (StandsAlone r m h)
-alone-prop role.Piece mode.AfterPiece h = Unit-prop
-alone-prop role.Piece mode.Stack h = le_prop
-alone-prop role.Piece mode.Register h = Coded-set coded_ℕ _ _
-alone-prop role.Piece mode.Value h = Coded-set coded_ℕ _ _
-alone-prop role.Register mode.Stack h = Coded-set coded_ℕ _ _
-alone-prop role.Register mode.AfterPiece h = Coded-set coded_ℕ _ _
-alone-prop role.Register mode.Register h = ⊥_prop
-alone-prop role.Register mode.Value h = ⊥_prop
-alone-prop role.Bytes mode.Stack h = Coded-set coded_ℕ _ _
-alone-prop role.Bytes mode.AfterPiece h = Coded-set coded_ℕ _ _
-alone-prop role.Bytes mode.Register h = ⊥_prop
-alone-prop role.Bytes mode.Value h = ⊥_prop
-alone-prop role.Plain mode.Stack h = Unit-prop
-alone-prop role.Plain mode.AfterPiece h = Unit-prop
-alone-prop role.Plain mode.Register h = ⊥_prop
-alone-prop role.Plain mode.Value h = ⊥_prop
-alone-prop role.Top mode.Stack h = Unit-prop
-alone-prop role.Top mode.AfterPiece h = Unit-prop
-alone-prop role.Top mode.Register h = ⊥_prop
-alone-prop role.Top mode.Value h = ⊥_prop
-
-result-prop : (kind : Kind) (m : Mode) (empty pieced : Bool) (h : ℕ) → IsProp (ResultOf kind m empty pieced h)
-result-prop Location mode.AfterPiece empty pieced h = Unit-prop
-result-prop Location mode.Stack empty pieced h = →_prop (×_prop (Coded-set coded_bool _ _) le_prop)
-result-prop Location mode.Register empty pieced h = Coded-set coded_bool _ _
-result-prop Location mode.Value empty pieced h = Coded-set coded_bool _ _
-result-prop FrameCfa mode.Stack empty pieced h = le_prop
-result-prop FrameRegister mode.Stack empty pieced h = le_prop
-result-prop FrameCfa mode.Register empty pieced h = ⊥_prop
-result-prop FrameCfa mode.Value empty pieced h = ⊥_prop
-result-prop FrameCfa mode.AfterPiece empty pieced h = ⊥_prop
-result-prop FrameRegister mode.Register empty pieced h = ⊥_prop
-result-prop FrameRegister mode.Value empty pieced h = ⊥_prop
-result-prop FrameRegister mode.AfterPiece empty pieced h = ⊥_prop
 
 mode_of : ℕ → Mode
 mode_of zero = mode.Stack
@@ -153,8 +112,8 @@ module _ (kind : Kind) (ops : List Placed) (len : ℕ) (laid : IsLaidOut ops len
 
   pub good_stable : IsGood kind ops len
   good_stable = record {
-    allowed = λ k x stands. ∥∥₁_elim h (allowed-prop kind (effect_of x.1)) (λ g. g.allowed k x stands);
-    alone = λ k x s stands r. ∥∥₁_elim h (alone-prop (effect_of x.1).role s.mode s.height) (λ g. g.alone k x s stands r);
+    allowed = λ k x stands. ∥∥₁_elim h (Coded-set coded_bool _ _) (λ g. g.allowed k x stands);
+    alone = λ k x s stands r. ∥∥₁_elim h (Coded-set coded_bool _ _) (λ g. g.alone k x s stands r);
     needs = λ k x s stands r. ∥∥₁_elim h le_prop (λ g. g.needs k x s stands r);
     limit = λ k x s stands r. ∥∥₁_elim h le_prop (λ g. g.limit k x s stands r);
     one = λ b s t r q. state_stable s t (∥∥₁_elim h ∥∥₁_prop (λ g. ∣ g.one b s t r q ∣₁));
@@ -162,7 +121,7 @@ module _ (kind : Kind) (ops : List Placed) (len : ℕ) (laid : IsLaidOut ops len
     ahead = λ k z x stands jump back. ∥∥₁_elim h ⊥_prop (λ g. g.ahead k z x stands jump back);
     targets = λ k t x stands to. target_stable k t x stands to;
     pieces = ∥∥₁_elim h le_prop (λ g. g.pieces);
-    ends = λ s r. ∥∥₁_elim h (result-prop kind s.mode (length ops == 0) s.pieced s.height) (λ g. g.ends s r);
+    ends = λ s r. ∥∥₁_elim h (Coded-set coded_bool _ _) (λ g. g.ends s r);
   }
 
 module _ (c : Checked) (h : ∥ IsChecked c ∥₁) where

@@ -12,9 +12,9 @@ use Rattle.dw_stack.specs.declared.state.Mode.{Mode}
 use Rattle.dw_stack.specs.declared.state.Mode.TheVariants as mode
 use Rattle.dw_stack.specs.declared.state.Kind.{Kind}
 use Rattle.dw_stack.specs.declared.state.Kind.TheVariants.{FrameCfa, FrameRegister, Location}
-use Rattle.dw_stack.specs.States.{StandsAlone, ResultOf}
 use Rattle.dw_stack.specs.Paths.{Placed, place, IsAllowed}
-use Rattle.dw_stack.specs.FirstFault.{has_operation, stands_alone, has_result, number_of, same_state, is_start}
+use Rattle.dw_stack.specs.Faults.{is_start}
+use Rattle.dw_stack.specs.FirstFault.{number_of, same_state}
 use Rattle.dw_stack.proofs.Arriving.{Has}
 use Rattle.dw_stack.proofs.Stable.{mode_stable}
 
@@ -22,19 +22,9 @@ use Rattle.dw_stack.proofs.Stable.{mode_stable}
 abbrev pub Tells : Bool → Type 0 → Type 0
 Tells b P = ((b ≡ true) × P) ⊎ ((b ≡ false) × (P → ⊥))
 
-always : {P : Type 0} → P → Tells true P
-always p = inl (refl, p)
-
-never : {P : Type 0} → (P → ⊥) → Tells false P
-never not_p = inr (refl, not_p)
-
-bool_tells : (b : Bool) → Tells b (b ≡ true)
+pub bool_tells : (b : Bool) → Tells b (b ≡ true)
 bool_tells true = inl (refl, refl)
 bool_tells false = inr (refl, λ e. cc)
-
-not_tells : (b : Bool) → Tells (not b) (b ≡ false)
-not_tells true = inr (refl, λ e. cc)
-not_tells false = inl (refl, refl)
 
 pub equal_tells : (a b : ℕ) → Tells (a == b) (a ≡ b)
 equal_tells a b = elim (cases_Bool (eqb a b)) [ inl is ↦ inl (is, eqb-true a b is) | inr is ↦ inr (is, eqb-false a b is) ]
@@ -42,62 +32,7 @@ equal_tells a b = elim (cases_Bool (eqb a b)) [ inl is ↦ inl (is, eqb-true a b
 pub le_tells : (a b : ℕ) → Tells (leb a b) (a ≤ b)
 le_tells a b = elim (cases_Bool (leb a b)) [ inl is ↦ inl (is, leb-true a b is) | inr is ↦ inr (is, λ le. let lt = leb-false a b is in omega (arith, le, lt)) ]
 
--- ---- the tables
-
-pub operation_tells : (kind : Kind) (e : StackEffect) → Tells (has_operation kind e) (IsAllowed kind e)
-operation_tells Location e = always tt
-operation_tells FrameCfa e = bool_tells e.framed
-operation_tells FrameRegister e = bool_tells e.framed
-
-pub alone_tells : (r : Role) (m : Mode) (h : ℕ) → Tells (stands_alone r m h) (StandsAlone r m h)
-alone_tells role.Piece mode.AfterPiece h = always tt
-alone_tells role.Piece mode.Stack h = le_tells h 1
-alone_tells role.Piece mode.Register h = equal_tells h 0
-alone_tells role.Piece mode.Value h = equal_tells h 0
-alone_tells role.Register mode.Stack h = equal_tells h 0
-alone_tells role.Register mode.AfterPiece h = equal_tells h 0
-alone_tells role.Register mode.Register h = never (λ none. none)
-alone_tells role.Register mode.Value h = never (λ none. none)
-alone_tells role.Bytes mode.Stack h = equal_tells h 0
-alone_tells role.Bytes mode.AfterPiece h = equal_tells h 0
-alone_tells role.Bytes mode.Register h = never (λ none. none)
-alone_tells role.Bytes mode.Value h = never (λ none. none)
-alone_tells role.Plain mode.Stack h = always tt
-alone_tells role.Plain mode.AfterPiece h = always tt
-alone_tells role.Plain mode.Register h = never (λ none. none)
-alone_tells role.Plain mode.Value h = never (λ none. none)
-alone_tells role.Top mode.Stack h = always tt
-alone_tells role.Top mode.AfterPiece h = always tt
-alone_tells role.Top mode.Register h = never (λ none. none)
-alone_tells role.Top mode.Value h = never (λ none. none)
-
-stack_tells : (empty pieced : Bool) (h : ℕ) → Tells (empty || (not pieced && leb 1 h)) (empty ≡ false → (pieced ≡ false) × (1 ≤ h))
-stack_tells true pieced h = inl (refl, λ e. absurd (cc))
-stack_tells false true h = inr (refl, λ has. let plain = (has refl).0 in cc)
-stack_tells false false h = elim (le_tells 1 h) [ inl some ↦ inl (some.0, λ e. (refl, some.1)) | inr none ↦ inr (none.0, λ has. none.1 (has refl).1) ]
-
-pub result_tells : (kind : Kind) (m : Mode) (empty pieced : Bool) (h : ℕ) → Tells (has_result kind m empty pieced h) (ResultOf kind m empty pieced h)
-result_tells Location mode.AfterPiece empty pieced h = always tt
-result_tells Location mode.Stack empty pieced h = stack_tells empty pieced h
-result_tells Location mode.Register empty pieced h = not_tells pieced
-result_tells Location mode.Value empty pieced h = not_tells pieced
-result_tells FrameCfa mode.Stack empty pieced h = le_tells 1 h
-result_tells FrameRegister mode.Stack empty pieced h = le_tells 1 h
-result_tells FrameCfa mode.Register empty pieced h = never (λ none. none)
-result_tells FrameCfa mode.Value empty pieced h = never (λ none. none)
-result_tells FrameCfa mode.AfterPiece empty pieced h = never (λ none. none)
-result_tells FrameRegister mode.Register empty pieced h = never (λ none. none)
-result_tells FrameRegister mode.Value empty pieced h = never (λ none. none)
-result_tells FrameRegister mode.AfterPiece empty pieced h = never (λ none. none)
-
--- ---- numbers of pieces, states and targets
-
-pub few_tells : (piece : Bool) (pieces : ℕ) → ((not piece || ltb pieces MAX_PIECES ≡ true) × (piece ≡ true → pieces < MAX_PIECES)) ⊎ ((not piece || ltb pieces MAX_PIECES ≡ false) × (piece ≡ true) × (MAX_PIECES ≤ pieces))
-few_tells false pieces = inl (refl, λ e. absurd (cc))
-few_tells true pieces = elim (cases_Bool (ltb pieces MAX_PIECES)) [
-  | inl is ↦ inl (is, λ _. ltb-true pieces MAX_PIECES is)
-  | inr is ↦ inr (is, refl, ltb-false pieces MAX_PIECES is)
-]
+-- ---- states and targets
 
 flag_tells : (b c : Bool) → Tells (if b then c else not c) (b ≡ c)
 flag_tells true true = inl (refl, refl)

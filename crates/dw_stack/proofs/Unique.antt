@@ -58,7 +58,7 @@ module _ (kind : Kind) (ops : List Placed) (len : ℕ) (given : Option (List Sta
   ranked fault.Backward at r = refl
   ranked fault.TargetNotStart at r = refl
   ranked fault.EndsEmpty at r = refl
-  ranked _ at r = absurd r.6
+  ranked _ at r = let no = r.6 in absurd (cc)
 
   pub first_same : (f g : Fault) → IsFirstFault kind ops len given f.kind f.at → IsFirstFault kind ops len given g.kind g.at → f ≡ g
   first_same f g first second = elim (cases_order f.at g.at) [

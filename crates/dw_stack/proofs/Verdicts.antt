@@ -8,7 +8,7 @@ use Rattle.std.proofs.lemmas.Option.{get_or_from_slice_get}
 use Rattle.std.proofs.Math.Seq.{take-add}
 use Rattle.std.proofs.Common.{◌-◌, cond, take, drop}
 use Rattle.std.specs.List.{sum_by}
-use Rattle.std.proofs.lemmas.Bool.{cases_lt}
+use Rattle.std.proofs.lemmas.Bool.{cases_lt, le-leb}
 use Rattle.std.proofs.lemmas.Option.{slice_get_within, same_Some, slice_get_cases}
 use Rattle.dw_stack.specs.Paths.{Placed}
 use Rattle.dw_ops.specs.Operations.{Operation, skip}
@@ -23,12 +23,13 @@ use Rattle.dw_stack.specs.Effects.{effect_of}
 use Rattle.dw_stack.specs.declared.state.State.{State}
 use Rattle.dw_stack.specs.States.{start_of, StandsAlone, height_after, state_after, HasResult, at_offset}
 use Rattle.dw_stack.specs.Paths.{place, IsLaidOut, aim, aimed, target_of, IsTarget, Leads, Reaches, IsGood, AreStates, IsDepth, IsAllowed, is_piece, pieces_before}
-use Rattle.dw_stack.specs.Faults.{Given, Objection, Refuses, rank, IsFirstFault}
-use Rattle.dw_stack.specs.Judge.{PassedBefore, Objects}
+use Rattle.dw_stack.specs.Faults.{Given, judgements, passes, first_failed, Objection, Refuses, rank, IsFirstFault}
+use Rattle.dw_stack.specs.Judge.{Objects}
 use Rattle.dw_stack.specs.Arrivals.{StepObjects}
 use Rattle.dw_stack.proofs.Places.{place_of_some, place_past, place_inj, place_mono, place_lt}
 use Rattle.dw_stack.proofs.Routes.{reach_from, extend, at_start, Comes, reaches_from_comes, comes_from_reaches, reached_place}
 use Rattle.dw_stack.proofs.Describes.{Describes, describes_is}
+use Rattle.dw_stack.proofs.Judging.{failed, before_first, few_passes, ahead_passes, start_passes}
 use Rattle.dw_stack.proofs.Walks.{Fine, Accepted, Walked, one_state}
 
 pieces_mono : (ops : List Placed) (k n : ℕ) → pieces_before ops k ≤ pieces_before ops (k + n)
@@ -50,55 +51,19 @@ few_before ops k x s is few =
     room k n lt = omega arith
 
 module _ (kind : Kind) (ops : List Placed) (len : ℕ) (laid : IsLaidOut ops len) where
-  -- a target of a judged operation is not backward
-  pub forward : (i t : ℕ) → i < length ops → IsTarget ops len i t → place ops len (i + 1) ≤ t
-  forward i t lt target =
-      elim (cases_lt (i + 1) target.number) [
-        | inl more ↦ omega (arith, place_mono ops len laid (i + 1) target.number more target.within, target.there)
-        | inr least ↦ let same : place ops len target.number ≡ place ops len (i + 1) = ap (place ops len) (omega (arith, target.later)) in omega (arith, target.there)
-      ]
+  -- what is fine passes each judgement
+  fine_passes : (f : FaultKind) (k : ℕ) (x : Placed) (s : StackState) → Fine kind ops len k x s → passes kind ops len k (pieces_before ops k) (effect_of x.1) s f ≡ true
+  fine_passes fault.NotInFrame k x s fine = fine.allowed
+  fine_passes fault.NotAlone k x s fine = fine.alone
+  fine_passes fault.Underflow k x s fine = le-leb (effect_of x.1).needs s.height fine.needs
+  fine_passes fault.TooDeep k x s fine = le-leb (height_after (effect_of x.1) s) MAX_HEIGHT fine.limit
+  fine_passes fault.TooManyPieces k x s fine = few_passes (is_piece (effect_of x.1).role) (pieces_before ops k) fine.few
+  fine_passes fault.Backward k x s fine = ahead_passes (place ops len (k + 1)) (effect_of x.1).jump fine.ahead
+  fine_passes fault.TargetNotStart k x s fine = start_passes ops len (target_of ops len k (effect_of x.1)) (λ t is. let target = fine.target t is in (target.number, target.within, target.there))
+  fine_passes _ k x s fine = refl
 
-  -- what is fine is objected to by no judgement
-  fine_objection : (f : FaultKind) (k : ℕ) (x : Placed) (s : StackState) → k < length ops → Fine kind ops len k x s → Objection kind ops len k (pieces_before ops k) x s f → ⊥
-  fine_objection fault.NotInFrame k x s lt fine o = o fine.allowed
-  fine_objection fault.NotAlone k x s lt fine o = o fine.alone
-  fine_objection fault.Underflow k x s lt fine o = omega (arith, fine.needs, o)
-  fine_objection fault.TooDeep k x s lt fine o = omega (arith, fine.limit, o)
-  fine_objection fault.TooManyPieces k x s lt fine o = omega (arith, fine.few o.0, o.1)
-  fine_objection fault.Backward k x s lt fine o = fine.ahead o.0 o.1 o.2
-  fine_objection fault.TargetNotStart k x s lt fine o = let t = fine.target o.0 o.1 in o.2 t.number t.within t.there
-  fine_objection _ k x s lt fine o = o
-
-  -- what passed before a judgement objects to nothing
-  module _ (k pieces : ℕ) (x : Placed) (s : StackState) where
-    record PassedBelow (r : ℕ) : Type 0 where
-      allowed : 3 < r → IsAllowed kind (effect_of x.1)
-      alone : 4 < r → StandsAlone (effect_of x.1).role s.mode s.height
-      needs : 5 < r → (effect_of x.1).needs ≤ s.height
-      limit : 6 < r → height_after (effect_of x.1) s ≤ MAX_HEIGHT
-      few : 7 < r → is_piece (effect_of x.1).role ≡ true → pieces < MAX_PIECES
-      ahead : 8 < r → (z : ℤ) → (effect_of x.1).jump ≡ Some z → aim (place ops len (k + 1)) z ≡ None → ⊥
-      last : r < 10
-
-    passed_below : (f : FaultKind) → PassedBefore kind ops len k pieces x s f → PassedBelow (rank f)
-    passed_below fault.NotInFrame p = record { allowed = λ lt. absurd (omega (arith, lt)); alone = λ lt. absurd (omega (arith, lt)); needs = λ lt. absurd (omega (arith, lt)); limit = λ lt. absurd (omega (arith, lt)); few = λ lt. absurd (omega (arith, lt)); ahead = λ lt. absurd (omega (arith, lt)); last = omega arith }
-    passed_below fault.NotAlone p = record { allowed = λ lt. p; alone = λ lt. absurd (omega (arith, lt)); needs = λ lt. absurd (omega (arith, lt)); limit = λ lt. absurd (omega (arith, lt)); few = λ lt. absurd (omega (arith, lt)); ahead = λ lt. absurd (omega (arith, lt)); last = omega arith }
-    passed_below fault.Underflow p = record { allowed = λ lt. p.0; alone = λ lt. p.1; needs = λ lt. absurd (omega (arith, lt)); limit = λ lt. absurd (omega (arith, lt)); few = λ lt. absurd (omega (arith, lt)); ahead = λ lt. absurd (omega (arith, lt)); last = omega arith }
-    passed_below fault.TooDeep p = record { allowed = λ lt. p.0; alone = λ lt. p.1; needs = λ lt. p.2; limit = λ lt. absurd (omega (arith, lt)); few = λ lt. absurd (omega (arith, lt)); ahead = λ lt. absurd (omega (arith, lt)); last = omega arith }
-    passed_below fault.TooManyPieces p = record { allowed = λ lt. p.0; alone = λ lt. p.1; needs = λ lt. p.2; limit = λ lt. p.3; few = λ lt. absurd (omega (arith, lt)); ahead = λ lt. absurd (omega (arith, lt)); last = omega arith }
-    passed_below fault.Backward p = record { allowed = λ lt. p.0; alone = λ lt. p.1; needs = λ lt. p.2; limit = λ lt. p.3; few = λ lt. p.4; ahead = λ lt. absurd (omega (arith, lt)); last = omega arith }
-    passed_below fault.TargetNotStart p = record { allowed = λ lt. p.0; alone = λ lt. p.1; needs = λ lt. p.2; limit = λ lt. p.3; few = λ lt. p.4; ahead = λ lt. p.5; last = omega arith }
-    passed_below _ p = absurd p
-
-    below_objection : (r : ℕ) (g : FaultKind) → PassedBelow r → rank g < r → Objection kind ops len k pieces x s g → ⊥
-    below_objection r fault.NotInFrame p lt o = o (p.allowed lt)
-    below_objection r fault.NotAlone p lt o = o (p.alone lt)
-    below_objection r fault.Underflow p lt o = omega (arith, p.needs lt, o)
-    below_objection r fault.TooDeep p lt o = omega (arith, p.limit lt, o)
-    below_objection r fault.TooManyPieces p lt o = omega (arith, p.few lt o.0, o.1)
-    below_objection r fault.Backward p lt o = p.ahead lt o.0 o.1 o.2
-    below_objection r fault.TargetNotStart p lt o = omega (arith, p.last, lt)
-    below_objection r _ p lt o = o
+  fine_objection : (f : FaultKind) (k : ℕ) (x : Placed) (s : StackState) → Fine kind ops len k x s → Objection kind ops len k (pieces_before ops k) x s f → ⊥
+  fine_objection f k x s fine o = let yes = fine_passes f k x s fine in cc
 
   module _ (given : Option (List State)) where
     -- what it means that the operation numbered i, with this state, passed the judgement of a kind
@@ -145,7 +110,7 @@ module _ (kind : Kind) (ops : List Placed) (len : ℕ) (laid : IsLaidOut ops len
     accepted_passes fault.Mismatch i s lt a = a.one
     accepted_passes fault.CertState i s lt a = a.given_is
     accepted_passes fault.EndsEmpty i s lt a = lt
-    accepted_passes f i s lt a = λ x e o. fine_objection f i x s lt (a.fine x e) o
+    accepted_passes f i s lt a = λ x e o. fine_objection f i x s (a.fine x e) o
 
     -- the state at an operation that was judged
     pub state_of : (i : ℕ) (states : List State) (arrivals : List Arrival) (depth pieces k : ℕ) → Walked kind ops len given i states arrivals depth pieces → k < i → (s : StackState) × (slice_get states k ≡ Some (at_offset (place ops len k) s)) × Accepted kind ops len given k s
@@ -197,31 +162,32 @@ module _ (kind : Kind) (ops : List Placed) (len : ℕ) (laid : IsLaidOut ops len
       before_state fault.Mismatch s lt u m = m
       before_state _ s lt u m = absurd (omega (arith, lt))
 
-      -- all before a judgement of the operation alone
-      before_local : (r : ℕ) (g : FaultKind) (x : Placed) (s : StackState) → slice_get ops i ≡ Some x → PassedBelow i (pieces_before ops i) x s r → rank g < r → Passes i s fault.Unreachable → Passes i s fault.Mismatch → Given ops len given i s → Passes i s g
+      -- all before the first judgement of the operation that isn't passed
+      before_local : (f g : FaultKind) (x : Placed) (s : StackState) → i < length ops → slice_get ops i ≡ Some x → first_failed (passes kind ops len i (pieces_before ops i) (effect_of x.1) s) ≡ Some f → rank g < rank f → Passes i s fault.Unreachable → Passes i s fault.Mismatch → Given ops len given i s → Passes i s g
       unfolding Passes
-      before_local r fault.Unreachable x s stands p lt u m is = u
-      before_local r fault.Mismatch x s stands p lt u m is = m
-      before_local r fault.CertState x s stands p lt u m is = is
-      before_local r fault.EndsEmpty x s stands p lt u m is = absurd (omega (arith, p.last, lt))
-      before_local r g x s stands p lt u m is = λ y e o.
-          below_objection i (pieces_before ops i) x s r g p lt (subst (λ (z : Placed). Objection kind ops len i (pieces_before ops i) z s g) (same_Some y x (sym e ∙ stands)) o)
+      before_local f fault.Unreachable x s here stands first less u m is = u
+      before_local f fault.Mismatch x s here stands first less u m is = m
+      before_local f fault.CertState x s here stands first less u m is = is
+      before_local f fault.EndsEmpty x s here stands first less u m is = here
+      before_local f g x s here stands first less u m is = λ y e o.
+          let yes = before_first kind ops len i (pieces_before ops i) (effect_of x.1) s f g first less in
+          let no : Objection kind ops len i (pieces_before ops i) x s g = subst (λ (z : Placed). Objection kind ops len i (pieces_before ops i) z s g) (same_Some y x (sym e ∙ stands)) o in
+          cc
 
       -- a judgement of the operation alone
       local_refuses : (f : FaultKind) (x : Placed) (s : StackState) → slice_get ops i ≡ Some x → Objection kind ops len i (pieces_before ops i) x s f → Reaches kind ops len (place ops len i) s → Refuses kind ops len given f (place ops len i)
-      local_refuses fault.Unreachable x s stands o there = absurd o
-      local_refuses fault.Mismatch x s stands o there = absurd o
-      local_refuses fault.CertState x s stands o there = absurd o
-      local_refuses fault.EndsEmpty x s stands o there = absurd o
+      local_refuses fault.Unreachable x s stands o there = absurd (cc)
+      local_refuses fault.Mismatch x s stands o there = absurd (cc)
+      local_refuses fault.CertState x s stands o there = absurd (cc)
+      local_refuses fault.EndsEmpty x s stands o there = absurd (cc)
       local_refuses f x s stands o there = (i, x, s, stands, sym (place_of_some ops len i x stands), there, o)
 
       pub objects_fault : (f : FaultKind) (s : StackState) → i < length ops → get_or arrivals i Nothing ≡ One s → Given ops len given i s → Objects kind ops len i pieces s f → IsFirstFault kind ops len given f (place ops len i)
       unfolding Passes
       objects_fault f s lt e is o =
-          let objection : Objection kind ops len i (pieces_before ops i) o.placed s f = subst (λ (n : ℕ). Objection kind ops len i n o.placed s f) w.counted o.objection in
-          let passed : PassedBefore kind ops len i (pieces_before ops i) o.placed s f = subst (λ (n : ℕ). PassedBefore kind ops len i n o.placed s f) w.counted o.passed in
-          one_fault f s lt e (local_refuses f o.placed s o.stands objection)
-          (λ g less u m. before_local (rank f) g o.placed s o.stands (passed_below i (pieces_before ops i) o.placed s f passed) less u m is)
+          let first : first_failed (passes kind ops len i (pieces_before ops i) (effect_of o.placed.1) s) ≡ Some f = subst (λ (n : ℕ). first_failed (passes kind ops len i n (effect_of o.placed.1) s) ≡ Some f) w.counted o.first in
+          one_fault f s lt e (local_refuses f o.placed s o.stands (failed (passes kind ops len i (pieces_before ops i) (effect_of o.placed.1) s) judgements f first))
+          (λ g less u m. before_local f g o.placed s lt o.stands first less u m is)
 
       -- what a step objects to is the first fault
       pub step_fault : (f : FaultKind) → i < length ops → StepObjects kind ops len given i pieces arrivals f → IsFirstFault kind ops len given f (place ops len i)
@@ -396,7 +362,7 @@ good_refuses kind ops len laid given is good fault.CertState a r =
 good_refuses kind ops len laid given is good fault.EndsEmpty a r = r.1.2 (good.ends r.1.0 r.1.1)
 good_refuses kind ops len laid given is good f a r =
     let there = reach_from kind ops len a r.1.0 r.2 r.2 (sym r.4) refl r.5 in
-    fine_objection kind ops len laid f r.0 r.1 r.2 (slice_get_within ops r.0 r.1 r.3) (fine r.0 r.1 r.2 r.3 there) r.6
+    fine_objection kind ops len laid f r.0 r.1 r.2 (fine r.0 r.1 r.2 r.3 there) r.6
   where
     fine : (k : ℕ) (x : Placed) (s : StackState) → slice_get ops k ≡ Some x → Reaches kind ops len x.0 s → Fine kind ops len k x s
     fine k x s stands there = record {

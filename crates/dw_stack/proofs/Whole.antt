@@ -23,10 +23,6 @@ pub same_count : (target : Target) (bytes : List ℕ) (given : Option (Bor (List
 same_count target bytes None n is same other = other
 same_count target bytes (Some states) n is same other = other (same ∙ is)
 
-pub other_count : (target : Target) (bytes : List ℕ) (given : Option (Bor (List State))) (n : ℕ) → n ≡ length (operations_in target bytes) → (IfSome given (λ states. length states.now ≡ n) → ⊥) → IsOtherCount target bytes (given_of given)
-other_count target bytes None n is other = absurd (other tt)
-other_count target bytes (Some states) n is other = λ same. other (same ∙ sym is)
-
 -- the operations that were read are those of the bytes
 module _ (kind : Kind) (target : Target) (bytes : List ℕ) (ops : List Placed) (len : ℕ) (read : reading_fault target bytes ≡ None) (are : ops ≡ operations_in target bytes) (long : len ≡ length bytes) where
   pub laid_for : IsLaidOut ops len
@@ -41,9 +37,6 @@ module _ (kind : Kind) (target : Target) (bytes : List ℕ) (ops : List Placed) 
     depth = subst (λ (xs : List Placed). IsDepth kind xs (length bytes) depth) are (subst (λ (n : ℕ). IsDepth kind ops n depth) long deepest);
     count = counted ∙ ap length are;
   }
-
-  pub states_for : (states : List State) → AreStates kind ops len states → AreStatesOf kind target bytes states
-  states_for states right = subst (λ (xs : List Placed). AreStates kind xs (length bytes) states) are (subst (λ (n : ℕ). AreStates kind ops n states) long right)
 
   pub fault_for : (given : Option (List State)) (f : Fault) → (IsOtherCount target bytes given → ⊥) → (f ≡ memory) ⊎ IsFirstFault kind ops len given f.kind f.at → (f ≡ memory) ⊎ IsFaultOf kind target bytes given f
   fault_for given f same refused = elim refused [

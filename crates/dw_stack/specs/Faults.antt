@@ -1,14 +1,16 @@
 -- What the judgements of an expression's operations refuse, and the order in which they are asked.
-use Rattle.std.specs.Prelude.{◌≡◌, ◌≢◌, ℕ, ℤ, ◌+◌, ◌==◌, ◌<◌, ◌≤◌, ◌⊎◌, true, List, length, Option, Some, None, slice_get}
+use Rattle.std.specs.Prelude.{◌≡◌, ◌≢◌, ℕ, ℤ, ◌+◌, ◌==◌, nat_lt, nat_le, ◌||◌, ◌<◌, ◌⊎◌, Bool, true, false, not, is_some, List, [], ◌∷◌, length, find, Option, Some, None, slice_get}
+use Rattle.std.specs.List.{list_any}
 use Rattle.dw_bytes.specs.declared.fault.FaultKind.{FaultKind}
 use Rattle.dw_bytes.specs.declared.fault.FaultKind.TheVariants as fault
 use Rattle.dw_stack.specs.declared.judge.TheConstants.{MAX_HEIGHT, MAX_PIECES}
+use Rattle.dw_stack.specs.declared.effect.StackEffect.{StackEffect}
 use Rattle.dw_stack.specs.declared.state.State.{State}
 use Rattle.dw_stack.specs.declared.state.StackState.{StackState}
 use Rattle.dw_stack.specs.declared.state.Kind.{Kind}
 use Rattle.dw_stack.specs.Effects.{effect_of}
-use Rattle.dw_stack.specs.States.{StandsAlone, height_after, HasResult, at_offset}
-use Rattle.dw_stack.specs.Paths.{Placed, place, aim, target_of, Reaches, IsAllowed, is_piece, pieces_before}
+use Rattle.dw_stack.specs.States.{stands_alone, height_after, HasResult, at_offset}
+use Rattle.dw_stack.specs.Paths.{Placed, place, aim, target_of, Reaches, has_operation, is_piece, pieces_before}
 
 -- the states at hand, if there are any, have this one at k
 abbrev pub Keeps : Option (List State) → ℕ → State → Type 0
@@ -19,16 +21,46 @@ Keeps (Some given) k t = slice_get given k ≡ Some t
 abbrev pub Given : List Placed → ℕ → Option (List State) → ℕ → StackState → Type 0
 Given ops len given k s = Keeps given k (at_offset (place ops len k) s)
 
--- what is wrong with the operation x, numbered k, at the state s and behind so many pieces
+-- ---- the judgements of one operation
+
+-- in their order, where paths come to it with one state
+abbrev pub judgements : List FaultKind
+judgements = fault.NotInFrame ∷ fault.NotAlone ∷ fault.Underflow ∷ fault.TooDeep ∷ fault.TooManyPieces ∷ fault.Backward ∷ fault.TargetNotStart ∷ []
+
+-- the jump, if there is one, isn't backward
+abbrev pub is_ahead : ℕ → Option ℤ → Bool
+is_ahead next None = true
+is_ahead next (Some z) = is_some (aim next z)
+
+-- some operation begins at the target, or it is the end
+abbrev pub is_start : List Placed → ℕ → Option ℕ → Bool
+is_start ops len None = true
+is_start ops len (Some t) = (len == t) || list_any (λ (x : Placed). x.0 == t) ops
+
+-- whether the kind has an operation of this effect, and the state s bears it behind so many pieces, by the judgement of a kind
+abbrev pub suits : Kind → ℕ → StackEffect → StackState → FaultKind → Bool
+suits kind pieces e s fault.NotInFrame = has_operation kind e
+suits kind pieces e s fault.NotAlone = stands_alone e.role s.mode s.height
+suits kind pieces e s fault.Underflow = nat_le e.needs s.height
+suits kind pieces e s fault.TooDeep = nat_le (height_after e s) MAX_HEIGHT
+suits kind pieces e s fault.TooManyPieces = not (is_piece e.role) || nat_lt pieces MAX_PIECES
+suits kind pieces e s _ = true
+
+-- and whether it may branch where it does, if its number is k
+abbrev pub passes : Kind → List Placed → ℕ → ℕ → ℕ → StackEffect → StackState → FaultKind → Bool
+passes kind ops len k pieces e s fault.Backward = is_ahead (place ops len (k + 1)) e.jump
+passes kind ops len k pieces e s fault.TargetNotStart = is_start ops len (target_of ops len k e)
+passes kind ops len k pieces e s f = suits kind pieces e s f
+
+-- the first judgement that isn't passed, if there is one
+abbrev pub first_failed : (FaultKind → Bool) → Option FaultKind
+first_failed passed = find (λ f. not (passed f)) judgements
+
+-- ---- the judgements of all operations and of the end
+
+-- the operation x, numbered k, doesn't pass the judgement of this kind
 abbrev pub Objection : Kind → List Placed → ℕ → ℕ → ℕ → Placed → StackState → FaultKind → Type 0
-Objection kind ops len k pieces x s fault.NotInFrame = IsAllowed kind (effect_of x.1) → ⊥
-Objection kind ops len k pieces x s fault.NotAlone = StandsAlone (effect_of x.1).role s.mode s.height → ⊥
-Objection kind ops len k pieces x s fault.Underflow = s.height < (effect_of x.1).needs
-Objection kind ops len k pieces x s fault.TooDeep = MAX_HEIGHT < height_after (effect_of x.1) s
-Objection kind ops len k pieces x s fault.TooManyPieces = (is_piece (effect_of x.1).role ≡ true) × (MAX_PIECES ≤ pieces)
-Objection kind ops len k pieces x s fault.Backward = (z : ℤ) × ((effect_of x.1).jump ≡ Some z) × (aim (place ops len (k + 1)) z ≡ None)
-Objection kind ops len k pieces x s fault.TargetNotStart = (t : ℕ) × (target_of ops len k (effect_of x.1) ≡ Some t) × ((j : ℕ) → j ≤ length ops → place ops len j ≢ t)
-Objection kind ops len k pieces x s _ = ⊥
+Objection kind ops len k pieces x s f = passes kind ops len k pieces (effect_of x.1) s f ≡ false
 
 -- the judgement of this kind refuses at this offset
 abbrev pub Refuses : Kind → List Placed → ℕ → Option (List State) → FaultKind → ℕ → Type 0

@@ -9,18 +9,15 @@ use Rattle.dw_bytes.specs.declared.target.Target.{Target}
 use Rattle.dw_bytes.specs.declared.fault.Fault.{Fault}
 use Rattle.dw_bytes.specs.declared.fault.FaultKind.{FaultKind}
 use Rattle.dw_bytes.specs.declared.fault.FaultKind.TheVariants as fault
-use Rattle.dw_stack.specs.declared.judge.TheConstants.{MAX_HEIGHT, MAX_PIECES}
-use Rattle.dw_stack.specs.declared.effect.Role.{Role}
-use Rattle.dw_stack.specs.declared.effect.Role.TheVariants as role
 use Rattle.dw_stack.specs.declared.effect.StackEffect.{StackEffect}
 use Rattle.dw_stack.specs.declared.state.Mode.{Mode}
 use Rattle.dw_stack.specs.declared.state.Mode.TheVariants as mode
 use Rattle.dw_stack.specs.declared.state.StackState.{StackState}
 use Rattle.dw_stack.specs.declared.state.Kind.{Kind}
-use Rattle.dw_stack.specs.declared.state.Kind.TheVariants.{Location}
 use Rattle.dw_stack.specs.Effects.{effect_of}
-use Rattle.dw_stack.specs.States.{start_of, height_after, state_after}
-use Rattle.dw_stack.specs.Paths.{Placed, place, aim, target_of, is_piece, pieces_before}
+use Rattle.dw_stack.specs.States.{start_of, state_after, has_result}
+use Rattle.dw_stack.specs.Paths.{Placed, place, target_of, pieces_before}
+use Rattle.dw_stack.specs.Faults.{judgements, passes}
 use Rattle.dw_stack.specs.Expressions.{operations_in, reading_fault}
 
 -- ---- what comes to an offset
@@ -54,28 +51,7 @@ arriving kind ops len (suc k) =
 abbrev pub states_to : Kind → List Placed → ℕ → ℕ → List StackState
 states_to kind ops len k = states_at (place ops len k) (arriving kind ops len k)
 
--- ---- what is asked, as tests (`IsAllowed`, `StandsAlone` and `ResultOf` say the same as facts)
-
-abbrev pub has_operation : Kind → StackEffect → Bool
-has_operation Location e = true
-has_operation _ e = e.framed
-
-abbrev pub stands_alone : Role → Mode → ℕ → Bool
-stands_alone role.Piece mode.AfterPiece h = true
-stands_alone role.Piece mode.Stack h = nat_le h 1
-stands_alone role.Piece _ h = h == 0
-stands_alone _ mode.Register h = false
-stands_alone _ mode.Value h = false
-stands_alone role.Plain _ h = true
-stands_alone role.Top _ h = true
-stands_alone _ _ h = h == 0
-
-abbrev pub has_result : Kind → Mode → Bool → Bool → ℕ → Bool
-has_result Location mode.AfterPiece empty pieced h = true
-has_result Location mode.Stack empty pieced h = empty || (not pieced && nat_le 1 h)
-has_result Location _ empty pieced h = not pieced
-has_result _ mode.Stack empty pieced h = nat_le 1 h
-has_result _ _ empty pieced h = false
+-- ---- what is asked
 
 abbrev pub number_of : Mode → ℕ
 number_of mode.Stack = 0
@@ -87,16 +63,6 @@ number_of mode.AfterPiece = 3
 abbrev pub same_state : StackState → StackState → Bool
 same_state s t =
     (s.height == t.height) && (number_of s.mode == number_of t.mode) && (if s.pieced then t.pieced else not t.pieced)
-
--- the jump, if there is one, isn't backward
-abbrev pub is_ahead : ℕ → Option ℤ → Bool
-is_ahead next None = true
-is_ahead next (Some z) = is_some (aim next z)
-
--- some operation begins at the target, or it is the end
-abbrev pub is_start : List Placed → ℕ → Option ℕ → Bool
-is_start ops len None = true
-is_start ops len (Some t) = (len == t) || list_any (λ (x : Placed). x.0 == t) ops
 
 -- ---- the questions, each with the fault where the answer is no
 
@@ -116,14 +82,7 @@ first_no ((false, f) ∷ asked) = Some f
 -- of an operation, numbered k, of this effect and at this offset, where paths come to it with the state s
 abbrev pub asked_at : Kind → List Placed → ℕ → ℕ → StackEffect → StackState → ℕ → List Question
 asked_at kind ops len k e s at =
-    else_fault (has_operation kind e) fault.NotInFrame at
-    ∷ else_fault (stands_alone e.role s.mode s.height) fault.NotAlone at
-    ∷ else_fault (nat_le e.needs s.height) fault.Underflow at
-    ∷ else_fault (nat_le (height_after e s) MAX_HEIGHT) fault.TooDeep at
-    ∷ else_fault (not (is_piece e.role) || nat_lt (pieces_before ops k) MAX_PIECES) fault.TooManyPieces at
-    ∷ else_fault (is_ahead (place ops len (k + 1)) e.jump) fault.Backward at
-    ∷ else_fault (is_start ops len (target_of ops len k e)) fault.TargetNotStart at
-    ∷ []
+    map (λ f. else_fault (passes kind ops len k (pieces_before ops k) e s f) f at) judgements
 
 -- of the operation x, numbered k, by the states with which paths come to it
 abbrev pub asked_of : Kind → List Placed → ℕ → ℕ → Placed → List StackState → List Question

@@ -10,7 +10,7 @@ use Rattle.dw_stack.specs.declared.state.Kind.{Kind}
 use Rattle.dw_stack.specs.Effects.{effect_of}
 use Rattle.dw_stack.specs.States.{StandsAlone, height_after, state_after}
 use Rattle.dw_stack.specs.Paths.{Placed, place, aim, IsAllowed, is_piece}
-use Rattle.dw_stack.specs.Faults.{Objection}
+use Rattle.dw_stack.specs.Faults.{passes, first_failed}
 
 -- e is what the operation numbered k does
 pub record IsEffectAt (ops : List Placed) (k : ℕ) (e : StackEffect) : Type 0 where
@@ -26,17 +26,6 @@ pub record Suits (kind : Kind) (e : StackEffect) (pieces : ℕ) (s : StackState)
   pub limit : height ≤ MAX_HEIGHT
   pub few : is_piece e.role ≡ true → pieces < MAX_PIECES
   pub height_is : height ≡ height_after e s
-
--- or it isn't, and this is the first reason
-abbrev pub Unsuited : Kind → StackEffect → ℕ → StackState → FaultKind → Type 0
-Unsuited kind e pieces s fault.NotInFrame = IsAllowed kind e → ⊥
-Unsuited kind e pieces s fault.NotAlone = IsAllowed kind e × (StandsAlone e.role s.mode s.height → ⊥)
-Unsuited kind e pieces s fault.Underflow = IsAllowed kind e × StandsAlone e.role s.mode s.height × (s.height < e.needs)
-Unsuited kind e pieces s fault.TooDeep =
-    IsAllowed kind e × StandsAlone e.role s.mode s.height × (e.needs ≤ s.height) × (MAX_HEIGHT < height_after e s)
-Unsuited kind e pieces s fault.TooManyPieces =
-    IsAllowed kind e × StandsAlone e.role s.mode s.height × (e.needs ≤ s.height) × (height_after e s ≤ MAX_HEIGHT) × (is_piece e.role ≡ true) × (MAX_PIECES ≤ pieces)
-Unsuited kind e pieces s _ = ⊥
 
 -- j is the number of the operation behind the one numbered k that its jump leads to, or of the end
 pub record TargetPlace (ops : List Placed) (len k : ℕ) (z : ℤ) (j : ℕ) : Type 0 where
@@ -71,31 +60,8 @@ pub record Judged (kind : Kind) (ops : List Placed) (len k pieces : ℕ) (s : St
   pub falls : out.falls ≡ (effect_of placed.1).falls
   pub target : TargetIs ops len k (effect_of placed.1).jump out.target
 
--- what passed before the judgement of a kind was asked
-abbrev pub PassedBefore : Kind → List Placed → ℕ → ℕ → ℕ → Placed → StackState → FaultKind → Type 0
-PassedBefore kind ops len k pieces x s fault.NotInFrame = Unit {0}
-PassedBefore kind ops len k pieces x s fault.NotAlone = IsAllowed kind (effect_of x.1)
-PassedBefore kind ops len k pieces x s fault.Underflow =
-    IsAllowed kind (effect_of x.1) × StandsAlone (effect_of x.1).role s.mode s.height
-PassedBefore kind ops len k pieces x s fault.TooDeep =
-    IsAllowed kind (effect_of x.1) × StandsAlone (effect_of x.1).role s.mode s.height ×
-    ((effect_of x.1).needs ≤ s.height)
-PassedBefore kind ops len k pieces x s fault.TooManyPieces =
-    IsAllowed kind (effect_of x.1) × StandsAlone (effect_of x.1).role s.mode s.height ×
-    ((effect_of x.1).needs ≤ s.height) × (height_after (effect_of x.1) s ≤ MAX_HEIGHT)
-PassedBefore kind ops len k pieces x s fault.Backward =
-    IsAllowed kind (effect_of x.1) × StandsAlone (effect_of x.1).role s.mode s.height ×
-    ((effect_of x.1).needs ≤ s.height) × (height_after (effect_of x.1) s ≤ MAX_HEIGHT) ×
-    (is_piece (effect_of x.1).role ≡ true → pieces < MAX_PIECES)
-PassedBefore kind ops len k pieces x s fault.TargetNotStart =
-    IsAllowed kind (effect_of x.1) × StandsAlone (effect_of x.1).role s.mode s.height ×
-    ((effect_of x.1).needs ≤ s.height) × (height_after (effect_of x.1) s ≤ MAX_HEIGHT) ×
-    (is_piece (effect_of x.1).role ≡ true → pieces < MAX_PIECES) ×
-    ((z : ℤ) → (effect_of x.1).jump ≡ Some z → aim (place ops len (k + 1)) z ≡ None → ⊥)
-PassedBefore kind ops len k pieces x s _ = ⊥
-
+-- or this is the first judgement that it doesn't pass
 pub record Objects (kind : Kind) (ops : List Placed) (len k pieces : ℕ) (s : StackState) (f : FaultKind) : Type 0 where
   pub placed : Placed
   pub stands : slice_get ops k ≡ Some placed
-  pub objection : Objection kind ops len k pieces placed s f
-  pub passed : PassedBefore kind ops len k pieces placed s f
+  pub first : first_failed (passes kind ops len k pieces (effect_of placed.1) s) ≡ Some f

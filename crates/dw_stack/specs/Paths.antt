@@ -9,7 +9,7 @@ use Rattle.dw_stack.specs.declared.judge.TheConstants.{MAX_HEIGHT, MAX_PIECES}
 use Rattle.dw_stack.specs.declared.state.State.{State}
 use Rattle.dw_stack.specs.declared.state.StackState.{StackState}
 use Rattle.dw_stack.specs.declared.state.Kind.{Kind}
-use Rattle.dw_stack.specs.declared.state.Kind.TheVariants.{FrameCfa, FrameRegister, Location}
+use Rattle.dw_stack.specs.declared.state.Kind.TheVariants.{Location}
 use Rattle.dw_stack.specs.Effects.{effect_of}
 use Rattle.dw_stack.specs.States.{start_of, StandsAlone, height_after, state_after, HasResult, at_offset}
 
@@ -32,7 +32,7 @@ pub record IsLaidOut (ops : List Placed) (len : ℕ) : Type 0 where
   pub first : place ops len 0 ≡ 0
   pub each : (j : ℕ) → j < length ops → place ops len j < place ops len (j + 1)
 
--- where a jump leads that is counted from the next operation; nowhere for one backward
+-- where a jump leads on paths, counted from the next operation: nowhere, if it is backward
 abbrev pub aim : ℕ → ℤ → Option ℕ
 aim next (pos n) = Some (next + n)
 aim next (negsuc n) = None
@@ -76,10 +76,12 @@ pub record Reaches (kind : Kind) (ops : List Placed) (len b : ℕ) (s : StackSta
   pub follows : Follows ops len 0 (start_of kind) path b s
 
 -- the kind has this operation
+abbrev pub has_operation : Kind → StackEffect → Bool
+has_operation Location e = true
+has_operation _ e = e.framed
+
 abbrev pub IsAllowed : Kind → StackEffect → Type 0
-IsAllowed Location e = Unit {0}
-IsAllowed FrameCfa e = e.framed ≡ true
-IsAllowed FrameRegister e = e.framed ≡ true
+IsAllowed kind e = IsTrue (has_operation kind e)
 
 abbrev pub is_piece : Role → Bool
 is_piece role.Piece = true

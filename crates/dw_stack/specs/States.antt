@@ -1,6 +1,6 @@
 -- The states of the stack: the height, the mode, and whether a piece came before. What they allow, and what follows
 -- (DWARF 5, section 2.6; that paths which meet agree is a rule of this checker).
-use Rattle.std.specs.Prelude.{◌≡◌, ℕ, ◌+◌, ◌-◌, ◌≤◌, Bool, true, false}
+use Rattle.std.specs.Prelude.{ℕ, ◌+◌, ◌-◌, ◌==◌, nat_le, ◌&&◌, ◌||◌, Bool, true, false, not, IsTrue}
 use Rattle.dw_stack.specs.declared.effect.Role.{Role}
 use Rattle.dw_stack.specs.declared.effect.Role.TheVariants as role
 use Rattle.dw_stack.specs.declared.effect.StackEffect.{StackEffect}
@@ -19,27 +19,18 @@ start_of Location = record { height = 0; mode = mode.Stack; pieced = false }
 
 -- Behind a register or a value only a piece may follow. What names one wants an empty stack, and a piece wants one thing
 -- alone: the register or value, an address, or nothing.
+abbrev pub stands_alone : Role → Mode → ℕ → Bool
+stands_alone role.Piece mode.AfterPiece h = true
+stands_alone role.Piece mode.Stack h = nat_le h 1
+stands_alone role.Piece _ h = h == 0
+stands_alone _ mode.Register h = false
+stands_alone _ mode.Value h = false
+stands_alone role.Plain _ h = true
+stands_alone role.Top _ h = true
+stands_alone _ _ h = h == 0
+
 abbrev pub StandsAlone : Role → Mode → ℕ → Type 0
-StandsAlone role.Piece mode.AfterPiece h = Unit {0}
-StandsAlone role.Piece mode.Stack h = h ≤ 1
-StandsAlone role.Piece mode.Register h = h ≡ 0
-StandsAlone role.Piece mode.Value h = h ≡ 0
-StandsAlone role.Register mode.Stack h = h ≡ 0
-StandsAlone role.Register mode.AfterPiece h = h ≡ 0
-StandsAlone role.Register mode.Register h = ⊥
-StandsAlone role.Register mode.Value h = ⊥
-StandsAlone role.Bytes mode.Stack h = h ≡ 0
-StandsAlone role.Bytes mode.AfterPiece h = h ≡ 0
-StandsAlone role.Bytes mode.Register h = ⊥
-StandsAlone role.Bytes mode.Value h = ⊥
-StandsAlone role.Plain mode.Stack h = Unit {0}
-StandsAlone role.Plain mode.AfterPiece h = Unit {0}
-StandsAlone role.Plain mode.Register h = ⊥
-StandsAlone role.Plain mode.Value h = ⊥
-StandsAlone role.Top mode.Stack h = Unit {0}
-StandsAlone role.Top mode.AfterPiece h = Unit {0}
-StandsAlone role.Top mode.Register h = ⊥
-StandsAlone role.Top mode.Value h = ⊥
+StandsAlone role mode h = IsTrue (stands_alone role mode h)
 
 abbrev pub next_mode : Role → ℕ → Bool → StackState
 next_mode role.Plain h p = record { height = h; mode = mode.Stack; pieced = p }
@@ -57,18 +48,15 @@ abbrev pub state_after : StackEffect → StackState → StackState
 state_after e s = next_mode e.role (height_after e s) s.pieced
 
 -- The end gives a result, of an expression with or without operations.
-abbrev pub ResultOf : Kind → Mode → Bool → Bool → ℕ → Type 0
-ResultOf Location mode.AfterPiece empty pieced h = Unit {0}
-ResultOf Location mode.Stack empty pieced h = empty ≡ false → (pieced ≡ false) × (1 ≤ h)
-ResultOf Location mode.Register empty pieced h = pieced ≡ false
-ResultOf Location mode.Value empty pieced h = pieced ≡ false
-ResultOf FrameCfa mode.Stack empty pieced h = 1 ≤ h
-ResultOf FrameRegister mode.Stack empty pieced h = 1 ≤ h
-ResultOf FrameCfa _ empty pieced h = ⊥
-ResultOf FrameRegister _ empty pieced h = ⊥
+abbrev pub has_result : Kind → Mode → Bool → Bool → ℕ → Bool
+has_result Location mode.AfterPiece empty pieced h = true
+has_result Location mode.Stack empty pieced h = empty || (not pieced && nat_le 1 h)
+has_result Location _ empty pieced h = not pieced
+has_result _ mode.Stack empty pieced h = nat_le 1 h
+has_result _ _ empty pieced h = false
 
 abbrev pub HasResult : Kind → Bool → StackState → Type 0
-HasResult kind empty s = ResultOf kind s.mode empty s.pieced s.height
+HasResult kind empty s = IsTrue (has_result kind s.mode empty s.pieced s.height)
 
 -- a state at an offset
 abbrev pub at_offset : ℕ → StackState → State

@@ -24,6 +24,7 @@ impl Default for Arrival {
     }
 }
 
+#[inline(always)]
 fn merge(old: Arrival, state: StackState) -> Arrival
     ensures { Merges old state result }
 {
@@ -40,6 +41,7 @@ fn merge(old: Arrival, state: StackState) -> Arrival
     }
 }
 
+#[inline(always)]
 fn receive(arrivals: &mut [Arrival], j: usize, state: StackState)
     requires { j < length arrivals.old }
     ensures { Receives arrivals.old j state arrivals.new }
@@ -48,6 +50,7 @@ fn receive(arrivals: &mut [Arrival], j: usize, state: StackState)
 }
 
 /// Passes the state behind an operation on to those that may follow it.
+#[inline(always)]
 pub fn pass_on(arrivals: &mut [Arrival], i: usize, out: &Outgoing)
     requires next { i + 1 < length arrivals.old }
     requires target { IfSome out.now.target (λ j. j < length arrivals.old) }
@@ -62,6 +65,7 @@ pub fn pass_on(arrivals: &mut [Arrival], i: usize, out: &Outgoing)
 }
 
 /// The one state with which an operation is reached.
+#[inline(always)]
 pub fn state_at(arrivals: &[Arrival], i: usize) -> Result<StackState, FaultKind>
     requires { i < length arrivals.now }
     ensures { result ≡ arrived (slice_index_or arrivals.now i Arrival.Nothing) }

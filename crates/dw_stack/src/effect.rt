@@ -39,6 +39,7 @@ pub struct StackEffect {
     pub jump: Option<i16>,
 }
 
+#[inline(always)]
 fn computes(needs: u16, takes: u16, adds: u16) -> StackEffect
     ensures { result ≡ computing needs takes adds }
 {
@@ -53,6 +54,7 @@ fn computes(needs: u16, takes: u16, adds: u16) -> StackEffect
     }
 }
 
+#[inline(always)]
 fn asks_context() -> StackEffect
     ensures { result ≡ contextual }
 {
@@ -62,6 +64,7 @@ fn asks_context() -> StackEffect
     }
 }
 
+#[inline(always)]
 fn names(role: Role, needs: u16, takes: u16) -> StackEffect
     ensures { result ≡ naming role needs takes }
 {
@@ -72,6 +75,7 @@ fn names(role: Role, needs: u16, takes: u16) -> StackEffect
     }
 }
 
+#[inline(always)]
 fn branches(needs: u16, falls: bool, offset: i16) -> StackEffect
     ensures { result ≡ record (computing needs needs 0) { falls = falls; jump = Some offset } }
 {
@@ -83,6 +87,7 @@ fn branches(needs: u16, falls: bool, offset: i16) -> StackEffect
 }
 
 /// The line of an operation.
+#[inline(always)]
 pub fn effect(operation: &Operation<'_>) -> StackEffect
     ensures effect { result ≡ effect_of (operation_of operation.now) }
     ensures fair { result.takes ≤ result.needs }

@@ -1,8 +1,9 @@
 //! Judging one operation.
 
-ghost use Rattle.std.specs.Prelude.{◌≡◌, ◌<◌, ◌≤◌, length, IfOk, IfErr};
+ghost use Rattle.std.specs.Prelude.{◌≡◌, ◌<◌, ◌≤◌, length, Some, IfOk, IfErr};
 ghost use Rattle.dw_stack.specs.Paths.{IsLaidOut};
-ghost use Rattle.dw_stack.specs.Judge.{IsEffectAt, Suits, Unsuited, Judged, Objects};
+ghost use Rattle.dw_stack.specs.Judge.{IsEffectAt, Suits, Judged, Objects};
+ghost use Rattle.dw_stack.specs.Faults.{suits, first_failed};
 ghost use Rattle.dw_stack.specs.Views.{listed};
 
 use crate::effect::{Role, StackEffect, effect};
@@ -34,6 +35,7 @@ pub struct Outgoing {
 
 /// What the operation numbered `i` does.
 #[tactic(auto, using(crate::proofs::Lists::reads))]
+#[inline(always)]
 fn effect_at(operations: &[(u32, Operation<'_>)], i: usize) -> StackEffect
     requires { i < length operations.now }
     ensures effect { IsEffectAt (listed operations.now) i result }
@@ -45,6 +47,7 @@ fn effect_at(operations: &[(u32, Operation<'_>)], i: usize) -> StackEffect
 
 /// Whether an operation of this effect may stand at this state, behind so many pieces. The height behind it, before a
 /// piece clears it.
+#[inline(always)]
 fn suits(
     kind: Kind,
     effect: &StackEffect,
@@ -54,7 +57,7 @@ fn suits(
     requires fair { effect.now.takes ≤ effect.now.needs }
     requires few { effect.now.adds ≤ 3 }
     ensures ok { IfOk result (Suits kind effect.now pieces state) }
-    ensures err { IfErr result (Unsuited kind effect.now pieces state) }
+    ensures err { IfErr result (λ f. first_failed (suits kind pieces effect.now state) ≡ Some f) }
 {
     let located = matches!(kind, Kind::Location);
     if !located && !effect.framed {
@@ -77,6 +80,7 @@ fn suits(
 }
 
 /// Judges the operation numbered `i` at this state, behind so many pieces.
+#[inline(always)]
 pub fn judge(
     kind: Kind,
     operations: &[(u32, Operation<'_>)],

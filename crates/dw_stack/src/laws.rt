@@ -16,7 +16,8 @@ ghost use Rattle.dw_stack.specs.FirstFault.{expression_fault};
 use crate::judge::{MAX_HEIGHT, MAX_PIECES};
 
 /// Every run of a good expression, whatever the registers, the memory and the context, follows a path, is as the state
-/// there says, never has more entries than the depth, takes no more steps than there are operations, and is never stuck.
+/// there says, goes forward, never has more entries than the depth, takes no more steps than there are operations, and is
+/// never stuck.
 pub fn good_expressions_run_well()
     ensures { (kind : Kind) (target : Target) (bytes : List ℕ) (depth : ℕ) → IsGoodExpression kind target bytes → IsDepthOf kind target bytes depth → RunsWellWithin kind target bytes depth }
 {}

@@ -18,7 +18,7 @@ pub use certificate::Certificate;
 pub use checked::CheckedExpression;
 pub use judge::{MAX_HEIGHT, MAX_PIECES};
 pub use state::{Kind, Mode, State};
-pub use verify::{CertFault, certify, recheck};
+pub use verify::{CertFault, certify, check_expression, recheck};
 
 #[cfg(test)]
 mod given_tests;

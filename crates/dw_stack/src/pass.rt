@@ -56,7 +56,7 @@ fn first_arrivals(
 }
 
 /// One pass over the operations in order, which compares with the given states where there are some. Each branch looks for
-/// its target by halving: n log n for n operations. Up to 16 operations take no memory.
+/// its target by halving: n operations with b branches take n + b log n. Up to 16 operations take no memory.
 #[tactic(auto, using(crate::proofs::Places::count_le))]
 pub fn pass(
     alloc: Global,

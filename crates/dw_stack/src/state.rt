@@ -1,7 +1,7 @@
 //! The states of the stack.
 
 ghost use Rattle.std.specs.Prelude.{◌≡◌, ◌↔◌, IsTrue, true, false};
-ghost use Rattle.dw_stack.specs.States.{start_of, StandsAlone, HasResult, next_mode, at_offset};
+ghost use Rattle.dw_stack.specs.States.{start_of, stands_alone, has_result, next_mode, at_offset};
 
 use crate::effect::Role;
 
@@ -65,6 +65,7 @@ pub struct StackState {
 
 impl StackState {
     /// The same at an offset.
+    #[inline(always)]
     pub fn at(self, offset: u32) -> State
         ensures { result ≡ at_offset offset self }
     {
@@ -77,6 +78,7 @@ impl StackState {
     }
 
     /// Whether it is the same as another.
+    #[inline(always)]
     pub fn is(self, other: StackState) -> bool
         ensures { IsTrue result ↔ (self ≡ other) }
     {
@@ -100,8 +102,9 @@ pub fn start(kind: Kind) -> StackState
 }
 
 /// Whether an operation of this role may stand at this state.
+#[inline(always)]
 pub fn stands_alone(role: Role, state: StackState) -> bool
-    ensures { IsTrue result ↔ StandsAlone role state.mode state.height }
+    ensures { result ≡ stands_alone role state.mode state.height }
 {
     match role {
         Role::Piece => match state.mode {
@@ -121,6 +124,7 @@ pub fn stands_alone(role: Role, state: StackState) -> bool
 }
 
 /// The state behind an operation of this role that leaves this height.
+#[inline(always)]
 pub fn next(role: Role, height: u8, pieced: bool) -> StackState
     ensures { result ≡ next_mode role height pieced }
 {
@@ -139,7 +143,7 @@ pub fn next(role: Role, height: u8, pieced: bool) -> StackState
 
 /// Whether the end gives a result, of an expression with or without operations.
 pub fn has_result(kind: Kind, is_empty: bool, state: StackState) -> bool
-    ensures { IsTrue result ↔ HasResult kind is_empty state }
+    ensures { result ≡ has_result kind state.mode is_empty state.pieced state.height }
 {
     match kind {
         Kind::Location => match state.mode {

@@ -22,6 +22,7 @@ pub struct Done {
 }
 
 /// Whether the given states, if there are any, have this one at `i`.
+#[inline(always)]
 fn is_given(given: Option<&[State]>, i: usize, state: State) -> bool
     requires { IfSome given (λ states. i < length states.now) }
     ensures { IsTrue result ↔ Keeps (given_of given.entry) i state }
@@ -33,6 +34,7 @@ fn is_given(given: Option<&[State]>, i: usize, state: State) -> bool
 }
 
 /// Judges one operation and passes its state on.
+#[inline(always)]
 pub fn step(
     kind: Kind,
     operations: &[(u32, Operation<'_>)],

@@ -11,6 +11,7 @@ use dw_ops::Operation;
 
 /// Where the operation numbered `i` begins, or the end.
 #[tactic(auto, using(crate::proofs::Lists::places))]
+#[inline(always)]
 pub fn place_of(operations: &[(u32, Operation<'_>)], end: u32, i: usize) -> u32
     ensures { result ≡ place (listed operations.now) end i }
 {
@@ -22,6 +23,7 @@ pub fn place_of(operations: &[(u32, Operation<'_>)], end: u32, i: usize) -> u32
 }
 
 /// Where a jump leads that is counted from the next operation; nowhere for one backward.
+#[inline(always)]
 fn aim_at(next: u32, jump: i16) -> Option<u64>
     ensures { result ≡ aim next jump }
 {
@@ -64,6 +66,7 @@ fn place_at(
 
 /// The number of the operation behind `from` that begins so far behind it, or of the end.
 #[tactic(auto, using(crate::proofs::Lists::places))]
+#[inline(always)]
 pub fn place_of_jump(
     operations: &[(u32, Operation<'_>)],
     end: u32,

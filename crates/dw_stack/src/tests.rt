@@ -21,8 +21,7 @@ const BIG: Target = Target {
 fn judged_under(alloc: Global, target: Target, bytes: &[u8], kind: Kind) -> Result<(u8, u32), Fault>
     requires { length bytes.now < 2 ^ 32 }
 {
-    let certificate = certify(alloc, Expression::new(bytes, target), kind)?;
-    let checked = certificate.into_checked();
+    let checked = check_expression(alloc, Expression::new(bytes, target), kind)?;
     Ok((checked.depth(), checked.operation_count()))
 }
 

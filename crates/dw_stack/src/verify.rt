@@ -4,7 +4,7 @@ ghost use Rattle.std.specs.Prelude.{◌≡◌, ◌⊎◌, ◌≤◌, ◌↔◌, 
 ghost use Rattle.dw_bytes.specs.Answers.{memory, Answers};
 ghost use Rattle.dw_ops.specs.Views.{bytes_of, target_of};
 ghost use Rattle.dw_stack.specs.Arrivals.{given_of};
-ghost use Rattle.dw_stack.specs.Expressions.{IsGoodExpression, AreStatesOf, IsChecked, IsFaultOf, IsOf, RunsWellWithin, Knows};
+ghost use Rattle.dw_stack.specs.Expressions.{AreStatesOf, IsChecked, IsFaultOf, IsOf, Knows};
 ghost use Rattle.dw_stack.specs.FirstFault.{expression_fault};
 ghost use Rattle.dw_stack.specs.Certificates.{checked_of, checked_in, states_in};
 
@@ -65,23 +65,37 @@ fn check<'a>(
 /// in order of offset, each by: no path leads to it (38), paths come with two states (37), the kind doesn't have it (31),
 /// it stands beside a location that has to stand alone (39), the stack is too low (35) or gets too high (36), it is the
 /// 33rd piece (41), it branches back (33) or to where no operation begins (34). Last the end: two states (37), no result
-/// (40). `Memory` stands at 0. Time n log n in the expression's length; up to 16 operations take no memory.
+/// (40). `Memory` stands at 0. For n operations with b branches it takes time n + b log n, and for up to 16 no memory.
+///
+/// Laws say the rest: no fault is the first exactly where the expression is good (`the_fault_is_the_first`), and every run
+/// of a good one is well (`good_expressions_run_well`).
 pub fn certify<'a>(
     alloc: Global,
     expression: Expression<'a>,
     kind: Kind,
 ) -> Result<Certificate<'a>, Fault>
-    ensures good { OnOk result (IsGoodExpression kind (target_of expression.entry) (bytes_of expression.entry)) }
     ensures checked { IfOk result (λ c. IsChecked (checked_in c)) }
     ensures same { IfOk result (λ c. IsOf kind (target_of expression.entry) (bytes_of expression.entry) (checked_in c)) }
     ensures states { IfOk result (λ c. AreStatesOf kind (target_of expression.entry) (bytes_of expression.entry) (states_in c)) }
-    ensures runs { IfOk result (λ c. RunsWellWithin kind (target_of expression.entry) (bytes_of expression.entry) (checked_in c).depth) }
     ensures answer { Answers (expression_fault kind (target_of expression.entry) (bytes_of expression.entry)) result }
-    ensures fault { IfErr result (λ f. (f ≡ memory) ⊎ IsFaultOf kind (target_of expression.entry) (bytes_of expression.entry) None f) }
     ensures inside { IfErr result (λ f. f.at ≤ length (bytes_of expression.entry)) }
-    ensures only { IsGoodExpression kind (target_of expression.entry) (bytes_of expression.entry) → IfErr result (λ f. f ≡ memory) }
 {
     check(alloc, expression, kind, None)
+}
+
+/// Certifies an expression, without the states: as `certify` and then `Certificate::into_checked`.
+pub fn check_expression<'a>(
+    alloc: Global,
+    expression: Expression<'a>,
+    kind: Kind,
+) -> Result<CheckedExpression<'a>, Fault>
+    ensures checked { IfOk result (λ c. IsChecked (checked_of c)) }
+    ensures same { IfOk result (λ c. IsOf kind (target_of expression.entry) (bytes_of expression.entry) (checked_of c)) }
+    ensures answer { Answers (expression_fault kind (target_of expression.entry) (bytes_of expression.entry)) result }
+    ensures inside { IfErr result (λ f. f.at ≤ length (bytes_of expression.entry)) }
+{
+    let certificate = certify(alloc, expression, kind)?;
+    Ok(certificate.into_checked())
 }
 
 /// Takes states that anyone made: they are accepted exactly where the expression is good and they are the states on its
@@ -89,21 +103,19 @@ pub fn certify<'a>(
 ///
 /// A refusal is the first fault. The whole expression is read first; then there have to be as many states as operations
 /// (70, at 0); then all is judged as by `certify`, with one more question behind 37: the given state is the one that paths
-/// have (71, at the operation). Time and memory as `certify`.
+/// have (71, at the operation). Time and memory as `certify`. Laws say that there is one first fault, none where all is good and
+/// right, and one where it isn't (`one_fault`, `good_expressions_have_no_fault`, `every_expression_has_a_verdict`).
 pub fn recheck<'a>(
     alloc: Global,
     expression: Expression<'a>,
     kind: Kind,
     states: &[State],
 ) -> Result<CheckedExpression<'a>, CertFault>
-    ensures good { OnOk result (IsGoodExpression kind (target_of expression.entry) (bytes_of expression.entry)) }
     ensures checked { IfOk result (λ c. IsChecked (checked_of c)) }
     ensures same { IfOk result (λ c. IsOf kind (target_of expression.entry) (bytes_of expression.entry) (checked_of c)) }
     ensures states { OnOk result (AreStatesOf kind (target_of expression.entry) (bytes_of expression.entry) states.now) }
-    ensures runs { IfOk result (λ c. RunsWellWithin kind (target_of expression.entry) (bytes_of expression.entry) (checked_of c).depth) }
     ensures fault { IfErr result (λ f. (f ≡ memory) ⊎ IsFaultOf kind (target_of expression.entry) (bytes_of expression.entry) (Some states.now) f) }
     ensures inside { IfErr result (λ f. f.at ≤ length (bytes_of expression.entry)) }
-    ensures only { IsGoodExpression kind (target_of expression.entry) (bytes_of expression.entry) → AreStatesOf kind (target_of expression.entry) (bytes_of expression.entry) states.now → IfErr result (λ f. f ≡ memory) }
 {
     let certificate = check(alloc, expression, kind, Some(states))?;
     Ok(certificate.into_checked())

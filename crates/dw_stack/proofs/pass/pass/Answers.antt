@@ -18,6 +18,7 @@ use Rattle.dw_stack.specs.Paths.{Placed, place, IsLaidOut}
 use Rattle.dw_stack.specs.Faults.{IsFirstFault}
 use Rattle.dw_stack.specs.Arrivals.{given_of, arrived, Stepped, StepObjects}
 use Rattle.dw_stack.specs.Views.{listed}
+use Rattle.dw_stack.proofs.Describes.{arrived_is}
 use Rattle.dw_stack.proofs.Lists.{listed_length}
 use Rattle.dw_stack.proofs.Places.{place_le}
 use Rattle.dw_stack.proofs.Walks.{Walked, length-passed, walked_start, walked_step}
@@ -83,9 +84,7 @@ module _ (kind : Kind) (ops : List Placed) (len : ℕ) (laid : IsLaidOut ops len
       subst (λ (g : FaultKind). IsFirstFault kind ops len given g len) same (end_mismatch kind ops len laid given i all states arrivals depth pieces w e)
 
   end_state : (a : Arrival) (s : StackState) → get_or arrivals (length ops) Nothing ≡ a → Ok s ≡ arrived a → get_or arrivals (length ops) Nothing ≡ One s
-  end_state Nothing s e is = absurd (cc)
-  end_state (One t) s e is = let same : t ≡ s = cc in e ∙ ap (λ (x : StackState). One x) same
-  end_state Many s e is = absurd (cc)
+  end_state a s e is = e ∙ arrived_is a s is
 
 -- the arrival at the end, as it was read
 last_read : (xs items : List Arrival) (n m : ℕ) → xs ≡ items → m ≡ n → get_or items m Nothing ≡ get_or xs n Nothing
@@ -109,7 +108,7 @@ returns-then-not-has_result-clause-first c =
     let e = last_read c.as_slice.result.now c.loop-i.arrivals.items (length c.args.operations.now) (length (listed c.args.operations.now)) c.as_slice.ensures long in
     let one = end_state c.args.kind (listed c.args.operations.now) c.args.end c.requires.laid (given_of c.args.given) c.loop-i.i all c.loop-i.states.items c.loop-i.arrivals.items c.loop-i.depth c.loop-i.pieces c.loop-i.invariant (get_or c.as_slice.result.now (length c.args.operations.now) Nothing) c.in-Ok-state_at.state e c.in-Ok-state_at.ensures in
     let empty : (length (listed c.args.operations.now) == 0) ≡ c.is_empty.result = ap (λ (n : ℕ). n == 0) long ∙ sym c.is_empty.ensures in
-    let f = end_empty c.args.kind (listed c.args.operations.now) c.args.end c.requires.laid (given_of c.args.given) c.loop-i.i all c.loop-i.states.items c.loop-i.arrivals.items c.loop-i.depth c.loop-i.pieces c.loop-i.invariant c.in-Ok-state_at.state one (λ has. let yes = c.has_result.ensures.1 (subst (λ (b : Bool). HasResult c.args.kind b c.in-Ok-state_at.state) empty has) in let other = c.if-not-has_result.true in absurd (cc)) in
+    let f = end_empty c.args.kind (listed c.args.operations.now) c.args.end c.requires.laid (given_of c.args.given) c.loop-i.i all c.loop-i.states.items c.loop-i.arrivals.items c.loop-i.depth c.loop-i.pieces c.loop-i.invariant c.in-Ok-state_at.state one (λ has. let yes = subst (λ (b : Bool). HasResult c.args.kind b c.in-Ok-state_at.state) empty has in let same = c.has_result.ensures in let other = c.if-not-has_result.true in absurd (cc)) in
     refusal_of c.args.kind (listed c.args.operations.now) c.args.end (given_of c.args.given) c.refusal-then-not-has_result.result EndsEmpty _ _ c.refusal-then-not-has_result.ensures refl f
 
 pub returns-clause-good : goal.returns-clause-good
@@ -119,7 +118,7 @@ returns-clause-good c =
     let e = last_read c.as_slice.result.now c.loop-i.arrivals.items (length c.args.operations.now) (length (listed c.args.operations.now)) c.as_slice.ensures long in
     let one = end_state c.args.kind (listed c.args.operations.now) c.args.end c.requires.laid (given_of c.args.given) c.loop-i.i all c.loop-i.states.items c.loop-i.arrivals.items c.loop-i.depth c.loop-i.pieces c.loop-i.invariant (get_or c.as_slice.result.now (length c.args.operations.now) Nothing) c.in-Ok-state_at.state e c.in-Ok-state_at.ensures in
     let empty : (length (listed c.args.operations.now) == 0) ≡ c.is_empty.result = ap (λ (n : ℕ). n == 0) long ∙ sym c.is_empty.ensures in
-    end_good c.args.kind (listed c.args.operations.now) c.args.end c.requires.laid (given_of c.args.given) c.loop-i.i all c.loop-i.states.items c.loop-i.arrivals.items c.loop-i.depth c.loop-i.pieces c.loop-i.invariant c.in-Ok-state_at.state one (subst (λ (b : Bool). HasResult c.args.kind b c.in-Ok-state_at.state) (sym empty) (c.has_result.ensures.0 c.if-not-has_result.false))
+    end_good c.args.kind (listed c.args.operations.now) c.args.end c.requires.laid (given_of c.args.given) c.loop-i.i all c.loop-i.states.items c.loop-i.arrivals.items c.loop-i.depth c.loop-i.pieces c.loop-i.invariant c.in-Ok-state_at.state one (subst (λ (b : Bool). HasResult c.args.kind b c.in-Ok-state_at.state) (sym empty) (sym c.has_result.ensures ∙ c.if-not-has_result.false))
 
 pub returns-clause-states : goal.returns-clause-states
 returns-clause-states c =

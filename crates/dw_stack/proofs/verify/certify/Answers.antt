@@ -12,28 +12,11 @@ use Rattle.dw_stack.proofs.Named.{answers_for}
 use Rattle.dw_stack.proofs.Whole.{runs_for, good_faultless}
 use Rattle.dw_stack.proofs.verify.certify.Goals as goal
 
-runs_well : (kind : Kind) (target : Target) (bytes : List ℕ) (r : Result Certificate Fault) → IfOk r (λ c. IsChecked (checked_in c)) → IfOk r (λ c. IsOf kind target bytes (checked_in c)) → IfOk r (λ c. RunsWellWithin kind target bytes (checked_in c).depth)
-runs_well kind target bytes (Ok c) checked is = runs_for kind target bytes (checked_in c) checked is
-runs_well kind target bytes (Err f) checked is = tt
-
-only_memory : (kind : Kind) (target : Target) (bytes : List ℕ) (r : Result Certificate Fault) → IfErr r (λ f. (f ≡ memory) ⊎ IsFaultOf kind target bytes None f) → IsGoodExpression kind target bytes → IfErr r (λ f. f ≡ memory)
-only_memory kind target bytes (Ok c) fault good = tt
-only_memory kind target bytes (Err f) fault good = elim fault [
-  | inl lacks ↦ lacks
-  | inr is ↦ absurd (good_faultless kind target bytes None f tt good is)
-]
-
 good_of : (kind : Kind) (target : Target) (bytes : List ℕ) (r : Result Certificate Fault) → IfOk r (λ c. IsChecked (checked_in c)) → IfOk r (λ c. IsOf kind target bytes (checked_in c)) → OnOk r (IsGoodExpression kind target bytes)
 good_of kind target bytes (Ok c) checked is =
     let it = checked_in c in
     subst (λ (k : Kind). IsGoodExpression k target bytes) is.kind_is (subst (λ (t : Target). IsGoodExpression it.kind t bytes) is.target_is (subst (λ (b : List ℕ). IsGoodExpression it.kind it.target b) is.bytes_are checked.good))
 good_of kind target bytes (Err f) checked is = tt
-
-pub returns-clause-runs : goal.returns-clause-runs
-returns-clause-runs c = runs_well c.args.kind (target_of c.args.expression) (bytes_of c.args.expression) c.check.result c.check.ensures.checked c.check.ensures.same
-
-pub returns-clause-only : goal.returns-clause-only
-returns-clause-only c = λ good. only_memory c.args.kind (target_of c.args.expression) (bytes_of c.args.expression) c.check.result c.check.ensures.fault good
 
 pub returns-clause-answer : goal.returns-clause-answer
 returns-clause-answer c = answers_for c.args.kind (target_of c.args.expression) (bytes_of c.args.expression) c.check.result (good_of c.args.kind (target_of c.args.expression) (bytes_of c.args.expression) c.check.result c.check.ensures.checked c.check.ensures.same) c.check.ensures.fault
