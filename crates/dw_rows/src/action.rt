@@ -48,6 +48,7 @@ pub enum Action<'a> {
 }
 
 /// An unsigned offset that isn't factored.
+#[inline(always)]
 fn unfactored(offset: u64) -> i128
     ensures { result ≡ pos offset }
 {
@@ -55,6 +56,7 @@ fn unfactored(offset: u64) -> i128
 }
 
 /// An unsigned offset times the data alignment factor.
+#[inline(always)]
 fn factored(cie: &CommonInformationEntry<'_>, offset: u64) -> i128
     ensures { result ≡ pos offset *ℤ cie.now.data_alignment_factor }
 {
@@ -62,6 +64,7 @@ fn factored(cie: &CommonInformationEntry<'_>, offset: u64) -> i128
 }
 
 /// A signed offset times the data alignment factor.
+#[inline(always)]
 fn factored_sf(cie: &CommonInformationEntry<'_>, offset: i64) -> i128
     ensures { result ≡ offset *ℤ cie.now.data_alignment_factor }
 {
@@ -69,6 +72,7 @@ fn factored_sf(cie: &CommonInformationEntry<'_>, offset: i64) -> i128
 }
 
 /// An advance by a delta times the code alignment factor.
+#[inline(always)]
 fn advance<'a>(cie: &CommonInformationEntry<'_>, delta: u32) -> Action<'a>
     ensures { result ≡ Action.Moves (delta * cie.now.code_alignment_factor) }
 {
@@ -76,6 +80,7 @@ fn advance<'a>(cie: &CommonInformationEntry<'_>, delta: u32) -> Action<'a>
 }
 
 /// What the instruction does, by the factors of the CIE.
+#[inline(always)]
 pub fn action_of<'a>(
     cie: &CommonInformationEntry<'_>,
     instruction: CallFrameInstruction<'a>,

@@ -48,6 +48,7 @@ impl Default for RuleEntry {
 }
 
 /// An entry with this rule.
+#[inline(always)]
 fn entry(register: u16, rule: RegisterRule) -> RuleEntry
     ensures { entry_of result ≡ (register, rule_of rule) }
 {
@@ -68,6 +69,7 @@ fn entry(register: u16, rule: RegisterRule) -> RuleEntry
 }
 
 /// The rule of an entry.
+#[inline(always)]
 pub fn rule_of_entry(entry: &RuleEntry) -> RegisterRule
     ensures { rule_of result ≡ rule_by entry.now }
 {
@@ -111,6 +113,7 @@ impl RegisterRuleMap {
     }
 
     /// The rule of a register.
+    #[inline(always)]
     pub fn register(&self, number: u16) -> RegisterRule
         ensures { rule_of result ≡ rule_in self.now number }
     {
@@ -161,6 +164,7 @@ impl RegisterRuleMap {
     }
 
     /// Gives a register a rule. It is refused where there would be too many rules.
+    #[inline(always)]
     pub fn set(&mut self, number: u16, rule: RegisterRule) -> Result<(), FaultKind>
         ensures { MatchResult result
             (λ _. (self.new ≡ rule_list (changed_at (rule_in self.old) number (rule_of rule))) × (length self.new ≤ MAX_RULES))
@@ -184,6 +188,7 @@ impl RegisterRuleMap {
 }
 
 /// The rule of a register.
+#[inline(always)]
 fn rule_of_register(entries: &[RuleEntry], register: u16) -> RegisterRule
     ensures { rule_of result ≡ rule_in (entries_of entries.now) register }
 {
@@ -196,6 +201,7 @@ fn rule_of_register(entries: &[RuleEntry], register: u16) -> RegisterRule
 }
 
 /// How many entries are below the register.
+#[inline(always)]
 fn place_of(entries: &[RuleEntry], register: u16) -> usize
     ensures value { result ≡ place_in register (entries_of entries.now) }
     ensures within { result ≤ length entries.now }
@@ -209,6 +215,7 @@ fn place_of(entries: &[RuleEntry], register: u16) -> usize
 }
 
 /// Gives the register the rule `Default`.
+#[inline(always)]
 fn clear_rule(table: &mut ArrayVec<RuleEntry, MAX_RULES>, register: u16)
     requires { IsTable 0 (entries_of table.old.items) }
     ensures table { IsTable 0 (entries_of table.new.items) }
@@ -221,6 +228,7 @@ fn clear_rule(table: &mut ArrayVec<RuleEntry, MAX_RULES>, register: u16)
 }
 
 /// Gives the register the rule. Only where there is no room for it, it answers `false`.
+#[inline(always)]
 fn put_rule(table: &mut ArrayVec<RuleEntry, MAX_RULES>, register: u16, rule: RegisterRule) -> bool
     requires { IsTable 0 (entries_of table.old.items) }
     ensures table { IsTable 0 (entries_of table.new.items) }

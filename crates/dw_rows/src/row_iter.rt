@@ -96,6 +96,7 @@ impl<'a> Rows<'a> {
 
     /// Writes the next row into the place of another, if there is one, and answers whether there was. Only
     /// the rules that are there are copied, so one place serves for many rows.
+    #[inline(always)]
     pub fn next_into(&mut self, row: &mut UnwindTableRow) -> bool
         ensures some { OnTrue result (self.old ≡ row.new ∷ self.new) }
         ensures none { OnFalse result ((self.old ≡ []) × (self.new ≡ []) × (row.new ≡ row.old)) }

@@ -77,6 +77,7 @@ impl RowRules {
     }
 
     /// The CFA's rule.
+    #[inline(always)]
     pub fn cfa(&self) -> Option<CfaRule>
         ensures { self.now.cfa ≡ option_map cfa_rule_of result }
     {
@@ -84,6 +85,7 @@ impl RowRules {
     }
 
     /// Gives the CFA a rule.
+    #[inline(always)]
     pub fn set_cfa(&mut self, cfa: CfaRule)
         ensures { self.new ≡ record { cfa = Some (cfa_rule_of cfa); rules = self.old.rules } }
     {
@@ -91,6 +93,7 @@ impl RowRules {
     }
 
     /// The rules of registers.
+    #[inline(always)]
     pub fn register_rules(&self) -> &RegisterRuleMap
         ensures { result.now ≡ self.now.rules }
     {
@@ -98,6 +101,7 @@ impl RowRules {
     }
 
     /// The rule of a register.
+    #[inline(always)]
     pub fn register(&self, number: u16) -> RegisterRule
         ensures { rule_of result ≡ rule_in self.now.rules number }
     {
@@ -105,6 +109,7 @@ impl RowRules {
     }
 
     /// Gives a register a rule.
+    #[inline(always)]
     pub fn set(&mut self, register: u16, rule: RegisterRule) -> Result<(), FaultKind>
         ensures { Sets self.old register (rule_of rule) result self.new }
     {
