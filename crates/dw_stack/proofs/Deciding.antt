@@ -7,14 +7,12 @@ use Rattle.std.specs.List.{list_all}
 use Rattle.std.proofs.lemmas.List.{length-replicate, get_or-replicate, append_assoc}
 use Rattle.std.proofs.lemmas.Option.{slice_get_within, slice_get_cases, same_Some}
 use Rattle.std.proofs.lemmas.Bool.{cases_eq}
-use Rattle.std.proofs.lemmas.Bool.Decides.{leb_tells}
 use Rattle.dw_bytes.specs.declared.target.Target.{Target}
 use Rattle.dw_bytes.specs.declared.fault.Fault.{Fault}
 use Rattle.dw_bytes.specs.declared.fault.FaultKind.{FaultKind}
 use Rattle.dw_bytes.specs.declared.fault.FaultKind.TheVariants as fault
 use Rattle.dw_stack.specs.declared.effect.StackEffect.{StackEffect}
 use Rattle.dw_stack.specs.declared.judge.Outgoing.{Outgoing}
-use Rattle.dw_stack.specs.declared.judge.TheConstants.{MAX_HEIGHT, MAX_PIECES}
 use Rattle.dw_stack.specs.declared.state.State.{State}
 use Rattle.dw_stack.specs.declared.state.StackState.{StackState}
 use Rattle.dw_stack.specs.declared.state.Kind.{Kind}
@@ -22,10 +20,10 @@ use Rattle.dw_stack.specs.declared.step.Done.{Done}
 use Rattle.dw_stack.specs.declared.arrivals.Arrival.{Arrival}
 use Rattle.dw_stack.specs.declared.arrivals.Arrival.TheVariants.{Nothing, One, Many}
 use Rattle.dw_stack.specs.Effects.{effect_of}
-use Rattle.dw_stack.specs.States.{start_of, stands_alone, height_after, next_mode, has_result, HasResult, at_offset}
-use Rattle.dw_stack.specs.Paths.{Placed, place, aim, aimed, target_of, IsLaidOut, has_operation, is_piece, pieces_before, IsGood, AreStates, IsDepth}
+use Rattle.dw_stack.specs.States.{start_of, height_after, next_mode, has_result, HasResult, at_offset}
+use Rattle.dw_stack.specs.Paths.{Placed, place, aimed, IsLaidOut, is_piece, pieces_before, IsGood, AreStates, IsDepth}
 use Rattle.dw_stack.specs.Faults.{Given, judgements, is_ahead, is_start, passes, first_failed, IsFirstFault, KnowsOnly}
-use Rattle.dw_stack.specs.Judge.{IsEffectAt, Suits, TargetIs, TargetObjects, Judged, Objects}
+use Rattle.dw_stack.specs.Judge.{IsEffectAt, TargetIs, Judged, Objects}
 use Rattle.dw_stack.specs.Arrivals.{Merges, Receives, ReceivesIf, ReceivesAt, PassesOn, Stepped}
 use Rattle.dw_stack.specs.Expressions.{operations_in, reading_fault, IsGoodExpression, IsFaultOf}
 use Rattle.dw_stack.specs.FirstFault.{states_to, same_state, Question, else_fault, first_no, asked_at, asked_of, asked_last, asked_from, first_fault, expression_fault}

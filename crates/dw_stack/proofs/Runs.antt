@@ -1,5 +1,5 @@
 -- Each run of a good expression follows a path.
-use Rattle.std.proofs.Common.{◌≡◌, ℕ, ℤ, pos, negsuc, zero, suc, ◌+◌, ◌-◌, ◌<◌, ◌≤◌, ◌⊎◌, Bool, true, false, cond, not, eqb, List, [], ◌∷◌, ◌++◌, length, take, Option, Some, None, Result, Ok, Err, refl, sym, ap, ◌∙◌, subst, inl, inr, arith, IsTrue, length-append, length-take}
+use Rattle.std.proofs.Common.{◌≡◌, ℕ, ℤ, pos, negsuc, zero, suc, ◌+◌, ◌-◌, ◌<◌, ◌≤◌, Bool, true, false, cond, not, eqb, List, [], ◌∷◌, ◌++◌, length, take, Option, Some, None, Result, Ok, Err, refl, sym, ap, ◌∙◌, subst, inl, inr, arith, IsTrue, length-append, length-take}
 use Rattle.std.specs.Prelude.{slice_get, MatchBool, ◌==◌}
 use Rattle.std.proofs.lemmas.Bool.{eqb-true, leb-true}
 use Rattle.std.proofs.lemmas.Option.{slice_get_within, slice_get_cases}
@@ -105,6 +105,11 @@ can_do r mode.Stack h n (Some p) e alone is = absurd (cc)
 can_do r mode.AfterPiece h n (Some p) e alone is = let no_p = is.0 in absurd (cc)
 can_do r mode.Register h n p e alone is = absurd (cc)
 can_do r mode.Value h n p e alone is = absurd (cc)
+
+-- one step more at the end of a run
+pub run_more : (m : Meaning) (ops : List Placed) (len n : ℕ) (c d e : Configuration) → Run m ops len n c d → Step m ops len d e → Run m ops len (suc n) c e
+run_more m ops len zero c d e run t = (e, subst (λ (x : Configuration). Step m ops len x e) (sym run) t, refl)
+run_more m ops len (suc n) c d e run t = (run.0, run.1, run_more m ops len n run.0 d e run.2 t)
 
 module _ (kind : Kind) (ops : List Placed) (len : ℕ) (laid : IsLaidOut ops len) (good : IsGood kind ops len) where
   -- no jump goes back
@@ -265,18 +270,13 @@ module _ (kind : Kind) (ops : List Placed) (len : ℕ) (laid : IsLaidOut ops len
       let low = next_height_le (effect_of t.meets.placed.1).role (height_after (effect_of t.meets.placed.1) r.0) r.0.pieced in
       bound m n depth run.0 d deep (after, extend kind ops len c.offset r.0 run.0.offset after r.1 (step_edge m r.0 c run.0 t), agrees) (omega (arith, agrees.height, below, low)) run.2
 
-  -- one step more at the end of a run
-  run_more : (m : Meaning) (n : ℕ) (c d e : Configuration) → Run m ops len n c d → Step m ops len d e → Run m ops len (suc n) c e
-  run_more m zero c d e run t = (e, subst (λ (x : Configuration). Step m ops len x e) (sym run) t, refl)
-  run_more m (suc n) c d e run t = (run.0, run.1, run_more m n run.0 d e run.2 t)
-
   -- with so many steps left
   finish_in : (left : ℕ) (m : Meaning) (c : Configuration) → Starts kind c → (n : ℕ) (d : Configuration) → length ops ≤ n + left → Run m ops len n c d → Stands d → (k : ℕ) × (e : Configuration) × Run m ops len k c e × IsOver kind m ops len e
   finish_in zero m c s n d enough run here = elim (on_from m d here) [
     | inl over ↦ (n, d, run, inl over)
     | inr rest ↦ elim rest [
       | inl step ↦
-          let l = run_later m (suc n) 0 c step.0 (omega arith) (laid.first ∙ sym s.offset) (run_more m n c d step.0 run step.1) in
+          let l = run_later m (suc n) 0 c step.0 (omega arith) (laid.first ∙ sym s.offset) (run_more m ops len n c d step.0 run step.1) in
           absurd (omega (arith, l.1, l.2, enough))
       | inr stop ↦ (n, d, run, inr stop)
     ]
@@ -284,7 +284,7 @@ module _ (kind : Kind) (ops : List Placed) (len : ℕ) (laid : IsLaidOut ops len
   finish_in (suc left) m c s n d enough run here = elim (on_from m d here) [
     | inl over ↦ (n, d, run, inl over)
     | inr rest ↦ elim rest [
-      | inl step ↦ let more = run_more m n c d step.0 run step.1 in finish_in left m c s (suc n) step.0 (omega (arith, enough)) more (run_follows m (suc n) c step.0 (starts c s) more)
+      | inl step ↦ let more = run_more m ops len n c d step.0 run step.1 in finish_in left m c s (suc n) step.0 (omega (arith, enough)) more (run_follows m (suc n) c step.0 (starts c s) more)
       | inr stop ↦ (n, d, run, inr stop)
     ]
   ]

@@ -1,24 +1,20 @@
 -- What merely holds of a checked expression holds of it.
 use Rattle.std.proofs.Math.Logic.{∥∥₁_elim, ∥∥₁_prop}
 use mathlib.Core.HLevel.{⊥_prop}
-use Rattle.std.specs.Coded.{Coded-set, coded_ℕ, coded_bool, ×_prop, →_prop, Unit-prop, le_prop}
+use Rattle.std.specs.Coded.{Coded-set, coded_ℕ, coded_bool, le_prop}
 use Rattle.std.proofs.Common.{◌≡◌, ℕ, zero, suc, ◌≤◌, ◌⊎◌, Bool, List, length, Option, Some, None, refl, sym, ap, ◌∙◌, inl, inr, arith}
-use Rattle.std.specs.Prelude.{slice_get, ◌==◌}
+use Rattle.std.specs.Prelude.{slice_get}
 use Rattle.std.proofs.lemmas.Bool.{cases_eq}
 use Rattle.std.proofs.lemmas.Option.{same_Some}
 use Rattle.dw_bytes.specs.declared.fault.Fault.{Fault}
-use Rattle.dw_stack.specs.declared.effect.Role.{Role}
-use Rattle.dw_stack.specs.declared.effect.Role.TheVariants as role
-use Rattle.dw_stack.specs.declared.effect.StackEffect.{StackEffect}
 use Rattle.dw_stack.specs.declared.state.Mode.{Mode}
 use Rattle.dw_stack.specs.declared.state.Mode.TheVariants as mode
 use Rattle.dw_stack.specs.declared.state.State.{State}
 use Rattle.dw_stack.specs.declared.state.StackState.{StackState}
 use Rattle.dw_stack.specs.declared.state.Kind.{Kind}
-use Rattle.dw_stack.specs.declared.state.Kind.TheVariants.{FrameCfa, FrameRegister, Location}
 use Rattle.dw_stack.specs.Effects.{effect_of}
 use Rattle.dw_stack.specs.States.{at_offset}
-use Rattle.dw_stack.specs.Paths.{Placed, place, IsLaidOut, target_of, IsTarget, IsAllowed, IsGood, AreStates}
+use Rattle.dw_stack.specs.Paths.{Placed, place, IsLaidOut, target_of, IsTarget, IsGood, AreStates}
 use Rattle.dw_stack.specs.FirstFault.{number_of}
 use Rattle.dw_stack.specs.Expressions.{operations_in, reading_fault, Checked, IsChecked}
 use Rattle.dw_stack.proofs.Places.{place_inj}

@@ -1,18 +1,11 @@
 -- What the tests of an expression's operations tell.
-use Rattle.std.proofs.Common.{◌≡◌, ◌≢◌, ◌∙◌, ℕ, zero, suc, ◌+◌, ◌<◌, ◌≤◌, ◌⊎◌, ◌||◌, ◌&&◌, Bool, true, false, not, eqb, leb, ltb, List, [], ◌∷◌, length, Some, refl, sym, ap, inl, inr, arith}
+use Rattle.std.proofs.Common.{◌≡◌, ◌≢◌, ◌∙◌, ℕ, zero, suc, ◌+◌, ◌≤◌, ◌⊎◌, ◌||◌, ◌&&◌, Bool, true, false, not, eqb, leb, List, [], ◌∷◌, length, Some, refl, sym, ap, inl, inr, arith}
 use Rattle.std.specs.Prelude.{◌==◌, if◌then◌else◌}
 use Rattle.std.specs.List.{list_any, list_all}
-use Rattle.std.proofs.lemmas.Bool.{cases_Bool, eqb-true, eqb-false, leb-true, leb-false, ltb-true, ltb-false, or_left, or_right}
-use Rattle.dw_stack.specs.declared.effect.Role.{Role}
-use Rattle.dw_stack.specs.declared.effect.Role.TheVariants as role
-use Rattle.dw_stack.specs.declared.effect.StackEffect.{StackEffect}
-use Rattle.dw_stack.specs.declared.judge.TheConstants.{MAX_PIECES}
+use Rattle.std.proofs.lemmas.Bool.{cases_Bool, eqb-true, eqb-false, leb-true, leb-false, or_left, or_right}
 use Rattle.dw_stack.specs.declared.state.StackState.{StackState}
 use Rattle.dw_stack.specs.declared.state.Mode.{Mode}
-use Rattle.dw_stack.specs.declared.state.Mode.TheVariants as mode
-use Rattle.dw_stack.specs.declared.state.Kind.{Kind}
-use Rattle.dw_stack.specs.declared.state.Kind.TheVariants.{FrameCfa, FrameRegister, Location}
-use Rattle.dw_stack.specs.Paths.{Placed, place, IsAllowed}
+use Rattle.dw_stack.specs.Paths.{Placed, place}
 use Rattle.dw_stack.specs.Faults.{is_start}
 use Rattle.dw_stack.specs.FirstFault.{number_of, same_state}
 use Rattle.dw_stack.proofs.Arriving.{Has}

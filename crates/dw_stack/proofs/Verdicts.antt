@@ -3,11 +3,8 @@ use Rattle.std.proofs.Math.Logic.{∥∥₁_elim}
 use mathlib.Core.HLevel.{⊥_prop}
 use Rattle.std.proofs.Common.{◌≡◌, ℕ, ℤ, negsuc, zero, suc, ◌+◌, ◌<◌, ◌≤◌, ◌⊎◌, true, List, length, get_or, Option, Some, None, refl, sym, ap, ◌∙◌, subst, inl, inr, arith, IsTrue}
 use Rattle.std.specs.Prelude.{slice_get, ◌==◌}
-use Rattle.std.proofs.lemmas.List.Sums.{count_by_more_yes, sum_by-append}
+use Rattle.std.proofs.lemmas.List.Sums.{count_by_more_yes}
 use Rattle.std.proofs.lemmas.Option.{get_or_from_slice_get}
-use Rattle.std.proofs.Math.Seq.{take-add}
-use Rattle.std.proofs.Common.{◌-◌, cond, take, drop}
-use Rattle.std.specs.List.{sum_by}
 use Rattle.std.proofs.lemmas.Bool.{cases_lt, le-leb}
 use Rattle.std.proofs.lemmas.Option.{slice_get_within, same_Some, slice_get_cases}
 use Rattle.dw_stack.specs.Paths.{Placed}
@@ -21,22 +18,17 @@ use Rattle.dw_bytes.specs.declared.fault.FaultKind.{FaultKind}
 use Rattle.dw_bytes.specs.declared.fault.FaultKind.TheVariants as fault
 use Rattle.dw_stack.specs.Effects.{effect_of}
 use Rattle.dw_stack.specs.declared.state.State.{State}
-use Rattle.dw_stack.specs.States.{start_of, StandsAlone, height_after, state_after, HasResult, at_offset}
-use Rattle.dw_stack.specs.Paths.{place, IsLaidOut, aim, aimed, target_of, IsTarget, Leads, Reaches, IsGood, AreStates, IsDepth, IsAllowed, is_piece, pieces_before}
+use Rattle.dw_stack.specs.States.{start_of, height_after, state_after, HasResult, at_offset}
+use Rattle.dw_stack.specs.Paths.{place, IsLaidOut, aim, aimed, target_of, IsTarget, Leads, Reaches, IsGood, AreStates, IsDepth, is_piece, pieces_before}
 use Rattle.dw_stack.specs.Faults.{Given, judgements, passes, first_failed, Objection, Refuses, rank, IsFirstFault}
 use Rattle.dw_stack.specs.Judge.{Objects}
 use Rattle.dw_stack.specs.Arrivals.{StepObjects}
 use Rattle.dw_stack.proofs.Places.{place_of_some, place_past, place_inj, place_mono, place_lt}
 use Rattle.dw_stack.proofs.Routes.{reach_from, extend, at_start, Comes, reaches_from_comes, comes_from_reaches, reached_place}
 use Rattle.dw_stack.proofs.Describes.{Describes, describes_is}
+use Rattle.dw_stack.proofs.Pieces.{pieces_mono}
 use Rattle.dw_stack.proofs.Judging.{failed, before_first, few_passes, ahead_passes, start_passes}
 use Rattle.dw_stack.proofs.Walks.{Fine, Accepted, Walked, one_state}
-
-pieces_mono : (ops : List Placed) (k n : ℕ) → pieces_before ops k ≤ pieces_before ops (k + n)
-pieces_mono ops k n = let e = ap (sum_by piece_of) (take-add k n ops) ∙ sum_by-append piece_of (take k ops) (take n (drop k ops)) in omega (arith, e)
-  where
-    piece_of : Placed → ℕ
-    piece_of x = cond (is_piece (effect_of x.1).role) 1 0
 
 -- a piece among the operations leaves room for itself
 few_before : (ops : List Placed) (k : ℕ) (x : Placed) → slice_get ops k ≡ Some x → is_piece (effect_of x.1).role ≡ true → pieces_before ops (length ops) ≤ MAX_PIECES → pieces_before ops k < MAX_PIECES
@@ -45,10 +37,7 @@ few_before ops k x s is few =
     let read : get_or ops k x ≡ x = get_or_from_slice_get ops k x x s in
     let yes : is_piece (effect_of (get_or ops k x).1).role ≡ true = ap (λ (y : Placed). is_piece (effect_of y.1).role) read ∙ is in
     let more = count_by_more_yes (λ (y : Placed). is_piece (effect_of y.1).role) ops k x within yes in
-    omega (arith, more, few, pieces_mono ops (k + 1) (length ops - (k + 1)), ap (pieces_before ops) (room k (length ops) within))
-  where
-    room : (k n : ℕ) → k < n → k + 1 + (n - (k + 1)) ≡ n
-    room k n lt = omega arith
+    omega (arith, more, few, pieces_mono ops (k + 1) (length ops) (omega (arith, within)))
 
 module _ (kind : Kind) (ops : List Placed) (len : ℕ) (laid : IsLaidOut ops len) where
   -- what is fine passes each judgement

@@ -1,15 +1,13 @@
-use Rattle.std.proofs.Common.{◌≡◌, ◌⊎◌, ℕ, List, None, subst, inl, inr}
-use Rattle.std.specs.Prelude.{Result, Ok, Err, OnOk, IfOk, IfErr}
+use Rattle.std.proofs.Common.{ℕ, List, subst}
+use Rattle.std.specs.Prelude.{Result, Ok, Err, OnOk, IfOk}
 use Rattle.dw_bytes.specs.declared.target.Target.{Target}
 use Rattle.dw_bytes.specs.declared.fault.Fault.{Fault}
-use Rattle.dw_bytes.specs.Answers.{memory}
 use Rattle.dw_ops.specs.Views.{bytes_of, target_of}
 use Rattle.dw_stack.specs.declared.state.Kind.{Kind}
 use Rattle.dw_stack.specs.declared.certificate.Certificate.{Certificate}
-use Rattle.dw_stack.specs.Expressions.{IsGoodExpression, RunsWellWithin, IsFaultOf, IsChecked, IsOf}
+use Rattle.dw_stack.specs.Expressions.{IsGoodExpression, IsChecked, IsOf}
 use Rattle.dw_stack.specs.Certificates.{checked_in}
 use Rattle.dw_stack.proofs.Named.{answers_for}
-use Rattle.dw_stack.proofs.Whole.{runs_for, good_faultless}
 use Rattle.dw_stack.proofs.verify.certify.Goals as goal
 
 good_of : (kind : Kind) (target : Target) (bytes : List ℕ) (r : Result Certificate Fault) → IfOk r (λ c. IsChecked (checked_in c)) → IfOk r (λ c. IsOf kind target bytes (checked_in c)) → OnOk r (IsGoodExpression kind target bytes)
