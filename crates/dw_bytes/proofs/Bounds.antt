@@ -6,11 +6,9 @@ use Rattle.std.proofs.lemmas.List.{length-append}
 use Rattle.std.proofs.lemmas.List.Elements.{All-from_recursion}
 use Rattle.dw_bytes.specs.declared.target.Format.{Format}
 use Rattle.dw_bytes.specs.declared.fault.Fault.{Fault}
-use Rattle.dw_bytes.specs.declared.fault.FaultKind.{FaultKind}
 use Rattle.dw_bytes.specs.declared.fault.FaultKind.TheVariants.{Truncated}
 use Rattle.dw_bytes.specs.Spelling.{Bytes, Fixed, Length, Uleb, Sleb, bytes_of_address, bytes_of_offset}
 use Rattle.dw_bytes.specs.Reading.{Reading, IsExact, IsRefusedAt, ◌>>=◌, placed, take_at, fixed_at, address_at, offset_at, initial_length_at, uleb_at, sleb_at}
-use Rattle.dw_bytes.specs.Readers.{then_read, passing_read, made_read, fault_here}
 use Rattle.dw_bytes.specs.Sequence.{located_read, and_then, at_most_of, sequence_of}
 use Rattle.dw_bytes.proofs.Fields.{take_exact, fixed_exact, initial_length_exact, uleb_exact, sleb_exact}
 use Rattle.dw_bytes.proofs.Refused.{fixed_refused, initial_length_refused, uleb_refused, sleb_refused}
@@ -36,21 +34,7 @@ pub bind-stays : {A B : Type 0} (from : ℕ) (r : Reading) (x : Result (A × Rea
 bind-stays from r (Ok a) second h one two = moved from r a.1 (second a.0 a.1) one.0 one.1 (two a.0 a.1 (omega (arith, one.0)))
 bind-stays from r (Err fault) second h one two = one
 
-pub then-stays : {A B : Type 0} (from : ℕ) (first : Reading → Result (A × Reading) Fault) (second : A → Reading → Result (B × Reading) Fault) → AlwaysStays from first → ((a : A) → AlwaysStays from (second a)) → AlwaysStays from (then_read first second)
-then-stays from first second one two r h = bind-stays from r (first r) second h (one r h) two
-
-test-stays : {A : Type 0} (from : ℕ) (r : Reading) (b : Bool) (x : A × Reading) (fault : Fault) → Stays {X = A} from r (Ok x) → Stays {X = A} from r (Err fault) → Stays {X = A} from r (cond b (Ok x) (Err fault))
-test-stays from r true x fault h k = h
-test-stays from r false x fault h k = k
-
-passed-stays : {A : Type 0} (from : ℕ) (r : Reading) (x : Result (A × Reading) Fault) (test : A → Bool) (fault : Fault) → Stays from r x → Stays {X = A} from r (Err fault) → Stays {X = A} from r (x >>= λ a. cond (test a.0) (Ok a) (Err fault))
-passed-stays {A} from r (Ok a) test fault h k = test-stays {A = A} from r (test a.0) a fault h k
-passed-stays from r (Err other) test fault h k = h
-
-pub passing-stays : {A : Type 0} (from : ℕ) (test : A → Bool) (fault : Reading → Fault) (read : Reading → Result (A × Reading) Fault) → AlwaysStays from read → ((r : Reading) → from ≤ r.position → Stays {X = A} from r (Err (fault r))) → AlwaysStays from (passing_read test fault read)
-passing-stays {A} from test fault read one refused r h = passed-stays {A = A} from r (read r) test (fault r) (one r h) (refused r h)
-
-pub made-stays : {A : Type 0} (from : ℕ) (a : A) → AlwaysStays from (made_read a)
+pub made-stays : {A : Type 0} (from : ℕ) (a : A) → AlwaysStays {X = A} from (λ r. Ok (a, r))
 made-stays from a r h = (omega arith, refl)
 
 located : {A : Type 0} (from at : ℕ) (r : Reading) (x : Result (A × Reading) Fault) → Stays from r x → Stays {X = ℕ × A} from r (x >>= λ a. Ok ((at, a.0), a.1))
@@ -96,9 +80,6 @@ take-refused n r = front-refused (ltb (length r.rest) n) n r
 
 pub take-stays : (from n : ℕ) → AlwaysStays from (take_at n)
 take-stays from n r h = field-stays from (take_at n) (Bytes n) r (take_exact n r) (take_at n r) refl (take-refused n r) h
-
-pub here-stays : (A : Type 0) (from : ℕ) (kind : FaultKind) (r : Reading) → from ≤ r.position → Stays {X = A} from r (Err (fault_here kind r))
-here-stays A from kind r h = (h, omega arith)
 
 -- ---- things one after the other
 

@@ -5,9 +5,8 @@ use Rattle.dw_bytes.specs.declared.target.Target.{Target}
 use Rattle.dw_bytes.specs.declared.fault.Fault.{Fault}
 use Rattle.dw_bytes.specs.declared.fault.FaultKind.{FaultKind}
 use Rattle.dw_bytes.specs.Reading.{Reading, ◌>>=◌, take_at, fixed_at, uleb_at}
-use Rattle.dw_bytes.specs.Readers.{made_read}
 use Rattle.dw_bytes.specs.Operands.{Kind, address, fixed, signed_fixed, unsigned, signed, register_number, read_size, piece_size, block, Block, operand_at, fits, range_fault, Operands, values_at, in_range, in_ranges, given_at, Line, line, operands_at, coded_at}
-use Rattle.dw_bytes.proofs.Bounds.{Stays, AlwaysStays, bind-stays, then-stays, made-stays, fixed-stays, address-stays, uleb-stays, sleb-stays, take-stays}
+use Rattle.dw_bytes.proofs.Bounds.{Stays, AlwaysStays, bind-stays, made-stays, fixed-stays, address-stays, uleb-stays, sleb-stays, take-stays}
 
 abbrev block-of : ℕ → Target → List ℕ → Block
 block-of offset target bytes = record { offset = offset; target = target; bytes = bytes }
@@ -18,10 +17,10 @@ block-behind target n s = take_at n s >>= λ b. Ok (block-of s.position target b
 block-stays : (from : ℕ) (target : Target) (n : ℕ) → AlwaysStays from (block-behind target n)
 block-stays from target n s h = bind-stays from s (take_at n s) (λ b t. Ok (block-of s.position target b, t)) h (take-stays from n s h) (λ b. made-stays from (block-of s.position target b))
 
-operand-stays : (from : ℕ) (kind : Kind) → AlwaysStays from (operand_at kind)
+pub operand-stays : (from : ℕ) (kind : Kind) → AlwaysStays from (operand_at kind)
 operand-stays from address = address-stays from
 operand-stays from (fixed n) = fixed-stays from n
-operand-stays from (signed_fixed w) = then-stays from (fixed_at (byte_len w)) (λ n. made_read (cast_signed w n)) (fixed-stays from (byte_len w)) (λ n. made-stays from (cast_signed w n))
+operand-stays from (signed_fixed w) = λ r h. bind-stays from r (fixed_at (byte_len w) r) (λ n s. Ok (cast_signed w n, s)) h (fixed-stays from (byte_len w) r h) (λ n. made-stays from (cast_signed w n))
 operand-stays from unsigned = uleb-stays from
 operand-stays from signed = sleb-stays from
 operand-stays from register_number = uleb-stays from

@@ -12,11 +12,11 @@ use Rattle.dw_bytes.specs.Operands.{Kind, address, fixed, signed_fixed, unsigned
 use Rattle.dw_bytes.proofs.Fields.{take_exact, fixed_exact, uleb_exact}
 use Rattle.dw_bytes.proofs.Readers.{ExactAt, bind-ok, ok-is, same-reading, fixed-exact, uleb-exact, sleb-exact, address-exact}
 
-abbrev finish : {A : Type 0} → A → Reading → Result (A × Reading) Fault
+abbrev pub finish : {A : Type 0} → A → Reading → Result (A × Reading) Fault
 finish a r = Ok (a, r)
 
 -- what was read, as what the reader answers
-given : {A : Type 0} (Spells : List ℕ → A → Type 0) (r : Reading) (a b : A) (x y : Reading) → finish a x ≡ finish b y → Next Spells r a x → Next Spells r b y
+pub given : {A : Type 0} (Spells : List ℕ → A → Type 0) (r : Reading) (a b : A) (x y : Reading) → finish a x ≡ finish b y → Next Spells r a x → Next Spells r b y
 given {A} Spells r a b x y is h = subst (λ (p : A × Reading). Next Spells r p.0 p.1) (ok-is (a, x) (b, y) is) h
 
 -- ---- an operand
@@ -61,7 +61,7 @@ block-own r = record {
       rw (one, two) (ap (λ (b : Block). finish b after) (same-block v (r.position + length s.count) r.target s.offset_is s.target_is));
 }
 
-operand-exact : (target : Target) (kind : Kind) → ExactAt target (operand_at kind) (IsOperand target kind)
+pub operand-exact : (target : Target) (kind : Kind) → ExactAt target (operand_at kind) (IsOperand target kind)
 operand-exact target address = address-exact target
 operand-exact target (fixed n) = fixed-exact target n
 operand-exact target (signed_fixed w) = λ r same. subst (λ (t : Target). IsExact (signed_fixed_at w) (SignedFixed t w) r) same (signed-own w r)

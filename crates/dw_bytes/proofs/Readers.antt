@@ -1,4 +1,4 @@
--- A reader of parts is exact where each part is.
+-- Readers that are exact, and what follows of each.
 use Rattle.std.proofs.Common.{◌≡◌, ℕ, ◌+◌, ◌≤◌, List, [], ◌++◌, length, take, drop, Bool, true, false, cond, Result, Ok, Err, refl, sym, ap, subst, ◌∙◌, append_assoc, arith}
 use Rattle.std.proofs.Math.Seq.{drop-append-add, drop-append_seam}
 use Rattle.std.proofs.lemmas.List.{length-append, length-take, take-append-drop, take_at}
@@ -7,7 +7,6 @@ use Rattle.dw_bytes.specs.declared.target.Format.{Format}
 use Rattle.dw_bytes.specs.declared.fault.Fault.{Fault}
 use Rattle.dw_bytes.specs.Spelling.{Bytes, Fixed, Offset, Address, Length, Uleb, Sleb, bytes_of_address, bytes_of_offset}
 use Rattle.dw_bytes.specs.Reading.{Reading, Next, IsExact, ◌>>=◌, take_at as taken_at, fixed_at, offset_at, address_at, initial_length_at, uleb_at, sleb_at}
-use Rattle.dw_bytes.specs.Readers.{Then, then_read, Passing, passing_read, Made, made_read}
 use Rattle.dw_bytes.proofs.Fields.{take_exact, fixed_exact, initial_length_exact, uleb_exact, sleb_exact}
 
 -- a reader that is exact wherever the target is this one
@@ -34,59 +33,6 @@ reading-of target position rest = record { target = target; position = position;
 
 pub same-reading : (a b : Reading) → a.target ≡ b.target → a.position ≡ b.position → a.rest ≡ b.rest → a ≡ b
 same-reading a b t p x = ap (λ v. reading-of v a.position a.rest) t ∙ (ap (λ v. reading-of b.target v a.rest) p ∙ ap (λ v. reading-of b.target b.position v) x)
-
--- ---- the combinations
-
-pub then-exact : {A B : Type 0} (target : Target) (first : Reading → Result (A × Reading) Fault) (second : A → Reading → Result (B × Reading) Fault) (First : List ℕ → A → Type 0) (Second : A → List ℕ → B → Type 0)
-    → Exact target first First → ((a : A) → Exact target (second a) (Second a)) → Exact target (then_read first second) (Then First Second)
-then-exact {A} {B} target first second First Second one two r same = record {
-  found = λ b after e.
-      let a = bind-ok (first r) (λ x. second x.0 x.1) (b, after) e in
-      let h = (one r same).found a.0.0 a.0.1 a.1 in
-      let k = (two a.0.0 a.0.1 (h.target ∙ same)).found b after a.2 in
-      record {
-        bytes = h.bytes ++ k.bytes;
-        spelled = (a.0.0, h.bytes, k.bytes, refl, h.spelled, k.spelled);
-        parts = h.parts ∙ ap (λ (t : List ℕ). h.bytes ++ t) k.parts ∙ sym (append_assoc h.bytes k.bytes after.rest);
-        position = omega (arith, h.position, k.position, length-append h.bytes k.bytes);
-        target = k.target ∙ h.target;
-      };
-  only = λ b after h.
-      let s = h.spelled in
-      let mid : Reading = record { target = r.target; position = r.position + length s.1; rest = s.2 ++ after.rest } in
-      let first_is = (one r same).only s.0 mid (record { bytes = s.1; spelled = s.4; parts = h.parts ∙ ap (λ (t : List ℕ). t ++ after.rest) s.3 ∙ append_assoc s.1 s.2 after.rest; position = refl; target = refl }) in
-      let second_is = (two s.0 mid same).only b after (record { bytes = s.2; spelled = s.5; parts = refl; position = omega (arith, h.position, ap length s.3, length-append s.1 s.2); target = h.target }) in
-      ap (λ x. x >>= λ (a : A × Reading). second a.0 a.1) first_is ∙ second_is;
-}
-
-pub made-exact : {A : Type 0} (target : Target) (a : A) → Exact target (made_read a) (Made a)
-made-exact {A} target a r same_target = record {
-  found = λ b after e.
-      let same : (a, r) ≡ (b, after) = ok-is (a, r) (b, after) e in
-      subst (λ (p : A × Reading). Next (Made a) r p.0 p.1) same (record { bytes = []; spelled = (refl, refl); parts = refl; position = omega arith; target = refl });
-  only = λ b after h.
-      let rest : after.rest ≡ r.rest = ap (λ (t : List ℕ). t ++ after.rest) (sym h.spelled.0) ∙ sym h.parts in
-      let position : after.position ≡ r.position = omega (arith, h.position, ap length h.spelled.0) in
-      let same : r ≡ after = sym (same-reading after r h.target position rest) in
-      ap (λ (x : Reading). finish (a, x)) same ∙ ap (λ (y : A). finish (y, after)) (sym h.spelled.1);
-}
-
-guard-ok : {A : Type 0} (t : Bool) (fault : Fault) (x y : A × Reading) → cond t (finish x) (Err fault) ≡ finish y → (t ≡ true) × (x ≡ y)
-guard-ok true fault x y e = (refl, cc)
-guard-ok false fault x y e = absurd cc
-
-pub passing-exact : {A : Type 0} (target : Target) (test : A → Bool) (fault : Reading → Fault) (read : Reading → Result (A × Reading) Fault) (Spells : List ℕ → A → Type 0)
-    → Exact target read Spells → Exact target (passing_read test fault read) (Passing test Spells)
-passing-exact {A} target test fault read Spells exact r same = record {
-  found = λ b after e.
-      let a = bind-ok (read r) (λ x. cond (test x.0) (finish x) (Err (fault r))) (b, after) e in
-      let t = guard-ok (test a.0.0) (fault r) a.0 (b, after) a.2 in
-      let h = (exact r same).found a.0.0 a.0.1 a.1 in
-      subst (λ (q : A × Reading). Next (Passing test Spells) r q.0 q.1) t.1 (record { bytes = h.bytes; spelled = (h.spelled, t.0); parts = h.parts; position = h.position; target = h.target });
-  only = λ b after h.
-      let is = (exact r same).only b after (record { bytes = h.bytes; spelled = h.spelled.0; parts = h.parts; position = h.position; target = h.target }) in
-      ap (λ x. x >>= λ (a : A × Reading). cond (test a.0) (finish a) (Err (fault r))) is ∙ ap (λ t. cond t (finish (b, after)) (Err (fault r))) h.spelled.1;
-}
 
 -- ---- the fields
 

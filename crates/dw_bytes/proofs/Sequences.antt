@@ -1,12 +1,14 @@
 -- Things one after the other are read exactly where they are spelled.
-use Rattle.std.proofs.Common.{◌≡◌, ℕ, zero, suc, ◌+◌, ◌-◌, ◌<◌, ◌≤◌, ◌↔◌, cond, ltb, List, [], ◌∷◌, length, map, Result, Ok, Err, refl, sym, ap, subst, ◌∙◌, arith, inl, inr}
+use Rattle.std.proofs.Common.{◌≡◌, ℕ, zero, suc, ◌+◌, ◌-◌, ◌<◌, ◌≤◌, ◌↔◌, cond, ltb, List, [], ◌∷◌, ◌++◌, length, map, append_assoc, Result, Ok, Err, refl, sym, ap, subst, ◌∙◌, arith, inl, inr}
 use Rattle.std.proofs.lemmas.Bool.{lt-ltb, le-ltb, cases_lt}
 use Rattle.std.proofs.lemmas.List.{length-append}
 use Rattle.dw_bytes.specs.declared.target.Target.{Target}
+use Rattle.dw_bytes.specs.declared.target.Format.{Format}
 use Rattle.dw_bytes.specs.declared.fault.Fault.{Fault}
-use Rattle.dw_bytes.specs.Reading.{Reading, Next, IsExact, ◌>>=◌}
-use Rattle.dw_bytes.specs.Sequence.{Sequence, Located, located_read, and_then, at_most_of, sequence_of}
-use Rattle.dw_bytes.proofs.Readers.{ExactAt, bind-ok, ok-is}
+use Rattle.dw_bytes.specs.Spelling.{Offset}
+use Rattle.dw_bytes.specs.Reading.{Reading, Next, IsExact, ◌>>=◌, offset_at}
+use Rattle.dw_bytes.specs.Sequence.{Sequence, Located, located_read, and_then, at_most_of, sequence_of, Exactly, exactly_of}
+use Rattle.dw_bytes.proofs.Readers.{ExactAt, bind-ok, ok-is, same-reading, offset-exact}
 
 -- A reader of one thing: exact wherever the target is this one, and no spelling is empty.
 pub record ReadsEach {X : Type 0} (target : Target) (read : Reading → Result (X × Reading) Fault) (Spells : ℕ → List ℕ → X → Type 0) : Type 0 where
@@ -139,3 +141,53 @@ forward read Spells each r x after is =
     let next = (here.exact r refl).found x after is in
     let some = here.some r.position next.bytes x next.spelled in
     omega (arith, some, ap length next.parts, length-append next.bytes after.rest)
+
+-- ---- exactly so many things
+
+abbrev finish : {A : Type 0} → A → Reading → Result (A × Reading) Fault
+finish a r = Ok (a, r)
+
+given : {A : Type 0} (Spells : List ℕ → A → Type 0) (r : Reading) (a b : A) (x y : Reading) → finish a x ≡ finish b y → Next Spells r a x → Next Spells r b y
+given {A} Spells r a b x y is h = subst (λ (p : A × Reading). Next Spells r p.0 p.1) (ok-is (a, x) (b, y) is) h
+
+pub exactly-exact : {X : Type 0} (target : Target) (read : Reading → Result (X × Reading) Fault) (Spells : ℕ → List ℕ → X → Type 0) → ExactAt target read Spells
+    → (count : ℕ) → ExactAt target (exactly_of read count) (Exactly Spells count)
+exactly-exact {X} target read Spells exact zero r same = record {
+  found = λ xs after is. given {A = List X} (Exactly Spells 0 r.position) r [] xs r after is (record { bytes = []; spelled = (refl, refl); parts = refl; position = omega arith; target = refl });
+  only = none-only;
+}
+  where
+    none-only : (xs : List X) (after : Reading) → Next (Exactly Spells 0 r.position) r xs after → exactly_of read 0 r ≡ Ok (xs, after)
+    none-only [] after h =
+        let rest : after.rest ≡ r.rest = ap (λ (t : List ℕ). t ++ after.rest) (sym h.spelled.0) ∙ sym h.parts in
+        let position : after.position ≡ r.position = omega (arith, h.position, ap length h.spelled.0) in
+        ap (λ (x : Reading). finish {A = List X} [] x) (sym (same-reading after r h.target position rest))
+    none-only (x ∷ xs) after h = absurd (omega (arith, h.spelled.1))
+exactly-exact {X} target read Spells exact (suc count) r same = record {
+  found = λ ys after is.
+      let x = bind-ok (read r) (λ x. exactly_of read count x.1 >>= λ xs. finish (x.0 ∷ xs.0) xs.1) (ys, after) is in
+      let xs = bind-ok (exactly_of read count x.0.1) (λ xs. finish (x.0.0 ∷ xs.0) xs.1) (ys, after) x.2 in
+      let h = (exact r same).found x.0.0 x.0.1 x.1 in
+      let k = (exactly-exact target read Spells exact count x.0.1 (h.target ∙ same)).found xs.0.0 xs.0.1 xs.1 in
+      given {A = List X} (Exactly Spells (suc count) r.position) r (x.0.0 ∷ xs.0.0) ys xs.0.1 after xs.2 (record {
+        bytes = h.bytes ++ k.bytes;
+        spelled = ((h.bytes, k.bytes, refl, h.spelled, subst (λ at. Sequence Spells at k.bytes xs.0.0) h.position k.spelled.0), omega (arith, k.spelled.1));
+        parts = h.parts ∙ ap (λ (t : List ℕ). h.bytes ++ t) k.parts ∙ sym (append_assoc h.bytes k.bytes xs.0.1.rest);
+        position = omega (arith, h.position, k.position, length-append h.bytes k.bytes);
+        target = k.target ∙ h.target;
+      });
+  only = some-only (λ mid here. exactly-exact target read Spells exact count mid here);
+}
+  where
+    some-only : ((mid : Reading) → mid.target ≡ target → IsExact (exactly_of read count) (Exactly Spells count mid.position) mid) → (ys : List X) (after : Reading) → Next (Exactly Spells (suc count) r.position) r ys after → exactly_of read (suc count) r ≡ Ok (ys, after)
+    some-only behind [] after h = absurd (omega (arith, h.spelled.1))
+    some-only behind (x ∷ xs) after h =
+        let s = h.spelled.0 in
+        let mid : Reading = record { target = r.target; position = r.position + length s.0; rest = s.1 ++ after.rest } in
+        let one = (exact r same).only x mid (record { bytes = s.0; spelled = s.3; parts = h.parts ∙ ap (λ (t : List ℕ). t ++ after.rest) s.2 ∙ append_assoc s.0 s.1 after.rest; position = refl; target = refl }) in
+        let others = (behind mid same).only xs after (record { bytes = s.1; spelled = (s.4, omega (arith, h.spelled.1)); parts = refl; position = omega (arith, h.position, ap length s.2, length-append s.0 s.1); target = h.target }) in
+        rw (one, others) refl
+
+-- the offsets of an array
+pub offsets-exact : (format : Format) (count : ℕ) (r : Reading) → IsExact (exactly_of (offset_at format) count) (Exactly (λ at. Offset r.target.order format) count r.position) r
+offsets-exact format count r = exactly-exact r.target (offset_at format) (λ at. Offset r.target.order format) (offset-exact r.target format) count r refl

@@ -28,3 +28,11 @@ at_most_of read (suc count) r = if nat_lt 0 (length r.rest) then and_then (read 
 -- The things from left to right, up to the end or the first fault: there are no more of them than bytes.
 unfoldable pub sequence_of : {X : Type 0} → (Reading → Result (X × Reading) Fault) → Reading → List (Result X Fault)
 sequence_of read r = at_most_of read (length r.rest) r
+
+-- Exactly so many things, as an array has them: which bytes spell them, and reading them.
+abbrev pub Exactly : {X : Type 0} → (ℕ → List ℕ → X → Type 0) → ℕ → ℕ → List ℕ → List X → Type 0
+Exactly Spells count at bytes xs = Sequence Spells at bytes xs × (length xs ≡ count)
+
+abbrev pub exactly_of : {X : Type 0} → (Reading → Result (X × Reading) Fault) → ℕ → Reading → Result (List X × Reading) Fault
+exactly_of read zero r = Ok ([], r)
+exactly_of read (suc count) r = read r >>= λ x. exactly_of read count x.1 >>= λ xs. Ok (x.0 ∷ xs.0, xs.1)

@@ -7,63 +7,15 @@ use Rattle.dw_bytes.specs.declared.target.Format.{Format}
 use Rattle.dw_bytes.specs.declared.target.Format.TheVariants.{Dwarf32, Dwarf64}
 use Rattle.dw_bytes.specs.declared.fault.Fault.{Fault}
 use Rattle.dw_bytes.specs.Spelling.{Len, Length}
-use Rattle.dw_bytes.specs.Reading.{Reading, Next, IsExact, ◌>>=◌, take_at, initial_length_at}
-use Rattle.dw_bytes.proofs.Readers.{bind-ok, ok-is, same-reading, length-exact, take-exact, leaves-suffix}
+use Rattle.dw_bytes.specs.Reading.{Reading, Next, IsExact, ◌>>=◌, section_from}
+use Rattle.dw_bytes.specs.Bodies.{framed_at}
+use Rattle.dw_bytes.proofs.Readers.{bind-ok, ok-is, same-reading, leaves-suffix}
+use Rattle.dw_bytes.proofs.Bodies.{IsFramed, framed-found, framed-only}
 use Rattle.dw_bytes.proofs.Sequences.{ReadsEach, Forward, forward, goes-on, stops, ends, all-read, sequence-exact}
 use Rattle.dw_frame.specs.Records.{Record}
-use Rattle.dw_frame.specs.Sections.{Header, IsRecord, AreRecords, record_from, header_at, body_of, framed_at, record_at, section_from, entries_from, entries_of}
+use Rattle.dw_frame.specs.Sections.{Header, IsHeader, IsRecord, AreRecords, record_from, header_at, record_at, entries_from, entries_of}
 use Rattle.dw_frame.specs.Bounds.{IsBehind}
 use Rattle.dw_frame.proofs.Headers.{header-exact}
-
--- ---- a length and its body
-
-pub record IsFramed (r : Reading) (format : Format) (body after : Reading) : Type 0 where
-  pub front : List ℕ
-  pub length_is : Length r.target.order front (format, length body.rest)
-  pub parts : r.rest ≡ front ++ (body.rest ++ after.rest)
-  pub body_position : body.position ≡ r.position + length front
-  pub body_target : body.target ≡ r.target
-  pub position : after.position ≡ body.position + length body.rest
-  pub target : after.target ≡ r.target
-
-abbrev framed : Format → Reading → Reading → Result ((Format × Reading) × Reading) Fault
-framed format body after = Ok ((format, body), after)
-
-framed-same : (r : Reading) (f g : Format) (x y a b : Reading) → framed f x a ≡ framed g y b → IsFramed r f x a → IsFramed r g y b
-framed-same r f g x y a b is h =
-    let same : ((f, x), a) ≡ ((g, y), b) = ok-is {A = Format × Reading} ((f, x), a) ((g, y), b) is in
-    subst (λ (p : (Format × Reading) × Reading). IsFramed r p.0.0 p.0.1 p.1) same h
-
-framed-parts : (r mid after : Reading) (format : Format) (n : ℕ) (bytes : List ℕ) → initial_length_at r ≡ Ok ((format, n), mid) → take_at n mid ≡ Ok (bytes, after) → IsFramed r format (body_of mid bytes) after
-framed-parts r mid after format n bytes first second =
-    let size = (length-exact r.target r refl).found (format, n) mid first in
-    let body = (take-exact r.target n mid size.target).found bytes after second in
-    let value : bytes ≡ body.bytes = body.spelled.value in
-    let count : length bytes ≡ n = ap length value ∙ body.spelled.count in
-    record {
-      front = size.bytes;
-      length_is = subst (λ k. Length r.target.order size.bytes (format, k)) (sym count) size.spelled;
-      parts = size.parts ∙ ap (λ (t : List ℕ). size.bytes ++ t) (body.parts ∙ ap (λ (t : List ℕ). t ++ after.rest) (sym value));
-      body_position = size.position;
-      body_target = size.target;
-      position = body.position ∙ ap (λ (t : List ℕ). mid.position + length t) (sym value);
-      target = body.target ∙ size.target;
-    }
-
-pub framed-found : (r : Reading) (format : Format) (body after : Reading) → framed_at r ≡ Ok ((format, body), after) → IsFramed r format body after
-unfolding framed_at
-framed-found r format body after is =
-    let a = bind-ok (initial_length_at r) (λ size. take_at size.0.1 size.1 >>= λ bytes. framed size.0.0 (body_of size.1 bytes.0) bytes.1) ((format, body), after) is in
-    let b = bind-ok (take_at a.0.0.1 a.0.1) (λ bytes. framed a.0.0.0 (body_of a.0.1 bytes.0) bytes.1) ((format, body), after) a.2 in
-    framed-same r a.0.0.0 format (body_of a.0.1 b.0.0) body b.0.1 after b.2 (framed-parts r a.0.1 b.0.1 a.0.0.0 a.0.0.1 b.0.0 a.1 b.1)
-
-pub framed-only : (r : Reading) (format : Format) (body after : Reading) → IsFramed r format body after → framed_at r ≡ Ok ((format, body), after)
-unfolding framed_at
-framed-only r format body after h =
-    let mid : Reading = record { target = r.target; position = r.position + length h.front; rest = body.rest ++ after.rest } in
-    let one = (length-exact r.target r refl).only (format, length body.rest) mid (record { bytes = h.front; spelled = h.length_is; parts = h.parts; position = refl; target = refl }) in
-    let two = (take-exact r.target (length body.rest) mid refl).only body.rest after (record { bytes = body.rest; spelled = record { count = refl; value = refl }; parts = refl; position = omega (arith, h.position, h.body_position); target = h.target }) in
-    rw (one, two) (ap (λ (b : Reading). framed format b after) (same-reading (body_of mid body.rest) body (sym h.body_target) (sym h.body_position) refl))
 
 -- ---- a record
 
@@ -91,7 +43,7 @@ record-parts r body program after format h frame read =
         program = program.rest;
         parts = ap (λ (t : List ℕ). frame.front ++ t) header.parts;
         length_is = subst (λ (t : List ℕ). Length r.target.order frame.front (format, length t)) header.parts frame.length_is;
-        header_is = header.spelled;
+        header_is = subst (λ p. IsHeader r.target format p header.bytes h) frame.body_position header.spelled;
         record_is = ap (λ n. record_from r.position format n h program) frame.body_position ∙ ap (λ (p : Reading). record_from r.position format (r.position + length frame.front) h p) program_is;
       };
       parts = frame.parts ∙ sym (append_assoc frame.front body.rest after.rest);

@@ -1,5 +1,5 @@
 -- Records and their faults stand in their section.
-use Rattle.std.proofs.Common.{◌≡◌, ℕ, ◌+◌, ◌<◌, ◌≤◌, Bool, true, false, List, [], ◌∷◌, ◌++◌, length, Result, Ok, Err, refl, sym, ap, subst, ◌∙◌, arith, inl, inr}
+use Rattle.std.proofs.Common.{◌≡◌, ℕ, ◌+◌, ◌<◌, ◌≤◌, Bool, true, false, cond, List, [], ◌∷◌, ◌++◌, length, Result, Ok, Err, refl, sym, ap, subst, ◌∙◌, arith, inl, inr}
 use Rattle.std.specs.Prelude.{Contains, ◌==◌, ◌⊎◌}
 use Rattle.std.specs.List.{AllByRecursion}
 use Rattle.std.proofs.lemmas.Bool.{leb-true}
@@ -8,75 +8,25 @@ use Rattle.dw_bytes.specs.declared.target.Target.{Target}
 use Rattle.dw_bytes.specs.declared.target.Format.{Format}
 use Rattle.dw_bytes.specs.declared.target.Format.TheVariants.{Dwarf32, Dwarf64}
 use Rattle.dw_bytes.specs.declared.fault.Fault.{Fault}
-use Rattle.dw_bytes.specs.declared.fault.FaultKind.{FaultKind}
-use Rattle.dw_bytes.specs.declared.fault.FaultKind.TheVariants.{Version, Augmentation, AddressSize, SegmentSize, RegisterNumber, RangePastTop}
-use Rattle.dw_bytes.specs.Spelling.{bytes_of_address, bytes_of_offset}
-use Rattle.dw_bytes.specs.Reading.{Reading, ◌>>=◌, take_at, fixed_at, address_at, offset_at, initial_length_at, uleb_at, sleb_at}
-use Rattle.dw_bytes.specs.Readers.{passing_read, fault_here}
-use Rattle.dw_bytes.proofs.Bounds.{Stays, AlwaysStays, end-of, then-stays, passing-stays, made-stays, here-stays, fixed-stays, address-stays, offset-stays, length-stays, uleb-stays, sleb-stays, take-stays, each-along}
+use Rattle.dw_bytes.specs.declared.fault.FaultKind.TheVariants.{RegisterNumber, RangePastTop}
+use Rattle.dw_bytes.specs.Spelling.{bytes_of_offset}
+use Rattle.dw_bytes.specs.Reading.{Reading, ◌>>=◌, section_from}
+use Rattle.dw_bytes.specs.Bodies.{framed_at}
+use Rattle.dw_bytes.specs.Fields.{Encodes}
+use Rattle.dw_bytes.proofs.Bounds.{Stays, AlwaysStays, end-of, length-stays, take-stays, each-along}
+use Rattle.dw_bytes.proofs.FieldsOf.{passed, fields-stay}
+use Rattle.dw_bytes.proofs.Bodies.{bind-err, not-err, framed-found, framed-refused}
 use Rattle.dw_frame.specs.Records.{Record}
-use Rattle.dw_frame.specs.Sections.{Header, common_header, description_header, cie_id, top_of, ends_by, is_register, byte_at, cie_header_at, fde_header_at, from_id_at, IsFrom, header_at, IsHeader, record_from, IsRecord, AreRecords, body_of, framed_at, record_at, section_from, entries_from, entries_of, cie_among}
+use Rattle.dw_frame.specs.Sections.{Header, common_header, description_header, cie_id, top_of, ends_by, is_register, cie_header, fde_header, header_fields, header_at, IsHeader, record_from, IsRecord, AreRecords, record_at, entries_from, entries_of, cie_among}
 use Rattle.dw_frame.specs.Bounds.{IsSoundRecord, IsSound, offset_of, Ascends}
 use Rattle.dw_frame.proofs.CieAmong.{cie-fault}
-use Rattle.dw_frame.proofs.EachRecord.{framed-found, record-found, some-bytes, some-length}
+use Rattle.dw_frame.proofs.EachRecord.{record-found, some-bytes, some-length}
 
 -- ---- refusals
 
-abbrev no : (A : Type 0) → Fault → Result A Fault
-no A fault = Err fault
-
-err-is : (A : Type 0) (f g : Fault) → no A f ≡ no A g → f ≡ g
-err-is A f g e = cc
-
-not-err : {A : Type 0} {x : A} {fault : Fault} → Ok x ≡ Err fault → ⊥
-not-err e = cc
-
-byte-stays : (from : ℕ) (kind : FaultKind) (value : ℕ) → AlwaysStays from (byte_at kind value)
-byte-stays from kind value = passing-stays from (λ v. v == value) (fault_here kind) (fixed_at 1) (fixed-stays from 1) (here-stays ℕ from kind)
-
-cie-header-stays : (from : ℕ) (target : Target) → AlwaysStays from (cie_header_at target)
-cie-header-stays from target =
-    then-stays from (byte_at Version 4) _ (byte-stays from Version 4) (λ version.
-    then-stays from (byte_at Augmentation 0) _ (byte-stays from Augmentation 0) (λ augmentation.
-    then-stays from (byte_at AddressSize (bytes_of_address target.address_size)) _ (byte-stays from AddressSize (bytes_of_address target.address_size)) (λ address_size.
-    then-stays from (byte_at SegmentSize 0) _ (byte-stays from SegmentSize 0) (λ segment_selector_size.
-    then-stays from uleb_at _ (uleb-stays from) (λ code.
-    then-stays from sleb_at _ (sleb-stays from) (λ data_factor.
-    then-stays from (passing_read is_register (fault_here RegisterNumber) uleb_at) _ (passing-stays from is_register (fault_here RegisterNumber) uleb_at (uleb-stays from) (here-stays ℕ from RegisterNumber)) (λ return_register.
-    made-stays from (common_header (record { code_factor = code; data_factor = data_factor; return_register = return_register })))))))))
-
-fde-header-stays : (from : ℕ) (target : Target) (cie_pointer : ℕ) → AlwaysStays from (fde_header_at target cie_pointer)
-fde-header-stays from target cie_pointer =
-    then-stays from address_at _ (address-stays from) (λ initial.
-    then-stays from (passing_read (ends_by (top_of target) initial) (fault_here RangePastTop) address_at) _ (passing-stays from (ends_by (top_of target) initial) (fault_here RangePastTop) address_at (address-stays from) (here-stays ℕ from RangePastTop)) (λ range.
-    made-stays from (description_header (record { cie_pointer = cie_pointer; initial = initial; range = range }))))
-
-from-id-stays : (from : ℕ) (target : Target) (id : ℕ) (is_cie : Bool) → AlwaysStays from (from_id_at target id is_cie)
-from-id-stays from target id true = cie-header-stays from target
-from-id-stays from target id false = fde-header-stays from target id
-
 header-stays : (from : ℕ) (target : Target) (format : Format) → AlwaysStays from (header_at target format)
 unfolding header_at
-header-stays from target format r h = then-stays from (offset_at format) (λ id. from_id_at target id (id == cie_id format)) (offset-stays from format) (λ id. from-id-stays from target id (id == cie_id format)) r h
-
--- where a step fails, or what is behind it
-bind-err : {A B : Type 0} (x : Result A Fault) (f : A → Result B Fault) (fault : Fault) → (x >>= f) ≡ Err fault → (x ≡ Err fault) ⊎ ((a : A) × (x ≡ Ok a) × (f a ≡ Err fault))
-bind-err (Ok a) f fault is = inr (a, refl, is)
-bind-err {A} {B} (Err other) f fault is = let same : other ≡ fault = err-is B other fault is in inl (ap (λ (e : Fault). no A e) same)
-
-framed-refused : (r : Reading) (fault : Fault) → framed_at r ≡ Err fault → fault.at ≤ end-of r
-unfolding framed_at
-framed-refused r fault is =
-    elim (bind-err (initial_length_at r) (λ size. take_at size.0.1 size.1 >>= λ bytes. Ok ((size.0.0, body_of size.1 bytes.0), bytes.1)) fault is) [
-      | inl e ↦ let stays = subst (Stays {X = Format × ℕ} r.position r) e (length-stays r.position r (omega arith)) in stays.1
-      | inr h ↦
-          let size = h.0 in
-          let stays = subst (Stays {X = Format × ℕ} r.position r) h.1 (length-stays r.position r (omega arith)) in
-          elim (bind-err (take_at size.0.1 size.1) (λ bytes. Ok ((size.0.0, body_of size.1 bytes.0), bytes.1)) fault h.2) [
-            | inl e ↦ let taken = subst (Stays {X = List ℕ} size.1.position size.1) e (take-stays size.1.position size.0.1 size.1 (omega arith)) in omega (arith, taken.1, stays.1)
-            | inr k ↦ absurd (not-err k.2)
-          ]
-    ]
+header-stays from target format r h = fields-stay from (header_fields target format) r h
 
 pub record-refused : (r : Reading) (fault : Fault) → record_at r ≡ Err fault → fault.at ≤ end-of r
 unfolding record_at
@@ -101,20 +51,20 @@ abbrev InRange : Target → Header → Type 0
 InRange target (common_header h) = h.return_register ≤ 65535
 InRange target (description_header h) = h.initial + h.range ≤ top_of target
 
-from-id-range : (target : Target) (id : ℕ) (is_cie : Bool) (bytes : List ℕ) (h : Header) → IsFrom target id is_cie bytes h → InRange target h
-from-id-range target id true bytes h s =
-    let last = s.5.5.5.5.5.5 in
-    subst (InRange target) (sym last.5.1) (leb-true last.0 65535 last.4.1)
-from-id-range target id false bytes h s =
-    let last = s.5 in
-    subst (InRange target) (sym last.5.1) (leb-true (s.0 + last.0) (top_of target) last.4.1)
+from-id-range : (target : Target) (id at : ℕ) (is_cie : Bool) (bytes : List ℕ) (h : Header) → Encodes target (cond is_cie (cie_header target) (fde_header target id)) at bytes h → InRange target h
+from-id-range target id at true bytes h s =
+    let last = s.6.6.6.6.6.6 in
+    subst (InRange target) (sym last.6.1) (leb-true last.0 65535 (passed (is_register last.0) RegisterNumber last.5))
+from-id-range target id at false bytes h s =
+    let last = s.6 in
+    subst (InRange target) (sym last.6.1) (leb-true (s.0 + last.0) (top_of target) (passed (ends_by (top_of target) s.0 last.0) RangePastTop last.5))
 
 some-offset : (format : Format) → 0 < bytes_of_offset format
 some-offset Dwarf32 = omega arith
 some-offset Dwarf64 = omega arith
 
-some-fields : (target : Target) (format : Format) (bytes : List ℕ) (h : Header) → IsHeader target format bytes h → 0 < length bytes
-some-fields target format bytes h (id, x, y, parts, first, second) = omega (arith, some-offset format, first.count, ap length parts, length-append x y)
+some-fields : (target : Target) (format : Format) (at : ℕ) (bytes : List ℕ) (h : Header) → IsHeader target format at bytes h → 0 < length bytes
+some-fields target format at bytes h (id, x, y, parts, first, fine, second) = omega (arith, some-offset format, first.count, ap length parts, length-append x y)
 
 -- ---- records
 
@@ -125,9 +75,9 @@ sound-from target size at body format (description_header h) program range befor
 sound-record : (target : Target) (size at : ℕ) (bytes : List ℕ) (x : Record) → IsRecord target at bytes x → at + length bytes ≤ size → IsSoundRecord target size x
 sound-record target size at bytes x s inside =
     let program : Reading = record { target = target; position = at + length s.front + length s.fields; rest = s.program } in
-    let range = from-id-range target s.header_is.0 (s.header_is.0 == cie_id s.format) s.header_is.2 s.header s.header_is.5 in
+    let range = from-id-range target s.header_is.0 (at + length s.front + length s.header_is.1) (s.header_is.0 == cie_id s.format) s.header_is.2 s.header s.header_is.6 in
     let front = some-length target.order s.front s.format (length (s.fields ++ s.program)) s.length_is in
-    let fields = some-fields target s.format s.fields s.header s.header_is in
+    let fields = some-fields target s.format (at + length s.front) s.fields s.header s.header_is in
     let long = length-append s.front (s.fields ++ s.program) in
     let longer = length-append s.fields s.program in
     subst (IsSoundRecord target size) (sym s.record_is)

@@ -3,10 +3,10 @@ use Rattle.std.specs.Prelude.{◌≤◌, ◌<◌, ◌+◌, ◌≡◌, ℕ, List,
 use Rattle.std.specs.List.{AllByRecursion}
 use Rattle.dw_bytes.specs.declared.target.Target.{Target}
 use Rattle.dw_bytes.specs.declared.fault.Fault.{Fault}
-use Rattle.dw_bytes.specs.Reading.{Reading}
+use Rattle.dw_bytes.specs.Reading.{Reading, section_from}
 use Rattle.dw_frame.specs.Instructions.{Instruction}
 use Rattle.dw_frame.specs.Records.{Cie, Fde, Record, common, description}
-use Rattle.dw_frame.specs.Sections.{top_of, section_from}
+use Rattle.dw_frame.specs.Sections.{top_of}
 
 -- An instruction begins in its program. A fault may stand at its end, too.
 abbrev pub StandsIn : Reading → Result (ℕ × Instruction) Fault → Type 0

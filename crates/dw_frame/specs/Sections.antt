@@ -1,14 +1,16 @@
 -- The records of a `.debug_frame` section (DWARF 5, sections 6.4.1 and 7.24): which bytes spell which record.
-use Rattle.std.specs.Prelude.{◌≡◌, ◌+◌, ◌-◌, ◌*◌, ◌^◌, ◌==◌, ℕ, ℤ, nat_le, if◌then◌else◌, Bool, true, false, List, [], ◌∷◌, ◌++◌, length, drop, Option, Some, None, Result, Ok, Err}
+use Rattle.std.specs.Prelude.{◌≡◌, ◌+◌, ◌==◌, ℕ, ℤ, nat_le, if◌then◌else◌, Bool, true, false, List, [], ◌∷◌, ◌++◌, length, drop, Option, Some, None, Result, Ok, Err}
 use Rattle.dw_bytes.specs.declared.target.Target.{Target}
 use Rattle.dw_bytes.specs.declared.target.Format.{Format}
 use Rattle.dw_bytes.specs.declared.target.Format.TheVariants.{Dwarf32, Dwarf64}
 use Rattle.dw_bytes.specs.declared.fault.Fault.{Fault}
 use Rattle.dw_bytes.specs.declared.fault.FaultKind.TheVariants.{Version, Augmentation, AddressSize, SegmentSize, RegisterNumber, RangePastTop}
 use Rattle.dw_bytes.specs.declared.fault.FaultKind.{FaultKind}
-use Rattle.dw_bytes.specs.Spelling.{max_address, Fixed, Address, Offset, Length, Uleb, Sleb, bytes_of_address}
-use Rattle.dw_bytes.specs.Reading.{Reading, ◌>>=◌, take_at, fixed_at, address_at, offset_at, initial_length_at, uleb_at, sleb_at}
-use Rattle.dw_bytes.specs.Readers.{Then, then_read, Passing, passing_read, Made, made_read, fault_here}
+use Rattle.dw_bytes.specs.Spelling.{max_address, Length, bytes_of_address, bytes_of_offset}
+use Rattle.dw_bytes.specs.Reading.{Reading, ◌>>=◌, section_from}
+use Rattle.dw_bytes.specs.Operands.{address, fixed, unsigned, signed}
+use Rattle.dw_bytes.specs.Bodies.{framed_at}
+use Rattle.dw_bytes.specs.Fields.{Fields, made, field, any, unless, byte, Encodes, fields_at}
 use Rattle.dw_bytes.specs.Sequence.{Sequence, sequence_of}
 use Rattle.dw_frame.specs.Records.{Cie, Record, common, description}
 
@@ -45,64 +47,37 @@ ends_by top initial range = nat_le (initial + range) top
 abbrev pub is_register : ℕ → Bool
 is_register number = nat_le number 65535
 
--- a byte that can have one value alone
-abbrev pub Byte : Target → ℕ → List ℕ → ℕ → Type 0
-Byte target value = Passing (λ v. v == value) (Fixed target.order 1)
-
-abbrev pub byte_at : FaultKind → ℕ → Reading → Result (ℕ × Reading) Fault
-byte_at kind value = passing_read (λ v. v == value) (fault_here kind) (fixed_at 1)
-
 -- Behind the id of a CIE: version 4, an augmentation that is empty, the size of an address of the target, no segment
 -- selectors, and then the two factors and the column of the return address.
-abbrev pub IsCieHeader : Target → List ℕ → Header → Type 0
-IsCieHeader target =
-    Then (Byte target 4) (λ version.
-    Then (Byte target 0) (λ augmentation.
-    Then (Byte target (bytes_of_address target.address_size)) (λ address_size.
-    Then (Byte target 0) (λ segment_selector_size.
-    Then Uleb (λ code.
-    Then Sleb (λ data_factor.
-    Then (Passing is_register Uleb) (λ return_register.
-    Made (common_header (record { code_factor = code; data_factor = data_factor; return_register = return_register })))))))))
-
-abbrev pub cie_header_at : Target → Reading → Result (Header × Reading) Fault
-cie_header_at target =
-    then_read (byte_at Version 4) (λ version.
-    then_read (byte_at Augmentation 0) (λ augmentation.
-    then_read (byte_at AddressSize (bytes_of_address target.address_size)) (λ address_size.
-    then_read (byte_at SegmentSize 0) (λ segment_selector_size.
-    then_read uleb_at (λ code.
-    then_read sleb_at (λ data_factor.
-    then_read (passing_read is_register (fault_here RegisterNumber) uleb_at) (λ return_register.
-    made_read (common_header (record { code_factor = code; data_factor = data_factor; return_register = return_register })))))))))
+abbrev pub cie_header : Target → Fields Header
+cie_header target =
+    byte Version 4 (
+    byte Augmentation 0 (
+    byte AddressSize (bytes_of_address target.address_size) (
+    byte SegmentSize 0 (
+    any unsigned (λ code.
+    any signed (λ data_factor.
+    field unsigned (λ number. unless (is_register number) RegisterNumber) (λ return_register.
+    made (common_header (record { code_factor = code; data_factor = data_factor; return_register = return_register })))))))))
 
 -- Behind the CIE_pointer of an FDE: the first address, and how many there are, which all lie in the address space.
-abbrev pub IsFdeHeader : Target → ℕ → List ℕ → Header → Type 0
-IsFdeHeader target cie_pointer =
-    Then (Address target) (λ initial.
-    Then (Passing (ends_by (top_of target) initial) (Address target)) (λ range.
-    Made (description_header (record { cie_pointer = cie_pointer; initial = initial; range = range }))))
-
-abbrev pub fde_header_at : Target → ℕ → Reading → Result (Header × Reading) Fault
-fde_header_at target cie_pointer =
-    then_read address_at (λ initial.
-    then_read (passing_read (ends_by (top_of target) initial) (fault_here RangePastTop) address_at) (λ range.
-    made_read (description_header (record { cie_pointer = cie_pointer; initial = initial; range = range }))))
+abbrev pub fde_header : Target → ℕ → Fields Header
+fde_header target cie_pointer =
+    any address (λ initial.
+    field address (λ range. unless (ends_by (top_of target) initial range) RangePastTop) (λ range.
+    made (description_header (record { cie_pointer = cie_pointer; initial = initial; range = range }))))
 
 -- a CIE, where it is its id that the body begins with, else an FDE
-abbrev pub IsFrom : Target → ℕ → Bool → List ℕ → Header → Type 0
-IsFrom target id true = IsCieHeader target
-IsFrom target id false = IsFdeHeader target id
+abbrev pub header_fields : Target → Format → Fields Header
+header_fields target format =
+    any (fixed (bytes_of_offset format)) (λ id.
+    if id == cie_id format then cie_header target else fde_header target id)
 
-abbrev pub from_id_at : Target → ℕ → Bool → Reading → Result (Header × Reading) Fault
-from_id_at target id true = cie_header_at target
-from_id_at target id false = fde_header_at target id
-
-abbrev pub IsHeader : Target → Format → List ℕ → Header → Type 0
-IsHeader target format = Then (Offset target.order format) (λ id. IsFrom target id (id == cie_id format))
+abbrev pub IsHeader : Target → Format → ℕ → List ℕ → Header → Type 0
+IsHeader target format = Encodes target (header_fields target format)
 
 unfoldable pub header_at : Target → Format → Reading → Result (Header × Reading) Fault
-header_at target format r = then_read (offset_at format) (λ id. from_id_at target id (id == cie_id format)) r
+header_at target format r = fields_at (header_fields target format) r
 
 -- ---- records
 
@@ -120,23 +95,12 @@ pub record IsRecord (target : Target) (at : ℕ) (bytes : List ℕ) (r : Record)
   pub program : List ℕ
   pub parts : bytes ≡ front ++ (fields ++ program)
   pub length_is : Length target.order front (format, length (fields ++ program))
-  pub header_is : IsHeader target format fields header
+  pub header_is : IsHeader target format (at + length front) fields header
   pub record_is : r ≡ record_from at format (at + length front) header (record { target = target; position = at + length front + length fields; rest = program })
 
 -- the records of a section, without a gap
 abbrev pub AreRecords : Target → ℕ → List ℕ → List Record → Type 0
 AreRecords target = Sequence (IsRecord target)
-
--- a body of these bytes
-abbrev pub body_of : Reading → List ℕ → Reading
-body_of r bytes = record { target = r.target; position = r.position; rest = bytes }
-
--- the length of a record, and its body
-unfoldable pub framed_at : Reading → Result ((Format × Reading) × Reading) Fault
-framed_at r = do
-  size ← initial_length_at r
-  body ← take_at size.0.1 size.1
-  Ok ((size.0.0, body_of size.1 body.0), body.1)
 
 -- the record, its header read within its body
 unfoldable pub record_at : Reading → Result (Record × Reading) Fault
@@ -145,10 +109,7 @@ record_at r = do
   header ← header_at r.target framed.0.0 framed.0.1
   Ok (record_from r.position framed.0.0 framed.0.1.position header.0 header.1, framed.1)
 
--- a section from an offset on
-abbrev pub section_from : Target → List ℕ → ℕ → Reading
-section_from target section at = record { target = target; position = at; rest = drop at section }
-
+-- the records of a section from an offset on
 unfoldable pub entries_from : Target → List ℕ → ℕ → List (Result Record Fault)
 entries_from target section at = sequence_of record_at (section_from target section at)
 

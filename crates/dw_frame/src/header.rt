@@ -30,35 +30,21 @@ pub enum Header {
 
 impl CieHeader {
     ghost use Rattle.dw_bytes.specs.Reading.{GoesOn};
-    ghost use Rattle.dw_bytes.specs.Readers.{ParsesBy, Parses, IsRefusedWithin};
-    ghost use Rattle.dw_frame.specs.Sections.{byte_at, cie_header_at};
+    ghost use Rattle.dw_bytes.specs.Readers.{ParsesBy, IsRefusedWithin};
+    ghost use Rattle.dw_bytes.specs.Fields.{fields_at};
+    ghost use Rattle.dw_frame.specs.Sections.{cie_header};
     ghost use Rattle.dw_frame.specs.Heads.{cie_head};
-
-    /// A byte that can have one value alone.
-    fn byte(cursor: &mut Cursor<'_>, value: u8, kind: FaultKind) -> Result<u8, Fault>
-        ensures exact { Parses (byte_at kind value) cursor.old result cursor.new }
-        ensures within { IsRefusedWithin cursor.old result }
-        ensures goes_on { GoesOn cursor.old cursor.new }
-    {
-        let at = cursor.position();
-        let byte = cursor.u8()?;
-        if byte == value {
-            Ok(byte)
-        } else {
-            Err(Fault { kind, at })
-        }
-    }
 
     /// What is behind the id of a CIE.
     fn read(cursor: &mut Cursor<'_>, target: Target) -> Result<Self, Fault>
-        ensures exact { ParsesBy cie_head (cie_header_at target) cursor.old result cursor.new }
+        ensures exact { ParsesBy cie_head (fields_at (cie_header target)) cursor.old result cursor.new }
         ensures within { IsRefusedWithin cursor.old result }
         ensures goes_on { GoesOn cursor.old cursor.new }
     {
-        Self::byte(cursor, 4, FaultKind::Version)?;
-        Self::byte(cursor, 0, FaultKind::Augmentation)?;
-        Self::byte(cursor, target.address_size.bytes(), FaultKind::AddressSize)?;
-        Self::byte(cursor, 0, FaultKind::SegmentSize)?;
+        cursor.byte(4, FaultKind::Version)?;
+        cursor.byte(0, FaultKind::Augmentation)?;
+        cursor.byte(target.address_size.bytes(), FaultKind::AddressSize)?;
+        cursor.byte(0, FaultKind::SegmentSize)?;
         let code_alignment_factor = cursor.uleb()?;
         let data_alignment_factor = cursor.sleb()?;
         let at = cursor.position();
@@ -79,12 +65,13 @@ impl CieHeader {
 impl FdeHeader {
     ghost use Rattle.dw_bytes.specs.Reading.{GoesOn};
     ghost use Rattle.dw_bytes.specs.Readers.{ParsesBy, IsRefusedWithin};
-    ghost use Rattle.dw_frame.specs.Sections.{fde_header_at};
+    ghost use Rattle.dw_bytes.specs.Fields.{fields_at};
+    ghost use Rattle.dw_frame.specs.Sections.{fde_header};
     ghost use Rattle.dw_frame.specs.Heads.{fde_head};
 
     /// What is behind the CIE_pointer of an FDE.
     fn read(cursor: &mut Cursor<'_>, target: Target, cie_pointer: u64) -> Result<Self, Fault>
-        ensures exact { ParsesBy fde_head (fde_header_at target cie_pointer) cursor.old result cursor.new }
+        ensures exact { ParsesBy fde_head (fields_at (fde_header target cie_pointer)) cursor.old result cursor.new }
         ensures within { IsRefusedWithin cursor.old result }
         ensures goes_on { GoesOn cursor.old cursor.new }
     {

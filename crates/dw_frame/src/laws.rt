@@ -3,11 +3,11 @@
 ghost use Rattle.std.specs.Prelude.{◌≡◌, ◌<◌, ◌≤◌, ◌↔◌, ℕ, List, [], ◌∷◌, ◌++◌, length, map, Contains, Result, Ok, Err, Some, None};
 ghost use Rattle.dw_bytes.specs.declared.target.Target.{Target};
 ghost use Rattle.dw_bytes.specs.declared.fault.Fault.{Fault};
-ghost use Rattle.dw_bytes.specs.Reading.{Reading, IsExact};
+ghost use Rattle.dw_bytes.specs.Reading.{Reading, IsExact, section_from};
 ghost use Rattle.dw_frame.specs.Instructions.{Instruction};
 ghost use Rattle.dw_frame.specs.Records.{Cie, Record, common};
 ghost use Rattle.dw_frame.specs.Codes.{Spells, AreInstructions, instruction_at, instructions_of};
-ghost use Rattle.dw_frame.specs.Sections.{IsRecord, AreRecords, record_at, section_from, entries_from, entries_of, cie_among};
+ghost use Rattle.dw_frame.specs.Sections.{IsRecord, AreRecords, record_at, entries_from, entries_of, cie_among};
 ghost use Rattle.dw_frame.specs.Bounds.{StandsIn, IsBehind, offset_of, Ascends, IsSound};
 
 /// No spelling of an instruction begins another, and bytes spell one instruction.

@@ -1,6 +1,6 @@
 //! The bytes of a call frame program.
 
-ghost use Rattle.std.specs.Prelude.{◌≡◌, ◌≤◌, ◌<◌, ◌+◌, ◌^◌, length, drop};
+ghost use Rattle.std.specs.Prelude.{◌≡◌, ◌≤◌, ◌<◌, ◌+◌, ◌^◌, length};
 
 use dw_bytes::{Cursor, Target};
 
@@ -76,17 +76,6 @@ impl<'a> Program<'a> {
         requires { at ≤ end_of self.now }
         ensures { result ≡ reading_from self.now at }
     {
-        cursor_at(self.section, self.target, at)
+        Cursor::at(self.section, self.target, at)
     }
-}
-
-/// A cursor at an offset of a section.
-pub(crate) fn cursor_at(section: &[u8], target: Target, at: u32) -> Cursor<'_>
-    requires inside { at ≤ length section.now }
-    requires short { length section.now < 2 ^ 32 }
-    ensures { result ≡ record { target = target; position = at; rest = drop at section.now } }
-{
-    let mut cursor = Cursor::new(section, target);
-    let _ = cursor.take(u64::from(at));
-    cursor
 }

@@ -2,19 +2,20 @@
 
 ghost use Rattle.std.specs.Prelude.{◌≡◌, ◌≤◌, ◌<◌, ◌^◌, length, IfErr, IfOk, MatchResult, Ok, Err};
 ghost use Rattle.dw_bytes.specs.Readers.{ReadsFrom};
-ghost use Rattle.dw_frame.specs.Sections.{section_from, framed_at, record_at, record_from, entries_of, cie_among};
+ghost use Rattle.dw_bytes.specs.Reading.{section_from};
+ghost use Rattle.dw_bytes.specs.Bodies.{framed_at};
+ghost use Rattle.dw_frame.specs.Sections.{record_at, record_from, entries_of, cie_among};
 ghost use Rattle.dw_frame.specs.Heads.{head_of};
 ghost use Rattle.dw_frame.specs.Views.{reading_of, reading_from, record_of, found_cie};
 
 use crate::entry::{CommonInformationEntry, Entry, FrameDescriptionEntry};
 use crate::header::Header;
-use crate::program::{self, Program};
+use crate::program::Program;
 use crate::records::Entries;
-use dw_bytes::{Fault, Format, Target};
+use dw_bytes::{Body, Fault, Format, Target};
 
 /// The format and the body of the record at an offset of a section. The body is kept as a program is,
 /// which is what it has left behind its header.
-#[tactic(auto, unfolding(crate::specs::Sections::framed_at))]
 fn frame<'a>(section: &'a [u8], target: Target, at: u32) -> Result<(Format, Program<'a>), Fault>
     requires inside { at ≤ length section.now }
     requires short { length section.now < 2 ^ 32 }
@@ -23,12 +24,11 @@ fn frame<'a>(section: &'a [u8], target: Target, at: u32) -> Result<(Format, Prog
     ensures forward { IfOk result (λ f. at < f.1.start × length f.1.section.now ≤ length section.now) }
     ensures inside { IfErr result (λ fault. fault.at ≤ length section.now) }
 {
-    let mut cursor = program::cursor_at(section, target, at);
-    let (format, length) = cursor.initial_length()?;
-    let first = cursor.position();
-    cursor.take(length)?;
-    let end = cursor.position();
-    Ok((format, Program::new(section, first, end, target)))
+    let body = Body::read(section, target, at)?;
+    Ok((
+        body.format,
+        Program::new(section, body.start, body.end, target),
+    ))
 }
 
 /// A record at an offset, of its header and its program.

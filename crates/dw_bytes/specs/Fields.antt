@@ -1,0 +1,46 @@
+-- Fields one behind the other, as a header has them. There is one grammar, and two readings of it: which bytes encode what,
+-- and what is read from left to right, with the first fault.
+use Rattle.std.specs.Prelude.{◌≡◌, ◌+◌, ◌==◌, ℕ, Bool, if◌then◌else◌, List, [], ◌++◌, length, Option, Some, None, Result, Ok, Err}
+use Rattle.dw_bytes.specs.declared.target.Target.{Target}
+use Rattle.dw_bytes.specs.declared.fault.Fault.{Fault}
+use Rattle.dw_bytes.specs.declared.fault.FaultKind.{FaultKind}
+use Rattle.dw_bytes.specs.Reading.{Reading, ◌>>=◌}
+use Rattle.dw_bytes.specs.Operands.{Kind, fixed, Operand, IsOperand, operand_at}
+
+-- Nothing more, and a value; or a field of a kind, what is wrong with its value if anything is, and what comes behind it,
+-- which may depend on the value.
+pub data Fields (B : Type 0) : Type 0 where
+  made : B → Fields B
+  field : (kind : Kind) → (Operand kind → Option FaultKind) → (Operand kind → Fields B) → Fields B
+
+-- a field of any value, one that has to pass a test, and a byte that can have one value alone
+abbrev pub any : {B : Type 0} (kind : Kind) → (Operand kind → Fields B) → Fields B
+any kind next = field kind (λ v. None) next
+
+abbrev pub unless : Bool → FaultKind → Option FaultKind
+unless test fault = if test then None else Some fault
+
+abbrev pub byte : {B : Type 0} → FaultKind → ℕ → Fields B → Fields B
+byte fault value next = field (fixed 1) (λ v. unless (v == value) fault) (λ v. next)
+
+-- ---- which bytes encode them from an offset on, and as what value
+
+abbrev pub Encodes : {B : Type 0} → Target → Fields B → ℕ → List ℕ → B → Type 0
+Encodes target (made b) at bytes v = (bytes ≡ []) × (v ≡ b)
+Encodes target (field kind fault next) at bytes v = (x : Operand kind) × (first : List ℕ) × (rest : List ℕ) × (bytes ≡ first ++ rest) × IsOperand target kind at first x × (fault x ≡ None) × Encodes target (next x) (at + length first) rest v
+
+-- ---- reading them: each field is judged as soon as it is read, and refused at its first byte
+
+abbrev pub judged : {X : Type 0} → Option FaultKind → ℕ → X → Result X Fault
+judged None at x = Ok x
+judged (Some fault) at x = Err (record { kind = fault; at = at })
+
+abbrev pub field_at : (kind : Kind) → (Operand kind → Option FaultKind) → Reading → Result (Operand kind × Reading) Fault
+field_at kind fault r = operand_at kind r >>= λ x. judged (fault x.0) r.position x
+
+abbrev pub byte_at : FaultKind → ℕ → Reading → Result (ℕ × Reading) Fault
+byte_at fault value = field_at (fixed 1) (λ v. unless (v == value) fault)
+
+abbrev pub fields_at : {B : Type 0} → Fields B → Reading → Result (B × Reading) Fault
+fields_at (made b) r = Ok (b, r)
+fields_at (field kind fault next) r = field_at kind fault r >>= λ x. fields_at (next x.0) x.1

@@ -1,0 +1,40 @@
+//! Bodies: what has its length before it.
+
+ghost use Rattle.std.specs.Prelude.{◌≡◌, ◌<◌, ◌≤◌, ◌^◌, length, IfErr, IfOk, MatchResult, Ok, Err};
+ghost use Rattle.dw_bytes.specs.Reading.{section_from};
+ghost use Rattle.dw_bytes.specs.Bodies.{framed_at, window};
+
+use crate::cursor::Cursor;
+use crate::fault::Fault;
+use crate::target::{Format, Target};
+
+/// Where the body of a record or table lies in its section, and the format that its length says
+/// (DWARF 5, section 7.4).
+#[derive(Clone, Copy, Debug, PartialEq, Eq)]
+pub struct Body {
+    pub format: Format,
+    /// The offset of its first byte, behind the length.
+    pub start: u32,
+    /// The offset behind its last byte.
+    pub end: u32,
+}
+
+impl Body {
+    /// The body of the record at an offset of a section. Its length is read first (`Truncated`, `ReservedLength` at
+    /// the offset), and then that so many bytes are there (`Truncated` at the body's first byte).
+    #[tactic(auto, unfolding(crate::specs::Bodies::framed_at))]
+    pub fn read(section: &[u8], target: Target, at: u32) -> Result<Self, Fault>
+        requires inside { at ≤ length section.now }
+        requires short { length section.now < 2 ^ 32 }
+        ensures exact { MatchResult result (λ b. framed_at (section_from target section.now at) ≡ Ok ((b.format, window target section.now b.start b.end), section_from target section.now b.end)) (λ fault. framed_at (section_from target section.now at) ≡ Err fault) }
+        ensures ordered { IfOk result (λ b. at < b.start × b.start ≤ b.end × b.end ≤ length section.now) }
+        ensures inside { IfErr result (λ fault. fault.at ≤ length section.now) }
+    {
+        let mut cursor = Cursor::at(section, target, at);
+        let (format, length) = cursor.initial_length()?;
+        let start = cursor.position();
+        cursor.take(length)?;
+        let end = cursor.position();
+        Ok(Body { format, start, end })
+    }
+}
