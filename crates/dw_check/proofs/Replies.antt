@@ -15,7 +15,7 @@ use Rattle.dw_check.specs.Text.{refused_line}
 use Rattle.std.specs.Io.KnownBytes.{Appends}
 use Rattle.dw_check.specs.Taken.{AppendsFront}
 use Rattle.dw_check.specs.Written.{Writes, WritesWhole, is_write}
-use Rattle.dw_check.specs.Runs.{Reply, text, refusal, text_of, rows_text, frame_reply, text_unless, Ends, IsPlaceIn, end_of}
+use Rattle.dw_check.specs.Runs.{Reply, text, refusal, text_of, accepted_text, rows_text, frame_reply, text_unless, Ends, IsPlaceIn, end_of}
 use Rattle.dw_check.specs.declared.lines.Place.{Place}
 use Rattle.dw_check.specs.declared.lines.Place.TheVariants.{Frame}
 use Rattle.dw_check.specs.declared.output.ReportFault.{ReportFault}
@@ -32,20 +32,20 @@ front_none old new all h = ([], all, refl, h)
 pub ends_text : (Is : Reply → Type 0) (bytes : List ℕ) (old new : Option (List ℕ)) (stopped : Bool) (r : Result (Unit {0}) ReportFault)
     → Is (text bytes) → ((reply : Reply) → Is reply → reply ≡ text bytes) → Writes old new r bytes → stopped ≡ is_write r → Ends Is old new stopped (end_of r ends.Done)
 ends_text Is bytes old new stopped (Ok _) is only h k = (bytes, is, h, k)
-ends_text Is bytes old new stopped (Err Memory) is only h k = ((λ reply i. subst (λ x. AppendsFront old new (text_of x)) (sym (only reply i)) h), k)
+ends_text Is bytes old new stopped (Err Memory) is only h k = ((λ reply i. subst (λ x. AppendsFront old new (accepted_text x)) (sym (only reply i)) h), k)
 ends_text Is bytes old new stopped (Err Write) is only h k = (text bytes, is, h, k)
 
 -- the reply is this text, which is handed over whole
 pub ends_whole : (Is : Reply → Type 0) (bytes : List ℕ) (old new : Option (List ℕ)) (stopped : Bool) (r : Result (Unit {0}) ReportFault)
     → Is (text bytes) → WritesWhole old new r bytes → stopped ≡ is_write r → Ends Is old new stopped (end_of r ends.Done)
 ends_whole Is bytes old new stopped (Ok _) is h k = (bytes, is, h, k)
-ends_whole Is bytes old new stopped (Err Memory) is h k = ((λ reply i. front_none old new (text_of reply) h), k)
+ends_whole Is bytes old new stopped (Err Memory) is h k = ((λ reply i. front_none old new (accepted_text reply) h), k)
 ends_whole Is bytes old new stopped (Err Write) is h k = (text bytes, is, h, k)
 
 pub ends_refusal : (Is : Reply → Type 0) (place : Place) (fault : Fault) (old new : Option (List ℕ)) (stopped : Bool) (r : Result (Unit {0}) ReportFault)
     → Is (refusal place fault) → WritesWhole old new r (refused_line place fault) → stopped ≡ is_write r → Ends Is old new stopped (end_of r ends.Refused)
 ends_refusal Is place fault old new stopped (Ok _) is h k = (place, fault, is, h, k)
-ends_refusal Is place fault old new stopped (Err Memory) is h k = ((λ reply i. front_none old new (text_of reply) h), k)
+ends_refusal Is place fault old new stopped (Err Memory) is h k = ((λ reply i. front_none old new (accepted_text reply) h), k)
 ends_refusal Is place fault old new stopped (Err Write) is h k = (refusal place fault, is, h, k)
 
 -- ---- what a frame section comes to

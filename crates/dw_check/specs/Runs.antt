@@ -39,6 +39,13 @@ text_of (refusal place fault) = refused_line place fault
 text_of (not_hex n) = []
 text_of (bad_line n) = []
 
+-- What is written before memory can run out: of a text any beginning, and nothing of a refusal, whose line is handed over whole.
+abbrev pub accepted_text : Reply → List ℕ
+accepted_text (text bytes) = bytes
+accepted_text (refusal place fault) = []
+accepted_text (not_hex n) = []
+accepted_text (bad_line n) = []
+
 -- ---- frame sections
 
 -- the first fault of a frame section
@@ -113,11 +120,11 @@ IsPlaceIn count (BadHex place) = place < count
 IsPlaceIn count other = Unit {0}
 
 -- What was written, and whether the sink stopped, where a run ends so whose reply is one of these: all of the reply's text;
--- for want of memory a beginning of it, whichever it is; and a beginning where the sink stopped.
+-- for want of memory a beginning of it, whichever it is, and nothing where it is a refusal; and a beginning where the sink stopped.
 abbrev pub Ends : (Reply → Type 0) → Option (List ℕ) → Option (List ℕ) → Bool → End → Type 0
 Ends Is old new stopped Done = (bytes : List ℕ) × Is (text bytes) × Appends old new bytes × (stopped ≡ false)
 Ends Is old new stopped Refused = (place : Place) × (fault : Fault) × Is (refusal place fault) × Appends old new (refused_line place fault) × (stopped ≡ false)
 Ends Is old new stopped (BadHex n) = Is (not_hex n) × Appends old new [] × (stopped ≡ false)
 Ends Is old new stopped (StateLine n) = Is (bad_line n) × Appends old new [] × (stopped ≡ false)
-Ends Is old new stopped Memory = ((reply : Reply) → Is reply → AppendsFront old new (text_of reply)) × (stopped ≡ false)
+Ends Is old new stopped Memory = ((reply : Reply) → Is reply → AppendsFront old new (accepted_text reply)) × (stopped ≡ false)
 Ends Is old new stopped Output = (reply : Reply) × Is reply × AppendsFront old new (text_of reply) × (stopped ≡ true)
