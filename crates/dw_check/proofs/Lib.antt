@@ -2,7 +2,6 @@ pub mod Assembled
 pub mod EachReply
 pub mod Evaluated
 pub mod Growth
-pub mod Hexes
 pub mod Known
 pub mod Lookups
 pub mod OneReply

@@ -8,7 +8,7 @@ ghost use Rattle.dw_rows.specs.Views.{rule_of, cfa_rule_of};
 ghost use Rattle.dw_check.specs.Text.{place_text, kind_text, refused_line, records_text, fde_line, cfa_text, rule_text, register_text, row_line, digits_of, Fits};
 
 use crate::names::name;
-use crate::numbers::{push_offset, push_range, push_signed};
+use crate::numbers::{push_decimal, push_offset, push_range, push_signed};
 use dw_bytes::{AddressSize, Fault, FaultKind};
 use dw_frame::{CommonInformationEntry, FrameDescriptionEntry};
 use dw_rows::{CfaRule, RegisterRule, RegisterRules, UnwindTableRow};
@@ -38,9 +38,9 @@ impl Place {
 fn push_kind(line: &mut String, kind: FaultKind) -> Result<(), AllocError>
     ensures { OnOk result (string_bytes line.new ≡ string_bytes line.old ++ kind_text kind) }
 {
-    let number = kind.number();
-    let name = name(kind);
-    write!(line, "{number} {name}")
+    push_decimal(line, kind.number())?;
+    line.push_str(" ")?;
+    line.push_str(name(kind))
 }
 
 /// The line of a refusal.
@@ -50,8 +50,9 @@ pub(crate) fn push_refused(line: &mut String, place: Place, fault: Fault) -> Res
 {
     line.push_str("refused ")?;
     push_kind(line, fault.kind)?;
-    let place = place.text();
-    write!(line, " {place} ")?;
+    line.push_str(" ")?;
+    line.push_str(place.text())?;
+    line.push_str(" ")?;
     push_offset(line, fault.at)?;
     line.push_str("\n")
 }
@@ -85,8 +86,9 @@ pub(crate) fn push_fde(
     push_records(line, cie, fde)?;
     line.push_str(" ")?;
     push_range(line, size, fde.initial_location, end)?;
-    let register = cie.return_address_register;
-    write!(line, " ra r{register}\n")
+    line.push_str(" ra r")?;
+    push_decimal(line, cie.return_address_register)?;
+    line.push_str("\n")
 }
 
 fn push_cfa(line: &mut String, rule: CfaRule) -> Result<(), AllocError>
@@ -94,7 +96,8 @@ fn push_cfa(line: &mut String, rule: CfaRule) -> Result<(), AllocError>
 {
     match rule {
         CfaRule::RegisterAndOffset { register, offset } => {
-            write!(line, "r{register}")?;
+            line.push_str("r")?;
+            push_decimal(line, register)?;
             push_signed(line, offset)
         }
     }
@@ -116,14 +119,19 @@ fn push_rule(line: &mut String, rule: RegisterRule) -> Result<(), AllocError>
             line.push_str("c")?;
             push_signed(line, offset)
         }
-        RegisterRule::Register(register) => write!(line, "r{register}"),
+        RegisterRule::Register(register) => {
+            line.push_str("r")?;
+            push_decimal(line, register)
+        }
     }
 }
 
 fn push_register(line: &mut String, register: u16, rule: RegisterRule) -> Result<(), AllocError>
     ensures { OnOk result (string_bytes line.new ≡ string_bytes line.old ++ register_text (register, rule_of rule)) }
 {
-    write!(line, " r{register}=")?;
+    line.push_str(" r")?;
+    push_decimal(line, register)?;
+    line.push_str("=")?;
     push_rule(line, rule)
 }
 
