@@ -3,12 +3,14 @@ pub mod EachReply
 pub mod Evaluated
 pub mod Growth
 pub mod Known
+pub mod Lengths
 pub mod Lookups
 pub mod OneReply
 pub mod Padded
 pub mod Parsed
 pub mod Replies
 pub mod Sent
+pub mod Sections
 pub mod Separated
 pub mod Shown
 pub mod Simple

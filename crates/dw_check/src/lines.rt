@@ -5,34 +5,15 @@ ghost use Rattle.std.specs.List.{flat_map};
 ghost use Rattle.std.specs.String.{string_bytes};
 ghost use Rattle.dw_frame.specs.Views.{cie_of, fde_of};
 ghost use Rattle.dw_rows.specs.Views.{rule_of, cfa_rule_of};
-ghost use Rattle.dw_check.specs.Text.{place_text, kind_text, refused_line, records_text, fde_line, cfa_text, rule_text, register_text, row_line, digits_of, Fits};
+ghost use Rattle.dw_check.specs.Text.{kind_text, refused_line, records_text, fde_line, cfa_text, rule_text, register_text, row_line, digits_of, Fits};
 
 use crate::names::name;
 use crate::numbers::{push_decimal, push_offset, push_range, push_signed};
+use crate::stop::Section;
 use dw_bytes::{AddressSize, Fault, FaultKind};
 use dw_frame::{CommonInformationEntry, FrameDescriptionEntry};
 use dw_rows::{CfaRule, RegisterRule, RegisterRules, UnwindTableRow};
 use std::alloc::AllocError;
-
-/// What the offset of a refusal counts in.
-#[derive(Clone, Copy, Debug, PartialEq, Eq)]
-pub(crate) enum Place {
-    Frame,
-    Lists,
-    Expression,
-}
-
-impl Place {
-    fn text(self) -> &'static str
-        ensures { result.now ≡ place_text self }
-    {
-        match self {
-            Place::Frame => "frame",
-            Place::Lists => "lists",
-            Place::Expression => "expression",
-        }
-    }
-}
 
 #[tactic(auto, unfolding(crate::specs::Text::kind_text))]
 fn push_kind(line: &mut String, kind: FaultKind) -> Result<(), AllocError>
@@ -45,13 +26,17 @@ fn push_kind(line: &mut String, kind: FaultKind) -> Result<(), AllocError>
 
 /// The line of a refusal.
 #[tactic(auto, unfolding(crate::specs::Text::refused_line))]
-pub(crate) fn push_refused(line: &mut String, place: Place, fault: Fault) -> Result<(), AllocError>
-    ensures { OnOk result (string_bytes line.new ≡ string_bytes line.old ++ refused_line place fault) }
+pub(crate) fn push_refused(
+    line: &mut String,
+    section: Section,
+    fault: Fault,
+) -> Result<(), AllocError>
+    ensures { OnOk result (string_bytes line.new ≡ string_bytes line.old ++ refused_line section fault) }
 {
     line.push_str("refused ")?;
     push_kind(line, fault.kind)?;
     line.push_str(" ")?;
-    line.push_str(place.text())?;
+    line.push_str(section.text())?;
     line.push_str(" ")?;
     push_offset(line, fault.at)?;
     line.push_str("\n")
