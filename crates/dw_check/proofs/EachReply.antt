@@ -14,8 +14,10 @@ use Rattle.dw_check.specs.Asked.{Asked}
 use Rattle.dw_check.specs.StateFile.{Given}
 use Rattle.dw_check.specs.Outcomes.{evaluation_text}
 use Rattle.dw_check.specs.Evaluations.{world_of}
-use Rattle.dw_check.specs.Runs.{Reply, text, refusal, not_hex, bad_line, frame_reply, IsOutcome, IsOutcomeBy, state_given, IsReplyOf, IsReplyWith, bytes_of, IsReply}
-use Rattle.dw_check.specs.declared.lines.Place.TheVariants.{Expression}
+use Rattle.dw_check.specs.Runs.{Reply, text, refusal, not_hex, bad_line, frame_reply, IsOutcome, OfSection, OfState, IsRowsReply, IsEvalReply, IsReplyTo, IsReply}
+use Rattle.dw_check.specs.Files.{section_bytes, state_given}
+use Rattle.std.specs.Prelude.{slice_get}
+use Rattle.dw_check.specs.declared.stop.Section.TheVariants.{Expression}
 use Rattle.dw_check.specs.declared.asked.Task.{Task}
 use Rattle.dw_check.specs.declared.asked.Task.TheVariants.{Rows, Row, Eval}
 use Rattle.dw_check.proofs.Evaluated.{refused_short, refused_long}
@@ -28,13 +30,10 @@ module _ (kind : Kind) (target : Target) (bytes : List ℕ) (gs : List Given) wh
       let run = each_evaluation c (world_of target gs) (record { good = good; depth = deep.1; count = refl }) in (
         text (evaluation_text target.address_size run.0 run.1 deep.0),
         record {
-          short = short;
-          good = good;
           outcome = run.0;
           steps = run.1;
-          run = run.2;
           depth = deep.0;
-          deepest = deep.1;
+          comes = record { short = short; good = good; run = run.2; deepest = deep.1 };
           text = refl;
         },
       )
@@ -50,19 +49,27 @@ module _ (kind : Kind) (target : Target) (bytes : List ℕ) (gs : List Given) wh
   pub each_outcome : (r : Reply) × IsOutcome kind target bytes gs r
   each_outcome = by_length (nat_lt (length bytes) (2 ^ 32)) refl
 
-each_by : (kind : Kind) (target : Target) (bytes : List ℕ) (given : Result (List Given) ℕ) → (r : Reply) × IsOutcomeBy kind target bytes given r
-each_by kind target bytes (Err n) = (bad_line n, refl)
-each_by kind target bytes (Ok gs) = each_outcome kind target bytes gs
+each_of_section : (place : ℕ) (found : Option (List ℕ)) (Is : List ℕ → Reply → Type 0) → ((bytes : List ℕ) → (r : Reply) × Is bytes r) → (r : Reply) × OfSection place found Is r
+each_of_section place None Is each = (not_hex place, refl)
+each_of_section place (Some bytes) Is each = each bytes
 
-each_of : (task : Task) (target : Target) (bytes : List ℕ) (files : List (List ℕ)) → (r : Reply) × IsReplyOf task target bytes files r
-each_of Rows target bytes files = (frame_reply None target bytes, refl)
-each_of (Row a) target bytes files = (frame_reply (Some a) target bytes, refl)
-each_of (Eval kind) target bytes files = each_by kind target bytes (state_given target files)
+each_of_state : (given : Result (List Given) ℕ) (Is : List Given → Reply → Type 0) → ((gs : List Given) → (r : Reply) × Is gs r) → (r : Reply) × OfState given Is r
+each_of_state (Err n) Is each = (bad_line n, refl)
+each_of_state (Ok gs) Is each = each gs
 
-each_with : (task : Task) (target : Target) (bytes : Option (List ℕ)) (files : List (List ℕ)) → (r : Reply) × IsReplyWith task target bytes files r
-each_with task target None files = (not_hex 0, refl)
-each_with task target (Some bytes) files = each_of task target bytes files
+each_rows : (address : Option ℕ) (target : Target) (hex : Bool) (files : List (List ℕ)) → (r : Reply) × IsRowsReply address target hex files r
+each_rows address target hex files =
+    each_of_section 0 (section_bytes hex (slice_get files 0)) (λ section r. r ≡ frame_reply address target section) (λ section. (frame_reply address target section, refl))
+
+each_eval : (kind : Kind) (target : Target) (hex : Bool) (files : List (List ℕ)) → (r : Reply) × IsEvalReply kind target hex files r
+each_eval kind target hex files =
+    each_of_section 0 (section_bytes hex (slice_get files 0)) (λ bytes. OfState (state_given target (slice_get files 1)) (IsOutcome kind target bytes))
+    (λ bytes. each_of_state (state_given target (slice_get files 1)) (IsOutcome kind target bytes) (each_outcome kind target bytes))
+
+each_to : (task : Task) (target : Target) (hex : Bool) (files : List (List ℕ)) → (r : Reply) × IsReplyTo task target hex files r
+each_to Rows target hex files = each_rows None target hex files
+each_to (Row a) target hex files = each_rows (Some a) target hex files
+each_to (Eval kind) target hex files = each_eval kind target hex files
 
 pub each_reply : (asked : Asked) (files : List (List ℕ)) → (r : Reply) × IsReply asked files r
-each_reply asked [] = (text [], refl)
-each_reply asked (file ∷ files) = each_with asked.task asked.target (bytes_of asked.hex file) files
+each_reply asked files = each_to asked.task asked.target asked.hex files

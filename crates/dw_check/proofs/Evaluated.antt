@@ -8,6 +8,7 @@ use Rattle.dw_bytes.specs.declared.target.AddressSize.{AddressSize}
 use Rattle.dw_bytes.specs.declared.target.AddressSize.TheVariants.{Four, Eight}
 use Rattle.dw_bytes.specs.declared.fault.Fault.{Fault}
 use Rattle.dw_bytes.specs.declared.fault.FaultKind.TheVariants.{SectionTooLong}
+use Rattle.dw_check.proofs.Lengths.{short_fault, long_fault}
 use Rattle.dw_stack.specs.declared.state.Kind.{Kind}
 use Rattle.dw_stack.specs.Expressions.{Checked, IsOf, IsGoodExpression, IsDepthOf}
 use Rattle.dw_stack.specs.FirstFault.{expression_fault}
@@ -20,14 +21,15 @@ use Rattle.dw_check.specs.Outcomes.{evaluation_text}
 use Rattle.dw_check.specs.Evaluations.{world_of, Evaluates}
 use Rattle.dw_check.specs.StateFile.{Given, Known, IsGivenBy, first_that, content_in, byte_in}
 use Rattle.dw_check.specs.Runs.{refusal, IsOutcome}
-use Rattle.dw_check.specs.declared.lines.Place.TheVariants.{Expression}
+use Rattle.dw_check.specs.declared.stop.Section.TheVariants.{Expression}
 
 pub same_bound : (size : AddressSize) → 2 ^ width_of size ≡ 16 ^ digits_of size
 same_bound Four = refl
 same_bound Eight = refl
 
-pub good_same : (kind : Kind) (s t : Target) (xs ys : List ℕ) → s ≡ t → xs ≡ ys → IsGoodExpression kind s xs → IsGoodExpression kind t ys
-good_same kind s t xs ys e f h = subst (λ t. IsGoodExpression kind t ys) e (subst (λ ys. IsGoodExpression kind s ys) f h)
+-- what is good is the checked expression of it
+pub good_checked : (kind : Kind) (target : Target) (bytes : List ℕ) (c : Checked) → IsOf kind target bytes c → IsGoodExpression kind target bytes → IsGoodExpression c.kind c.target c.bytes
+good_checked kind target bytes c same good = rw (same.kind_is, same.target_is, same.bytes_are) good
 
 -- what is known is what was given
 abbrev pub known_world : Target → Known → World
@@ -43,26 +45,23 @@ pub evaluates : (c : Checked) (known : Known) (gs : List Given) (outcome : Outco
     → IsEvaluation c (known_world c.target known) outcome steps → IsDepthOf c.kind c.target c.bytes depth
     → Evaluates c.kind c.target c.bytes gs (evaluation_text c.target.address_size outcome steps depth)
 evaluates c known gs outcome steps depth short good given run deepest = record {
-  short = short;
-  good = good;
   outcome = outcome;
   steps = steps;
-  run = subst (λ e. IsEvaluation c e outcome steps) (same_world c.target known gs given) run;
   depth = depth;
-  deepest = deepest;
+  comes = record {
+    short = short;
+    good = good;
+    run = subst (λ e. IsEvaluation c e outcome steps) (same_world c.target known gs given) run;
+    deepest = deepest;
+  };
   text = refl;
 }
 
-short_refusal : (bytes : List ℕ) (some long : Option Fault) → length bytes < 2 ^ 32 → (if nat_lt (length bytes) (2 ^ 32) then some else long) ≡ some
-short_refusal bytes some long h = rw (lt-ltb (length bytes) (2 ^ 32) h) refl
-
 pub refused_short : (kind : Kind) (target : Target) (bytes : List ℕ) (gs : List Given) (fault : Fault) → length bytes < 2 ^ 32 → expression_fault kind target bytes ≡ Some fault → IsOutcome kind target bytes gs (refusal Expression fault)
-refused_short kind target bytes gs fault h e = (refl, short_refusal bytes _ _ h ∙ e)
+refused_short kind target bytes gs fault h e = (refl, short_fault bytes _ _ h ∙ e)
 
 pub refused_long : (kind : Kind) (target : Target) (bytes : List ℕ) (gs : List Given) → 2 ^ 32 ≤ length bytes → IsOutcome kind target bytes gs (refusal Expression (record { kind = SectionTooLong; at = 0 }))
-refused_long kind target bytes gs h =
-    let e : nat_lt (length bytes) (2 ^ 32) ≡ false = grind (arith, nat_tests) in
-    (refl, ap (λ (b : Bool). if b then expression_fault kind target bytes else Some (record { kind = SectionTooLong; at = 0 })) e)
+refused_long kind target bytes gs h = (refl, long_fault bytes _ _ h)
 
 -- what holds for the checked expression holds for what was handed in
 pub written_same : (kind : Kind) (target : Target) (bytes : List ℕ) (c : Checked) (gs : List Given) (W : List ℕ → Type 0) → IsOf kind target bytes c → ((t : List ℕ) × Evaluates c.kind c.target c.bytes gs t × W t) → (t : List ℕ) × Evaluates kind target bytes gs t × W t

@@ -2,13 +2,14 @@ pub mod Assembled
 pub mod EachReply
 pub mod Evaluated
 pub mod Growth
-pub mod Hexes
 pub mod Known
+pub mod Lengths
 pub mod OneReply
 pub mod Padded
 pub mod Parsed
 pub mod Replies
 pub mod Sent
+pub mod Sections
 pub mod Separated
 pub mod Shown
 pub mod Simple

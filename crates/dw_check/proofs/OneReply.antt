@@ -13,15 +13,17 @@ use Rattle.dw_check.specs.Asked.{Asked}
 use Rattle.dw_check.specs.StateFile.{Given}
 use Rattle.dw_check.specs.Outcomes.{evaluation_text}
 use Rattle.dw_check.specs.Evaluations.{world_of, Evaluates}
-use Rattle.dw_check.specs.Runs.{Reply, text, refusal, not_hex, bad_line, expression_refusal, IsOutcome, IsOutcomeBy, state_given, IsReplyOf, IsReplyWith, bytes_of, IsReply}
+use Rattle.dw_check.specs.Runs.{Reply, text, refusal, not_hex, bad_line, frame_reply, expression_refusal, IsOutcome, OfSection, OfState, IsRowsReply, IsEvalReply, IsReplyTo, IsReply}
+use Rattle.dw_check.specs.Files.{section_bytes, state_given}
+use Rattle.std.specs.Prelude.{slice_get, Bool}
 use Rattle.dw_check.specs.declared.asked.Task.{Task}
 use Rattle.dw_check.specs.declared.asked.Task.TheVariants.{Rows, Row, Eval}
 
 same_text : (kind : Kind) (target : Target) (bytes : List ℕ) (gs : List Given) (a b : List ℕ) → Evaluates kind target bytes gs a → Evaluates kind target bytes gs b → a ≡ b
 same_text kind target bytes gs a b h k =
     let c : Checked = record { kind = kind; target = target; bytes = bytes; depth = h.depth; count = 0 } in
-    let runs = one_evaluation c (world_of target gs) h.outcome k.outcome h.steps k.steps h.good h.run k.run in
-    let deep = one_depth kind (operations_in target bytes) (length bytes) h.depth k.depth h.deepest k.deepest in
+    let runs = one_evaluation c (world_of target gs) h.outcome k.outcome h.steps k.steps h.comes.good h.comes.run k.comes.run in
+    let deep = one_depth kind (operations_in target bytes) (length bytes) h.depth k.depth h.comes.deepest k.comes.deepest in
     h.text
     ∙ ap (λ o. evaluation_text target.address_size o h.steps h.depth) runs.0
     ∙ ap (λ n. evaluation_text target.address_size k.outcome n h.depth) runs.1
@@ -30,8 +32,8 @@ same_text kind target bytes gs a b h k =
 
 not_both : (kind : Kind) (target : Target) (bytes : List ℕ) (gs : List Given) (a : List ℕ) (f : Fault) → Evaluates kind target bytes gs a → expression_refusal kind target bytes ≡ Some f → ⊥
 not_both kind target bytes gs a f h e =
-    let none : expression_fault kind target bytes ≡ None = none_if_good kind target bytes h.good in
-    let short : expression_refusal kind target bytes ≡ None = rw (lt-ltb (length bytes) (2 ^ 32) h.short) none in
+    let none : expression_fault kind target bytes ≡ None = none_if_good kind target bytes h.comes.good in
+    let short : expression_refusal kind target bytes ≡ None = rw (lt-ltb (length bytes) (2 ^ 32) h.comes.short) none in
     let both : None ≡ Some f = sym short ∙ e in
     cc
 
@@ -50,19 +52,29 @@ one_outcome kind target bytes gs (text a) (bad_line n) h k = absurd k
 one_outcome kind target bytes gs (refusal p f) (not_hex n) h k = absurd k
 one_outcome kind target bytes gs (refusal p f) (bad_line n) h k = absurd k
 
-one_outcome_by : (kind : Kind) (target : Target) (bytes : List ℕ) (given : Result (List Given) ℕ) (r s : Reply) → IsOutcomeBy kind target bytes given r → IsOutcomeBy kind target bytes given s → r ≡ s
-one_outcome_by kind target bytes (Err n) r s h k = h ∙ sym k
-one_outcome_by kind target bytes (Ok gs) r s h k = one_outcome kind target bytes gs r s h k
+one_of_section : (place : ℕ) (found : Option (List ℕ)) (Is : List ℕ → Reply → Type 0) → ((bytes : List ℕ) (r s : Reply) → Is bytes r → Is bytes s → r ≡ s)
+    → (r s : Reply) → OfSection place found Is r → OfSection place found Is s → r ≡ s
+one_of_section place None Is one r s h k = h ∙ sym k
+one_of_section place (Some bytes) Is one r s h k = one bytes r s h k
 
-one_of : (task : Task) (target : Target) (bytes : List ℕ) (files : List (List ℕ)) (r s : Reply) → IsReplyOf task target bytes files r → IsReplyOf task target bytes files s → r ≡ s
-one_of Rows target bytes files r s h k = h ∙ sym k
-one_of (Row a) target bytes files r s h k = h ∙ sym k
-one_of (Eval kind) target bytes files r s h k = one_outcome_by kind target bytes (state_given target files) r s h k
+one_of_state : (given : Result (List Given) ℕ) (Is : List Given → Reply → Type 0) → ((gs : List Given) (r s : Reply) → Is gs r → Is gs s → r ≡ s)
+    → (r s : Reply) → OfState given Is r → OfState given Is s → r ≡ s
+one_of_state (Err n) Is one r s h k = h ∙ sym k
+one_of_state (Ok gs) Is one r s h k = one gs r s h k
 
-one_with : (task : Task) (target : Target) (bytes : Option (List ℕ)) (files : List (List ℕ)) (r s : Reply) → IsReplyWith task target bytes files r → IsReplyWith task target bytes files s → r ≡ s
-one_with task target None files r s h k = h ∙ sym k
-one_with task target (Some bytes) files r s h k = one_of task target bytes files r s h k
+one_rows : (address : Option ℕ) (target : Target) (hex : Bool) (files : List (List ℕ)) (r s : Reply) → IsRowsReply address target hex files r → IsRowsReply address target hex files s → r ≡ s
+one_rows address target hex files r s h k =
+    one_of_section 0 (section_bytes hex (slice_get files 0)) (λ section r. r ≡ frame_reply address target section) (λ section r s h k. h ∙ sym k) r s h k
+
+one_eval : (kind : Kind) (target : Target) (hex : Bool) (files : List (List ℕ)) (r s : Reply) → IsEvalReply kind target hex files r → IsEvalReply kind target hex files s → r ≡ s
+one_eval kind target hex files r s h k =
+    one_of_section 0 (section_bytes hex (slice_get files 0)) (λ bytes. OfState (state_given target (slice_get files 1)) (IsOutcome kind target bytes))
+    (λ bytes. one_of_state (state_given target (slice_get files 1)) (IsOutcome kind target bytes) (one_outcome kind target bytes)) r s h k
+
+one_to : (task : Task) (target : Target) (hex : Bool) (files : List (List ℕ)) (r s : Reply) → IsReplyTo task target hex files r → IsReplyTo task target hex files s → r ≡ s
+one_to Rows target hex files r s h k = one_rows None target hex files r s h k
+one_to (Row a) target hex files r s h k = one_rows (Some a) target hex files r s h k
+one_to (Eval kind) target hex files r s h k = one_eval kind target hex files r s h k
 
 pub one_reply : (asked : Asked) (files : List (List ℕ)) (r s : Reply) → IsReply asked files r → IsReply asked files s → r ≡ s
-one_reply asked [] r s h k = h ∙ sym k
-one_reply asked (file ∷ files) r s h k = one_with asked.task asked.target (bytes_of asked.hex file) files r s h k
+one_reply asked files r s h k = one_to asked.task asked.target asked.hex files r s h k

@@ -1,76 +1,62 @@
--- What a run comes to, and how it ends.
-use Rattle.std.proofs.Common.{◌≡◌, ℕ, ◌^◌, ◌<◌, ◌≤◌, Bool, List, [], length, ap, sym, refl, ◌∙◌, subst, arith, nat_lt, if◌then◌else◌, ◌⊎◌, inl, inr}
-use Rattle.std.specs.Prelude.{Option, Some, None, Result, Ok, Err, false}
-use Rattle.std.proofs.lemmas.Bool.Decides.{nat_tests}
-use borrow.Author.Tests.{lt-ltb}
-use Rattle.dw_bytes.specs.declared.target.Target.{Target}
-use Rattle.dw_bytes.specs.declared.fault.Fault.{Fault}
-use denote.Enum.Bare.{sameb}
-use Rattle.dw_bytes.specs.contracts.fault.FaultKind.{the_type}
-use Rattle.dw_bytes.specs.declared.fault.FaultKind.TheVariants.{SectionTooLong}
-use Rattle.dw_bytes.specs.declared.fault.FaultKind.TheVariants as kinds
-use Rattle.dw_rows.specs.Section.{section_fault, frame_of}
-use Rattle.dw_bytes.specs.Answers.{memory}
-use Rattle.dw_check.specs.Text.{refused_line}
+-- How a run goes, and how it ends.
+use Rattle.std.proofs.Common.{◌≡◌, ℕ, ◌<◌, Bool, List, [], ◌++◌, ap, sym, refl, subst, arith, ◌⊎◌, inl, inr}
+use Rattle.std.specs.Prelude.{Option, Some, None, Result, Ok, Err, true, false}
+use Rattle.std.specs.Result.{IsErr, IsErrAnd}
 use Rattle.std.specs.Io.KnownBytes.{Appends}
+use denote.Enum.Bare.{sameb}
+use Rattle.dw_bytes.specs.declared.fault.Fault.{Fault}
+use Rattle.dw_bytes.specs.contracts.fault.FaultKind.{the_type}
+use Rattle.dw_bytes.specs.declared.fault.FaultKind.TheVariants as kinds
+use Rattle.dw_bytes.specs.Answers.{memory}
+use Rattle.dw_check.specs.StateFile.{Given}
+use Rattle.dw_check.specs.Stops.{ended_by, IsBadSection, IsBadState, IsRefusal}
+use Rattle.dw_check.specs.Text.{refused_line}
 use Rattle.dw_check.specs.Taken.{AppendsFront}
 use Rattle.dw_check.specs.Written.{Writes, WritesWhole, is_write}
-use Rattle.dw_check.specs.Runs.{Reply, text, refusal, text_of, rows_text, frame_reply, text_unless, Ends, IsPlaceIn, end_of}
-use Rattle.dw_check.specs.declared.lines.Place.{Place}
-use Rattle.dw_check.specs.declared.lines.Place.TheVariants.{Frame}
-use Rattle.dw_check.specs.declared.output.ReportFault.{ReportFault}
-use Rattle.dw_check.specs.declared.output.ReportFault.TheVariants.{Memory, Write}
+use Rattle.dw_check.specs.Runs.{Reply, text, refusal, not_hex, bad_line, text_of, accepted_text, OfSection, OfState, Goes, Ends}
 use Rattle.dw_check.specs.declared.asked.End.{End}
 use Rattle.dw_check.specs.declared.asked.End.TheVariants as ends
+use Rattle.dw_check.specs.declared.stop.Section.{Section}
+use Rattle.dw_check.specs.declared.stop.ReportFault.{ReportFault}
+use Rattle.dw_check.specs.declared.stop.ReportFault.TheVariants as faults
+use Rattle.dw_check.specs.declared.stop.Stop.{Stop}
+use Rattle.dw_check.specs.declared.stop.Stop.TheVariants.{Refused, BadHex, StateLine, Memory, Output}
+use Rattle.dw_check.proofs.Growth.{appends_nothing, appends_more, front_more}
 
--- ---- how it ends
-
+-- nothing is a beginning of anything
 front_none : (old new : Option (List ℕ)) (all : List ℕ) → Appends old new [] → AppendsFront old new all
 front_none old new all h = ([], all, refl, h)
 
--- the reply is this text and no other
-pub ends_text : (Is : Reply → Type 0) (bytes : List ℕ) (old new : Option (List ℕ)) (stopped : Bool) (r : Result (Unit {0}) ReportFault)
-    → Is (text bytes) → ((reply : Reply) → Is reply → reply ≡ text bytes) → Writes old new r bytes → stopped ≡ is_write r → Ends Is old new stopped (end_of r ends.Done)
-ends_text Is bytes old new stopped (Ok _) is only h k = (bytes, is, h, k)
-ends_text Is bytes old new stopped (Err Memory) is only h k = ((λ reply i. subst (λ x. AppendsFront old new (text_of x)) (sym (only reply i)) h), k)
-ends_text Is bytes old new stopped (Err Write) is only h k = (text bytes, is, h, k)
+-- ---- the bytes of a section
 
--- the reply is this text, which is handed over whole
-pub ends_whole : (Is : Reply → Type 0) (bytes : List ℕ) (old new : Option (List ℕ)) (stopped : Bool) (r : Result (Unit {0}) ReportFault)
-    → Is (text bytes) → WritesWhole old new r bytes → stopped ≡ is_write r → Ends Is old new stopped (end_of r ends.Done)
-ends_whole Is bytes old new stopped (Ok _) is h k = (bytes, is, h, k)
-ends_whole Is bytes old new stopped (Err Memory) is h k = ((λ reply i. front_none old new (text_of reply) h), k)
-ends_whole Is bytes old new stopped (Err Write) is h k = (text bytes, is, h, k)
+pub goes_section : (count place : ℕ) (found : Option (List ℕ)) (bytes : List ℕ) (Is : List ℕ → Reply → Type 0) (old new : Option (List ℕ)) (r : Result (Unit {0}) Stop)
+    → found ≡ Some bytes → Goes count (Is bytes) old new r → Goes count (OfSection place found Is) old new r
+goes_section count place found bytes Is old new r e h = subst (λ o. Goes count (OfSection place o Is) old new r) (sym e) h
 
-pub ends_refusal : (Is : Reply → Type 0) (place : Place) (fault : Fault) (old new : Option (List ℕ)) (stopped : Bool) (r : Result (Unit {0}) ReportFault)
-    → Is (refusal place fault) → WritesWhole old new r (refused_line place fault) → stopped ≡ is_write r → Ends Is old new stopped (end_of r ends.Refused)
-ends_refusal Is place fault old new stopped (Ok _) is h k = (place, fault, is, h, k)
-ends_refusal Is place fault old new stopped (Err Memory) is h k = ((λ reply i. front_none old new (text_of reply) h), k)
-ends_refusal Is place fault old new stopped (Err Write) is h k = (refusal place fault, is, h, k)
+pub goes_bad_section : (count place : ℕ) (found : Option (List ℕ)) (Is : List ℕ → Reply → Type 0) (a : Option (List ℕ)) (stop : Stop)
+    → IsBadSection found place count stop → Goes count (OfSection place found Is) a a (Err stop)
+goes_bad_section count place found Is a (BadHex n) h =
+    (omega (arith, h.0, h.1), subst (λ o. OfSection place o Is (not_hex n)) (sym h.2) (ap not_hex h.0), appends_nothing a)
+goes_bad_section count place found Is a Memory h = λ reply is. front_none a a (accepted_text reply) (appends_nothing a)
+goes_bad_section count place found Is a (Refused s f) h = absurd h
+goes_bad_section count place found Is a (StateLine n) h = absurd h
+goes_bad_section count place found Is a Output h = absurd h
 
--- ---- what a frame section comes to
+-- ---- the state
 
-short : (section : List ℕ) (some : Option Fault) (long : Option Fault) → length section < 2 ^ 32 → (if nat_lt (length section) (2 ^ 32) then some else long) ≡ some
-short section some long h = rw (lt-ltb (length section) (2 ^ 32) h)
+pub goes_state : (count : ℕ) (given : Result (List Given) ℕ) (gs : List Given) (Is : List Given → Reply → Type 0) (old new : Option (List ℕ)) (r : Result (Unit {0}) Stop)
+    → given ≡ Ok gs → Goes count (Is gs) old new r → Goes count (OfState given Is) old new r
+goes_state count given gs Is old new r e h = subst (λ g. Goes count (OfState g Is) old new r) (sym e) h
 
-pub rows_done : (address : Option ℕ) (target : Target) (section : List ℕ) → length section < 2 ^ 32 → section_fault target section ≡ None
-    → text (rows_text address (frame_of target section)) ≡ frame_reply address target section
-unfolding frame_reply
-rows_done address target section h e =
-    sym (ap (λ f. text_unless f Frame (rows_text address (frame_of target section))) (short section _ _ h ∙ e))
+pub goes_bad_state : (count : ℕ) (given : Result (List Given) ℕ) (Is : List Given → Reply → Type 0) (a : Option (List ℕ)) (stop : Stop)
+    → IsBadState given stop → Goes count (OfState given Is) a a (Err stop)
+goes_bad_state count given Is a (StateLine n) h = (subst (λ g. OfState g Is (bad_line n)) (sym h) refl, appends_nothing a)
+goes_bad_state count given Is a Memory h = λ reply is. front_none a a (accepted_text reply) (appends_nothing a)
+goes_bad_state count given Is a (Refused s f) h = absurd h
+goes_bad_state count given Is a (BadHex n) h = absurd h
+goes_bad_state count given Is a Output h = absurd h
 
-pub rows_refused : (address : Option ℕ) (target : Target) (section : List ℕ) (fault : Fault) → length section < 2 ^ 32 → section_fault target section ≡ Some fault
-    → refusal Frame fault ≡ frame_reply address target section
-unfolding frame_reply
-rows_refused address target section fault h e =
-    sym (ap (λ f. text_unless f Frame (rows_text address (frame_of target section))) (short section _ _ h ∙ e))
-
-pub rows_too_long : (address : Option ℕ) (target : Target) (section : List ℕ) → 2 ^ 32 ≤ length section
-    → refusal Frame (record { kind = SectionTooLong; at = 0 }) ≡ frame_reply address target section
-unfolding frame_reply
-rows_too_long address target section h =
-    let e : nat_lt (length section) (2 ^ 32) ≡ false = grind (arith, nat_tests) in
-    sym (ap (λ (b : Bool). text_unless (if b then section_fault target section else Some (record { kind = SectionTooLong; at = 0 })) Frame (rows_text address (frame_of target section))) e)
+-- ---- refusals
 
 -- a fault that isn't want of memory is the section's
 pub real_fault : (f : Fault) (found : Option Fault) → false ≡ sameb the_type f.kind kinds.Memory → (f ≡ memory) ⊎ (found ≡ Some f) → found ≡ Some f
@@ -79,11 +65,47 @@ real_fault f found h (inl k) =
     cc
 real_fault f found h (inr k) = k
 
--- an end that names no file names none of any number
-pub place_wider : (count : ℕ) (end : End) → IsPlaceIn 0 end → IsPlaceIn count end
-place_wider count ends.Done h = tt
-place_wider count ends.Refused h = tt
-place_wider count (ends.BadHex place) h = absurd (omega (arith, h))
-place_wider count (ends.StateLine n) h = tt
-place_wider count ends.Memory h = tt
-place_wider count ends.Output h = tt
+pub goes_refusal : (count : ℕ) (section : Section) (first : Option Fault) (Is : Reply → Type 0) (a : Option (List ℕ)) (stop : Stop)
+    → ((f : Fault) → first ≡ Some f → Is (refusal section f)) → IsRefusal section first stop → Goes count Is a a (Err stop)
+goes_refusal count section first Is a (Refused s f) is h = (subst (λ x. Is (refusal x f)) (sym h.0) (is f h.1), appends_nothing a)
+goes_refusal count section first Is a Memory is h = λ reply i. front_none a a (accepted_text reply) (appends_nothing a)
+goes_refusal count section first Is a (BadHex n) is h = absurd h
+goes_refusal count section first Is a (StateLine n) is h = absurd h
+goes_refusal count section first Is a Output is h = absurd h
+
+-- ---- texts
+
+-- the text, which is the only reply, or a beginning of it
+pub goes_text : (count : ℕ) (Is : Reply → Type 0) (bytes : List ℕ) (old new : Option (List ℕ)) (r : Result (Unit {0}) ReportFault)
+    → Is (text bytes) → ((reply : Reply) → Is reply → reply ≡ text bytes) → Writes old new r bytes → Goes count Is old new (ended_by r)
+goes_text count Is bytes old new (Ok _) is only h = (bytes, is, h)
+goes_text count Is bytes old new (Err faults.Memory) is only h = λ reply i. subst (λ x. AppendsFront old new (accepted_text x)) (sym (only reply i)) h
+goes_text count Is bytes old new (Err faults.Write) is only h = (text bytes, is, h)
+
+-- a text that is handed over whole, or a beginning of it
+pub goes_whole : (count : ℕ) (Is : Reply → Type 0) (bytes : List ℕ) (old new : Option (List ℕ)) (r : Result (Unit {0}) ReportFault)
+    → Is (text bytes) → WritesWhole old new r bytes → Goes count Is old new (ended_by r)
+goes_whole count Is bytes old new (Ok _) is h = (bytes, is, h)
+goes_whole count Is bytes old new (Err faults.Memory) is h = λ reply i. front_none old new (accepted_text reply) h
+goes_whole count Is bytes old new (Err faults.Write) is h = (text bytes, is, h)
+
+-- what a `?` hands on
+pub handed_on : (P : Result (Unit {0}) Stop → Type 0) (r : Result (Unit {0}) Stop) (e : Stop) → IsErr r × IsErrAnd r (λ x. x ≡ e) → P (Err e) → P r
+handed_on P (Ok _) e h p = let f = h.0 in cc
+handed_on P (Err x) e h p = subst (λ y. P (Err y)) (sym h.1) p
+
+-- ---- how a run ends whose reply is a refusal
+
+-- how the writing of its line ends
+abbrev pub refused_end : Result (Unit {0}) ReportFault → End
+refused_end (Ok _) = ends.Refused
+refused_end (Err faults.Memory) = ends.Memory
+refused_end (Err faults.Write) = ends.Output
+
+pub ends_refusal : (Is : Reply → Type 0) (section : Section) (fault : Fault) (old mid new : Option (List ℕ)) (stopped : Bool) (r : Result (Unit {0}) ReportFault)
+    → Is (refusal section fault) → Appends old mid [] → WritesWhole mid new r (refused_line section fault) → stopped ≡ is_write r → Ends Is old new stopped (refused_end r)
+ends_refusal Is section fault old mid new stopped (Ok _) is none h k = (section, fault, is, appends_more old mid new [] (refused_line section fault) none h, k)
+ends_refusal Is section fault old mid new stopped (Err faults.Memory) is none h k =
+    ((λ reply i. front_none old new (accepted_text reply) (appends_more old mid new [] [] none h)), k)
+ends_refusal Is section fault old mid new stopped (Err faults.Write) is none h k =
+    (refusal section fault, is, front_more old mid new [] (refused_line section fault) none h, k)

@@ -1,5 +1,5 @@
 -- One text written behind another.
-use Rattle.std.proofs.Common.{◌≡◌, ℕ, List, ◌++◌, ap, subst, sym, ◌∙◌}
+use Rattle.std.proofs.Common.{◌≡◌, ℕ, List, [], ◌++◌, ap, refl, subst, sym, ◌∙◌}
 use Rattle.std.specs.Prelude.{Option, Some, None, Result, Ok, Err, codes}
 use Rattle.std.specs.Result.{IsErr}
 use Rattle.std.specs.List.{flat_map}
@@ -11,8 +11,9 @@ use Rattle.dw_rows.specs.Section.{Frame, cie_in, rows_in, rows_behind, row_of}
 use Rattle.dw_rows.specs.UnwindRows.{rows_of}
 use Rattle.dw_check.specs.Taken.{AppendsFront}
 use Rattle.dw_check.specs.Text.{fde_line, row_line, lines_of, fde_text, found_text, lookup_text}
-use Rattle.dw_check.specs.Written.{Writes}
-use Rattle.dw_check.specs.declared.output.ReportFault.{ReportFault}
+use Rattle.dw_check.specs.Written.{Writes, WritesWhole}
+use Rattle.dw_check.specs.declared.stop.ReportFault.{ReportFault}
+use Rattle.dw_check.specs.declared.stop.ReportFault.TheVariants.{Memory, Write}
 use Rattle.dw_check.proofs.Growth.{appends_more, front_more, front_wider}
 
 -- all of one, and then what the second call wrote
@@ -24,6 +25,12 @@ writes_then a b c (Err _) x y h k = front_more a b c x y h k
 pub writes_front : (a b : Option (List ℕ)) (r : Result (Unit {0}) ReportFault) (x : List ℕ) → IsErr r → AppendsFront a b x → Writes a b r x
 writes_front a b (Ok _) x failed h = cc
 writes_front a b (Err _) x failed h = h
+
+-- nothing of a text that is handed over whole is a beginning too
+pub writes_whole : (a b : Option (List ℕ)) (r : Result (Unit {0}) ReportFault) (x : List ℕ) → WritesWhole a b r x → Writes a b r x
+writes_whole a b (Ok _) x h = h
+writes_whole a b (Err Memory) x h = ([], x, refl, h)
+writes_whole a b (Err Write) x h = h
 
 -- the line of an FDE, and then what is written of its rows
 pub fde_then : (frame : Frame) (size : AddressSize) (cie : Cie) (fde : Fde) (rows : List Row) (a b c : Option (List ℕ)) (r : Result (Unit {0}) ReportFault)

@@ -19,13 +19,17 @@ world_of target gs = record {
   object = first_that object_in gs;
 }
 
--- The expression is good, its run on what was given comes to an outcome after some steps, and the text shows them and its depth.
-pub record Evaluates (kind : Kind) (target : Target) (bytes : List ℕ) (gs : List Given) (written : List ℕ) : Type 0 where
+-- The expression is good, its run on what was given comes to this outcome after so many steps, and this is its depth.
+pub record ComesTo (kind : Kind) (target : Target) (bytes : List ℕ) (gs : List Given) (outcome : Outcome) (steps depth : ℕ) : Type 0 where
   pub short : length bytes < 2 ^ 32
   pub good : IsGoodExpression kind target bytes
+  pub run : IsRun (world_of target gs) kind (operations_in target bytes) (length bytes) outcome steps
+  pub deepest : IsDepthOf kind target bytes depth
+
+-- The text shows what it comes to.
+pub record Evaluates (kind : Kind) (target : Target) (bytes : List ℕ) (gs : List Given) (written : List ℕ) : Type 0 where
   pub outcome : Outcome
   pub steps : ℕ
-  pub run : IsRun (world_of target gs) kind (operations_in target bytes) (length bytes) outcome steps
   pub depth : ℕ
-  pub deepest : IsDepthOf kind target bytes depth
+  pub comes : ComesTo kind target bytes gs outcome steps depth
   pub text : written ≡ evaluation_text target.address_size outcome steps depth

@@ -2,7 +2,7 @@ pub mod Addresses
 pub mod Asked
 pub mod Commands
 pub mod Evaluations
-pub mod Hexed
+pub mod Files
 pub mod Names
 pub mod Outcomes
 pub mod Parts
@@ -10,6 +10,7 @@ pub mod Runs
 pub mod StateFile
 pub mod StateViews
 pub mod Statuses
+pub mod Stops
 pub mod Taken
 pub mod Text
 pub mod Written

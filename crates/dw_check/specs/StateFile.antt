@@ -1,5 +1,5 @@
 -- What a state file says of a machine, line by line.
-use Rattle.std.specs.Prelude.{◌≡◌, ℕ, suc, ◌+◌, ◌-◌, ◌≤◌, ◌^◌, ◌==◌, nat_lt, nat_le, ◌&&◌, if◌then◌else◌, List, [], ◌∷◌, length, slice_get, Option, Some, None, option_map, option_and_then, Result, Ok, Err, codes}
+use Rattle.std.specs.Prelude.{◌≡◌, ℕ, suc, ◌+◌, ◌-◌, ◌≤◌, ◌^◌, ◌==◌, nat_lt, nat_le, ◌&&◌, if◌then◌else◌, List, [], ◌∷◌, ◌++◌, length, slice_get, Option, Some, None, option_map, option_and_then, Result, Ok, Err, codes}
 use Rattle.std.specs.Option.{option_or}
 use Rattle.std.specs.Result.{result_ok}
 use Rattle.std.specs.Str.{bytes_eq}
@@ -65,21 +65,21 @@ line_given target line = given_by target (parts_of 32 line)
 
 -- ---- the file
 
--- what the line of number n gives, before what the lines behind it give
-abbrev pub with_given : Option Given → ℕ → Result (List Given) ℕ → Result (List Given) ℕ
-with_given None n rest = Err n
-with_given (Some g) n (Err m) = Err m
-with_given (Some g) n (Ok gs) = Ok (g ∷ gs)
+-- what the line of number n gives, behind what those before it gave, and then what is read behind it
+abbrev pub with_given : List Given → Option Given → ℕ → (List Given → Result (List Given) ℕ) → Result (List Given) ℕ
+with_given gs None n rest = Err n
+with_given gs (Some g) n rest = rest (gs ++ g ∷ [])
 
--- what lines give, the first of number n; or the number of the first that isn't one. An empty line gives nothing.
-abbrev pub lines_given : Target → ℕ → List (List ℕ) → Result (List Given) ℕ
-lines_given target n [] = Ok []
-lines_given target n ([] ∷ lines) = lines_given target (suc n) lines
-lines_given target n ((b ∷ line) ∷ lines) = with_given (line_given target (b ∷ line)) n (lines_given target (suc n) lines)
+-- What lines give behind what was given before them, the first of number n; or the number of the first that isn't one. An empty line
+-- gives nothing.
+abbrev pub lines_given : Target → List Given → ℕ → List (List ℕ) → Result (List Given) ℕ
+lines_given target gs n [] = Ok gs
+lines_given target gs n ([] ∷ lines) = lines_given target gs (suc n) lines
+lines_given target gs n ((b ∷ line) ∷ lines) = with_given gs (line_given target (b ∷ line)) n (λ hs. lines_given target hs (suc n) lines)
 
 -- Lines end at LFs, and are counted from 1.
 abbrev pub file_given : Target → List ℕ → Result (List Given) ℕ
-file_given target text = lines_given target 1 (parts_of 10 text)
+file_given target text = lines_given target [] 1 (parts_of 10 text)
 
 -- ---- what holds: where two lines give one thing, the first
 

@@ -1,10 +1,8 @@
 -- What the types of a state file stand for.
-use Rattle.std.specs.Prelude.{◌≡◌, ℕ, List, Result, Ok, Err}
+use Rattle.std.specs.Prelude.{◌≡◌, ℕ, List, Result, Ok}
 use Rattle.std.specs.Ordering.{nat_cmp}
 use Rattle.std.specs.BTreeMap.{get}
 use Rattle.dw_check.specs.declared.machine_state.MachineState.{MachineState}
-use Rattle.dw_check.specs.declared.machine_state.StateFault.{StateFault}
-use Rattle.dw_check.specs.declared.machine_state.StateFault.TheVariants.{Line, Memory}
 use Rattle.dw_check.specs.StateFile.{Given, Known, IsGivenBy, register, bytes, cfa, frame_base, object}
 use Rattle.dw_check.specs.declared.state_line.StateLine.{StateLine}
 use Rattle.dw_check.specs.declared.state_line.StateLine.TheVariants as lines
@@ -28,8 +26,3 @@ known_of m = record {
 -- the state is what was given
 abbrev pub IsStateOf : Result (List Given) ℕ → MachineState → Type 0
 IsStateOf given m = (gs : List Given) × (given ≡ Ok gs) × IsGivenBy (known_of m) gs
-
--- a line is the first that isn't one, or memory ran out
-abbrev pub IsStateFault : Result (List Given) ℕ → StateFault → Type 0
-IsStateFault given (Line n) = given ≡ Err n
-IsStateFault given Memory = Unit {0}

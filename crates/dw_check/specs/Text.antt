@@ -11,8 +11,8 @@ use Rattle.dw_frame.specs.Records.{Cie, Fde}
 use Rattle.dw_rows.specs.Rules.{Rule, Cfa, Row, default, undefined, same_value, offset, val_offset, register, expression, val_expression, register_and_offset, cfa_expression}
 use Rattle.dw_rows.specs.Section.{Frame, cie_in, rows_in, row_of}
 use Rattle.dw_check.specs.Names.{name_of}
-use Rattle.dw_check.specs.declared.lines.Place.{Place}
-use Rattle.dw_check.specs.declared.lines.Place.TheVariants as places
+use Rattle.dw_check.specs.declared.stop.Section.{Section}
+use Rattle.dw_check.specs.Stops.{section_text}
 
 -- ---- numbers
 
@@ -52,17 +52,12 @@ signed_text (negsuc n) = codes "-" ++ decimal (suc n)
 
 -- ---- a refusal
 
-abbrev pub place_text : Place → List ℕ
-place_text places.Frame = codes "frame"
-place_text places.Lists = codes "lists"
-place_text places.Expression = codes "expression"
-
 -- the number and the name of what is wrong
 unfoldable pub kind_text : FaultKind → List ℕ
 kind_text kind = decimal (number_of kind) ++ codes " " ++ name_of kind
 
-unfoldable pub refused_line : Place → Fault → List ℕ
-refused_line place fault = codes "refused " ++ kind_text fault.kind ++ codes " " ++ place_text place
+unfoldable pub refused_line : Section → Fault → List ℕ
+refused_line section fault = codes "refused " ++ kind_text fault.kind ++ codes " " ++ section_text section
     ++ codes " " ++ offset_text fault.at ++ codes "\n"
 
 -- ---- an FDE and its rows (DWARF 5, section 6.4.1)

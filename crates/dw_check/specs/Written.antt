@@ -1,9 +1,14 @@
 -- What a call that writes a text has written.
-use Rattle.std.specs.Prelude.{ℕ, Bool, true, false, List, [], Option, Result, Ok, Err}
+use Rattle.std.specs.Prelude.{◌≡◌, ℕ, Bool, true, false, List, [], Option, Result, Ok, Err}
 use Rattle.std.specs.Io.KnownBytes.{Appends}
 use Rattle.dw_check.specs.Taken.{AppendsFront}
-use Rattle.dw_check.specs.declared.output.ReportFault.{ReportFault}
-use Rattle.dw_check.specs.declared.output.ReportFault.TheVariants.{Memory, Write}
+use Rattle.dw_check.specs.declared.stop.ReportFault.{ReportFault}
+use Rattle.dw_check.specs.declared.stop.ReportFault.TheVariants.{Memory, Write}
+use Rattle.dw_check.specs.declared.writer.Writer.{Writer}
+
+-- The writer is over the same sink, and shows addresses in the same size.
+abbrev pub IsSame : {S : Type 0} → Writer S → Writer S → Type 0
+IsSame old new = (new.sink.ghost_name ≡ old.sink.ghost_name) × (new.size ≡ old.size)
 
 -- A call that answers this wrote the text, or a beginning of it.
 abbrev pub Writes : Option (List ℕ) → Option (List ℕ) → Result (Unit {0}) ReportFault → List ℕ → Type 0

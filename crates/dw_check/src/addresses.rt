@@ -32,12 +32,7 @@ pub(crate) fn parse_number(digits: &[u8], radix: u32, most: usize) -> Option<u64
 fn address_within(number: Option<u64>, target: Target) -> Option<u64>
     ensures { result ≡ option_and_then (at_most (top_of target)) number }
 {
-    let value = number?;
-    if value <= target.address_size.max_address() {
-        Some(value)
-    } else {
-        None
-    }
+    number.filter(|value| *value <= target.address_size.max_address())
 }
 
 /// The address of the target that `0x` and 1 to 16 hex digits of either case spell.

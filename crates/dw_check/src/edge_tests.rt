@@ -59,8 +59,11 @@ fn words_that_ask_for_nothing(rt: HostRuntime) -> Result<(), Fail> {
         let Err(usage) = asked(rt.alloc(), words)? else {
             return Err("a request".into());
         };
-        assert!(rt; matches!(usage, Usage::Line(_)));
         assert_eq!(rt; usage.status(), 2);
+        let Usage::Line(text) = usage else {
+            return Err("another fault".into());
+        };
+        assert!(rt; text.as_str().contains("Usage: dwcheck"));
     }
     Ok(())
 }

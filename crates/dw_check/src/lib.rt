@@ -5,7 +5,7 @@ mod addresses;
 mod asked;
 mod command_line;
 mod evaluations;
-mod hexed;
+mod files;
 pub mod laws;
 mod lines;
 mod machine_state;
@@ -17,7 +17,9 @@ mod parts;
 mod runs;
 mod sink;
 mod state_line;
+mod stop;
 mod words;
+mod writer;
 
 pub use asked::{End, Request, Task, Usage};
 pub use runs::run;

@@ -5,53 +5,39 @@ ghost use Rattle.std.specs.List.{flat_map};
 ghost use Rattle.std.specs.String.{string_bytes};
 ghost use Rattle.dw_frame.specs.Views.{cie_of, fde_of};
 ghost use Rattle.dw_rows.specs.Views.{rule_of, cfa_rule_of};
-ghost use Rattle.dw_check.specs.Text.{place_text, kind_text, refused_line, records_text, fde_line, cfa_text, rule_text, register_text, row_line, digits_of, Fits};
+ghost use Rattle.dw_check.specs.Text.{kind_text, refused_line, records_text, fde_line, cfa_text, rule_text, register_text, row_line, digits_of, Fits};
 
 use crate::names::name;
-use crate::numbers::{push_offset, push_range, push_signed};
+use crate::numbers::{push_decimal, push_offset, push_range, push_signed};
+use crate::stop::Section;
 use dw_bytes::{AddressSize, Fault, FaultKind};
 use dw_frame::{CommonInformationEntry, FrameDescriptionEntry};
 use dw_rows::{CfaRule, RegisterRule, RegisterRules, UnwindTableRow};
 use std::alloc::AllocError;
 
-/// What the offset of a refusal counts in.
-#[derive(Clone, Copy, Debug, PartialEq, Eq)]
-pub(crate) enum Place {
-    Frame,
-    Lists,
-    Expression,
-}
-
-impl Place {
-    fn text(self) -> &'static str
-        ensures { result.now ≡ place_text self }
-    {
-        match self {
-            Place::Frame => "frame",
-            Place::Lists => "lists",
-            Place::Expression => "expression",
-        }
-    }
-}
-
 #[tactic(auto, unfolding(crate::specs::Text::kind_text))]
 fn push_kind(line: &mut String, kind: FaultKind) -> Result<(), AllocError>
     ensures { OnOk result (string_bytes line.new ≡ string_bytes line.old ++ kind_text kind) }
 {
-    let number = kind.number();
-    let name = name(kind);
-    write!(line, "{number} {name}")
+    push_decimal(line, kind.number())?;
+    line.push_str(" ")?;
+    line.push_str(name(kind))
 }
 
 /// The line of a refusal.
 #[tactic(auto, unfolding(crate::specs::Text::refused_line))]
-pub(crate) fn push_refused(line: &mut String, place: Place, fault: Fault) -> Result<(), AllocError>
-    ensures { OnOk result (string_bytes line.new ≡ string_bytes line.old ++ refused_line place fault) }
+pub(crate) fn push_refused(
+    line: &mut String,
+    section: Section,
+    fault: Fault,
+) -> Result<(), AllocError>
+    ensures { OnOk result (string_bytes line.new ≡ string_bytes line.old ++ refused_line section fault) }
 {
     line.push_str("refused ")?;
     push_kind(line, fault.kind)?;
-    let place = place.text();
-    write!(line, " {place} ")?;
+    line.push_str(" ")?;
+    line.push_str(section.text())?;
+    line.push_str(" ")?;
     push_offset(line, fault.at)?;
     line.push_str("\n")
 }
@@ -85,8 +71,9 @@ pub(crate) fn push_fde(
     push_records(line, cie, fde)?;
     line.push_str(" ")?;
     push_range(line, size, fde.initial_location, end)?;
-    let register = cie.return_address_register;
-    write!(line, " ra r{register}\n")
+    line.push_str(" ra r")?;
+    push_decimal(line, cie.return_address_register)?;
+    line.push_str("\n")
 }
 
 fn push_cfa(line: &mut String, rule: CfaRule) -> Result<(), AllocError>
@@ -94,7 +81,8 @@ fn push_cfa(line: &mut String, rule: CfaRule) -> Result<(), AllocError>
 {
     match rule {
         CfaRule::RegisterAndOffset { register, offset } => {
-            write!(line, "r{register}")?;
+            line.push_str("r")?;
+            push_decimal(line, register)?;
             push_signed(line, offset)
         }
     }
@@ -116,14 +104,19 @@ fn push_rule(line: &mut String, rule: RegisterRule) -> Result<(), AllocError>
             line.push_str("c")?;
             push_signed(line, offset)
         }
-        RegisterRule::Register(register) => write!(line, "r{register}"),
+        RegisterRule::Register(register) => {
+            line.push_str("r")?;
+            push_decimal(line, register)
+        }
     }
 }
 
 fn push_register(line: &mut String, register: u16, rule: RegisterRule) -> Result<(), AllocError>
     ensures { OnOk result (string_bytes line.new ≡ string_bytes line.old ++ register_text (register, rule_of rule)) }
 {
-    write!(line, " r{register}=")?;
+    line.push_str(" r")?;
+    push_decimal(line, register)?;
+    line.push_str("=")?;
     push_rule(line, rule)
 }
 

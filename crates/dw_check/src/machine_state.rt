@@ -5,11 +5,12 @@ ghost use Rattle.std.specs.Ordering.{nat_cmp};
 ghost use Rattle.std.specs.BTreeMap.{get, Updates, IsUnchanged};
 ghost use Rattle.std.specs.Option.{option_or};
 ghost use Rattle.dw_check.specs.StateFile.{Given, FitsAddresses, IsGivenBy, byte_in, file_given};
-ghost use Rattle.dw_check.specs.declared.machine_state.StateFault.TheVariants.{Memory};
-ghost use Rattle.dw_check.specs.StateViews.{given_of, known_of, IsStateOf, IsStateFault};
+ghost use Rattle.dw_check.specs.Stops.{IsBadState};
+ghost use Rattle.dw_check.specs.StateViews.{given_of, known_of, IsStateOf};
 
 use crate::parts::Parts;
 use crate::state_line::{StateLine, parse_line};
+use crate::stop::Stop;
 use byteorder::{BigEndian, ByteOrder, LittleEndian};
 use dw_bytes::{Order, Target};
 use dw_eval::{Memory, Registers};
@@ -24,15 +25,6 @@ pub(crate) struct MachineState {
     pub cfa: Option<u64>,
     pub frame_base: Option<u64>,
     pub object: Option<u64>,
-}
-
-/// Why a state file gives no state.
-#[derive(Clone, Copy, Debug, PartialEq, Eq)]
-pub(crate) enum StateFault {
-    /// This line is none, lines counted from 1.
-    Line(u64),
-    /// Memory ran out.
-    Memory,
 }
 
 /// Gives a key its value, unless it has one.
@@ -105,14 +97,6 @@ impl MachineState {
     }
 }
 
-impl From<AllocError> for StateFault {
-    ghost from_gives = { λ _ e. e ≡ Memory };
-
-    fn from(_: AllocError) -> Self {
-        StateFault::Memory
-    }
-}
-
 impl Registers for MachineState {
     ghost contents = { λ m. (known_of m).registers };
 
@@ -139,13 +123,9 @@ impl Memory for MachineState {
 
 /// What a state file says, or its first line that is none. An empty line says nothing, and where two lines
 /// give one thing or one byte, the first holds. Time n log n in the file's length.
-pub(crate) fn read_state(
-    alloc: Global,
-    target: Target,
-    text: &[u8],
-) -> Result<MachineState, StateFault>
+pub(crate) fn read_state(alloc: Global, target: Target, text: &[u8]) -> Result<MachineState, Stop>
     ensures state { IfOk result (IsStateOf (file_given target text.now)) }
-    ensures fault { IfErr result (IsStateFault (file_given target text.now)) }
+    ensures stop { IfErr result (IsBadState (file_given target text.now)) }
 {
     let mut state = MachineState::new(alloc);
     let mut number = 0;
@@ -155,7 +135,7 @@ pub(crate) fn read_state(
             continue;
         }
         let Some(given) = parse_line(alloc, target, line)? else {
-            return Err(StateFault::Line(number));
+            return Err(Stop::StateLine(number));
         };
         state.add(given)?;
     }

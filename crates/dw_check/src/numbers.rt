@@ -5,6 +5,7 @@ ghost use Rattle.std.specs.String.{string_bytes};
 ghost use Rattle.dw_check.specs.Text.{hex_number, offset_text, digits_of, address_text, range_text, signed_text};
 
 use dw_bytes::AddressSize;
+use itoa::{Buffer, Integer};
 use std::alloc::AllocError;
 
 /// An offset in a section or in an expression.
@@ -59,13 +60,20 @@ pub(crate) fn push_range(
     push_address(line, size, end)
 }
 
+/// A number in decimal digits, one below 0 behind its sign.
+pub(crate) fn push_decimal<I: Integer>(line: &mut String, number: I) -> Result<(), AllocError>
+    ensures { OnOk result (string_bytes line.new ≡ string_bytes line.old ++ I.text number) }
+{
+    let mut buffer = Buffer::new();
+    line.push_str(buffer.format(number))
+}
+
 /// A number behind its sign.
 pub(crate) fn push_signed(line: &mut String, number: i64) -> Result<(), AllocError>
     ensures { OnOk result (string_bytes line.new ≡ string_bytes line.old ++ signed_text number) }
 {
-    if number < 0 {
-        write!(line, "{number}")
-    } else {
-        write!(line, "+{number}")
+    if number >= 0 {
+        line.push_str("+")?;
     }
+    push_decimal(line, number)
 }

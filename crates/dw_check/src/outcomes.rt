@@ -3,32 +3,15 @@
 ghost use Rattle.std.specs.Prelude.{◌≡◌, ◌++◌, ◌^◌, ℕ, OnOk, map};
 ghost use Rattle.std.specs.List.{All, flat_map};
 ghost use Rattle.std.specs.String.{string_bytes};
-ghost use Rattle.hex.specs.Hex.{encode_lower};
 ghost use Rattle.dw_eval.specs.Views.{whereabouts_of, extent_in, piece_in, outcome_of};
-ghost use Rattle.dw_check.specs.Text.{hex_digits, digits_of};
+ghost use Rattle.dw_check.specs.Text.{digits_of};
 ghost use Rattle.dw_eval.specs.Fits.{LocationFits, PieceFits, OutcomeFits};
 ghost use Rattle.dw_check.specs.Outcomes.{location_text, size_text, piece_line, stop_line, outcome_text, counts_line, evaluation_text};
 
-use crate::numbers::{push_address, push_offset};
+use crate::numbers::{push_address, push_decimal, push_offset};
 use dw_bytes::AddressSize;
 use dw_eval::{Location, Outcome, Piece, PieceSize};
 use std::alloc::AllocError;
-
-fn push_byte(line: &mut String, byte: u8) -> Result<(), AllocError>
-    ensures { OnOk result (string_bytes line.new ≡ string_bytes line.old ++ hex_digits 2 byte) }
-{
-    write!(line, "{byte:02x}")
-}
-
-/// Bytes in hex.
-fn push_hex(line: &mut String, bytes: &[u8]) -> Result<(), AllocError>
-    ensures { OnOk result (string_bytes line.new ≡ string_bytes line.old ++ encode_lower bytes.now) }
-{
-    for byte in bytes {
-        push_byte(line, *byte)?;
-    }
-    Ok(())
-}
 
 fn push_location(
     line: &mut String,
@@ -44,14 +27,18 @@ fn push_location(
             line.push_str("address ")?;
             push_address(line, size, address)
         }
-        Location::Register(register) => write!(line, "register {register}"),
+        Location::Register(register) => {
+            line.push_str("register ")?;
+            push_decimal(line, register)
+        }
         Location::Value(value) => {
             line.push_str("value ")?;
             push_address(line, size, value)
         }
         Location::Bytes(bytes) => {
             line.push_str("bytes ")?;
-            push_hex(line, bytes)
+            let text = hex::encode(*line.allocator(), bytes)?;
+            line.push_str(text.as_str())
         }
     }
 }
@@ -60,8 +47,16 @@ fn push_size(line: &mut String, size: PieceSize) -> Result<(), AllocError>
     ensures { OnOk result (string_bytes line.new ≡ string_bytes line.old ++ size_text (extent_in size)) }
 {
     match size {
-        PieceSize::Bytes(count) => write!(line, " bytes {count}"),
-        PieceSize::Bits { size, offset } => write!(line, " bits {size} offset {offset}"),
+        PieceSize::Bytes(count) => {
+            line.push_str(" bytes ")?;
+            push_decimal(line, count)
+        }
+        PieceSize::Bits { size, offset } => {
+            line.push_str(" bits ")?;
+            push_decimal(line, size)?;
+            line.push_str(" offset ")?;
+            push_decimal(line, offset)
+        }
     }
 }
 
@@ -90,7 +85,8 @@ fn push_pieces(line: &mut String, size: AddressSize, pieces: &[Piece<'_>]) -> Re
 fn push_stop(line: &mut String, what: &str, at: u32) -> Result<(), AllocError>
     ensures { OnOk result (string_bytes line.new ≡ string_bytes line.old ++ stop_line what.now at) }
 {
-    write!(line, "{what} at ")?;
+    line.push_str(what)?;
+    line.push_str(" at ")?;
     push_offset(line, at)?;
     line.push_str("\n")
 }
@@ -114,8 +110,9 @@ fn push_outcome(
             line.push_str("\n")
         }
         Outcome::Pieces(pieces) => {
-            let count = pieces.len();
-            write!(line, "pieces {count}\n")?;
+            line.push_str("pieces ")?;
+            push_decimal(line, pieces.len())?;
+            line.push_str("\n")?;
             push_pieces(line, size, pieces.as_slice())
         }
         Outcome::Unreadable { at } => push_stop(line, "unreadable", *at),
@@ -136,5 +133,9 @@ pub(crate) fn push_evaluation(
     ensures { OnOk result (string_bytes line.new ≡ string_bytes line.old ++ evaluation_text size (outcome_of outcome.now) steps depth) }
 {
     push_outcome(line, size, outcome)?;
-    write!(line, "steps {steps} depth {depth}\n")
+    line.push_str("steps ")?;
+    push_decimal(line, steps)?;
+    line.push_str(" depth ")?;
+    push_decimal(line, depth)?;
+    line.push_str("\n")
 }

@@ -1,103 +1,162 @@
 //! Requests carried out.
 
-ghost use Rattle.std.specs.Prelude.{◌≡◌, false, length, map};
-ghost use Rattle.dw_check.specs.Runs.{Ends, IsPlaceIn, IsReply, IsReplyOf, end_of, frame_reply, rows_text};
-ghost use Rattle.dw_check.specs.Written.{Writes, is_write};
+ghost use Rattle.std.specs.Prelude.{◌≡◌, ◌<◌, ◌^◌, false, None, IfOk, IfErr, length, map};
+ghost use Rattle.dw_rows.specs.Section.{frame_of};
+ghost use Rattle.dw_stack.specs.Certificates.{checked_of};
+ghost use Rattle.dw_stack.specs.Expressions.{IsOf};
+ghost use Rattle.dw_check.specs.Runs.{Ends, Goes, IsPlaceIn, IsReply, IsReplyTo, IsRowsReply, IsEvalReply, frame_refusal, expression_refusal, rows_text};
+ghost use Rattle.dw_check.specs.Stops.{IsRefusal, ended_by, is_output};
+ghost use Rattle.dw_check.specs.Written.{IsSame, Writes, is_write};
+ghost use Rattle.dw_check.specs.declared.stop.Section.TheVariants as sections;
 
 use crate::asked::{End, Request, Task};
-use crate::evaluations::run_eval;
-use crate::hexed::{HexFault, bytes_of_hex};
-use crate::lines::Place;
-use crate::output::{ReportFault, write_frame, write_lookup, write_refused};
+use crate::evaluations::write_outcome;
+use crate::files::{Files, section_at, state_at};
+use crate::output::{write_frame, write_lookup, write_refused};
 use crate::sink::Sink;
+use crate::stop::{ReportFault, Section, Stop};
+use crate::writer::Writer;
 use dw_bytes::{Fault, FaultKind, Target};
+use dw_ops::Expression;
 use dw_rows::{CheckedFrame, check_frame};
+use dw_stack::{CheckedExpression, Kind, certify};
 use std::alloc::Global;
 
 /// Sections and expressions of this many bytes or more are refused.
-pub(crate) const SECTION_LIMIT: usize = 1 << 32;
+const SECTION_LIMIT: usize = 1 << 32;
 
 /// What refuses them.
-pub(crate) const TOO_LONG: Fault = Fault {
+const TOO_LONG: Fault = Fault {
     kind: FaultKind::SectionTooLong,
     at: 0,
 };
 
-/// The end of a run that was to end so and wrote so.
-pub(crate) fn ended(written: Result<(), ReportFault>, end: End) -> End
-    ensures end { result ≡ end_of written end }
-    ensures place { IsPlaceIn 0 end → IsPlaceIn 0 result }
+/// The frame section of these bytes, if it has no fault.
+fn checked_frame<'a>(
+    alloc: Global,
+    target: Target,
+    section: &'a [u8],
+) -> Result<CheckedFrame<'a>, Stop>
+    ensures frame { IfOk result (λ frame. frame ≡ frame_of target section.entry.now) }
+    ensures whole { IfOk result (λ _. frame_refusal target section.entry.now ≡ None) }
+    ensures stop { IfErr result (IsRefusal sections.Frame (frame_refusal target section.entry.now)) }
 {
-    match written {
-        Ok(()) => end,
-        Err(ReportFault::Memory) => End::Memory,
-        Err(ReportFault::Write) => End::Output,
+    if section.len() >= SECTION_LIMIT {
+        return Err(Stop::Refused(Section::Frame, TOO_LONG));
     }
+    match check_frame(alloc, section, target) {
+        Ok(frame) => Ok(frame),
+        Err(fault) => Err(Stop::of_fault(Section::Frame, fault)),
+    }
+}
+
+/// The expression of these bytes, if it has no fault.
+fn checked_expression<'a>(
+    alloc: Global,
+    kind: Kind,
+    target: Target,
+    bytes: &'a [u8],
+) -> Result<CheckedExpression<'a>, Stop>
+    ensures short { IfOk result (λ _. length bytes.entry.now < 2 ^ 32) }
+    ensures whole { IfOk result (λ _. expression_refusal kind target bytes.entry.now ≡ None) }
+    ensures checked { IfOk result (λ checked. IsOf kind target bytes.entry.now (checked_of checked)) }
+    ensures stop { IfErr result (IsRefusal sections.Expression (expression_refusal kind target bytes.entry.now)) }
+{
+    if bytes.len() >= SECTION_LIMIT {
+        return Err(Stop::Refused(Section::Expression, TOO_LONG));
+    }
+    match certify(alloc, Expression::new(bytes, target), kind) {
+        Ok(certificate) => Ok(certificate.into_checked()),
+        Err(fault) => Err(Stop::of_fault(Section::Expression, fault)),
+    }
+}
+
+/// How a run goes whose text was written so.
+fn ended(written: Result<(), ReportFault>) -> Result<(), Stop>
+    ensures { result ≡ ended_by written }
+{
+    Ok(written?)
 }
 
 /// Writes the row of an address, or all rows.
 fn write_rows_of<S: Sink>(
-    line: &mut String,
+    out: &mut Writer<'_, S>,
     address: Option<u64>,
     frame: &CheckedFrame<'_>,
-    sink: &mut S,
 ) -> Result<(), ReportFault>
-    requires { S.has_stopped sink.old ≡ false }
-    ensures written { Writes (S.taken sink.old) (S.taken sink.new) result (rows_text address frame.now) }
-    ensures stops { S.has_stopped sink.new ≡ is_write result }
+    requires size { out.old.size ≡ frame.now.target.address_size }
+    requires runs { S.has_stopped out.old.sink.now ≡ false }
+    ensures same { IsSame out.old out.new }
+    ensures written { Writes (S.taken out.old.sink.now) (S.taken out.new.sink.now) result
+        (rows_text address frame.now) }
+    ensures stops { S.has_stopped out.new.sink.now ≡ is_write result }
 {
     match address {
-        None => write_frame(line, frame, sink),
-        Some(address) => write_lookup(line, frame, address, sink),
+        None => write_frame(out, frame),
+        Some(address) => write_lookup(out, frame, address),
     }
 }
 
 /// Shows the row of an address in a frame section, or all rows.
-fn run_rows<S: Sink>(
+fn show_rows<S: Sink>(
     alloc: Global,
     address: Option<u64>,
-    target: Target,
-    section: &[u8],
-    sink: &mut S,
-) -> End
-    requires { S.has_stopped sink.old ≡ false }
-    ensures place { IsPlaceIn 0 result }
-    ensures ends { Ends (λ reply. reply ≡ frame_reply address target section.now) (S.taken sink.old) (S.taken sink.new) (S.has_stopped sink.new) result }
+    files: &Files<'_>,
+    out: &mut Writer<'_, S>,
+) -> Result<(), Stop>
+    requires size { out.old.size ≡ files.now.target.address_size }
+    requires runs { S.has_stopped out.old.sink.now ≡ false }
+    ensures same { IsSame out.old out.new }
+    ensures goes { Goes (length files.now.contents.now)
+        (IsRowsReply address files.now.target files.now.hex (map (λ file. file.items) files.now.contents.now))
+        (S.taken out.old.sink.now) (S.taken out.new.sink.now) result }
+    ensures stops { S.has_stopped out.new.sink.now ≡ is_output result }
 {
-    let mut line = String::new(alloc);
-    if section.len() >= SECTION_LIMIT {
-        return ended(
-            write_refused(&mut line, Place::Frame, TOO_LONG, sink),
-            End::Refused,
-        );
-    }
-    match check_frame(alloc, section, target) {
-        Ok(frame) => ended(write_rows_of(&mut line, address, &frame, sink), End::Done),
-        Err(fault) if fault.kind == FaultKind::Memory => End::Memory,
-        Err(fault) => ended(
-            write_refused(&mut line, Place::Frame, fault, sink),
-            End::Refused,
-        ),
-    }
+    let section = section_at(alloc, files.hex, files.contents, 0)?;
+    let frame = checked_frame(alloc, files.target, section.as_slice())?;
+    ended(write_rows_of(out, address, &frame))
 }
 
-/// Does a task with the bytes of its first file and the contents of the others.
-fn run_task<S: Sink>(
+/// Shows what an expression comes to, on a machine of which a state file says something, if there is one.
+fn show_outcome<S: Sink>(
     alloc: Global,
-    request: &Request,
-    bytes: &[u8],
-    files: &[Vec<u8>],
-    sink: &mut S,
-) -> End
-    requires { S.has_stopped sink.old ≡ false }
-    ensures place { IsPlaceIn 0 result }
-    ensures ends { Ends (IsReplyOf request.now.task request.now.target bytes.now (map (λ file. file.items) files.now)) (S.taken sink.old) (S.taken sink.new) (S.has_stopped sink.new) result }
+    kind: Kind,
+    files: &Files<'_>,
+    out: &mut Writer<'_, S>,
+) -> Result<(), Stop>
+    requires size { out.old.size ≡ files.now.target.address_size }
+    requires runs { S.has_stopped out.old.sink.now ≡ false }
+    ensures same { IsSame out.old out.new }
+    ensures goes { Goes (length files.now.contents.now)
+        (IsEvalReply kind files.now.target files.now.hex (map (λ file. file.items) files.now.contents.now))
+        (S.taken out.old.sink.now) (S.taken out.new.sink.now) result }
+    ensures stops { S.has_stopped out.new.sink.now ≡ is_output result }
 {
-    let target = request.target;
-    match request.task {
-        Task::Rows => run_rows(alloc, None, target, bytes, sink),
-        Task::Row { address } => run_rows(alloc, Some(address), target, bytes, sink),
-        Task::Eval { kind } => run_eval(alloc, kind, target, bytes, files, sink),
+    let bytes = section_at(alloc, files.hex, files.contents, 0)?;
+    let state = state_at(alloc, files.target, files.contents, 1)?;
+    let checked = checked_expression(alloc, kind, files.target, bytes.as_slice())?;
+    ended(write_outcome(out, &checked, &state))
+}
+
+/// Does a task with these files.
+fn show<S: Sink>(
+    alloc: Global,
+    task: Task,
+    files: &Files<'_>,
+    out: &mut Writer<'_, S>,
+) -> Result<(), Stop>
+    requires size { out.old.size ≡ files.now.target.address_size }
+    requires runs { S.has_stopped out.old.sink.now ≡ false }
+    ensures same { IsSame out.old out.new }
+    ensures goes { Goes (length files.now.contents.now)
+        (IsReplyTo task files.now.target files.now.hex (map (λ file. file.items) files.now.contents.now))
+        (S.taken out.old.sink.now) (S.taken out.new.sink.now) result }
+    ensures stops { S.has_stopped out.new.sink.now ≡ is_output result }
+{
+    match task {
+        Task::Rows => show_rows(alloc, None, files, out),
+        Task::Row { address } => show_rows(alloc, Some(address), files, out),
+        Task::Eval { kind } => show_outcome(alloc, kind, files, out),
     }
 }
 
@@ -106,17 +165,30 @@ pub fn run<S: Sink>(alloc: Global, request: &Request, files: &[Vec<u8>], sink: &
     requires files { length files.now ≡ length request.now.files }
     requires runs { S.has_stopped sink.old ≡ false }
     ensures place { IsPlaceIn (length request.now.files) result }
-    ensures ends { Ends (IsReply request.now (map (λ file. file.items) files.now)) (S.taken sink.old) (S.taken sink.new) (S.has_stopped sink.new) result }
+    ensures ends { Ends (IsReply request.now (map (λ file. file.items) files.now))
+        (S.taken sink.old) (S.taken sink.new) (S.has_stopped sink.new) result }
 {
-    let Some((file, files)) = files.split_first() else {
-        return End::Done;
+    let files = Files {
+        target: request.target,
+        hex: request.hex,
+        contents: files,
     };
-    if !request.hex {
-        return run_task(alloc, request, file.as_slice(), files, sink);
-    }
-    match bytes_of_hex(alloc, file.as_slice()) {
-        Ok(bytes) => run_task(alloc, request, bytes.as_slice(), files, sink),
-        Err(HexFault::NotHex) => End::BadHex(0),
-        Err(HexFault::Memory) => End::Memory,
+    let mut line = String::new(alloc);
+    let mut out = Writer {
+        line: &mut line,
+        size: request.target.address_size,
+        sink,
+    };
+    match show(alloc, request.task, &files, &mut out) {
+        Ok(()) => End::Done,
+        Err(Stop::Refused(section, fault)) => match write_refused(&mut out, section, fault) {
+            Ok(()) => End::Refused,
+            Err(ReportFault::Memory) => End::Memory,
+            Err(ReportFault::Write) => End::Output,
+        },
+        Err(Stop::BadHex(place)) => End::BadHex(place),
+        Err(Stop::StateLine(number)) => End::StateLine(number),
+        Err(Stop::Memory) => End::Memory,
+        Err(Stop::Output) => End::Output,
     }
 }

@@ -24,11 +24,7 @@ pub(crate) enum StateLine {
 fn parse_register(digits: &[u8]) -> Option<u16>
     ensures { result ≡ register_number digits.now }
 {
-    let number = parse_number(digits, 10, 5)?;
-    match u16::try_from(number) {
-        Ok(register) => Some(register),
-        Err(_) => None,
-    }
+    u16::try_from(parse_number(digits, 10, 5)?).ok()
 }
 
 /// The bytes at an address: one or more, up to the top of the addresses at most.

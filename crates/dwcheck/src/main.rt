@@ -16,6 +16,8 @@ use std::{env, fs, io};
 enum Ending {
     /// The words ask for nothing.
     Usage(Usage),
+    /// A word isn't UTF-8.
+    NotUtf8,
     /// This file can't be read.
     CannotRead(String),
     /// This file is to be hex text and isn't.
@@ -29,6 +31,7 @@ impl Ending {
     fn status(&self) -> u8 {
         match self {
             Ending::Usage(usage) => usage.status(),
+            Ending::NotUtf8 => 2,
             Ending::CannotRead(_) | Ending::NotHex(_) => 3,
             Ending::Run(end) => end.status(),
         }
@@ -53,12 +56,18 @@ impl<T: Drop> From<AllocFailed<T>> for Ending {
     }
 }
 
+/// Whether memory for this program ran out. The machine's own want of memory names a number of its own.
+fn is_want_of_memory(error: &io::Error) -> bool {
+    error.kind() == ErrorKind::OutOfMemory && error.raw_os_error().is_none()
+}
+
 /// The words of the command line, or the program's name alone where the machine hands in none.
 fn words_of(rt: &(impl Env + AllocGlobal)) -> Result<Vec<String>, Ending> {
-    let Ok(given) = env::args(rt) else {
-        return Err(Ending::Run(End::Memory));
+    let mut words: Vec<String> = match env::args(rt) {
+        Ok(given) => given.collect(rt.alloc())?,
+        Err(e) if is_want_of_memory(&e) => return Err(Ending::Run(End::Memory)),
+        Err(_) => return Err(Ending::NotUtf8),
     };
-    let mut words: Vec<String> = given.collect(rt.alloc())?;
     if words.is_empty() {
         words.push(String::from_str(rt.alloc(), "dwcheck")?)?;
     }
@@ -69,7 +78,7 @@ fn words_of(rt: &(impl Env + AllocGlobal)) -> Result<Vec<String>, Ending> {
 fn content_of(rt: &(impl Files + AllocGlobal), name: &String) -> Result<Vec<u8>, Ending> {
     match fs::read(rt, name.as_str()) {
         Ok(bytes) => Ok(bytes),
-        Err(e) if e.kind() == ErrorKind::OutOfMemory => Err(Ending::Run(End::Memory)),
+        Err(e) if is_want_of_memory(&e) => Err(Ending::Run(End::Memory)),
         Err(_) => Err(Ending::CannotRead(name.clone()?)),
     }
 }
@@ -117,6 +126,9 @@ fn explain(rt: &impl Eprint, ending: &Ending) -> io::Result<()> {
     match ending {
         Ending::Usage(Usage::Line(text)) => eprint!(rt; "{text}"),
         Ending::Usage(Usage::BadArgument) => eprintln!(rt; "dwcheck: bad argument"),
+        Ending::NotUtf8 => eprintln!(rt;
+            "error: invalid UTF-8 was detected in one or more arguments"
+        ),
         Ending::CannotRead(name) => eprintln!(rt; "dwcheck: cannot read {name}"),
         Ending::NotHex(name) => eprintln!(rt; "dwcheck: not hex: {name}"),
         Ending::Run(End::StateLine(n)) => eprintln!(rt; "dwcheck: state line {n}"),

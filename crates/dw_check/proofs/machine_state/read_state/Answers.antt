@@ -1,7 +1,7 @@
-use Rattle.std.proofs.Common.{rules, arith, ap, ◌≡◌, ◌∷◌, ◌++◌, ◌<◌, ◌+◌, [], length, subst}
+use Rattle.std.proofs.Common.{rules, refl, arith, ap, ◌≡◌, ◌∷◌, ◌++◌, ◌<◌, ◌+◌, [], length, subst}
 use Rattle.dw_check.specs.Parts.{parts_of}
 use Rattle.dw_check.specs.StateViews.{given_of}
-use Rattle.dw_check.proofs.StateLines.{Reading, few_parts, reads_first, reads_line}
+use Rattle.dw_check.proofs.StateLines.{Reading, few_parts, reads_line}
 use Rattle.dw_check.proofs.machine_state.read_state.Goals as goal
 
 pub loop-line-init : goal.loop-line-init
@@ -9,7 +9,7 @@ loop-line-init c =
     let target = c.args.target in
     let text = c.args.text.now in
     let lines : c.into_iter-line-iterator.result ≡ parts_of 10 text = search rules in
-    rw lines (record { count = omega (arith, few_parts 10 text); given = ([], c.new-state.ensures, reads_first target text) })
+    rw lines (record { count = omega (arith, few_parts 10 text); given = ([], c.new-state.ensures, record { is = refl }) })
 
 pub loop-line-preserved : goal.loop-line-preserved
 loop-line-preserved c =

@@ -14,19 +14,21 @@ behind : (s : Frame) (f : Fde) (c : Cie) (rows : List Row) → cie_in s f ≡ So
 behind s f c rows is all = all ∙ ap (λ o. rows_behind o f) is
 
 pub write_fde-requires-clause-fits : goal.write_fde-requires-clause-fits
-write_fde-requires-clause-fits g c = below_top c.args.frame.now.target _ _ (ap (λ t. t.address_size) c.target-size.ensures) c.requires.fits
+write_fde-requires-clause-fits g c = below_top c.args.frame.now.target _ _ c.requires.size c.requires.fits
 
 pub write_rows-requires-clause-fit : goal.write_rows-requires-clause-fit
 write_rows-requires-clause-fit g c =
-    subst (λ rows. All (λ row. Fits c.target-size.result.address_size row) rows) (sym (behind c.args.frame.now _ _ _ c.cie_of-cie.ensures.cie c.rows_into.ensures))
-    (good_rows_fit c.args.frame.now.target _ _ _ (ap (λ t. t.address_size) c.target-size.ensures) c.cie_of-cie.ensures.fde_program c.requires.fits)
+    let size = c.args.out.now.size in
+    let fit = subst (λ rows. All (λ row. Fits size row) rows) (sym (behind c.args.frame.now _ _ _ c.cie_of-cie.ensures.cie c.rows_into.ensures))
+    (good_rows_fit c.args.frame.now.target _ _ _ c.requires.size c.cie_of-cie.ensures.fde_program c.requires.fits) in
+    rw c.in_ok-write_fde.ensures.same.1 fit
 
 pub returns-in_err-write_fde-clause-written : goal.returns-in_err-write_fde-clause-written
 returns-in_err-write_fde-clause-written g c =
-    fde_front c.args.frame.now _ _ _ _ _ _ (ap (λ t. t.address_size) c.target-size.ensures) c.cie_of-cie.ensures.cie c.from_residual.ensures.0
+    fde_front c.args.frame.now _ _ _ _ _ _ c.requires.size c.cie_of-cie.ensures.cie c.from_residual.ensures.0
     c.in_err-write_fde.ensures.written
 
 pub returns-clause-written : goal.returns-clause-written
 returns-clause-written g c =
-    fde_then c.args.frame.now _ _ _ _ _ _ _ _ (ap (λ t. t.address_size) c.target-size.ensures) c.cie_of-cie.ensures.cie (behind c.args.frame.now _ _ _ c.cie_of-cie.ensures.cie c.rows_into.ensures)
-    c.in_ok-write_fde.ensures.written c.write_rows.ensures.written
+    fde_then c.args.frame.now _ _ _ _ _ _ _ _ c.requires.size c.cie_of-cie.ensures.cie (behind c.args.frame.now _ _ _ c.cie_of-cie.ensures.cie c.rows_into.ensures)
+    c.in_ok-write_fde.ensures.written (rw c.in_ok-write_fde.ensures.same.1 at c.write_rows.ensures.written)

@@ -8,12 +8,14 @@ use Rattle.dw_check.proofs.output.write_frame.Goals as goal
 
 pub loop-fde-init : goal.loop-fde-init
 loop-fde-init g c = record {
+  same = search rules;
   runs = search rules;
   sent = sent_none _ _ _ _ c.fdes-fdes.ensures.fdes;
 }
 
 pub loop-fde-preserved : goal.loop-fde-preserved
 loop-fde-preserved g c = record {
+  same = search rules;
   runs = search rules;
   sent = sent_next _ _ _ _ _ _ _ _ (next_seen fde_of c.fdes-fdes.result.now c.loop-fde.fde-index c.fde-item.result (omega arith) c.fde-item.is)
       c.loop-fde.invariant.sent c.in_ok-write_fde_and_rows.ensures.written;

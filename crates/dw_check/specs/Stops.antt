@@ -1,0 +1,50 @@
+-- Why a run stops before its text is written whole.
+use Rattle.std.specs.Prelude.{◌≡◌, ℕ, ◌<◌, Bool, true, false, List, Option, Some, None, Result, Ok, Err, codes}
+use Rattle.dw_bytes.specs.declared.fault.Fault.{Fault}
+use Rattle.dw_check.specs.StateFile.{Given}
+use Rattle.dw_check.specs.declared.stop.Section.{Section}
+use Rattle.dw_check.specs.declared.stop.Section.TheVariants as sections
+use Rattle.dw_check.specs.declared.stop.ReportFault.{ReportFault}
+use Rattle.dw_check.specs.declared.stop.ReportFault.TheVariants as faults
+use Rattle.dw_check.specs.declared.stop.Stop.{Stop}
+use Rattle.dw_check.specs.declared.stop.Stop.TheVariants.{Refused, BadHex, StateLine, Memory, Output}
+
+-- the name that a refusal has it by
+abbrev pub section_text : Section → List ℕ
+section_text sections.Frame = codes "frame"
+section_text sections.Lists = codes "lists"
+section_text sections.Expression = codes "expression"
+
+-- what writing that fails so stops a run with
+abbrev pub stop_of : ReportFault → Stop
+stop_of faults.Memory = Memory
+stop_of faults.Write = Output
+
+-- how a run goes whose text was written so
+abbrev pub ended_by : Result (Unit {0}) ReportFault → Result (Unit {0}) Stop
+ended_by (Ok _) = Ok tt
+ended_by (Err fault) = Err (stop_of fault)
+
+-- a run that goes so left the sink stopped
+abbrev pub is_output : Result (Unit {0}) Stop → Bool
+is_output (Ok _) = false
+is_output (Err Output) = true
+is_output (Err _) = false
+
+-- Why the bytes of the file at a place, one of so many files, aren't there: it is to be hex text and isn't, or memory ran out.
+abbrev pub IsBadSection : Option (List ℕ) → ℕ → ℕ → Stop → Type 0
+IsBadSection bytes place count (BadHex n) = (n ≡ place) × (place < count) × (bytes ≡ None)
+IsBadSection bytes place count Memory = Unit {0}
+IsBadSection bytes place count _ = ⊥
+
+-- Why there is no state: a line is the first that isn't one, or memory ran out.
+abbrev pub IsBadState : Result (List Given) ℕ → Stop → Type 0
+IsBadState given (StateLine n) = given ≡ Err n
+IsBadState given Memory = Unit {0}
+IsBadState given _ = ⊥
+
+-- What refuses a section: its first fault, or memory ran out.
+abbrev pub IsRefusal : Section → Option Fault → Stop → Type 0
+IsRefusal section first (Refused s fault) = (s ≡ section) × (first ≡ Some fault)
+IsRefusal section first Memory = Unit {0}
+IsRefusal section first _ = ⊥

@@ -1,0 +1,106 @@
+//! Why a run stops before its text is written whole.
+
+ghost use Rattle.std.specs.Prelude.{◌≡◌, ◌⊎◌, Option, Some};
+ghost use Rattle.dw_bytes.specs.Answers.{memory};
+ghost use Rattle.dw_bytes.specs.declared.fault.Fault.{Fault as FoundFault};
+ghost use Rattle.dw_check.specs.Stops.{stop_of, section_text, IsRefusal};
+ghost use Rattle.dw_check.specs.declared.stop.ReportFault.TheVariants as faults;
+ghost use Rattle.dw_check.specs.declared.stop.Stop.TheVariants as stops;
+
+use crate::sink::Stopped;
+use dw_bytes::{Fault, FaultKind};
+use std::alloc::AllocError;
+
+/// What the offset of a refusal counts in.
+#[derive(Clone, Copy, Debug, PartialEq, Eq)]
+pub(crate) enum Section {
+    Frame,
+    Lists,
+    Expression,
+}
+
+/// Why a text isn't written whole.
+#[derive(Clone, Copy, Debug, PartialEq, Eq)]
+pub(crate) enum ReportFault {
+    /// Memory ran out.
+    Memory,
+    /// The sink stopped.
+    Write,
+}
+
+/// Why a run ends without its text.
+#[derive(Clone, Copy, Debug, PartialEq, Eq)]
+pub(crate) enum Stop {
+    /// What a file contains is refused.
+    Refused(Section, Fault),
+    /// The file at this place is to be hex text and isn't.
+    BadHex(usize),
+    /// This line of the state file is none, lines counted from 1.
+    StateLine(u64),
+    /// Memory ran out.
+    Memory,
+    /// The sink stopped.
+    Output,
+}
+
+impl Section {
+    /// The name that a refusal has it by.
+    pub fn text(self) -> &'static str
+        ensures { result.now ≡ section_text self }
+    {
+        match self {
+            Section::Frame => "frame",
+            Section::Lists => "lists",
+            Section::Expression => "expression",
+        }
+    }
+}
+
+impl From<AllocError> for ReportFault {
+    ghost from_gives = { λ _ e. e ≡ faults.Memory };
+
+    fn from(_: AllocError) -> Self {
+        ReportFault::Memory
+    }
+}
+
+impl From<Stopped> for ReportFault {
+    ghost from_gives = { λ _ e. e ≡ faults.Write };
+
+    fn from(_: Stopped) -> Self {
+        ReportFault::Write
+    }
+}
+
+impl From<AllocError> for Stop {
+    ghost from_gives = { λ _ e. e ≡ stops.Memory };
+
+    fn from(_: AllocError) -> Self {
+        Stop::Memory
+    }
+}
+
+impl From<ReportFault> for Stop {
+    ghost from_gives = { λ fault e. e ≡ stop_of fault };
+
+    fn from(fault: ReportFault) -> Self {
+        match fault {
+            ReportFault::Memory => Stop::Memory,
+            ReportFault::Write => Stop::Output,
+        }
+    }
+}
+
+impl Stop {
+    /// What a section's fault stops a run with.
+    pub fn of_fault(section: Section, fault: Fault) -> Stop
+        ensures { (first : Option FoundFault) → (fault ≡ memory) ⊎ (first ≡ Some fault)
+            → IsRefusal section first result }
+    {
+        if fault.kind == FaultKind::Memory {
+            Stop::Memory
+        } else {
+            Stop::Refused(section, fault)
+        }
+    }
+}
