@@ -7,7 +7,7 @@ use Rattle.dw_bytes.specs.declared.target.Format.{Format}
 use Rattle.dw_bytes.specs.declared.fault.Fault.{Fault}
 use Rattle.dw_bytes.specs.Spelling.{Bytes, Length}
 use Rattle.dw_bytes.specs.Reading.{Reading, ◌>>=◌, section_from, take_at, initial_length_at}
-use Rattle.dw_bytes.specs.Bodies.{body_of, framed_at, window}
+use Rattle.dw_bytes.specs.Bodies.{body_of, framed_at}
 use Rattle.dw_bytes.proofs.Readers.{bind-ok, ok-is, same-reading, length-exact, take-exact, leaves-suffix}
 use Rattle.dw_bytes.proofs.Bounds.{Stays, end-of, length-stays, take-stays}
 

@@ -4,8 +4,8 @@ use Rattle.std.proofs.lemmas.List.{length-append}
 use Rattle.dw_bytes.specs.declared.target.Target.{Target}
 use Rattle.dw_bytes.specs.declared.fault.Fault.{Fault}
 use Rattle.dw_bytes.specs.declared.fault.FaultKind.{FaultKind}
-use Rattle.dw_bytes.specs.Reading.{Reading, Next, ◌>>=◌}
-use Rattle.dw_bytes.specs.Operands.{Kind, Operand, operand_at}
+use Rattle.dw_bytes.specs.Reading.{Reading, ◌>>=◌}
+use Rattle.dw_bytes.specs.Operands.{Operand, operand_at}
 use Rattle.dw_bytes.specs.Fields.{Fields, made, field, unless, Encodes, judged, field_at, fields_at}
 use Rattle.dw_bytes.proofs.Readers.{ExactAt, bind-ok, same-reading}
 use Rattle.dw_bytes.proofs.Codes.{finish, given, operand-exact}

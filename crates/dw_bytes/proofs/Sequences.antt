@@ -191,3 +191,36 @@ exactly-exact {X} target read Spells exact (suc count) r same = record {
 -- the offsets of an array
 pub offsets-exact : (format : Format) (count : ℕ) (r : Reading) → IsExact (exactly_of (offset_at format) count) (Exactly (λ at. Offset r.target.order format) count r.position) r
 offsets-exact format count r = exactly-exact r.target (offset_at format) (λ at. Offset r.target.order format) (offset-exact r.target format) count r refl
+
+-- one thing more, and one that isn't there
+pub exactly-more : {X : Type 0} (read : Reading → Result (X × Reading) Fault) (n : ℕ) (r mid after : Reading) (xs : List X) (x : X)
+    → exactly_of read n r ≡ Ok (xs, mid) → read mid ≡ Ok (x, after) → exactly_of read (suc n) r ≡ Ok (xs ++ x ∷ [], after)
+exactly-more {X} read zero r mid after xs x is one =
+    let same : ([], r) ≡ (xs, mid) = ok-is {A = List X} ([], r) (xs, mid) is in
+    let here : read r ≡ finish x after = subst (λ (p : List X × Reading). read p.1 ≡ finish x after) (sym same) one in
+    rw here (ap (λ (p : List X × Reading). finish (p.0 ++ x ∷ []) after) same)
+exactly-more {X} read (suc n) r mid after xs x is one =
+    let y = bind-ok (read r) (λ y. exactly_of read n y.1 >>= λ ys. finish (y.0 ∷ ys.0) ys.1) (xs, mid) is in
+    let ys = bind-ok (exactly_of read n y.0.1) (λ ys. finish (y.0.0 ∷ ys.0) ys.1) (xs, mid) y.2 in
+    let same : (y.0.0 ∷ ys.0.0, ys.0.1) ≡ (xs, mid) = ok-is {A = List X} (y.0.0 ∷ ys.0.0, ys.0.1) (xs, mid) ys.2 in
+    let there : read ys.0.1 ≡ finish x after = subst (λ (p : List X × Reading). read p.1 ≡ finish x after) (sym same) one in
+    let others = exactly-more read n y.0.1 ys.0.1 after ys.0.0 x ys.1 there in
+    ap (λ (z : Result (X × Reading) Fault). z >>= λ w. exactly_of read (suc n) w.1 >>= λ ws. finish (w.0 ∷ ws.0) ws.1) y.1
+    ∙ (ap (λ (z : Result (List X × Reading) Fault). z >>= λ ws. finish (y.0.0 ∷ ws.0) ws.1) others
+    ∙ ap (λ (p : List X × Reading). finish (p.0 ++ x ∷ []) after) same)
+
+pub exactly-stops : {X : Type 0} (read : Reading → Result (X × Reading) Fault) (n m : ℕ) (r mid : Reading) (xs : List X) (fault : Fault)
+    → n < m → exactly_of read n r ≡ Ok (xs, mid) → read mid ≡ Err fault → exactly_of read m r ≡ Err fault
+exactly-stops read n zero r mid xs fault lt is bad = absurd (omega arith)
+exactly-stops {X} read zero (suc m) r mid xs fault lt is bad =
+    let same : ([], r) ≡ (xs, mid) = ok-is {A = List X} ([], r) (xs, mid) is in
+    let here : read r ≡ Err fault = subst (λ (p : List X × Reading). read p.1 ≡ Err fault) (sym same) bad in
+    rw here refl
+exactly-stops {X} read (suc n) (suc m) r mid xs fault lt is bad =
+    let y = bind-ok (read r) (λ y. exactly_of read n y.1 >>= λ ys. finish (y.0 ∷ ys.0) ys.1) (xs, mid) is in
+    let ys = bind-ok (exactly_of read n y.0.1) (λ ys. finish (y.0.0 ∷ ys.0) ys.1) (xs, mid) y.2 in
+    let same : (y.0.0 ∷ ys.0.0, ys.0.1) ≡ (xs, mid) = ok-is {A = List X} (y.0.0 ∷ ys.0.0, ys.0.1) (xs, mid) ys.2 in
+    let there : read ys.0.1 ≡ Err fault = subst (λ (p : List X × Reading). read p.1 ≡ Err fault) (sym same) bad in
+    let others = exactly-stops read n m y.0.1 ys.0.1 ys.0.0 fault (omega arith) ys.1 there in
+    ap (λ (z : Result (X × Reading) Fault). z >>= λ w. exactly_of read m w.1 >>= λ ws. finish (w.0 ∷ ws.0) ws.1) y.1
+    ∙ ap (λ (z : Result (List X × Reading) Fault). z >>= λ ws. finish (y.0.0 ∷ ws.0) ws.1) others

@@ -1,5 +1,5 @@
 -- A body with its length before it, as a record or a table has one (DWARF 5, section 7.4).
-use Rattle.std.specs.Prelude.{◌≡◌, ◌+◌, ℕ, List, take, Result, Ok, Err}
+use Rattle.std.specs.Prelude.{ℕ, List, take, Result, Ok}
 use Rattle.dw_bytes.specs.declared.target.Target.{Target}
 use Rattle.dw_bytes.specs.declared.target.Format.{Format}
 use Rattle.dw_bytes.specs.declared.fault.Fault.{Fault}
