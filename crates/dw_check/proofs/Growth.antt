@@ -1,11 +1,8 @@
 -- Growth by one text after the other.
-use Rattle.std.proofs.Common.{◌≡◌, ℕ, ◌+◌, List, [], ◌++◌, Option, None, Some, ap, sym, ◌∙◌, append_assoc, take, drop, length, refl}
+use Rattle.std.proofs.Common.{◌≡◌, ℕ, ◌+◌, List, [], ◌++◌, Option, None, Some, ap, sym, ◌∙◌, append_assoc, take, drop, length}
 use Rattle.std.proofs.Common.{◌-◌, arith, length-drop}
 use Rattle.std.proofs.lemmas.List.{append-nil, take-append-drop, take_all}
-use Rattle.std.proofs.Math.Seq.{take-add, split_at}
-use Rattle.std.proofs.Common.{suc, ◌<◌, ◌∷◌, get_or, subst}
-use Rattle.std.specs.List.{flat_map}
-use Rattle.std.proofs.lemmas.Grind.{flat_map-append}
+use Rattle.std.proofs.Math.Seq.{take-add}
 use Rattle.std.specs.Io.KnownBytes.{Appends, Keeps}
 use Rattle.dw_check.specs.Taken.{AppendsFront}
 
@@ -33,10 +30,6 @@ front_more a b c x y h k = (x ++ k.0, k.1, append_assoc x k.0 k.1 ∙ ap (λ (l 
 pub front_wider : (a b : Option (List ℕ)) (x y : List ℕ) → AppendsFront a b x → AppendsFront a b (x ++ y)
 front_wider a b x y k = (k.0, k.1 ++ y, sym (append_assoc k.0 k.1 y) ∙ ap (λ (l : List ℕ). l ++ y) k.2, k.3)
 
--- all of a text is a beginning of it
-pub front_whole : (a b : Option (List ℕ)) (x y : List ℕ) → Appends a b x → AppendsFront a b (x ++ y)
-front_whole a b x y h = (x, y, refl, h)
-
 -- what is left of a list from i on, as a slice says it
 pub rest_of_slice : (xs : List ℕ) (i : ℕ) → take (length xs - i) (drop i xs) ≡ drop i xs
 rest_of_slice xs i = take_all (length xs - i) (drop i xs) (omega (arith, length-drop i xs))
@@ -50,14 +43,3 @@ piece_more a b c xs i n h k =
 -- the first i are a beginning
 pub front_of_take : (a b : Option (List ℕ)) (xs : List ℕ) (i : ℕ) → Appends a b (take i xs) → AppendsFront a b xs
 front_of_take a b xs i h = (take i xs, drop i xs, take-append-drop i xs, h)
-
--- the texts of the first i, and then a beginning of the text of the next
-pub front_at : {X : Type 0} (f : X → List ℕ) (a b c : Option (List ℕ)) (xs : List X) (i : ℕ) (x : X) → i < length xs → x ≡ get_or xs i x
-    → Appends a b (flat_map f (take i xs)) → AppendsFront b c (f x) → AppendsFront a c (flat_map f xs)
-front_at f a b c xs i x h e full part =
-    let cut : xs ≡ take i xs ++ x ∷ drop (suc i) xs = split_at xs i x h ∙ ap (λ y. take i xs ++ y ∷ drop (suc i) xs) (sym e) in
-    let whole : flat_map f xs ≡ (flat_map f (take i xs) ++ f x) ++ flat_map f (drop (suc i) xs) =
-    ap (flat_map f) cut ∙ flat_map-append f (take i xs) (x ∷ drop (suc i) xs)
-    ∙ sym (append_assoc (flat_map f (take i xs)) (f x) (flat_map f (drop (suc i) xs))) in
-    subst (AppendsFront a c) (sym whole)
-    (front_wider a c (flat_map f (take i xs) ++ f x) (flat_map f (drop (suc i) xs)) (front_more a b c (flat_map f (take i xs)) (f x) full part))

@@ -72,13 +72,6 @@ byte_added m i bs a old now new h is added =
     let one : Option ℕ = if (m + i) == a then Some (slice_index bs i) else None in
     added ∙ ap (λ o. option_or o one) is ∙ or_or old (byte_in a (bytes m (take i bs))) one ∙ ap (option_or old) (sym (bytes_more m i bs a h))
 
-pub no_bytes : (m a : ℕ) → byte_in a (bytes m []) ≡ None
-no_bytes m a = go (nat_le m a) refl
-  where
-    go : (t : Bool) → nat_le m a ≡ t → byte_in a (bytes m []) ≡ None
-    go true e = rw e refl
-    go false e = rw e refl
-
 -- ---- a map that got a value where it had none
 
 new_here : {V : Type 0} → (old new : BTreeMap ℕ V) (k q : ℕ) (v : V) → get nat_cmp old k ≡ None → get nat_cmp new q ≡ (if is_eq (nat_cmp k q) then Some v else get nat_cmp old q) → (t : Bool) → (k == q) ≡ t → get nat_cmp new q ≡ option_or (get nat_cmp old q) (if k == q then Some v else None)

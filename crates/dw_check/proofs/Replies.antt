@@ -1,27 +1,20 @@
 -- How a run goes, and how it ends.
-use Rattle.std.proofs.Common.{◌≡◌, ℕ, ◌<◌, Bool, List, [], ◌++◌, ap, sym, refl, subst, arith, ◌⊎◌, inl, inr}
-use Rattle.std.specs.Prelude.{Option, Some, None, Result, Ok, Err, true, false}
+use Rattle.std.proofs.Common.{◌≡◌, ℕ, List, [], sym, refl, subst}
+use Rattle.std.specs.Prelude.{Option, Some, Result, Ok, Err}
 use Rattle.std.specs.Result.{IsErr, IsErrAnd}
 use Rattle.std.specs.Io.KnownBytes.{Appends}
-use denote.Enum.Bare.{sameb}
 use Rattle.dw_bytes.specs.declared.fault.Fault.{Fault}
-use Rattle.dw_bytes.specs.contracts.fault.FaultKind.{the_type}
-use Rattle.dw_bytes.specs.declared.fault.FaultKind.TheVariants as kinds
-use Rattle.dw_bytes.specs.Answers.{memory}
 use Rattle.dw_check.specs.StateFile.{Given}
-use Rattle.dw_check.specs.Stops.{ended_by, IsBadSection, IsBadState, IsRefusal}
-use Rattle.dw_check.specs.Text.{refused_line}
+use Rattle.dw_check.specs.Stops.{ended_by, IsBadState, IsRefusal}
 use Rattle.dw_check.specs.Taken.{AppendsFront}
-use Rattle.dw_check.specs.Written.{Writes, WritesWhole, is_write}
-use Rattle.dw_check.specs.Runs.{Reply, text, refusal, not_hex, bad_line, text_of, accepted_text, OfSection, OfState, Goes, Ends}
-use Rattle.dw_check.specs.declared.asked.End.{End}
-use Rattle.dw_check.specs.declared.asked.End.TheVariants as ends
+use Rattle.dw_check.specs.Written.{Writes, WritesWhole}
+use Rattle.dw_check.specs.Runs.{Reply, text, refusal, bad_line, accepted_text, OfSection, OfState, Goes}
 use Rattle.dw_check.specs.declared.stop.Section.{Section}
 use Rattle.dw_check.specs.declared.stop.ReportFault.{ReportFault}
 use Rattle.dw_check.specs.declared.stop.ReportFault.TheVariants as faults
 use Rattle.dw_check.specs.declared.stop.Stop.{Stop}
 use Rattle.dw_check.specs.declared.stop.Stop.TheVariants.{Refused, BadHex, StateLine, Memory, Output}
-use Rattle.dw_check.proofs.Growth.{appends_nothing, appends_more, front_more}
+use Rattle.dw_check.proofs.Growth.{appends_nothing}
 
 -- nothing is a beginning of anything
 front_none : (old new : Option (List ℕ)) (all : List ℕ) → Appends old new [] → AppendsFront old new all
@@ -32,15 +25,6 @@ front_none old new all h = ([], all, refl, h)
 pub goes_section : (count place : ℕ) (found : Option (List ℕ)) (bytes : List ℕ) (Is : List ℕ → Reply → Type 0) (old new : Option (List ℕ)) (r : Result (Unit {0}) Stop)
     → found ≡ Some bytes → Goes count (Is bytes) old new r → Goes count (OfSection place found Is) old new r
 goes_section count place found bytes Is old new r e h = subst (λ o. Goes count (OfSection place o Is) old new r) (sym e) h
-
-pub goes_bad_section : (count place : ℕ) (found : Option (List ℕ)) (Is : List ℕ → Reply → Type 0) (a : Option (List ℕ)) (stop : Stop)
-    → IsBadSection found place count stop → Goes count (OfSection place found Is) a a (Err stop)
-goes_bad_section count place found Is a (BadHex n) h =
-    (omega (arith, h.0, h.1), subst (λ o. OfSection place o Is (not_hex n)) (sym h.2) (ap not_hex h.0), appends_nothing a)
-goes_bad_section count place found Is a Memory h = λ reply is. front_none a a (accepted_text reply) (appends_nothing a)
-goes_bad_section count place found Is a (Refused s f) h = absurd h
-goes_bad_section count place found Is a (StateLine n) h = absurd h
-goes_bad_section count place found Is a Output h = absurd h
 
 -- ---- the state
 
@@ -57,13 +41,6 @@ goes_bad_state count given Is a (BadHex n) h = absurd h
 goes_bad_state count given Is a Output h = absurd h
 
 -- ---- refusals
-
--- a fault that isn't want of memory is the section's
-pub real_fault : (f : Fault) (found : Option Fault) → false ≡ sameb the_type f.kind kinds.Memory → (f ≡ memory) ⊎ (found ≡ Some f) → found ≡ Some f
-real_fault f found h (inl k) =
-    let same : false ≡ sameb the_type kinds.Memory kinds.Memory = subst (λ (x : Fault). false ≡ sameb the_type x.kind kinds.Memory) k h in
-    cc
-real_fault f found h (inr k) = k
 
 pub goes_refusal : (count : ℕ) (section : Section) (first : Option Fault) (Is : Reply → Type 0) (a : Option (List ℕ)) (stop : Stop)
     → ((f : Fault) → first ≡ Some f → Is (refusal section f)) → IsRefusal section first stop → Goes count Is a a (Err stop)
@@ -93,19 +70,3 @@ goes_whole count Is bytes old new (Err faults.Write) is h = (text bytes, is, h)
 pub handed_on : (P : Result (Unit {0}) Stop → Type 0) (r : Result (Unit {0}) Stop) (e : Stop) → IsErr r × IsErrAnd r (λ x. x ≡ e) → P (Err e) → P r
 handed_on P (Ok _) e h p = let f = h.0 in cc
 handed_on P (Err x) e h p = subst (λ y. P (Err y)) (sym h.1) p
-
--- ---- how a run ends whose reply is a refusal
-
--- how the writing of its line ends
-abbrev pub refused_end : Result (Unit {0}) ReportFault → End
-refused_end (Ok _) = ends.Refused
-refused_end (Err faults.Memory) = ends.Memory
-refused_end (Err faults.Write) = ends.Output
-
-pub ends_refusal : (Is : Reply → Type 0) (section : Section) (fault : Fault) (old mid new : Option (List ℕ)) (stopped : Bool) (r : Result (Unit {0}) ReportFault)
-    → Is (refusal section fault) → Appends old mid [] → WritesWhole mid new r (refused_line section fault) → stopped ≡ is_write r → Ends Is old new stopped (refused_end r)
-ends_refusal Is section fault old mid new stopped (Ok _) is none h k = (section, fault, is, appends_more old mid new [] (refused_line section fault) none h, k)
-ends_refusal Is section fault old mid new stopped (Err faults.Memory) is none h k =
-    ((λ reply i. front_none old new (accepted_text reply) (appends_more old mid new [] [] none h)), k)
-ends_refusal Is section fault old mid new stopped (Err faults.Write) is none h k =
-    (refusal section fault, is, front_more old mid new [] (refused_line section fault) none h, k)

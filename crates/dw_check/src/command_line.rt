@@ -8,7 +8,7 @@ ghost use Rattle.dw_check.specs.Commands.{flag_rule, option_rule, word_rule, wit
 use clap::{Arg, ArgAction, Command};
 use std::alloc::{AllocError, Global};
 
-const FRAME_HELP: &str = "A file with a .debug_frame section";
+const FRAME_HELP: &str = "A file with the raw bytes of a .debug_frame section";
 
 const STATE_HELP: &str = "A file with what registers, memory and the context have";
 

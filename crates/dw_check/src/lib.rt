@@ -25,12 +25,3 @@ pub use asked::{End, Request, Task, Usage};
 pub use runs::run;
 pub use sink::{Sink, Stopped, Through};
 pub use words::request;
-
-#[cfg(test)]
-mod edge_tests;
-#[cfg(test)]
-mod eval_tests;
-#[cfg(test)]
-mod operation_tests;
-#[cfg(test)]
-mod tests;

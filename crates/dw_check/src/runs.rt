@@ -19,7 +19,7 @@ use crate::writer::Writer;
 use dw_bytes::{Fault, FaultKind, Target};
 use dw_ops::Expression;
 use dw_rows::{CheckedFrame, check_frame};
-use dw_stack::{CheckedExpression, Kind, certify};
+use dw_stack::{CheckedExpression, Kind, check_expression};
 use std::alloc::Global;
 
 /// Sections and expressions of this many bytes or more are refused.
@@ -65,8 +65,8 @@ fn checked_expression<'a>(
     if bytes.len() >= SECTION_LIMIT {
         return Err(Stop::Refused(Section::Expression, TOO_LONG));
     }
-    match certify(alloc, Expression::new(bytes, target), kind) {
-        Ok(certificate) => Ok(certificate.into_checked()),
+    match check_expression(alloc, Expression::new(bytes, target), kind) {
+        Ok(checked) => Ok(checked),
         Err(fault) => Err(Stop::of_fault(Section::Expression, fault)),
     }
 }

@@ -1,4 +1,4 @@
-use Rattle.std.proofs.Common.{rules, ◌≡◌, length, sym}
+use Rattle.std.proofs.Common.{length, sym}
 use Rattle.dw_stack.specs.Certificates.{checked_of}
 use Rattle.dw_eval.specs.Views.{outcome_of}
 use Rattle.dw_check.specs.Outcomes.{evaluation_text}

@@ -1,4 +1,4 @@
-use Rattle.std.proofs.Common.{◌≡◌, ℕ, List, ◌<◌, ◌^◌, length, map, refl, rules, subst, sym, ◌∙◌}
+use Rattle.std.proofs.Common.{◌≡◌, ℕ, List, length, map, refl, sym, ◌∙◌}
 use Rattle.std.specs.Prelude.{Err, None, slice_get}
 use Rattle.std.specs.Cow.{cow_slice_items}
 use Rattle.dw_stack.specs.Certificates.{checked_of}

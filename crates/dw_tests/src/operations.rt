@@ -1,7 +1,7 @@
 //! One case for each operation, through `request` and `run`.
 
-use super::*;
-use crate::eval_tests::evaluated;
+use crate::expressions::evaluated;
+use dw_check::End;
 use std::process::Abort;
 use std::test::Fail;
 

@@ -2,7 +2,7 @@
 
 ghost use Rattle.std.specs.Prelude.{◌≡◌, length};
 
-use super::*;
+use dw_check::{End, Request, Through, Usage, request, run};
 use std::alloc::Global;
 use std::test::Fail;
 

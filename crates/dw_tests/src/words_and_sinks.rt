@@ -2,8 +2,8 @@
 
 ghost use Rattle.std.specs.Prelude.{◌≡◌, length};
 
-use super::*;
-use crate::tests::{C1, FDE, H1, ROWS, asked, shown};
+use crate::sections::{C1, FDE, H1, ROWS, asked, shown};
+use dw_check::{End, Sink, Through, Usage, run};
 use std::io;
 use std::io::{Error, ErrorKind, Write};
 use std::test::Fail;

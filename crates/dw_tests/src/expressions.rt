@@ -2,8 +2,8 @@
 
 ghost use Rattle.std.specs.Prelude.{◌≡◌, length};
 
-use super::*;
-use crate::tests::asked;
+use crate::sections::asked;
+use dw_check::{End, Through, Usage, run};
 use std::alloc::Global;
 use std::test::Fail;
 
