@@ -11,6 +11,7 @@ use crate::cursor::Cursor;
 use crate::fault::{Fault, FaultKind};
 use crate::target::{AddressSize, Target};
 
+#[inline(always)]
 fn number_of_register(number: u64, at: u32, target: Target) -> Result<u16, Fault>
     ensures { result ≡ in_range target at register_number number }
 {
@@ -55,6 +56,7 @@ fn size_of_read(size: u8, at: u32, target: Target) -> Result<u8, Fault>
 }
 
 /// A register: unsigned LEB128, at most 65535, else `RegisterNumber` at the code.
+#[inline(always)]
 pub fn register(cursor: &mut Cursor<'_>, at: u32) -> Result<u16, Fault>
     requires { at ≤ cursor.old.position }
     ensures exact { ReadsBy one_value (given_at at (register_number ∷ [])) cursor.old result cursor.new }
@@ -87,6 +89,7 @@ pub fn two_registers(cursor: &mut Cursor<'_>, at: u32) -> Result<(u16, u16), Fau
 }
 
 /// A register and an unsigned number.
+#[inline(always)]
 pub fn register_and_unsigned(cursor: &mut Cursor<'_>, at: u32) -> Result<(u16, u64), Fault>
     requires { at ≤ cursor.old.position }
     ensures exact { ReadsBy two_values (given_at at (register_number ∷ unsigned ∷ [])) cursor.old result cursor.new }

@@ -1,6 +1,6 @@
 -- Records and their faults stand in their section.
 use Rattle.std.proofs.Common.{◌≡◌, ℕ, ◌+◌, ◌<◌, ◌≤◌, Bool, true, false, cond, List, [], ◌∷◌, ◌++◌, length, Result, Ok, Err, refl, sym, ap, subst, ◌∙◌, arith, inl, inr}
-use Rattle.std.specs.Prelude.{Contains, ◌==◌, ◌⊎◌}
+use Rattle.std.specs.Prelude.{Contains, ◌==◌}
 use Rattle.std.specs.List.{AllByRecursion}
 use Rattle.std.proofs.lemmas.Bool.{leb-true}
 use Rattle.std.proofs.lemmas.List.{length-append, length-drop}
@@ -13,7 +13,7 @@ use Rattle.dw_bytes.specs.Spelling.{bytes_of_offset}
 use Rattle.dw_bytes.specs.Reading.{Reading, ◌>>=◌, section_from}
 use Rattle.dw_bytes.specs.Bodies.{framed_at}
 use Rattle.dw_bytes.specs.Fields.{Encodes}
-use Rattle.dw_bytes.proofs.Bounds.{Stays, AlwaysStays, end-of, length-stays, take-stays, each-along}
+use Rattle.dw_bytes.proofs.Bounds.{Stays, AlwaysStays, end-of, each-along}
 use Rattle.dw_bytes.proofs.FieldsOf.{passed, fields-stay}
 use Rattle.dw_bytes.proofs.Bodies.{bind-err, not-err, framed-found, framed-refused}
 use Rattle.dw_frame.specs.Records.{Record}
