@@ -10,7 +10,7 @@ use std::marker::Model;
 /// What a register of the caller is (DWARF 5, section 6.4.1). An offset counts from the CFA.
 #[derive(Clone, Copy, Debug)]
 pub enum RegisterRule {
-    /// No instruction has set it.
+    /// No instruction has set it, or a restore has given back that the CIE's did not.
     Default,
     /// It can't be had.
     Undefined,
@@ -98,7 +98,7 @@ impl UnwindTableRow {
         self.cfa
     }
 
-    /// The rule of a register: `Default` where no instruction has set it.
+    /// The rule of a register: `Default` where none is in force.
     pub fn register(&self, number: u16) -> RegisterRule
         ensures { rule_of result ≡ rule_in self.now.rules number }
     {
