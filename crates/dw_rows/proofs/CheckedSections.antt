@@ -1,5 +1,5 @@
 -- What a checked section is known to be.
-use Rattle.std.proofs.Common.{◌≡◌, ℕ, ◌+◌, ◌≤◌, List, length, None, Contains, sym, ap, subst}
+use Rattle.std.proofs.Common.{◌≡◌, ℕ, ◌+◌, ◌≤◌, List, length, None, Contains, sym, subst}
 use Rattle.dw_bytes.specs.declared.target.Target.{Target}
 use Rattle.dw_bytes.specs.Answers.{fault_in}
 use Rattle.dw_frame.specs.Records.{Cie, Fde}

@@ -1,6 +1,6 @@
 -- The row of an address is that of the only FDE that covers it.
 use Rattle.std.proofs.Common.{◌≡◌, ℕ, zero, suc, List, [], ◌∷◌, ap, sym, ◌∙◌, refl, arith, cond}
-use Rattle.std.specs.Prelude.{Bool, true, false, Option, Some, None, find, option_and_then}
+use Rattle.std.specs.Prelude.{Bool, true, false, Some, None, find, option_and_then}
 use Rattle.std.specs.List.{Contains}
 use Rattle.std.proofs.lemmas.Bool.Decides.{nat_tests}
 use Rattle.dw_frame.specs.Records.{Fde}

@@ -1,14 +1,12 @@
 -- Each covered address of a checked section has exactly one row, the standard's.
-use Rattle.std.proofs.Common.{◌≡◌, ℕ, ◌+◌, ◌-◌, ◌<◌, ◌≤◌, Bool, true, false, cond, List, [], ◌∷◌, refl, sym, ap, ◌∙◌, subst, arith, ltb, leb, inl, inr, Option, Some, None, Contains}
-use Rattle.std.proofs.lemmas.Bool.{cases_lt}
+use Rattle.std.proofs.Common.{◌≡◌, ℕ, ◌+◌, ◌-◌, ◌<◌, ◌≤◌, Bool, true, false, cond, List, [], ◌∷◌, refl, sym, ap, ◌∙◌, subst, arith, ltb, leb, Some, Contains}
 use Rattle.std.proofs.lemmas.Bool.Decides.{nat_tests}
 use Rattle.std.specs.Prelude.{◌&&◌, find, filter}
-use Rattle.dw_frame.specs.Records.{Cie, Fde}
-use Rattle.dw_rows.specs.Rules.{Row, rule_in, rule_list}
+use Rattle.dw_frame.specs.Records.{Fde}
+use Rattle.dw_rows.specs.Rules.{Row, rule_in}
 use Rattle.dw_rows.specs.Effects.{Effect}
 use Rattle.dw_rows.specs.Meaning.{Start}
 use Rattle.dw_rows.specs.UnwindRows.{rows_of, has_address}
-use Rattle.dw_rows.specs.Good.{IsLast}
 use Rattle.dw_rows.specs.Clauses.{IsRowAt, IsRow, AreRowsFrom, start_in, program_in}
 use Rattle.dw_rows.specs.Section.{Frame, Covers, IsCoverOf, IsChecked, rows_in, rows_behind}
 use Rattle.dw_rows.specs.ExactRows.{HasOneRow}

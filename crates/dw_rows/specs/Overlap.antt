@@ -1,9 +1,7 @@
 -- FDEs in order of offset, and in order of address. No contract of a public call speaks of these.
-use Rattle.std.specs.Prelude.{◌≡◌, ℕ, ◌+◌, ◌<◌, ◌≤◌, List, [], ◌∷◌, length, Contains, slice_index_or}
-use Rattle.std.specs.List.{AllByRecursion}
+use Rattle.std.specs.Prelude.{◌≡◌, ℕ, ◌<◌, ◌≤◌, List, length, Contains, slice_index_or}
 use Rattle.std.specs.List.Sorted.{IsNonDecreasingBy}
 use Rattle.dw_frame.specs.Records.{Cie, Fde}
-use Rattle.dw_frame.specs.Bounds.{Ascends}
 use Rattle.dw_rows.specs.Section.{Frame, SharesAddress, IsChecked}
 use Rattle.dw_rows.specs.Kept.{Kept}
 use Rattle.dw_rows.specs.Initial.{AreLeftBy}

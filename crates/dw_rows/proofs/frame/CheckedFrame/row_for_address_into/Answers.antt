@@ -1,5 +1,5 @@
-use Rattle.std.proofs.Common.{◌≡◌, ◌+◌, ◌≤◌, ◌<◌, ℕ, arith, refl, ap, ◌∙◌}
-use Rattle.std.specs.Prelude.{Some, find}
+use Rattle.std.proofs.Common.{◌+◌, arith, refl, ap, ◌∙◌}
+use Rattle.std.specs.Prelude.{find}
 use Rattle.dw_frame.specs.Views.{cie_of, fde_of}
 use Rattle.dw_rows.specs.Section.{rows_behind}
 use Rattle.dw_rows.specs.UnwindRows.{has_address}
