@@ -7,50 +7,50 @@ use Rattle.std.proofs.lemmas.List.Elements.{All-from_recursion}
 use Rattle.dw_bytes.specs.declared.target.Format.{Format}
 use Rattle.dw_bytes.specs.declared.fault.Fault.{Fault}
 use Rattle.dw_bytes.specs.declared.fault.FaultKind.TheVariants.{Truncated}
-use Rattle.dw_bytes.specs.Spelling.{Bytes, Fixed, Length, Uleb, Sleb, bytes_of_address, bytes_of_offset}
-use Rattle.dw_bytes.specs.Reading.{Reading, IsExact, IsRefusedAt, ◌>>=◌, placed, take_at, fixed_at, address_at, offset_at, initial_length_at, uleb_at, sleb_at}
+use Rattle.dw_bytes.specs.Encoding.{Bytes, Fixed, Length, Uleb, Sleb, bytes_of_address, bytes_of_offset}
+use Rattle.dw_bytes.specs.Reading.{ReadPosition, IsExact, IsRefusedAt, ◌>>=◌, placed, take_at, fixed_at, address_at, offset_at, initial_length_at, uleb_at, sleb_at}
 use Rattle.dw_bytes.specs.Sequence.{located_read, and_then, at_most_of, sequence_of}
 use Rattle.dw_bytes.proofs.Fields.{take_exact, fixed_exact, initial_length_exact, uleb_exact, sleb_exact}
 use Rattle.dw_bytes.proofs.Refused.{fixed_refused, initial_length_refused, uleb_refused, sleb_refused}
 
-abbrev pub end-of : Reading → ℕ
+abbrev pub end-of : ReadPosition → ℕ
 end-of r = r.position + length r.rest
 
-abbrev pub Stays : {X : Type 0} → ℕ → Reading → Result (X × Reading) Fault → Type 0
+abbrev pub Stays : {X : Type 0} → ℕ → ReadPosition → Result (X × ReadPosition) Fault → Type 0
 Stays from r (Ok x) = (r.position ≤ x.1.position) × (end-of x.1 ≡ end-of r)
 Stays from r (Err fault) = (from ≤ fault.at) × (fault.at ≤ end-of r)
 
 -- a reader that is refused at an offset or behind it, wherever it begins behind that
-abbrev pub AlwaysStays : {X : Type 0} → ℕ → (Reading → Result (X × Reading) Fault) → Type 0
-AlwaysStays from read = (r : Reading) → from ≤ r.position → Stays from r (read r)
+abbrev pub AlwaysStays : {X : Type 0} → ℕ → (ReadPosition → Result (X × ReadPosition) Fault) → Type 0
+AlwaysStays from read = (r : ReadPosition) → from ≤ r.position → Stays from r (read r)
 
 -- ---- the combinations
 
-moved : {B : Type 0} (from : ℕ) (r mid : Reading) (y : Result (B × Reading) Fault) → r.position ≤ mid.position → end-of mid ≡ end-of r → Stays from mid y → Stays from r y
+moved : {B : Type 0} (from : ℕ) (r mid : ReadPosition) (y : Result (B × ReadPosition) Fault) → r.position ≤ mid.position → end-of mid ≡ end-of r → Stays from mid y → Stays from r y
 moved from r mid (Ok y) on same k = (omega (arith, k.0), omega (arith, k.1))
 moved from r mid (Err fault) on same k = (k.0, omega (arith, k.1))
 
-pub bind-stays : {A B : Type 0} (from : ℕ) (r : Reading) (x : Result (A × Reading) Fault) (second : A → Reading → Result (B × Reading) Fault) → from ≤ r.position → Stays from r x → ((a : A) → AlwaysStays from (second a)) → Stays from r (x >>= λ a. second a.0 a.1)
+pub bind-stays : {A B : Type 0} (from : ℕ) (r : ReadPosition) (x : Result (A × ReadPosition) Fault) (second : A → ReadPosition → Result (B × ReadPosition) Fault) → from ≤ r.position → Stays from r x → ((a : A) → AlwaysStays from (second a)) → Stays from r (x >>= λ a. second a.0 a.1)
 bind-stays from r (Ok a) second h one two = moved from r a.1 (second a.0 a.1) one.0 one.1 (two a.0 a.1 (omega (arith, one.0)))
 bind-stays from r (Err fault) second h one two = one
 
 pub made-stays : {A : Type 0} (from : ℕ) (a : A) → AlwaysStays {X = A} from (λ r. Ok (a, r))
 made-stays from a r h = (omega arith, refl)
 
-located : {A : Type 0} (from at : ℕ) (r : Reading) (x : Result (A × Reading) Fault) → Stays from r x → Stays {X = ℕ × A} from r (x >>= λ a. Ok ((at, a.0), a.1))
+located : {A : Type 0} (from at : ℕ) (r : ReadPosition) (x : Result (A × ReadPosition) Fault) → Stays from r x → Stays {X = ℕ × A} from r (x >>= λ a. Ok ((at, a.0), a.1))
 located from at r (Ok a) h = h
 located from at r (Err fault) h = h
 
-pub located-stays : {A : Type 0} (read : Reading → Result (A × Reading) Fault) (r : Reading) → Stays r.position r (read r) → Stays r.position r (located_read read r)
+pub located-stays : {A : Type 0} (read : ReadPosition → Result (A × ReadPosition) Fault) (r : ReadPosition) → Stays r.position r (read r) → Stays r.position r (located_read read r)
 located-stays read r h = located r.position r.position r (read r) h
 
 -- ---- the fields
 
-field-stays : {X : Type 0} (from : ℕ) (read : Reading → Result (X × Reading) Fault) (Spells : List ℕ → X → Type 0) (r : Reading) → IsExact read Spells r → (x : Result (X × Reading) Fault) → read r ≡ x → IsRefusedAt r x → from ≤ r.position → Stays from r x
-field-stays from read Spells r exact (Ok x) is refused h =
+field-stays : {X : Type 0} (from : ℕ) (read : ReadPosition → Result (X × ReadPosition) Fault) (IsEncoding : List ℕ → X → Type 0) (r : ReadPosition) → IsExact read IsEncoding r → (x : Result (X × ReadPosition) Fault) → read r ≡ x → IsRefusedAt r x → from ≤ r.position → Stays from r x
+field-stays from read IsEncoding r exact (Ok x) is refused h =
     let next = exact.found x.0 x.1 is in
     (omega (arith, next.position), omega (arith, next.position, ap length next.parts, length-append next.bytes x.1.rest))
-field-stays from read Spells r exact (Err fault) is refused h = (omega (arith, refused), omega (arith, refused))
+field-stays from read IsEncoding r exact (Err fault) is refused h = (omega (arith, refused), omega (arith, refused))
 
 pub fixed-stays : (from n : ℕ) → AlwaysStays from (fixed_at n)
 fixed-stays from n r h = field-stays from (fixed_at n) (Fixed r.target.order n) r (fixed_exact n r) (fixed_at n r) refl (fixed_refused n r) h
@@ -70,11 +70,11 @@ uleb-stays from r h = field-stays from uleb_at Uleb r (uleb_exact r) (uleb_at r)
 pub sleb-stays : (from : ℕ) → AlwaysStays from sleb_at
 sleb-stays from r h = field-stays from sleb_at Sleb r (sleb_exact r) (sleb_at r) refl (sleb_refused r) h
 
-front-refused : (b : Bool) (n : ℕ) (r : Reading) → IsRefusedAt r (placed (cond b (Err Truncated) (Ok (take n r.rest, n))) r)
+front-refused : (b : Bool) (n : ℕ) (r : ReadPosition) → IsRefusedAt r (placed (cond b (Err Truncated) (Ok (take n r.rest, n))) r)
 front-refused true n r = refl
 front-refused false n r = tt
 
-take-refused : (n : ℕ) (r : Reading) → IsRefusedAt r (take_at n r)
+take-refused : (n : ℕ) (r : ReadPosition) → IsRefusedAt r (take_at n r)
 unfolding take_at
 take-refused n r = front-refused (ltb (length r.rest) n) n r
 
@@ -87,26 +87,26 @@ tested : {X : Type 0} (b : Bool) (items : List (Result X Fault)) (P : Result X F
 tested true items P h = h
 tested false items P h = tt
 
-step : {X : Type 0} (read : Reading → Result (X × Reading) Fault) (On : Reading → Type 0) (P : Result X Fault → Type 0)
-    → ((r : Reading) (x : X) (after : Reading) → On r → read r ≡ Ok (x, after) → P (Ok x) × On after)
-    → ((r : Reading) (fault : Fault) → On r → read r ≡ Err fault → P (Err fault))
-    → (others : Reading → List (Result X Fault)) → ((r : Reading) → On r → AllByRecursion P (others r))
-    → (r : Reading) (x : Result (X × Reading) Fault) → read r ≡ x → On r → AllByRecursion P (and_then x others)
+step : {X : Type 0} (read : ReadPosition → Result (X × ReadPosition) Fault) (On : ReadPosition → Type 0) (P : Result X Fault → Type 0)
+    → ((r : ReadPosition) (x : X) (after : ReadPosition) → On r → read r ≡ Ok (x, after) → P (Ok x) × On after)
+    → ((r : ReadPosition) (fault : Fault) → On r → read r ≡ Err fault → P (Err fault))
+    → (others : ReadPosition → List (Result X Fault)) → ((r : ReadPosition) → On r → AllByRecursion P (others r))
+    → (r : ReadPosition) (x : Result (X × ReadPosition) Fault) → read r ≡ x → On r → AllByRecursion P (and_then x others)
 step read On P good bad others behind r (Ok x) is on = let h = good r x.0 x.1 on is in (h.0, behind x.1 h.1)
 step read On P good bad others behind r (Err fault) is on = (bad r fault on is, tt)
 
 -- What holds of each thing that is read on the way holds of all of them.
-all-along : {X : Type 0} (read : Reading → Result (X × Reading) Fault) (On : Reading → Type 0) (P : Result X Fault → Type 0)
-    → ((r : Reading) (x : X) (after : Reading) → On r → read r ≡ Ok (x, after) → P (Ok x) × On after)
-    → ((r : Reading) (fault : Fault) → On r → read r ≡ Err fault → P (Err fault))
-    → (n : ℕ) (r : Reading) → On r → AllByRecursion P (at_most_of read n r)
+all-along : {X : Type 0} (read : ReadPosition → Result (X × ReadPosition) Fault) (On : ReadPosition → Type 0) (P : Result X Fault → Type 0)
+    → ((r : ReadPosition) (x : X) (after : ReadPosition) → On r → read r ≡ Ok (x, after) → P (Ok x) × On after)
+    → ((r : ReadPosition) (fault : Fault) → On r → read r ≡ Err fault → P (Err fault))
+    → (n : ℕ) (r : ReadPosition) → On r → AllByRecursion P (at_most_of read n r)
 all-along read On P good bad zero r on = tt
 all-along {X} read On P good bad (suc n) r on = tested (ltb 0 (length r.rest)) (and_then (read r) (at_most_of read n)) P (step read On P good bad (at_most_of read n) (all-along read On P good bad n) r (read r) refl on)
 
-pub each-along : {X : Type 0} (read : Reading → Result (X × Reading) Fault) (On : Reading → Type 0) (P : Result X Fault → Type 0)
-    → ((r : Reading) (x : X) (after : Reading) → On r → read r ≡ Ok (x, after) → P (Ok x) × On after)
-    → ((r : Reading) (fault : Fault) → On r → read r ≡ Err fault → P (Err fault))
-    → (r : Reading) (item : Result X Fault) → On r → Contains (sequence_of read r) item → P item
+pub each-along : {X : Type 0} (read : ReadPosition → Result (X × ReadPosition) Fault) (On : ReadPosition → Type 0) (P : Result X Fault → Type 0)
+    → ((r : ReadPosition) (x : X) (after : ReadPosition) → On r → read r ≡ Ok (x, after) → P (Ok x) × On after)
+    → ((r : ReadPosition) (fault : Fault) → On r → read r ≡ Err fault → P (Err fault))
+    → (r : ReadPosition) (item : Result X Fault) → On r → Contains (sequence_of read r) item → P item
 unfolding sequence_of
 each-along {X} read On P good bad r item on (k, lt, is) =
     let all = All-from_recursion P (sequence_of read r) (all-along read On P good bad (length r.rest) r on) in

@@ -4,14 +4,14 @@ use Rattle.std.specs.Int.{byte_len, cast_signed}
 use Rattle.dw_bytes.specs.declared.target.Target.{Target}
 use Rattle.dw_bytes.specs.declared.fault.Fault.{Fault}
 use Rattle.dw_bytes.specs.declared.fault.FaultKind.{FaultKind}
-use Rattle.dw_bytes.specs.Reading.{Reading, ◌>>=◌, take_at, fixed_at, uleb_at}
+use Rattle.dw_bytes.specs.Reading.{ReadPosition, ◌>>=◌, take_at, fixed_at, uleb_at}
 use Rattle.dw_bytes.specs.Operands.{Kind, address, fixed, signed_fixed, unsigned, signed, register_number, read_size, piece_size, block, Block, operand_at, fits, range_fault, Operands, values_at, in_range, in_ranges, given_at, Line, line, operands_at, coded_at}
 use Rattle.dw_bytes.proofs.Bounds.{Stays, AlwaysStays, bind-stays, made-stays, fixed-stays, address-stays, uleb-stays, sleb-stays, take-stays}
 
 abbrev block-of : ℕ → Target → List ℕ → Block
 block-of offset target bytes = record { offset = offset; target = target; bytes = bytes }
 
-abbrev block-behind : Target → ℕ → Reading → Result (Block × Reading) Fault
+abbrev block-behind : Target → ℕ → ReadPosition → Result (Block × ReadPosition) Fault
 block-behind target n s = take_at n s >>= λ b. Ok (block-of s.position target b.0, b.1)
 
 block-stays : (from : ℕ) (target : Target) (n : ℕ) → AlwaysStays from (block-behind target n)
@@ -54,7 +54,7 @@ ranges-at target at (kind ∷ kinds) vs =
     bind-at at (in_range target at kind vs.0) (λ v. in_ranges target at kinds vs.1 >>= λ others. Ok (v, others)) (range-at at (fits target kind vs.0) vs.0 (range_fault kind))
     (λ v. bind-at at (in_ranges target at kinds vs.1) (λ others. Ok (v, others)) (ranges-at target at kinds vs.1) (λ others. tt))
 
-judged-stays : {A : Type 0} (at : ℕ) (r : Reading) (x : Result A Fault) → at ≤ r.position → IsAt at x → Stays {X = A} at r (x >>= λ a. Ok (a, r))
+judged-stays : {A : Type 0} (at : ℕ) (r : ReadPosition) (x : Result A Fault) → at ≤ r.position → IsAt at x → Stays {X = A} at r (x >>= λ a. Ok (a, r))
 judged-stays at r (Ok a) h k = (omega arith, refl)
 judged-stays at r (Err fault) h k = (omega (arith, k), omega (arith, k))
 
@@ -67,5 +67,5 @@ operands-stay : {I : Type 0} (unknown : FaultKind) (at : ℕ) (of : Option (Line
 operands-stay unknown at None r h = (omega arith, omega arith)
 operands-stay unknown at (Some (line kinds make)) r h = bind-stays at r (given_at at kinds r) (λ vs s. Ok (make vs, s)) h (given-stays at kinds r h) (λ vs. made-stays at (make vs))
 
-pub coded-stays : {I : Type 0} (table : ℕ → Option (Line I)) (unknown : FaultKind) (r : Reading) → Stays r.position r (coded_at table unknown r)
+pub coded-stays : {I : Type 0} (table : ℕ → Option (Line I)) (unknown : FaultKind) (r : ReadPosition) → Stays r.position r (coded_at table unknown r)
 coded-stays table unknown r = bind-stays r.position r (fixed_at 1 r) (λ code. operands_at unknown r.position (table code)) (omega arith) (fixed-stays r.position 1 r (omega arith)) (λ code. operands-stay unknown r.position (table code))

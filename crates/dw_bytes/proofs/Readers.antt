@@ -5,33 +5,33 @@ use Rattle.std.proofs.lemmas.List.{length-take, take-append-drop, take_at}
 use Rattle.dw_bytes.specs.declared.target.Target.{Target}
 use Rattle.dw_bytes.specs.declared.target.Format.{Format}
 use Rattle.dw_bytes.specs.declared.fault.Fault.{Fault}
-use Rattle.dw_bytes.specs.Spelling.{Bytes, Fixed, Offset, Address, Length, Uleb, Sleb, bytes_of_address, bytes_of_offset}
-use Rattle.dw_bytes.specs.Reading.{Reading, Next, IsExact, ◌>>=◌, take_at as taken_at, fixed_at, offset_at, address_at, initial_length_at, uleb_at, sleb_at}
+use Rattle.dw_bytes.specs.Encoding.{Bytes, Fixed, Offset, Address, Length, Uleb, Sleb, bytes_of_address, bytes_of_offset}
+use Rattle.dw_bytes.specs.Reading.{ReadPosition, Next, IsExact, ◌>>=◌, take_at as taken_at, fixed_at, offset_at, address_at, initial_length_at, uleb_at, sleb_at}
 use Rattle.dw_bytes.proofs.Fields.{take_exact, fixed_exact, initial_length_exact, uleb_exact, sleb_exact}
 
 -- a reader that is exact wherever the target is this one
-abbrev pub Exact : {X : Type 0} → Target → (Reading → Result (X × Reading) Fault) → (List ℕ → X → Type 0) → Type 0
-Exact target read Spells = (r : Reading) → r.target ≡ target → IsExact read Spells r
+abbrev pub Exact : {X : Type 0} → Target → (ReadPosition → Result (X × ReadPosition) Fault) → (List ℕ → X → Type 0) → Type 0
+Exact target read IsEncoding = (r : ReadPosition) → r.target ≡ target → IsExact read IsEncoding r
 
--- the same of a reader of what is spelled at an offset
-abbrev pub ExactAt : {X : Type 0} → Target → (Reading → Result (X × Reading) Fault) → (ℕ → List ℕ → X → Type 0) → Type 0
-ExactAt target read Spells = (r : Reading) → r.target ≡ target → IsExact read (Spells r.position) r
+-- the same of a reader of what is encoded at an offset
+abbrev pub ExactAt : {X : Type 0} → Target → (ReadPosition → Result (X × ReadPosition) Fault) → (ℕ → List ℕ → X → Type 0) → Type 0
+ExactAt target read IsEncoding = (r : ReadPosition) → r.target ≡ target → IsExact read (IsEncoding r.position) r
 
 -- the value of a step that did not fail
 pub bind-ok : {A B : Type 0} (r : Result A Fault) (f : A → Result B Fault) (y : B) → (r >>= f) ≡ Ok y → (x : A) × (r ≡ Ok x) × (f x ≡ Ok y)
 bind-ok (Ok x) f y e = (x, refl, e)
 bind-ok (Err d) f y e = absurd cc
 
-abbrev finish : {A : Type 0} → A × Reading → Result (A × Reading) Fault
+abbrev finish : {A : Type 0} → A × ReadPosition → Result (A × ReadPosition) Fault
 finish x = Ok x
 
-pub ok-is : {A : Type 0} (x y : A × Reading) → finish x ≡ finish y → x ≡ y
+pub ok-is : {A : Type 0} (x y : A × ReadPosition) → finish x ≡ finish y → x ≡ y
 ok-is x y e = cc
 
-abbrev pub reading-of : Target → ℕ → List ℕ → Reading
+abbrev pub reading-of : Target → ℕ → List ℕ → ReadPosition
 reading-of target position rest = record { target = target; position = position; rest = rest }
 
-pub same-reading : (a b : Reading) → a.target ≡ b.target → a.position ≡ b.position → a.rest ≡ b.rest → a ≡ b
+pub same-reading : (a b : ReadPosition) → a.target ≡ b.target → a.position ≡ b.position → a.rest ≡ b.rest → a ≡ b
 same-reading a b t p x = ap (λ v. reading-of v a.position a.rest) t ∙ (ap (λ v. reading-of b.target v a.rest) p ∙ ap (λ v. reading-of b.target b.position v) x)
 
 -- ---- the fields
@@ -63,21 +63,21 @@ offset-exact target format r same =
 pub length-exact : (target : Target) → Exact target initial_length_at (Length target.order)
 length-exact target r same = subst (λ (t : Target). IsExact initial_length_at (Length t.order) r) same (initial_length_exact r)
 
--- ---- no spelling begins another
+-- ---- no encoding begins another
 
-at-start : {X : Type 0} (Spells : List ℕ → X → Type 0) (target : Target) (at : ℕ) (bytes a x : List ℕ) (v : X) → bytes ≡ a ++ x → Spells a v → Next Spells (reading-of target at bytes) v (reading-of target (at + length a) x)
-at-start Spells target at bytes a x v e h = record { bytes = a; spelled = h; parts = e; position = refl; target = refl }
+at-start : {X : Type 0} (IsEncoding : List ℕ → X → Type 0) (target : Target) (at : ℕ) (bytes a x : List ℕ) (v : X) → bytes ≡ a ++ x → IsEncoding a v → Next IsEncoding (reading-of target at bytes) v (reading-of target (at + length a) x)
+at-start IsEncoding target at bytes a x v e h = record { bytes = a; encoded = h; parts = e; position = refl; target = refl }
 
-pub one-spelling : {X : Type 0} (target : Target) (read : Reading → Result (X × Reading) Fault) (Spells : ℕ → List ℕ → X → Type 0) → ExactAt target read Spells
-    → (at : ℕ) (a b x y : List ℕ) (m n : X) → Spells at a m → Spells at b n → a ++ x ≡ b ++ y → (a ≡ b) × (m ≡ n)
-one-spelling {X} target read Spells exact at a b x y m n p q e =
+pub one-encoding : {X : Type 0} (target : Target) (read : ReadPosition → Result (X × ReadPosition) Fault) (IsEncoding : ℕ → List ℕ → X → Type 0) → ExactAt target read IsEncoding
+    → (at : ℕ) (a b x y : List ℕ) (m n : X) → IsEncoding at a m → IsEncoding at b n → a ++ x ≡ b ++ y → (a ≡ b) × (m ≡ n)
+one-encoding {X} target read IsEncoding exact at a b x y m n p q e =
     let r = reading-of target at (a ++ x) in
-    let first = (exact r refl).only m (reading-of target (at + length a) x) (at-start (Spells at) target at (a ++ x) a x m refl p) in
-    let second = (exact r refl).only n (reading-of target (at + length b) y) (at-start (Spells at) target at (a ++ x) b y n e q) in
+    let first = (exact r refl).only m (reading-of target (at + length a) x) (at-start (IsEncoding at) target at (a ++ x) a x m refl p) in
+    let second = (exact r refl).only n (reading-of target (at + length b) y) (at-start (IsEncoding at) target at (a ++ x) b y n e q) in
     let both : (m, reading-of target (at + length a) x) ≡ (n, reading-of target (at + length b) y) = ok-is (m, reading-of target (at + length a) x) (n, reading-of target (at + length b) y) (sym first ∙ second) in
-    let behind : at + length a ≡ at + length b = ap (λ (w : X × Reading). w.1.position) both in
+    let behind : at + length a ≡ at + length b = ap (λ (w : X × ReadPosition). w.1.position) both in
     let len : length a ≡ length b = omega (arith, behind) in
-    (sym (take_at a x (length a) refl) ∙ ap (take (length a)) e ∙ take_at b y (length a) (sym len), ap (λ (w : X × Reading). w.0) both)
+    (sym (take_at a x (length a) refl) ∙ ap (take (length a)) e ∙ take_at b y (length a) (sym len), ap (λ (w : X × ReadPosition). w.0) both)
 
 -- ---- what is left of a section
 
@@ -90,9 +90,9 @@ suffix section bytes rest at inside parts =
     ∙ (ap (λ n. drop (n + length bytes) (take at section ++ (bytes ++ rest))) front ∙ ap (drop (at + length bytes)) whole))
 
 -- A reader that is exact leaves what the section has from where it ends.
-pub leaves-suffix : {X : Type 0} (target : Target) (read : Reading → Result (X × Reading) Fault) (Spells : ℕ → List ℕ → X → Type 0) → ExactAt target read Spells
-    → (section : List ℕ) (at : ℕ) (v : X) (after : Reading) → at ≤ length section → read (reading-of target at (drop at section)) ≡ Ok (v, after) → after ≡ reading-of target after.position (drop after.position section)
-leaves-suffix target read Spells exact section at v after inside e =
+pub leaves-suffix : {X : Type 0} (target : Target) (read : ReadPosition → Result (X × ReadPosition) Fault) (IsEncoding : ℕ → List ℕ → X → Type 0) → ExactAt target read IsEncoding
+    → (section : List ℕ) (at : ℕ) (v : X) (after : ReadPosition) → at ≤ length section → read (reading-of target at (drop at section)) ≡ Ok (v, after) → after ≡ reading-of target after.position (drop after.position section)
+leaves-suffix target read IsEncoding exact section at v after inside e =
     let next = (exact (reading-of target at (drop at section)) refl).found v after e in
     let rest : after.rest ≡ drop (at + length next.bytes) section = suffix section next.bytes after.rest at inside next.parts in
     same-reading after (reading-of target after.position (drop after.position section)) next.target refl (rest ∙ ap (λ n. drop n section) (sym next.position))

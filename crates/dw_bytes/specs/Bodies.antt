@@ -3,19 +3,19 @@ use Rattle.std.specs.Prelude.{ℕ, List, take, Result, Ok}
 use Rattle.dw_bytes.specs.declared.target.Target.{Target}
 use Rattle.dw_bytes.specs.declared.target.Format.{Format}
 use Rattle.dw_bytes.specs.declared.fault.Fault.{Fault}
-use Rattle.dw_bytes.specs.Reading.{Reading, ◌>>=◌, section_from, take_at, initial_length_at}
+use Rattle.dw_bytes.specs.Reading.{ReadPosition, ◌>>=◌, section_from, take_at, initial_length_at}
 
 -- a body of these bytes
-abbrev pub body_of : Reading → List ℕ → Reading
+abbrev pub body_of : ReadPosition → List ℕ → ReadPosition
 body_of r bytes = record { target = r.target; position = r.position; rest = bytes }
 
 -- The length, and the body of so many bytes: what is read in it ends with it.
-unfoldable pub framed_at : Reading → Result ((Format × Reading) × Reading) Fault
+unfoldable pub framed_at : ReadPosition → Result ((Format × ReadPosition) × ReadPosition) Fault
 framed_at r = do
   size ← initial_length_at r
   body ← take_at size.0.1 size.1
   Ok ((size.0.0, body_of size.1 body.0), body.1)
 
 -- a section from an offset up to another
-abbrev pub window : Target → List ℕ → ℕ → ℕ → Reading
+abbrev pub window : Target → List ℕ → ℕ → ℕ → ReadPosition
 window target section start end = section_from target (take end section) start

@@ -4,7 +4,7 @@ use Rattle.std.specs.Prelude.{◌≡◌, ◌+◌, ◌==◌, ℕ, Bool, if◌then
 use Rattle.dw_bytes.specs.declared.target.Target.{Target}
 use Rattle.dw_bytes.specs.declared.fault.Fault.{Fault}
 use Rattle.dw_bytes.specs.declared.fault.FaultKind.{FaultKind}
-use Rattle.dw_bytes.specs.Reading.{Reading, ◌>>=◌}
+use Rattle.dw_bytes.specs.Reading.{ReadPosition, ◌>>=◌}
 use Rattle.dw_bytes.specs.Operands.{Kind, fixed, Operand, IsOperand, operand_at}
 
 -- Nothing more, and a value; or a field of a kind, what is wrong with its value if anything is, and what comes behind it,
@@ -35,12 +35,12 @@ abbrev pub judged : {X : Type 0} → Option FaultKind → ℕ → X → Result X
 judged None at x = Ok x
 judged (Some fault) at x = Err (record { kind = fault; at = at })
 
-abbrev pub field_at : (kind : Kind) → (Operand kind → Option FaultKind) → Reading → Result (Operand kind × Reading) Fault
+abbrev pub field_at : (kind : Kind) → (Operand kind → Option FaultKind) → ReadPosition → Result (Operand kind × ReadPosition) Fault
 field_at kind fault r = operand_at kind r >>= λ x. judged (fault x.0) r.position x
 
-abbrev pub byte_at : FaultKind → ℕ → Reading → Result (ℕ × Reading) Fault
+abbrev pub byte_at : FaultKind → ℕ → ReadPosition → Result (ℕ × ReadPosition) Fault
 byte_at fault value = field_at (fixed 1) (λ v. unless (v == value) fault)
 
-abbrev pub fields_at : {B : Type 0} → Fields B → Reading → Result (B × Reading) Fault
+abbrev pub fields_at : {B : Type 0} → Fields B → ReadPosition → Result (B × ReadPosition) Fault
 fields_at (made b) r = Ok (b, r)
 fields_at (field kind fault next) r = field_at kind fault r >>= λ x. fields_at (next x.0) x.1

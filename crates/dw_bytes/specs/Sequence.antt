@@ -1,38 +1,38 @@
--- Things that are spelled one after the other: the records of a section, the instructions of a program.
+-- Things that are encoded one after the other: the records of a section, the instructions of a program.
 use Rattle.std.specs.Prelude.{◌≡◌, ◌+◌, ℕ, zero, suc, List, [], ◌∷◌, ◌++◌, length, nat_lt, if◌then◌else◌, Result, Ok, Err}
 use Rattle.dw_bytes.specs.declared.fault.Fault.{Fault}
-use Rattle.dw_bytes.specs.Reading.{Reading, ◌>>=◌}
+use Rattle.dw_bytes.specs.Reading.{ReadPosition, ◌>>=◌}
 
--- The bytes are the spellings of the things, without a gap, from an offset on. What spells a thing may depend on its offset.
+-- The bytes are the encodings of the things, without a gap, from an offset on. What encodes a thing may depend on its offset.
 abbrev pub Sequence : {X : Type 0} → (ℕ → List ℕ → X → Type 0) → ℕ → List ℕ → List X → Type 0
-Sequence Spells at bytes [] = bytes ≡ []
-Sequence Spells at bytes (x ∷ xs) = (first rest : List ℕ) × (bytes ≡ first ++ rest) × Spells at first x × Sequence Spells (at + length first) rest xs
+Sequence IsEncoding at bytes [] = bytes ≡ []
+Sequence IsEncoding at bytes (x ∷ xs) = (first rest : List ℕ) × (bytes ≡ first ++ rest) × IsEncoding at first x × Sequence IsEncoding (at + length first) rest xs
 
 -- a thing and its offset
 abbrev pub Located : {X : Type 0} → (ℕ → List ℕ → X → Type 0) → ℕ → List ℕ → ℕ × X → Type 0
-Located Spells at bytes item = (item.0 ≡ at) × Spells at bytes item.1
+Located IsEncoding at bytes item = (item.0 ≡ at) × IsEncoding at bytes item.1
 
-abbrev pub located_read : {X : Type 0} → (Reading → Result (X × Reading) Fault) → Reading → Result ((ℕ × X) × Reading) Fault
+abbrev pub located_read : {X : Type 0} → (ReadPosition → Result (X × ReadPosition) Fault) → ReadPosition → Result ((ℕ × X) × ReadPosition) Fault
 located_read read r = read r >>= λ x. Ok ((r.position, x.0), x.1)
 
 -- what was read, and then the others; nothing comes after a fault
-abbrev pub and_then : {X : Type 0} → Result (X × Reading) Fault → (Reading → List (Result X Fault)) → List (Result X Fault)
+abbrev pub and_then : {X : Type 0} → Result (X × ReadPosition) Fault → (ReadPosition → List (Result X Fault)) → List (Result X Fault)
 and_then (Ok found) others = Ok found.0 ∷ others found.1
 and_then (Err fault) others = Err fault ∷ []
 
 -- at most count things
-abbrev pub at_most_of : {X : Type 0} → (Reading → Result (X × Reading) Fault) → ℕ → Reading → List (Result X Fault)
+abbrev pub at_most_of : {X : Type 0} → (ReadPosition → Result (X × ReadPosition) Fault) → ℕ → ReadPosition → List (Result X Fault)
 at_most_of read zero r = []
 at_most_of read (suc count) r = if nat_lt 0 (length r.rest) then and_then (read r) (at_most_of read count) else []
 
 -- The things from left to right, up to the end or the first fault: there are no more of them than bytes.
-unfoldable pub sequence_of : {X : Type 0} → (Reading → Result (X × Reading) Fault) → Reading → List (Result X Fault)
+unfoldable pub sequence_of : {X : Type 0} → (ReadPosition → Result (X × ReadPosition) Fault) → ReadPosition → List (Result X Fault)
 sequence_of read r = at_most_of read (length r.rest) r
 
--- Exactly so many things, as an array has them: which bytes spell them, and reading them.
+-- Exactly so many things, as an array has them: which bytes encode them, and reading them.
 abbrev pub Exactly : {X : Type 0} → (ℕ → List ℕ → X → Type 0) → ℕ → ℕ → List ℕ → List X → Type 0
-Exactly Spells count at bytes xs = Sequence Spells at bytes xs × (length xs ≡ count)
+Exactly IsEncoding count at bytes xs = Sequence IsEncoding at bytes xs × (length xs ≡ count)
 
-abbrev pub exactly_of : {X : Type 0} → (Reading → Result (X × Reading) Fault) → ℕ → Reading → Result (List X × Reading) Fault
+abbrev pub exactly_of : {X : Type 0} → (ReadPosition → Result (X × ReadPosition) Fault) → ℕ → ReadPosition → Result (List X × ReadPosition) Fault
 exactly_of read zero r = Ok ([], r)
 exactly_of read (suc count) r = read r >>= λ x. exactly_of read count x.1 >>= λ xs. Ok (x.0 ∷ xs.0, xs.1)

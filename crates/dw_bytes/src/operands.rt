@@ -2,7 +2,7 @@
 //! call is given. A refused read leaves the cursor where it was.
 
 ghost use Rattle.std.specs.Prelude.{◌≡◌, ◌≤◌, [], ◌∷◌};
-ghost use Rattle.dw_bytes.specs.Reading.{GoesOn, ReadsBy};
+ghost use Rattle.dw_bytes.specs.Reading.{MovesForward, ReadsBy};
 ghost use Rattle.dw_bytes.specs.Readers.{IsRefusedWithin};
 ghost use Rattle.dw_bytes.specs.Operands.{unsigned, signed, register_number, read_size, piece_size, block, in_range, given_at, one_value, two_values, block_of};
 
@@ -61,7 +61,7 @@ pub fn register(cursor: &mut Cursor<'_>, at: u32) -> Result<u16, Fault>
     requires { at ≤ cursor.old.position }
     ensures exact { ReadsBy one_value (given_at at (register_number ∷ [])) cursor.old result cursor.new }
     ensures within { IsRefusedWithin cursor.old result }
-    ensures goes_on { GoesOn cursor.old cursor.new }
+    ensures goes_on { MovesForward cursor.old cursor.new }
 {
     let mut ahead = cursor.copy();
     let register = number_of_register(ahead.uleb()?, at, cursor.target())?;
@@ -74,7 +74,7 @@ pub fn two_registers(cursor: &mut Cursor<'_>, at: u32) -> Result<(u16, u16), Fau
     requires { at ≤ cursor.old.position }
     ensures exact { ReadsBy two_values (given_at at (register_number ∷ register_number ∷ [])) cursor.old result cursor.new }
     ensures within { IsRefusedWithin cursor.old result }
-    ensures goes_on { GoesOn cursor.old cursor.new }
+    ensures goes_on { MovesForward cursor.old cursor.new }
 {
     let target = cursor.target();
     let mut ahead = cursor.copy();
@@ -94,7 +94,7 @@ pub fn register_and_unsigned(cursor: &mut Cursor<'_>, at: u32) -> Result<(u16, u
     requires { at ≤ cursor.old.position }
     ensures exact { ReadsBy two_values (given_at at (register_number ∷ unsigned ∷ [])) cursor.old result cursor.new }
     ensures within { IsRefusedWithin cursor.old result }
-    ensures goes_on { GoesOn cursor.old cursor.new }
+    ensures goes_on { MovesForward cursor.old cursor.new }
 {
     let mut ahead = cursor.copy();
     let number = ahead.uleb()?;
@@ -109,7 +109,7 @@ pub fn register_and_signed(cursor: &mut Cursor<'_>, at: u32) -> Result<(u16, i64
     requires { at ≤ cursor.old.position }
     ensures exact { ReadsBy two_values (given_at at (register_number ∷ signed ∷ [])) cursor.old result cursor.new }
     ensures within { IsRefusedWithin cursor.old result }
-    ensures goes_on { GoesOn cursor.old cursor.new }
+    ensures goes_on { MovesForward cursor.old cursor.new }
 {
     let mut ahead = cursor.copy();
     let number = ahead.uleb()?;
@@ -124,7 +124,7 @@ pub fn register_and_block<'a>(cursor: &mut Cursor<'a>, at: u32) -> Result<(u16, 
     requires { at ≤ cursor.old.position }
     ensures exact { ReadsBy (λ v. two_values (v.0, block_of v.1)) (given_at at (register_number ∷ block ∷ [])) cursor.old result cursor.new }
     ensures within { IsRefusedWithin cursor.old result }
-    ensures goes_on { GoesOn cursor.old cursor.new }
+    ensures goes_on { MovesForward cursor.old cursor.new }
 {
     let mut ahead = cursor.copy();
     let number = ahead.uleb()?;
@@ -138,7 +138,7 @@ pub fn register_and_block<'a>(cursor: &mut Cursor<'a>, at: u32) -> Result<(u16, 
 pub fn block<'a>(cursor: &mut Cursor<'a>, at: u32) -> Result<Block<'a>, Fault>
     ensures exact { ReadsBy (λ v. one_value (block_of v)) (given_at at (block ∷ [])) cursor.old result cursor.new }
     ensures within { IsRefusedWithin cursor.old result }
-    ensures goes_on { GoesOn cursor.old cursor.new }
+    ensures goes_on { MovesForward cursor.old cursor.new }
 {
     let _ = at;
     let mut ahead = cursor.copy();
@@ -158,7 +158,7 @@ pub fn piece_size(cursor: &mut Cursor<'_>, at: u32) -> Result<u32, Fault>
     requires { at ≤ cursor.old.position }
     ensures exact { ReadsBy one_value (given_at at (piece_size ∷ [])) cursor.old result cursor.new }
     ensures within { IsRefusedWithin cursor.old result }
-    ensures goes_on { GoesOn cursor.old cursor.new }
+    ensures goes_on { MovesForward cursor.old cursor.new }
 {
     let mut ahead = cursor.copy();
     let number = ahead.uleb()?;
@@ -172,7 +172,7 @@ pub fn two_piece_sizes(cursor: &mut Cursor<'_>, at: u32) -> Result<(u32, u32), F
     requires { at ≤ cursor.old.position }
     ensures exact { ReadsBy two_values (given_at at (piece_size ∷ piece_size ∷ [])) cursor.old result cursor.new }
     ensures within { IsRefusedWithin cursor.old result }
-    ensures goes_on { GoesOn cursor.old cursor.new }
+    ensures goes_on { MovesForward cursor.old cursor.new }
 {
     let target = cursor.target();
     let mut ahead = cursor.copy();
@@ -191,7 +191,7 @@ pub fn read_size(cursor: &mut Cursor<'_>, at: u32) -> Result<u8, Fault>
     requires { at ≤ cursor.old.position }
     ensures exact { ReadsBy one_value (given_at at (read_size ∷ [])) cursor.old result cursor.new }
     ensures within { IsRefusedWithin cursor.old result }
-    ensures goes_on { GoesOn cursor.old cursor.new }
+    ensures goes_on { MovesForward cursor.old cursor.new }
 {
     let mut ahead = cursor.copy();
     let number = ahead.u8()?;

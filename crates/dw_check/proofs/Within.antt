@@ -6,7 +6,7 @@ use Rattle.std.proofs.lemmas.List.Elements.{All-nil, All-cons}
 use Rattle.dw_bytes.specs.declared.target.Target.{Target}
 use Rattle.dw_bytes.specs.declared.target.AddressSize.{AddressSize}
 use Rattle.dw_bytes.specs.declared.target.AddressSize.TheVariants.{Four, Eight}
-use Rattle.dw_bytes.specs.Spelling.{bytes_of_address}
+use Rattle.dw_bytes.specs.Encoding.{bytes_of_address}
 use Rattle.dw_frame.specs.Records.{Cie, Fde}
 use Rattle.dw_frame.specs.Sections.{top_of}
 use Rattle.dw_rows.specs.Rules.{Row}

@@ -3,20 +3,20 @@ use Rattle.std.specs.Prelude.{ℕ, List, ◌++◌, length, codes, decimal}
 use Rattle.std.specs.List.{flat_map}
 use Rattle.hex.specs.Hex.{encode_lower}
 use Rattle.dw_bytes.specs.declared.target.AddressSize.{AddressSize}
-use Rattle.dw_stack.specs.Machine.{Whereabouts, Nowhere, AtAddress, InRegister, HasValue, HasBytes, Extent, Piece}
+use Rattle.dw_stack.specs.Machine.{LocationDescription, Nowhere, AtAddress, InRegister, HasValue, HasBytes, PieceExtent, Piece}
 use Rattle.dw_stack.specs.Machine as machine
 use Rattle.dw_eval.specs.Results.{Outcome, value, single, pieces, unreadable, division_by_zero}
 use Rattle.dw_check.specs.Text.{address_text, offset_text}
 
 -- where an object is, or a piece of it
-abbrev pub location_text : AddressSize → Whereabouts → List ℕ
+abbrev pub location_text : AddressSize → LocationDescription → List ℕ
 location_text size Nowhere = codes "empty"
 location_text size (AtAddress a) = codes "address " ++ address_text size a
 location_text size (InRegister r) = codes "register " ++ decimal r
 location_text size (HasValue v) = codes "value " ++ address_text size v
 location_text size (HasBytes bytes) = codes "bytes " ++ encode_lower bytes
 
-abbrev pub size_text : Extent → List ℕ
+abbrev pub size_text : PieceExtent → List ℕ
 size_text (machine.bytes n) = codes " bytes " ++ decimal n
 size_text (machine.bits n offset) = codes " bits " ++ decimal n ++ codes " offset " ++ decimal offset
 

@@ -3,7 +3,7 @@
 ghost use Rattle.std.specs.Prelude.{◌≡◌, ◌++◌, ◌^◌, ℕ, OnOk, map};
 ghost use Rattle.std.specs.List.{All, flat_map};
 ghost use Rattle.std.specs.String.{string_bytes};
-ghost use Rattle.dw_eval.specs.Views.{whereabouts_of, extent_in, piece_in, outcome_of};
+ghost use Rattle.dw_eval.specs.Views.{location_description_of, extent_of_size, piece_in, outcome_of};
 ghost use Rattle.dw_check.specs.Text.{digits_of};
 ghost use Rattle.dw_eval.specs.Fits.{LocationFits, PieceFits, OutcomeFits};
 ghost use Rattle.dw_check.specs.Outcomes.{location_text, size_text, piece_line, stop_line, outcome_text, counts_line, evaluation_text};
@@ -18,8 +18,8 @@ fn push_location(
     size: AddressSize,
     location: Location<'_>,
 ) -> Result<(), AllocError>
-    requires { LocationFits (16 ^ digits_of size) (whereabouts_of location) }
-    ensures { OnOk result (string_bytes line.new ≡ string_bytes line.old ++ location_text size (whereabouts_of location.entry)) }
+    requires { LocationFits (16 ^ digits_of size) (location_description_of location) }
+    ensures { OnOk result (string_bytes line.new ≡ string_bytes line.old ++ location_text size (location_description_of location.entry)) }
 {
     match location {
         Location::Empty => line.push_str("empty"),
@@ -44,7 +44,7 @@ fn push_location(
 }
 
 fn push_size(line: &mut String, size: PieceSize) -> Result<(), AllocError>
-    ensures { OnOk result (string_bytes line.new ≡ string_bytes line.old ++ size_text (extent_in size)) }
+    ensures { OnOk result (string_bytes line.new ≡ string_bytes line.old ++ size_text (extent_of_size size)) }
 {
     match size {
         PieceSize::Bytes(count) => {

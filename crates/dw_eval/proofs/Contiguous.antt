@@ -10,8 +10,8 @@ use Rattle.dw_bytes.specs.declared.target.Order.{Order}
 use Rattle.dw_bytes.specs.declared.target.Order.TheVariants.{Little, Big}
 use Rattle.dw_bytes.specs.declared.fault.Fault.{Fault}
 use Rattle.dw_bytes.specs.declared.fault.FaultKind.TheVariants.{Truncated}
-use Rattle.dw_bytes.specs.Reading.{Reading, ◌>>=◌, placed, take_at, fixed_at}
-use Rattle.dw_bytes.specs.Spelling.{number}
+use Rattle.dw_bytes.specs.Reading.{ReadPosition, ◌>>=◌, placed, take_at, fixed_at}
+use Rattle.dw_bytes.specs.Encoding.{number}
 use Rattle.dw_eval.specs.World.{IsSize, joined, bytes_from, number_at}
 
 abbrev pub contiguous : ℕ → List ℕ → ℕ → Option ℕ
@@ -87,10 +87,10 @@ number_there start bytes order a n o from within seen =
     ]
 
 -- a number is refused where there are too few bytes
-abbrev valued : Order → ℕ → List ℕ × Reading → Result (ℕ × Reading) Fault
+abbrev valued : Order → ℕ → List ℕ × ReadPosition → Result (ℕ × ReadPosition) Fault
 valued order n bytes = Ok (number order n bytes.0, bytes.1)
 
-refused : (n : ℕ) (r : Reading) (f : Fault) (o : Option ℕ) → fixed_at n r ≡ Err f → None ≡ (if nat_lt (length r.rest) n then None else o)
+refused : (n : ℕ) (r : ReadPosition) (f : Fault) (o : Option ℕ) → fixed_at n r ≡ Err f → None ≡ (if nat_lt (length r.rest) n then None else o)
 unfolding fixed_at take_at
 refused n r f o is = by (nat_lt (length r.rest) n) is
   where
@@ -98,7 +98,7 @@ refused n r f o is = by (nat_lt (length r.rest) n) is
     by true at = refl
     by false at = absurd (cc)
 
-pub number_refused : (n size : ℕ) (r : Reading) (bytes : List ℕ) (f : Fault) (o : Option ℕ) → r.rest ≡ bytes → size ≡ n → fixed_at n r ≡ Err f → None ≡ (if nat_lt (length bytes) size then None else o)
+pub number_refused : (n size : ℕ) (r : ReadPosition) (bytes : List ℕ) (f : Fault) (o : Option ℕ) → r.rest ≡ bytes → size ≡ n → fixed_at n r ≡ Err f → None ≡ (if nat_lt (length bytes) size then None else o)
 number_refused n size r bytes f o rest size_is is = refused n r f o is ∙ ap (λ (xs : List ℕ). if nat_lt (length xs) n then None else o) rest ∙ ap (λ (m : ℕ). if nat_lt (length bytes) m then None else o) (sym size_is)
 
 -- a read has a byte at least

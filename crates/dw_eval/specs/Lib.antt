@@ -3,9 +3,9 @@ pub mod World
 pub mod Values
 pub mod Needs
 pub mod Meaning
-pub mod Changes
+pub mod StackChanges
 pub mod Handed
 pub mod Results
 pub mod Fits
 pub mod Views
-pub mod Moves
+pub mod Steps

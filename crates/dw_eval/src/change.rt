@@ -4,13 +4,13 @@ ghost use Rattle.std.specs.Prelude.{◌≡◌, ◌+◌, ◌-◌, ◌^◌, ◌<�
 ghost use Rattle.dw_ops.specs.Views.{operation_of};
 ghost use Rattle.dw_stack.specs.Effects.{effect_of};
 ghost use Rattle.dw_eval.specs.World.{width};
-ghost use Rattle.dw_eval.specs.Changes.{acted, changed, changed_by, IsSized, taken_by, added_by};
+ghost use Rattle.dw_eval.specs.StackChanges.{stack_after_operation, changed, changed_by, IsSized, taken_by, added_by};
 ghost use Rattle.dw_eval.specs.Handed.{world_in};
 
-use crate::machine::Machine;
+use crate::context::{Memory, Registers};
+use crate::environment::Environment;
+use crate::evaluation_error::EvaluationError;
 use crate::stack::Stack;
-use crate::surroundings::{Memory, Registers};
-use crate::trouble::Trouble;
 use crate::width::Width;
 use dw_ops::Operation;
 use dw_stack::MAX_HEIGHT;
@@ -32,7 +32,7 @@ pub enum Change {
 
 /// A value in the place of so many entries.
 #[inline(always)]
-fn put(taken: usize, value: u64) -> Result<Change, Trouble>
+fn put(taken: usize, value: u64) -> Result<Change, EvaluationError>
     ensures { result ≡ Ok (Change.Put taken value) }
 {
     Ok(Change::Put { taken, value })
@@ -40,12 +40,12 @@ fn put(taken: usize, value: u64) -> Result<Change, Trouble>
 
 /// A divisor, unless it is 0.
 #[inline(always)]
-fn divisor(b: u64) -> Result<u64, Trouble>
+fn divisor(b: u64) -> Result<u64, EvaluationError>
     ensures ok { IfOk result (λ c. (c ≡ b) × (0 < b)) }
-    ensures err { IfErr result (λ why. (b ≡ 0) × (why ≡ Trouble.DivisionByZero)) }
+    ensures err { IfErr result (λ why. (b ≡ 0) × (why ≡ EvaluationError.DivisionByZero)) }
 {
     if b == 0 {
-        return Err(Trouble::DivisionByZero);
+        return Err(EvaluationError::DivisionByZero);
     }
     Ok(b)
 }
@@ -53,16 +53,16 @@ fn divisor(b: u64) -> Result<u64, Trouble>
 /// The change of an operation that needs no entry and pushes one value: a literal, or what is handed in.
 #[inline(always)]
 fn pushed<R: Registers, M: Memory>(
-    machine: &Machine<'_, R, M>,
+    environment: &Environment<'_, R, M>,
     operation: &Operation<'_>,
-) -> Result<Change, Trouble>
+) -> Result<Change, EvaluationError>
     requires none { (effect_of (operation_of operation.now)).needs ≡ 0 }
     requires one { (effect_of (operation_of operation.now)).adds ≡ 1 }
     ensures takes { IfOk result (λ change. taken_by change ≡ 0) }
     ensures adds { IfOk result (λ change. added_by change ≡ 1) }
-    ensures acts { (s : List ℕ) → changed_by result s ≡ acted (world_in R.contents M.bytes machine.now) (operation_of operation.now) s }
+    ensures acts { (s : List ℕ) → changed_by result s ≡ stack_after_operation (world_in R.contents M.bytes environment.now) (operation_of operation.now) s }
 {
-    let width = machine.width();
+    let width = environment.width();
     match *operation {
         Operation::Addr { address } => put(0, width.reduce(address)),
         Operation::Const1u { value } => put(0, width.reduce(u64::from(value))),
@@ -76,17 +76,20 @@ fn pushed<R: Registers, M: Memory>(
         Operation::Constu { value } => put(0, width.reduce(value)),
         Operation::Consts { value } => put(0, width.reduce_signed(value)),
         Operation::Lit { value } => put(0, width.reduce(u64::from(value))),
-        Operation::Fbreg { offset } => put(0, machine.sum(machine.context.frame_base, offset)?),
+        Operation::Fbreg { offset } => put(
+            0,
+            environment.sum(environment.context.frame_base, offset)?,
+        ),
         Operation::Breg { register, offset } => put(
             0,
-            machine.sum(machine.registers.register(u16::from(register)), offset)?,
+            environment.sum(environment.registers.register(u16::from(register)), offset)?,
         ),
         Operation::Bregx { register, offset } => put(
             0,
-            machine.sum(machine.registers.register(register), offset)?,
+            environment.sum(environment.registers.register(register), offset)?,
         ),
-        Operation::PushObjectAddress => put(0, machine.given(machine.context.object)?),
-        Operation::CallFrameCfa => put(0, machine.given(machine.context.cfa)?),
+        Operation::PushObjectAddress => put(0, environment.given(environment.context.object)?),
+        Operation::CallFrameCfa => put(0, environment.given(environment.context.cfa)?),
         _ => unreachable!(),
     }
 }
@@ -95,23 +98,23 @@ fn pushed<R: Registers, M: Memory>(
 #[tactic(auto, using(crate::proofs::Entries::entry_below))]
 #[inline(always)]
 fn computed<R: Registers, M: Memory>(
-    machine: &Machine<'_, R, M>,
+    environment: &Environment<'_, R, M>,
     operation: &Operation<'_>,
     stack: &Stack,
-) -> Result<Change, Trouble>
+) -> Result<Change, EvaluationError>
     requires all { (effect_of (operation_of operation.now)).takes ≡ (effect_of (operation_of operation.now)).needs }
     requires one { (effect_of (operation_of operation.now)).adds ≡ 1 }
     requires needs { (effect_of (operation_of operation.now)).needs ≤ length stack.now }
     requires sized { IsSized (operation_of operation.now) }
-    requires below { All (λ n. n < 2 ^ width (world_in R.contents M.bytes machine.now)) stack.now }
+    requires below { All (λ n. n < 2 ^ width (world_in R.contents M.bytes environment.now)) stack.now }
     ensures takes { IfOk result (λ change. taken_by change ≡ (effect_of (operation_of operation.now)).takes) }
     ensures adds { IfOk result (λ change. added_by change ≡ (effect_of (operation_of operation.now)).adds) }
-    ensures acts { changed_by result stack.now ≡ acted (world_in R.contents M.bytes machine.now) (operation_of operation.now) stack.now }
+    ensures acts { changed_by result stack.now ≡ stack_after_operation (world_in R.contents M.bytes environment.now) (operation_of operation.now) stack.now }
 {
-    let width = machine.width();
+    let width = environment.width();
     match *operation {
-        Operation::Deref => put(1, machine.load(stack.entry(0), machine.word())?),
-        Operation::DerefSize { size } => put(1, machine.load(stack.entry(0), size)?),
+        Operation::Deref => put(1, environment.load(stack.entry(0), environment.word())?),
+        Operation::DerefSize { size } => put(1, environment.load(stack.entry(0), size)?),
         Operation::Abs => put(1, width.abs(stack.entry(0))),
         Operation::And => put(2, width.and(stack.entry(1), stack.entry(0))),
         Operation::Div => put(2, width.div(stack.entry(1), divisor(stack.entry(0))?)),
@@ -145,23 +148,23 @@ fn computed<R: Registers, M: Memory>(
             width.truth(width.is_below(stack.entry(1), stack.entry(0))),
         ),
         Operation::Ne => put(2, width.truth(stack.entry(1) != stack.entry(0))),
-        _ => pushed(machine, operation),
+        _ => pushed(environment, operation),
     }
 }
 
 /// The change of an operation whose entries are there.
 #[inline(always)]
 pub fn change_of<R: Registers, M: Memory>(
-    machine: &Machine<'_, R, M>,
+    environment: &Environment<'_, R, M>,
     operation: &Operation<'_>,
     stack: &Stack,
-) -> Result<Change, Trouble>
+) -> Result<Change, EvaluationError>
     requires needs { (effect_of (operation_of operation.now)).needs ≤ length stack.now }
     requires sized { IsSized (operation_of operation.now) }
-    requires below { All (λ n. n < 2 ^ width (world_in R.contents M.bytes machine.now)) stack.now }
+    requires below { All (λ n. n < 2 ^ width (world_in R.contents M.bytes environment.now)) stack.now }
     ensures takes { IfOk result (λ change. taken_by change ≡ (effect_of (operation_of operation.now)).takes) }
     ensures adds { IfOk result (λ change. added_by change ≡ (effect_of (operation_of operation.now)).adds) }
-    ensures acts { changed_by result stack.now ≡ acted (world_in R.contents M.bytes machine.now) (operation_of operation.now) stack.now }
+    ensures acts { changed_by result stack.now ≡ stack_after_operation (world_in R.contents M.bytes environment.now) (operation_of operation.now) stack.now }
 {
     match *operation {
         Operation::Dup => put(0, stack.entry(0)),
@@ -178,7 +181,7 @@ pub fn change_of<R: Registers, M: Memory>(
         | Operation::ImplicitValue { .. }
         | Operation::Piece { .. }
         | Operation::BitPiece { .. } => Ok(Change::Stays),
-        _ => computed(machine, operation, stack),
+        _ => computed(environment, operation, stack),
     }
 }
 

@@ -4,13 +4,13 @@ ghost use Rattle.std.specs.Prelude.{◌≤◌};
 ghost use Rattle.std.specs.Option.{ForSome};
 ghost use Rattle.arrayvec.specs.ArrayVec.{array_vec_len};
 
-use crate::aims::{location_named, piece_size, target_of};
+use crate::branch_target::{location_named, next_offset, piece_size};
 use crate::change::{change_of, make};
+use crate::context::{Memory, Registers};
+use crate::environment::Environment;
+use crate::evaluation_error::EvaluationError;
 use crate::location::{Location, Outcome, Piece, PieceSize, Pieces};
-use crate::machine::Machine;
 use crate::stack::Stack;
-use crate::surroundings::{Memory, Registers};
-use crate::trouble::Trouble;
 use arrayvec::ArrayVec;
 use dw_ops::Operation;
 use dw_stack::{Kind, MAX_HEIGHT, MAX_PIECES};
@@ -35,11 +35,11 @@ impl<'a> Run<'a> {
     ghost use Rattle.dw_stack.specs.Machine.{location_of, CanDo, GivesResult};
     ghost use Rattle.dw_eval.specs.World.{width};
     ghost use Rattle.dw_eval.specs.Values.{answer};
-    ghost use Rattle.dw_eval.specs.Changes.{IsSized, trouble_of};
+    ghost use Rattle.dw_eval.specs.StackChanges.{IsSized, error_of};
     ghost use Rattle.dw_eval.specs.Handed.{world_in};
-    ghost use Rattle.dw_eval.specs.Views.{whereabouts_of, extent_in, piece_in, some_pieces, outcome_of};
+    ghost use Rattle.dw_eval.specs.Views.{location_description_of, extent_of_size, piece_in, some_pieces, outcome_of};
     ghost use Rattle.dw_eval.specs.Results.{result_of};
-    ghost use Rattle.dw_eval.specs.Moves.{configured, GoesForward, Moves};
+    ghost use Rattle.dw_eval.specs.Steps.{configured, GoesForward, Moves};
 
     /// A run with an empty stack.
     pub fn new() -> Self
@@ -58,7 +58,7 @@ impl<'a> Run<'a> {
     #[inline(always)]
     fn location(&self) -> Location<'a>
         requires { self.now.pending ≡ None → length self.now.stack ≤ 1 }
-        ensures { whereabouts_of result ≡ location_of self.now.stack (option_map whereabouts_of self.now.pending) }
+        ensures { location_description_of result ≡ location_of self.now.stack (option_map location_description_of self.now.pending) }
     {
         match self.pending {
             Some(location) => location,
@@ -97,7 +97,7 @@ impl<'a> Run<'a> {
         requires few { length (some_pieces self.old.pieces) < MAX_PIECES }
         ensures stack { self.new.stack ≡ [] }
         ensures pending { self.new.pending ≡ None }
-        ensures pieces { some_pieces self.new.pieces ≡ some_pieces self.old.pieces ++ record { location = location_of self.old.stack (option_map whereabouts_of self.old.pending); size = extent_in size } ∷ [] }
+        ensures pieces { some_pieces self.new.pieces ≡ some_pieces self.old.pieces ++ record { location = location_of self.old.stack (option_map location_description_of self.old.pending); size = extent_of_size size } ∷ [] }
     {
         let location = self.location();
         self.push_piece(Piece { location, size });
@@ -109,25 +109,25 @@ impl<'a> Run<'a> {
     #[inline(always)]
     pub fn step<R: Registers, M: Memory>(
         &mut self,
-        machine: &Machine<'_, R, M>,
+        environment: &Environment<'_, R, M>,
         operation: &Operation<'a>,
         next: u32,
-    ) -> Result<u32, Trouble>
+    ) -> Result<u32, EvaluationError>
         requires needs { (effect_of (operation_of operation.now)).needs ≤ length self.old.stack }
-        requires can { CanDo (effect_of (operation_of operation.now)).role (length self.old.stack) (option_map whereabouts_of self.old.pending) }
+        requires can { CanDo (effect_of (operation_of operation.now)).role (length self.old.stack) (option_map location_description_of self.old.pending) }
         requires room { length self.old.stack - (effect_of (operation_of operation.now)).takes + (effect_of (operation_of operation.now)).adds ≤ MAX_HEIGHT }
         requires few { is_piece (effect_of (operation_of operation.now)).role ≡ true → length (some_pieces self.old.pieces) < MAX_PIECES }
         requires target { GoesForward (operation_of operation.now) self.old.stack next }
         requires sized { IsSized (operation_of operation.now) }
-        requires below { All (λ n. n < 2 ^ width (world_in R.contents M.bytes machine.now)) self.old.stack }
-        ensures { MatchResult result (λ to. Moves (world_in R.contents M.bytes machine.now) (operation_of operation.now) next (configured 0 self.old) (configured to self.new)) (λ why. answer (world_in R.contents M.bytes machine.now) (operation_of operation.now) self.old.stack ≡ Err (trouble_of why)) }
+        requires below { All (λ n. n < 2 ^ width (world_in R.contents M.bytes environment.now)) self.old.stack }
+        ensures { MatchResult result (λ to. Moves (world_in R.contents M.bytes environment.now) (operation_of operation.now) next (configured 0 self.old) (configured to self.new)) (λ why. answer (world_in R.contents M.bytes environment.now) (operation_of operation.now) self.old.stack ≡ Err (error_of why)) }
     {
-        let to = target_of(operation, &self.stack, next);
+        let to = next_offset(operation, &self.stack, next);
         match piece_size(operation) {
             Some(size) => self.end_piece(size),
             None => {
                 let named = location_named(operation, &self.stack);
-                let change = change_of(machine, operation, &self.stack)?;
+                let change = change_of(environment, operation, &self.stack)?;
                 make(change, &mut self.stack);
                 self.pending = named;
             }

@@ -1,5 +1,5 @@
 ghost use Rattle.std.specs.Prelude.{◌≡◌, ◌-◌, ◌<◌, ◌^◌, ◌==◌, length, take, nat_lt, nat_le, slice_get, if◌then◌else◌, Some, None};
-ghost use Rattle.dw_bytes.specs.Spelling.{number};
+ghost use Rattle.dw_bytes.specs.Encoding.{number};
 ghost use Rattle.dw_eval.specs.World.{IsSize};
 
 use super::*;

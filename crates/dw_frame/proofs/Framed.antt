@@ -3,7 +3,7 @@ use Rattle.std.proofs.Common.{◌≡◌, ℕ, ◌≤◌, List, length, take, Res
 use Rattle.dw_bytes.specs.declared.target.Target.{Target}
 use Rattle.dw_bytes.specs.declared.target.Format.{Format}
 use Rattle.dw_bytes.specs.declared.fault.Fault.{Fault}
-use Rattle.dw_bytes.specs.Reading.{Reading, section_from}
+use Rattle.dw_bytes.specs.Reading.{ReadPosition, section_from}
 use Rattle.dw_bytes.specs.Bodies.{framed_at, window}
 use Rattle.dw_bytes.proofs.Readers.{leaves-suffix}
 use Rattle.dw_frame.specs.declared.program.Program.{Program}
@@ -11,7 +11,7 @@ use Rattle.dw_frame.specs.Sections.{Header, IsHeader, header_at}
 use Rattle.dw_frame.specs.Views.{reading_of, reading_from}
 use Rattle.dw_frame.proofs.Headers.{header-exact}
 
-abbrev framed : Format → Reading → Reading → Result ((Format × Reading) × Reading) Fault
+abbrev framed : Format → ReadPosition → ReadPosition → Result ((Format × ReadPosition) × ReadPosition) Fault
 framed format body after = Ok ((format, body), after)
 
 -- a body, kept as a program that begins with it
@@ -26,7 +26,7 @@ framed-program target section at start end format p is section_is start_is targe
     ∙ (ap (λ (t : Target). framed format (section_from t p.section.now p.start) (section_from target section end)) (sym target_is)
     ∙ ap (λ k. framed format (reading_of p) (section_from target section k)) (sym end_is))))
 
-pub header-leaves : (p : Program) (at : ℕ) (format : Format) (h : Header) (after : Reading) → at ≤ length p.section.now → header_at p.target format (reading_from p at) ≡ Ok (h, after) → after ≡ reading_from p after.position
+pub header-leaves : (p : Program) (at : ℕ) (format : Format) (h : Header) (after : ReadPosition) → at ≤ length p.section.now → header_at p.target format (reading_from p at) ≡ Ok (h, after) → after ≡ reading_from p after.position
 header-leaves p at format h after inside is = leaves-suffix p.target (header_at p.target format) (IsHeader p.target format) (header-exact p.target format) p.section.now at h after inside is
 
 pub ruleset leaves_laws = (header-leaves)

@@ -1,4 +1,4 @@
--- Headers are read exactly where they are spelled.
+-- Headers are read exactly where they are encoded.
 use Rattle.dw_bytes.specs.declared.target.Target.{Target}
 use Rattle.dw_bytes.specs.declared.target.Format.{Format}
 use Rattle.dw_bytes.proofs.Readers.{ExactAt}

@@ -9,15 +9,15 @@ use Rattle.dw_bytes.specs.declared.target.Format.{Format}
 use Rattle.dw_bytes.specs.declared.target.Format.TheVariants.{Dwarf32, Dwarf64}
 use Rattle.dw_bytes.specs.declared.fault.Fault.{Fault}
 use Rattle.dw_bytes.specs.declared.fault.FaultKind.TheVariants.{RegisterNumber, RangePastTop}
-use Rattle.dw_bytes.specs.Spelling.{bytes_of_offset}
-use Rattle.dw_bytes.specs.Reading.{Reading, ◌>>=◌, section_from}
+use Rattle.dw_bytes.specs.Encoding.{bytes_of_offset}
+use Rattle.dw_bytes.specs.Reading.{ReadPosition, ◌>>=◌, section_from}
 use Rattle.dw_bytes.specs.Bodies.{framed_at}
 use Rattle.dw_bytes.specs.Fields.{Encodes}
 use Rattle.dw_bytes.proofs.Bounds.{Stays, AlwaysStays, end-of, each-along}
 use Rattle.dw_bytes.proofs.FieldsOf.{passed, fields-stay}
 use Rattle.dw_bytes.proofs.Bodies.{bind-err, not-err, framed-found, framed-refused}
 use Rattle.dw_frame.specs.Records.{Record}
-use Rattle.dw_frame.specs.Sections.{Header, common_header, description_header, cie_id, top_of, ends_by, is_register, cie_header, fde_header, header_fields, header_at, IsHeader, record_from, IsRecord, AreRecords, record_at, entries_from, entries_of, cie_among}
+use Rattle.dw_frame.specs.Sections.{Header, cie_fields, fde_fields, cie_id, top_of, ends_by, is_register, cie_header, fde_header, header_fields, header_at, IsHeader, record_from, IsRecord, AreRecords, record_at, entries_from, entries_of, cie_among}
 use Rattle.dw_frame.specs.Bounds.{IsSoundRecord, IsSound, offset_of, Ascends}
 use Rattle.dw_frame.proofs.CieAmong.{cie-fault}
 use Rattle.dw_frame.proofs.EachRecord.{record-found, some-bytes, some-length}
@@ -28,7 +28,7 @@ header-stays : (from : ℕ) (target : Target) (format : Format) → AlwaysStays 
 unfolding header_at
 header-stays from target format r h = fields-stay from (header_fields target format) r h
 
-pub record-refused : (r : Reading) (fault : Fault) → record_at r ≡ Err fault → fault.at ≤ end-of r
+pub record-refused : (r : ReadPosition) (fault : Fault) → record_at r ≡ Err fault → fault.at ≤ end-of r
 unfolding record_at
 record-refused r fault is =
     elim (bind-err (framed_at r) (λ f. header_at r.target f.0.0 f.0.1 >>= λ h. Ok (record_from r.position f.0.0 f.0.1.position h.0 h.1, f.1)) fault is) [
@@ -48,8 +48,8 @@ record-refused r fault is =
 -- ---- headers
 
 abbrev InRange : Target → Header → Type 0
-InRange target (common_header h) = h.return_register ≤ 65535
-InRange target (description_header h) = h.initial + h.range ≤ top_of target
+InRange target (cie_fields h) = h.return_register ≤ 65535
+InRange target (fde_fields h) = h.initial + h.range ≤ top_of target
 
 from-id-range : (target : Target) (id at : ℕ) (is_cie : Bool) (bytes : List ℕ) (h : Header) → Encodes target (cond is_cie (cie_header target) (fde_header target id)) at bytes h → InRange target h
 from-id-range target id at true bytes h s =
@@ -68,13 +68,13 @@ some-fields target format at bytes h (id, x, y, parts, first, fine, second) = om
 
 -- ---- records
 
-sound-from : (target : Target) (size at body : ℕ) (format : Format) (h : Header) (program : Reading) → InRange target h → at < body → body < program.position → end-of program ≤ size → program.target ≡ target → IsSoundRecord target size (record_from at format body h program)
-sound-from target size at body format (common_header h) program range before behind ends same = record { program = record { begins = omega arith; ends = ends; target_is = same }; return_register = range }
-sound-from target size at body format (description_header h) program range before behind ends same = record { program = record { begins = omega arith; ends = ends; target_is = same }; pointer_behind = before; pointer_before = behind; range = range }
+sound-from : (target : Target) (size at body : ℕ) (format : Format) (h : Header) (program : ReadPosition) → InRange target h → at < body → body < program.position → end-of program ≤ size → program.target ≡ target → IsSoundRecord target size (record_from at format body h program)
+sound-from target size at body format (cie_fields h) program range before behind ends same = record { program = record { begins = omega arith; ends = ends; target_is = same }; return_register = range }
+sound-from target size at body format (fde_fields h) program range before behind ends same = record { program = record { begins = omega arith; ends = ends; target_is = same }; pointer_behind = before; pointer_before = behind; range = range }
 
 sound-record : (target : Target) (size at : ℕ) (bytes : List ℕ) (x : Record) → IsRecord target at bytes x → at + length bytes ≤ size → IsSoundRecord target size x
 sound-record target size at bytes x s inside =
-    let program : Reading = record { target = target; position = at + length s.front + length s.fields; rest = s.program } in
+    let program : ReadPosition = record { target = target; position = at + length s.front + length s.fields; rest = s.program } in
     let range = from-id-range target s.header_is.0 (at + length s.front + length s.header_is.1) (s.header_is.0 == cie_id s.format) s.header_is.2 s.header s.header_is.6 in
     let front = some-length target.order s.front s.format (length (s.fields ++ s.program)) s.length_is in
     let fields = some-fields target s.format (at + length s.front) s.fields s.header s.header_is in
@@ -84,7 +84,7 @@ sound-record target size at bytes x s inside =
     (sound-from target size at (at + length s.front) s.format s.header program range (omega (arith, front)) (omega (arith, fields)) (omega (arith, inside, ap length s.parts, long, longer)) refl)
 
 -- on the way through a section
-pub record IsOn (target : Target) (size : ℕ) (r : Reading) : Type 0 where
+pub record IsOn (target : Target) (size : ℕ) (r : ReadPosition) : Type 0 where
   pub same_target : r.target ≡ target
   pub same_end : end-of r ≡ size
 
@@ -95,8 +95,8 @@ entries-sound target section item h =
     (λ r x after on is.
     let next = record-found r x after is in
     let long : length r.rest ≡ length next.bytes + length after.rest = ap length next.parts ∙ length-append next.bytes after.rest in
-    let spelled : IsRecord target r.position next.bytes x = subst (λ (t : Target). IsRecord t r.position next.bytes x) on.same_target next.spelled in
-    (sound-record target (length section) r.position next.bytes x spelled (omega (arith, long, on.same_end)), record { same_target = next.target ∙ on.same_target; same_end = omega (arith, next.position, long, on.same_end) }))
+    let encoded : IsRecord target r.position next.bytes x = subst (λ (t : Target). IsRecord t r.position next.bytes x) on.same_target next.encoded in
+    (sound-record target (length section) r.position next.bytes x encoded (omega (arith, long, on.same_end)), record { same_target = next.target ∙ on.same_target; same_end = omega (arith, next.position, long, on.same_end) }))
     (λ r fault on is. let stands = record-refused r fault is in omega (arith, stands, on.same_end))
     (section_from target section 0) item (record { same_target = refl; same_end = omega (arith, length-drop 0 section) }) h
 
@@ -108,9 +108,9 @@ pub ruleset cie_laws = (cie-inside)
 
 -- ---- the order of records
 
-from-offset : (at body : ℕ) (format : Format) (h : Header) (program : Reading) → offset_of (record_from at format body h program) ≡ at
-from-offset at body format (common_header h) program = refl
-from-offset at body format (description_header h) program = refl
+from-offset : (at body : ℕ) (format : Format) (h : Header) (program : ReadPosition) → offset_of (record_from at format body h program) ≡ at
+from-offset at body format (cie_fields h) program = refl
+from-offset at body format (fde_fields h) program = refl
 
 record-offset : (target : Target) (at : ℕ) (bytes : List ℕ) (x : Record) → IsRecord target at bytes x → offset_of x ≡ at
 record-offset target at bytes x s = ap offset_of s.record_is ∙ from-offset at (at + length s.front) s.format s.header (record { target = target; position = at + length s.front + length s.fields; rest = s.program })

@@ -3,24 +3,24 @@ use Rattle.std.specs.Prelude.{◌≤◌, ◌<◌, ◌+◌, ◌≡◌, ℕ, List,
 use Rattle.std.specs.List.{AllByRecursion}
 use Rattle.dw_bytes.specs.declared.target.Target.{Target}
 use Rattle.dw_bytes.specs.declared.fault.Fault.{Fault}
-use Rattle.dw_bytes.specs.Reading.{Reading, section_from}
+use Rattle.dw_bytes.specs.Reading.{ReadPosition, section_from}
 use Rattle.dw_frame.specs.Instructions.{Instruction}
-use Rattle.dw_frame.specs.Records.{Cie, Fde, Record, common, description}
+use Rattle.dw_frame.specs.Records.{Cie, Fde, Record, cie_record, fde_record}
 use Rattle.dw_frame.specs.Sections.{top_of}
 
 -- An instruction begins in its program. A fault may stand at its end, too.
-abbrev pub StandsIn : Reading → Result (ℕ × Instruction) Fault → Type 0
+abbrev pub StandsIn : ReadPosition → Result (ℕ × Instruction) Fault → Type 0
 StandsIn r (Ok item) = (r.position ≤ item.0) × (item.0 < r.position + length r.rest)
 StandsIn r (Err fault) = (r.position ≤ fault.at) × (fault.at ≤ r.position + length r.rest)
 
 -- What is left behind something of a section, which begins at an offset.
-pub record IsBehind (target : Target) (section : List ℕ) (at : ℕ) (after : Reading) : Type 0 where
+pub record IsBehind (target : Target) (section : List ℕ) (at : ℕ) (after : ReadPosition) : Type 0 where
   pub later : at < after.position
   pub inside : after.position ≤ length section
   pub left : after ≡ section_from target section after.position
 
 -- The program of a record lies behind its offset, inside a section of so many bytes, and is of the same target.
-pub record LiesIn (target : Target) (size offset : ℕ) (program : Reading) : Type 0 where
+pub record LiesIn (target : Target) (size offset : ℕ) (program : ReadPosition) : Type 0 where
   pub begins : offset < program.position
   pub ends : program.position + length program.rest ≤ size
   pub target_is : program.target ≡ target
@@ -37,16 +37,16 @@ pub record IsSoundFde (target : Target) (size : ℕ) (f : Fde) : Type 0 where
   pub range : f.initial + f.range ≤ top_of target
 
 abbrev pub IsSoundRecord : Target → ℕ → Record → Type 0
-IsSoundRecord target size (common c) = IsSoundCie target size c
-IsSoundRecord target size (description f) = IsSoundFde target size f
+IsSoundRecord target size (cie_record c) = IsSoundCie target size c
+IsSoundRecord target size (fde_record f) = IsSoundFde target size f
 
 abbrev pub IsSound : Target → ℕ → Result Record Fault → Type 0
 IsSound target size (Ok r) = IsSoundRecord target size r
 IsSound target size (Err fault) = fault.at ≤ size
 
 abbrev pub offset_of : Record → ℕ
-offset_of (common c) = c.offset
-offset_of (description f) = f.offset
+offset_of (cie_record c) = c.offset
+offset_of (fde_record f) = f.offset
 
 -- each is below those behind it, by this number
 abbrev pub Ascends : {X : Type 0} → (X → ℕ) → List X → Type 0

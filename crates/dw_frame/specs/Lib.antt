@@ -3,5 +3,5 @@ pub mod Instructions
 pub mod Codes
 pub mod Sections
 pub mod Bounds
-pub mod Heads
+pub mod Headers
 pub mod Views

@@ -1,7 +1,7 @@
--- The records of a `.debug_frame` section as they are spelled (DWARF 5, section 6.4.1).
+-- The records of a `.debug_frame` section as they are encoded (DWARF 5, section 6.4.1).
 use Rattle.std.specs.Prelude.{ℕ, ℤ}
 use Rattle.dw_bytes.specs.declared.target.Format.{Format}
-use Rattle.dw_bytes.specs.Reading.{Reading}
+use Rattle.dw_bytes.specs.Reading.{ReadPosition}
 
 -- A CIE: the offset of its record, its header, and what its body has left behind the header, which is its program.
 pub record Cie : Type 0 where
@@ -10,7 +10,7 @@ pub record Cie : Type 0 where
   pub code_factor : ℕ
   pub data_factor : ℤ
   pub return_register : ℕ
-  pub program : Reading
+  pub program : ReadPosition
 
 -- An FDE, likewise. Its CIE_pointer stands at an offset of its own.
 pub record Fde : Type 0 where
@@ -20,8 +20,8 @@ pub record Fde : Type 0 where
   pub pointer_offset : ℕ
   pub initial : ℕ
   pub range : ℕ
-  pub program : Reading
+  pub program : ReadPosition
 
 pub data Record : Type 0 where
-  common : Cie → Record
-  description : Fde → Record
+  cie_record : Cie → Record
+  fde_record : Fde → Record

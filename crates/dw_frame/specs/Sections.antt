@@ -1,17 +1,17 @@
--- The records of a `.debug_frame` section (DWARF 5, sections 6.4.1 and 7.24): which bytes spell which record.
+-- The records of a `.debug_frame` section (DWARF 5, sections 6.4.1 and 7.24): which bytes encode which record.
 use Rattle.std.specs.Prelude.{◌≡◌, ◌+◌, ◌==◌, ℕ, ℤ, nat_le, if◌then◌else◌, Bool, List, [], ◌∷◌, ◌++◌, length, Option, Some, None, Result, Ok, Err}
 use Rattle.dw_bytes.specs.declared.target.Target.{Target}
 use Rattle.dw_bytes.specs.declared.target.Format.{Format}
 use Rattle.dw_bytes.specs.declared.target.Format.TheVariants.{Dwarf32, Dwarf64}
 use Rattle.dw_bytes.specs.declared.fault.Fault.{Fault}
 use Rattle.dw_bytes.specs.declared.fault.FaultKind.TheVariants.{Version, Augmentation, AddressSize, SegmentSize, RegisterNumber, RangePastTop}
-use Rattle.dw_bytes.specs.Spelling.{max_address, Length, bytes_of_address, bytes_of_offset}
-use Rattle.dw_bytes.specs.Reading.{Reading, ◌>>=◌, section_from}
+use Rattle.dw_bytes.specs.Encoding.{max_address, Length, bytes_of_address, bytes_of_offset}
+use Rattle.dw_bytes.specs.Reading.{ReadPosition, ◌>>=◌, section_from}
 use Rattle.dw_bytes.specs.Operands.{address, fixed, unsigned, signed}
 use Rattle.dw_bytes.specs.Bodies.{framed_at}
 use Rattle.dw_bytes.specs.Fields.{Fields, made, field, any, unless, byte, Encodes, fields_at}
 use Rattle.dw_bytes.specs.Sequence.{Sequence, sequence_of}
-use Rattle.dw_frame.specs.Records.{Cie, Record, common, description}
+use Rattle.dw_frame.specs.Records.{Cie, Record, cie_record, fde_record}
 
 -- ---- headers
 
@@ -28,8 +28,8 @@ pub record FdeHeader : Type 0 where
   pub range : ℕ
 
 pub data Header : Type 0 where
-  common_header : CieHeader → Header
-  description_header : FdeHeader → Header
+  cie_fields : CieHeader → Header
+  fde_fields : FdeHeader → Header
 
 -- the offset of all ones, with which the body of a CIE begins
 abbrev pub cie_id : Format → ℕ
@@ -57,14 +57,14 @@ cie_header target =
     any unsigned (λ code.
     any signed (λ data_factor.
     field unsigned (λ number. unless (is_register number) RegisterNumber) (λ return_register.
-    made (common_header (record { code_factor = code; data_factor = data_factor; return_register = return_register })))))))))
+    made (cie_fields (record { code_factor = code; data_factor = data_factor; return_register = return_register })))))))))
 
 -- Behind the CIE_pointer of an FDE: the first address, and how many there are, which all lie in the address space.
 abbrev pub fde_header : Target → ℕ → Fields Header
 fde_header target cie_pointer =
     any address (λ initial.
     field address (λ range. unless (ends_by (top_of target) initial range) RangePastTop) (λ range.
-    made (description_header (record { cie_pointer = cie_pointer; initial = initial; range = range }))))
+    made (fde_fields (record { cie_pointer = cie_pointer; initial = initial; range = range }))))
 
 -- a CIE, where it is its id that the body begins with, else an FDE
 abbrev pub header_fields : Target → Format → Fields Header
@@ -75,15 +75,15 @@ header_fields target format =
 abbrev pub IsHeader : Target → Format → ℕ → List ℕ → Header → Type 0
 IsHeader target format = Encodes target (header_fields target format)
 
-unfoldable pub header_at : Target → Format → Reading → Result (Header × Reading) Fault
+unfoldable pub header_at : Target → Format → ReadPosition → Result (Header × ReadPosition) Fault
 header_at target format r = fields_at (header_fields target format) r
 
 -- ---- records
 
 -- the record at an offset, its body's offset, its header and its program
-abbrev pub record_from : ℕ → Format → ℕ → Header → Reading → Record
-record_from at format body (common_header h) program = common (record { offset = at; format = format; code_factor = h.code_factor; data_factor = h.data_factor; return_register = h.return_register; program = program })
-record_from at format body (description_header h) program = description (record { offset = at; format = format; cie_pointer = h.cie_pointer; pointer_offset = body; initial = h.initial; range = h.range; program = program })
+abbrev pub record_from : ℕ → Format → ℕ → Header → ReadPosition → Record
+record_from at format body (cie_fields h) program = cie_record (record { offset = at; format = format; code_factor = h.code_factor; data_factor = h.data_factor; return_register = h.return_register; program = program })
+record_from at format body (fde_fields h) program = fde_record (record { offset = at; format = format; cie_pointer = h.cie_pointer; pointer_offset = body; initial = h.initial; range = h.range; program = program })
 
 -- A record is a length, and a body of that many bytes. The body is a header, and what is left is the program.
 pub record IsRecord (target : Target) (at : ℕ) (bytes : List ℕ) (r : Record) : Type 0 where
@@ -102,7 +102,7 @@ abbrev pub AreRecords : Target → ℕ → List ℕ → List Record → Type 0
 AreRecords target = Sequence (IsRecord target)
 
 -- the record, its header read within its body
-unfoldable pub record_at : Reading → Result (Record × Reading) Fault
+unfoldable pub record_at : ReadPosition → Result (Record × ReadPosition) Fault
 record_at r = do
   framed ← framed_at r
   header ← header_at r.target framed.0.0 framed.0.1
@@ -119,6 +119,6 @@ entries_of target section = entries_from target section 0
 -- The first CIE at an offset, or the fault that comes before it, or none.
 abbrev pub cie_among : ℕ → List (Result Record Fault) → Result (Option Cie) Fault
 cie_among offset [] = Ok None
-cie_among offset (Ok (common c) ∷ entries) = if c.offset == offset then Ok (Some c) else cie_among offset entries
-cie_among offset (Ok (description f) ∷ entries) = cie_among offset entries
+cie_among offset (Ok (cie_record c) ∷ entries) = if c.offset == offset then Ok (Some c) else cie_among offset entries
+cie_among offset (Ok (fde_record f) ∷ entries) = cie_among offset entries
 cie_among offset (Err fault ∷ entries) = Err fault

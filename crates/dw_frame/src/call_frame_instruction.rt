@@ -11,7 +11,7 @@ pub struct UnwindExpression<'a> {
     pub expression: Expression<'a>,
 }
 
-/// A call frame instruction, its operands as they are spelled (DWARF 5, sections 6.4.2 and 7.24): a
+/// A call frame instruction, its operands as they are encoded (DWARF 5, sections 6.4.2 and 7.24): a
 /// delta is to be multiplied by the code alignment factor of the CIE, and a factored offset by its data
 /// alignment factor. Offsets are in bytes, and register numbers are those of the rules' columns.
 #[derive(Clone, Copy, Debug)]

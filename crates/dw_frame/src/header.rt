@@ -29,17 +29,17 @@ pub enum Header {
 }
 
 impl CieHeader {
-    ghost use Rattle.dw_bytes.specs.Reading.{GoesOn};
+    ghost use Rattle.dw_bytes.specs.Reading.{MovesForward};
     ghost use Rattle.dw_bytes.specs.Readers.{ParsesBy, IsRefusedWithin};
     ghost use Rattle.dw_bytes.specs.Fields.{fields_at};
     ghost use Rattle.dw_frame.specs.Sections.{cie_header};
-    ghost use Rattle.dw_frame.specs.Heads.{cie_head};
+    ghost use Rattle.dw_frame.specs.Headers.{cie_head};
 
     /// What is behind the id of a CIE.
     fn read(cursor: &mut Cursor<'_>, target: Target) -> Result<Self, Fault>
         ensures exact { ParsesBy cie_head (fields_at (cie_header target)) cursor.old result cursor.new }
         ensures within { IsRefusedWithin cursor.old result }
-        ensures goes_on { GoesOn cursor.old cursor.new }
+        ensures goes_on { MovesForward cursor.old cursor.new }
     {
         cursor.byte(4, FaultKind::Version)?;
         cursor.byte(0, FaultKind::Augmentation)?;
@@ -63,17 +63,17 @@ impl CieHeader {
 }
 
 impl FdeHeader {
-    ghost use Rattle.dw_bytes.specs.Reading.{GoesOn};
+    ghost use Rattle.dw_bytes.specs.Reading.{MovesForward};
     ghost use Rattle.dw_bytes.specs.Readers.{ParsesBy, IsRefusedWithin};
     ghost use Rattle.dw_bytes.specs.Fields.{fields_at};
     ghost use Rattle.dw_frame.specs.Sections.{fde_header};
-    ghost use Rattle.dw_frame.specs.Heads.{fde_head};
+    ghost use Rattle.dw_frame.specs.Headers.{fde_head};
 
     /// What is behind the CIE_pointer of an FDE.
     fn read(cursor: &mut Cursor<'_>, target: Target, cie_pointer: u64) -> Result<Self, Fault>
         ensures exact { ParsesBy fde_head (fields_at (fde_header target cie_pointer)) cursor.old result cursor.new }
         ensures within { IsRefusedWithin cursor.old result }
-        ensures goes_on { GoesOn cursor.old cursor.new }
+        ensures goes_on { MovesForward cursor.old cursor.new }
     {
         let top = target.address_size.max_address();
         let initial_location = cursor.address()?;
@@ -94,17 +94,17 @@ impl FdeHeader {
 }
 
 impl Header {
-    ghost use Rattle.dw_bytes.specs.Reading.{GoesOn};
+    ghost use Rattle.dw_bytes.specs.Reading.{MovesForward};
     ghost use Rattle.dw_bytes.specs.Readers.{ParsesBy, IsRefusedWithin};
     ghost use Rattle.dw_frame.specs.Sections.{header_at};
-    ghost use Rattle.dw_frame.specs.Heads.{head_of};
+    ghost use Rattle.dw_frame.specs.Headers.{head_of};
 
     /// The header of a record in its format, from the first byte of the record's body on.
     #[tactic(auto, unfolding(crate::specs::Sections::header_at))]
     pub fn read(cursor: &mut Cursor<'_>, format: Format, target: Target) -> Result<Self, Fault>
         ensures exact { ParsesBy head_of (header_at target format) cursor.old result cursor.new }
         ensures within { IsRefusedWithin cursor.old result }
-        ensures goes_on { GoesOn cursor.old cursor.new }
+        ensures goes_on { MovesForward cursor.old cursor.new }
     {
         let cie_id = match format {
             Format::Dwarf32 => 0xffff_ffff,

@@ -3,48 +3,48 @@
 ghost use Rattle.std.specs.Prelude.{◌≡◌, ◌<◌, ◌≤◌, ◌↔◌, ℕ, List, [], ◌∷◌, ◌++◌, length, map, Contains, Result, Ok, Err, Some, None};
 ghost use Rattle.dw_bytes.specs.declared.target.Target.{Target};
 ghost use Rattle.dw_bytes.specs.declared.fault.Fault.{Fault};
-ghost use Rattle.dw_bytes.specs.Reading.{Reading, IsExact, section_from};
+ghost use Rattle.dw_bytes.specs.Reading.{ReadPosition, IsExact, section_from};
 ghost use Rattle.dw_frame.specs.Instructions.{Instruction};
-ghost use Rattle.dw_frame.specs.Records.{Cie, Record, common};
-ghost use Rattle.dw_frame.specs.Codes.{Spells, AreInstructions, instruction_at, instructions_of};
+ghost use Rattle.dw_frame.specs.Records.{Cie, Record, cie_record};
+ghost use Rattle.dw_frame.specs.Codes.{EncodesInstruction, AreInstructions, instruction_at, instructions_of};
 ghost use Rattle.dw_frame.specs.Sections.{IsRecord, AreRecords, record_at, entries_from, entries_of, cie_among};
 ghost use Rattle.dw_frame.specs.Bounds.{StandsIn, IsBehind, offset_of, Ascends, IsSound};
 
-/// No spelling of an instruction begins another, and bytes spell one instruction.
+/// No encoding of an instruction begins another, and bytes encode one instruction.
 pub fn one_instruction()
-    ensures { (target : Target) (at : ℕ) (a b x y : List ℕ) (i j : Instruction) → Spells target at a i → Spells target at b j → a ++ x ≡ b ++ y → (a ≡ b) × (i ≡ j) }
+    ensures { (target : Target) (at : ℕ) (a b x y : List ℕ) (i j : Instruction) → EncodesInstruction target at a i → EncodesInstruction target at b j → a ++ x ≡ b ++ y → (a ≡ b) × (i ≡ j) }
 {}
 
-/// The instruction that is read is the one that is spelled, and one that is spelled is read.
+/// The instruction that is read is the one that is encoded, and one that is encoded is read.
 pub fn instructions_are_exact()
-    ensures { (r : Reading) → IsExact instruction_at (Spells r.target r.position) r }
+    ensures { (r : ReadPosition) → IsExact instruction_at (EncodesInstruction r.target r.position) r }
 {}
 
-/// A program is read without a fault exactly where its bytes are the spellings of instructions one
+/// A program is read without a fault exactly where its bytes are the encodings of instructions one
 /// after the other, and then it gives these with their offsets.
 pub fn programs_are_instructions()
-    ensures { (r : Reading) (items : List (ℕ × Instruction)) → (instructions_of r ≡ map Ok items) ↔ AreInstructions r.target r.position r.rest items }
+    ensures { (r : ReadPosition) (items : List (ℕ × Instruction)) → (instructions_of r ≡ map Ok items) ↔ AreInstructions r.target r.position r.rest items }
 {}
 
 /// What a program gives from an offset on: the instruction there and then what is behind it, or the
 /// fault there alone, or nothing at its end.
 pub fn instructions_come_in_order()
-    ensures instruction { (r : Reading) (i : Instruction) (after : Reading) → instruction_at r ≡ Ok (i, after) → instructions_of r ≡ Ok (r.position, i) ∷ instructions_of after }
-    ensures fault { (r : Reading) (fault : Fault) → 0 < length r.rest → instruction_at r ≡ Err fault → instructions_of r ≡ Err fault ∷ [] }
-    ensures nothing { (r : Reading) → length r.rest ≡ 0 → instructions_of r ≡ [] }
+    ensures instruction { (r : ReadPosition) (i : Instruction) (after : ReadPosition) → instruction_at r ≡ Ok (i, after) → instructions_of r ≡ Ok (r.position, i) ∷ instructions_of after }
+    ensures fault { (r : ReadPosition) (fault : Fault) → 0 < length r.rest → instruction_at r ≡ Err fault → instructions_of r ≡ Err fault ∷ [] }
+    ensures nothing { (r : ReadPosition) → length r.rest ≡ 0 → instructions_of r ≡ [] }
 {}
 
 /// Each instruction of a program and each fault stands in it, a fault perhaps at its end.
 pub fn instructions_stand_in_their_program()
-    ensures { (r : Reading) (item : Result (ℕ × Instruction) Fault) → Contains (instructions_of r) item → StandsIn r item }
+    ensures { (r : ReadPosition) (item : Result (ℕ × Instruction) Fault) → Contains (instructions_of r) item → StandsIn r item }
 {}
 
-/// The record that is read is the one that is spelled, and one that is spelled is read.
+/// The record that is read is the one that is encoded, and one that is encoded is read.
 pub fn records_are_exact()
-    ensures { (r : Reading) → IsExact record_at (IsRecord r.target r.position) r }
+    ensures { (r : ReadPosition) → IsExact record_at (IsRecord r.target r.position) r }
 {}
 
-/// A section is read without a fault exactly where its bytes are the spellings of records without a
+/// A section is read without a fault exactly where its bytes are the encodings of records without a
 /// gap, and then it gives these.
 pub fn sections_are_records()
     ensures { (target : Target) (section : List ℕ) (records : List Record) → (entries_of target section ≡ map Ok records) ↔ AreRecords target 0 section records }
@@ -60,7 +60,7 @@ pub fn records_come_in_order()
 
 /// What is left behind a record that is read is the section from a later offset on, its end at most.
 pub fn records_lie_behind_each_other()
-    ensures { (target : Target) (section : List ℕ) (at : ℕ) (x : Record) (after : Reading) → at ≤ length section → record_at (section_from target section at) ≡ Ok (x, after) → IsBehind target section at after }
+    ensures { (target : Target) (section : List ℕ) (at : ℕ) (x : Record) (after : ReadPosition) → at ≤ length section → record_at (section_from target section at) ≡ Ok (x, after) → IsBehind target section at after }
 {}
 
 /// The records of a section begin one behind the other.
@@ -77,7 +77,7 @@ pub fn records_are_sound()
 /// The CIE at an offset is one of the records and begins there. Where there is none, no CIE begins
 /// there, and a fault is one of the section's.
 pub fn the_cie_at_an_offset()
-    ensures found { (offset : ℕ) (entries : List (Result Record Fault)) (c : Cie) → cie_among offset entries ≡ Ok (Some c) → Contains entries (Ok (common c)) × (c.offset ≡ offset) }
-    ensures none { (offset : ℕ) (entries : List (Result Record Fault)) (c : Cie) → cie_among offset entries ≡ Ok None → Contains entries (Ok (common c)) → ¬ (c.offset ≡ offset) }
+    ensures found { (offset : ℕ) (entries : List (Result Record Fault)) (c : Cie) → cie_among offset entries ≡ Ok (Some c) → Contains entries (Ok (cie_record c)) × (c.offset ≡ offset) }
+    ensures none { (offset : ℕ) (entries : List (Result Record Fault)) (c : Cie) → cie_among offset entries ≡ Ok None → Contains entries (Ok (cie_record c)) → ¬ (c.offset ≡ offset) }
     ensures fault { (offset : ℕ) (entries : List (Result Record Fault)) (fault : Fault) → cie_among offset entries ≡ Err fault → Contains entries (Err fault) }
 {}

@@ -5,7 +5,7 @@ ghost use Rattle.dw_bytes.specs.Readers.{ReadsFrom};
 ghost use Rattle.dw_bytes.specs.Reading.{section_from};
 ghost use Rattle.dw_bytes.specs.Bodies.{framed_at};
 ghost use Rattle.dw_frame.specs.Sections.{record_at, record_from, entries_of, cie_among};
-ghost use Rattle.dw_frame.specs.Heads.{head_of};
+ghost use Rattle.dw_frame.specs.Headers.{head_of};
 ghost use Rattle.dw_frame.specs.Views.{reading_of, reading_from, record_of, found_cie};
 
 use crate::entry::{CommonInformationEntry, Entry, FrameDescriptionEntry};

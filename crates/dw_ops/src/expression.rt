@@ -4,7 +4,7 @@ ghost use Rattle.std.specs.Prelude.{◌≡◌, ◌<◌, ◌^◌, length};
 
 use dw_bytes::Target;
 
-/// The bytes of an expression and the target whose numbers they spell (DWARF 5, section 2.5).
+/// The bytes of an expression and the target whose numbers they encode (DWARF 5, section 2.5).
 /// Offsets inside it count from its first byte. Nothing of the bytes has been judged.
 #[derive(Clone, Copy, Debug)]
 pub struct Expression<'a> {

@@ -3,33 +3,33 @@
 ghost use Rattle.std.specs.Prelude.{◌≡◌, ◌<◌, ◌↔◌, ℕ, List, [], ◌∷◌, ◌++◌, length, map, Ok, Err};
 ghost use Rattle.dw_bytes.specs.declared.target.Target.{Target};
 ghost use Rattle.dw_bytes.specs.declared.fault.Fault.{Fault};
-ghost use Rattle.dw_bytes.specs.Reading.{Reading, IsExact};
+ghost use Rattle.dw_bytes.specs.Reading.{ReadPosition, IsExact};
 ghost use Rattle.dw_ops.specs.Operations.{Operation};
-ghost use Rattle.dw_ops.specs.Opcodes.{Spells, AreOperations, operation_at, operations_of};
+ghost use Rattle.dw_ops.specs.Opcodes.{EncodesOperation, AreOperations, operation_at, operations_of};
 
-/// No spelling of an operation begins another, and bytes spell one operation.
+/// No encoding of an operation begins another, and bytes encode one operation.
 pub fn one_operation()
-    ensures { (target : Target) (at : ℕ) (a b x y : List ℕ) (i j : Operation) → Spells target at a i → Spells target at b j → a ++ x ≡ b ++ y → (a ≡ b) × (i ≡ j) }
+    ensures { (target : Target) (at : ℕ) (a b x y : List ℕ) (i j : Operation) → EncodesOperation target at a i → EncodesOperation target at b j → a ++ x ≡ b ++ y → (a ≡ b) × (i ≡ j) }
 {}
 
-/// An operation is read exactly where it is spelled.
+/// An operation is read exactly where it is encoded.
 pub fn operations_are_exact()
-    ensures { (r : Reading) → IsExact operation_at (Spells r.target r.position) r }
+    ensures { (r : ReadPosition) → IsExact operation_at (EncodesOperation r.target r.position) r }
 {}
 
-/// The operations of bytes are read to the end exactly where the bytes are their spellings, one after the other.
+/// The operations of bytes are read to the end exactly where the bytes are their encodings, one after the other.
 pub fn expressions_are_operations()
-    ensures { (r : Reading) (items : List (ℕ × Operation)) → (operations_of r ≡ map Ok items) ↔ AreOperations r.target r.position r.rest items }
+    ensures { (r : ReadPosition) (items : List (ℕ × Operation)) → (operations_of r ≡ map Ok items) ↔ AreOperations r.target r.position r.rest items }
 {}
 
 /// The operations of bytes are the first and then those behind it, up to the end or the first fault.
 pub fn operations_come_in_order()
-    ensures operation { (r : Reading) (i : Operation) (after : Reading) → operation_at r ≡ Ok (i, after) → operations_of r ≡ Ok (r.position, i) ∷ operations_of after }
-    ensures fault { (r : Reading) (fault : Fault) → 0 < length r.rest → operation_at r ≡ Err fault → operations_of r ≡ Err fault ∷ [] }
-    ensures nothing { (r : Reading) → length r.rest ≡ 0 → operations_of r ≡ [] }
+    ensures operation { (r : ReadPosition) (i : Operation) (after : ReadPosition) → operation_at r ≡ Ok (i, after) → operations_of r ≡ Ok (r.position, i) ∷ operations_of after }
+    ensures fault { (r : ReadPosition) (fault : Fault) → 0 < length r.rest → operation_at r ≡ Err fault → operations_of r ≡ Err fault ∷ [] }
+    ensures nothing { (r : ReadPosition) → length r.rest ≡ 0 → operations_of r ≡ [] }
 {}
 
 /// An operation has a byte at least.
 pub fn no_operation_is_empty()
-    ensures { (target : Target) (at : ℕ) (bytes : List ℕ) (i : Operation) → Spells target at bytes i → 0 < length bytes }
+    ensures { (target : Target) (at : ℕ) (bytes : List ℕ) (i : Operation) → EncodesOperation target at bytes i → 0 < length bytes }
 {}

@@ -1,6 +1,6 @@
 //! The operations of expressions.
 
-/// An operation with its operands as they are spelled (DWARF 5, sections 2.5 and 7.7.1). There is an arm for each
+/// An operation with its operands as they are encoded (DWARF 5, sections 2.5 and 7.7.1). There is an arm for each
 /// line of the standard's table that the profile has; those of 32 codes carry their number.
 #[derive(Clone, Copy, Debug, PartialEq, Eq)]
 pub enum Operation<'a> {

@@ -13,8 +13,8 @@ const BIG: Target = Target {
     address_size: AddressSize::Four,
 };
 
-/// The bytes spell the operation, all of them.
-fn spells(rt: &impl Abort, bytes: &[u8], operation: Operation<'_>) {
+/// The bytes encode the operation, all of them.
+fn encodes(rt: &impl Abort, bytes: &[u8], operation: Operation<'_>) {
     assert!(rt; bytes.len() < 16 && !bytes.is_empty());
     let expression = Expression::new(bytes, LITTLE);
     match decode_one(&expression, 0) {
@@ -29,63 +29,63 @@ fn spells(rt: &impl Abort, bytes: &[u8], operation: Operation<'_>) {
 /// The lines of constants.
 #[test]
 fn constants(rt: HostRuntime) {
-    spells(
+    encodes(
         &rt,
         &[0x03, 1, 2, 3, 4, 5, 6, 7, 8],
         Operation::Addr {
             address: 0x0807_0605_0403_0201,
         },
     );
-    spells(&rt, &[0x08, 0xff], Operation::Const1u { value: 255 });
-    spells(&rt, &[0x09, 0xff], Operation::Const1s { value: -1 });
-    spells(
+    encodes(&rt, &[0x08, 0xff], Operation::Const1u { value: 255 });
+    encodes(&rt, &[0x09, 0xff], Operation::Const1s { value: -1 });
+    encodes(
         &rt,
         &[0x0a, 0x34, 0x12],
         Operation::Const2u { value: 0x1234 },
     );
-    spells(&rt, &[0x0b, 0xfe, 0xff], Operation::Const2s { value: -2 });
-    spells(
+    encodes(&rt, &[0x0b, 0xfe, 0xff], Operation::Const2s { value: -2 });
+    encodes(
         &rt,
         &[0x0c, 1, 0, 0, 0x80],
         Operation::Const4u { value: 0x8000_0001 },
     );
-    spells(
+    encodes(
         &rt,
         &[0x0d, 0xff, 0xff, 0xff, 0xff],
         Operation::Const4s { value: -1 },
     );
-    spells(
+    encodes(
         &rt,
         &[0x0e, 1, 0, 0, 0, 0, 0, 0, 0x80],
         Operation::Const8u {
             value: 0x8000_0000_0000_0001,
         },
     );
-    spells(
+    encodes(
         &rt,
         &[0x0f, 0, 0, 0, 0, 0, 0, 0, 0x80],
         Operation::Const8s { value: i64::MIN },
     );
-    spells(
+    encodes(
         &rt,
         &[0x10, 0xe5, 0x8e, 0x26],
         Operation::Constu { value: 624_485 },
     );
-    spells(&rt, &[0x11, 0x80, 0x7f], Operation::Consts { value: -128 });
+    encodes(&rt, &[0x11, 0x80, 0x7f], Operation::Consts { value: -128 });
 }
 
 /// The other lines with operands, and those of 32 codes.
 #[test]
 fn operands(rt: HostRuntime) {
-    spells(&rt, &[0x15, 7], Operation::Pick { index: 7 });
-    spells(&rt, &[0x23, 8], Operation::PlusUconst { value: 8 });
-    spells(&rt, &[0x28, 1, 0], Operation::Bra { offset: 1 });
-    spells(&rt, &[0x2f, 0xfc, 0xff], Operation::Skip { offset: -4 });
-    spells(&rt, &[0x30], Operation::Lit { value: 0 });
-    spells(&rt, &[0x4f], Operation::Lit { value: 31 });
-    spells(&rt, &[0x50], Operation::Reg { register: 0 });
-    spells(&rt, &[0x6f], Operation::Reg { register: 31 });
-    spells(
+    encodes(&rt, &[0x15, 7], Operation::Pick { index: 7 });
+    encodes(&rt, &[0x23, 8], Operation::PlusUconst { value: 8 });
+    encodes(&rt, &[0x28, 1, 0], Operation::Bra { offset: 1 });
+    encodes(&rt, &[0x2f, 0xfc, 0xff], Operation::Skip { offset: -4 });
+    encodes(&rt, &[0x30], Operation::Lit { value: 0 });
+    encodes(&rt, &[0x4f], Operation::Lit { value: 31 });
+    encodes(&rt, &[0x50], Operation::Reg { register: 0 });
+    encodes(&rt, &[0x6f], Operation::Reg { register: 31 });
+    encodes(
         &rt,
         &[0x77, 8],
         Operation::Breg {
@@ -93,7 +93,7 @@ fn operands(rt: HostRuntime) {
             offset: 8,
         },
     );
-    spells(
+    encodes(
         &rt,
         &[0x8f, 0x78],
         Operation::Breg {
@@ -101,13 +101,13 @@ fn operands(rt: HostRuntime) {
             offset: -8,
         },
     );
-    spells(
+    encodes(
         &rt,
         &[0x90, 0xff, 0xff, 0x03],
         Operation::Regx { register: 65535 },
     );
-    spells(&rt, &[0x91, 0x70], Operation::Fbreg { offset: -16 });
-    spells(
+    encodes(&rt, &[0x91, 0x70], Operation::Fbreg { offset: -16 });
+    encodes(
         &rt,
         &[0x92, 0x90, 0x01, 0x7f],
         Operation::Bregx {
@@ -115,60 +115,60 @@ fn operands(rt: HostRuntime) {
             offset: -1,
         },
     );
-    spells(&rt, &[0x93, 4], Operation::Piece { size: 4 });
-    spells(&rt, &[0x94, 8], Operation::DerefSize { size: 8 });
-    spells(&rt, &[0x96], Operation::Nop);
-    spells(&rt, &[0x97], Operation::PushObjectAddress);
-    spells(&rt, &[0x9c], Operation::CallFrameCfa);
-    spells(
+    encodes(&rt, &[0x93, 4], Operation::Piece { size: 4 });
+    encodes(&rt, &[0x94, 8], Operation::DerefSize { size: 8 });
+    encodes(&rt, &[0x96], Operation::Nop);
+    encodes(&rt, &[0x97], Operation::PushObjectAddress);
+    encodes(&rt, &[0x9c], Operation::CallFrameCfa);
+    encodes(
         &rt,
         &[0x9d, 8, 4],
         Operation::BitPiece { size: 8, offset: 4 },
     );
-    spells(
+    encodes(
         &rt,
         &[0x9e, 2, 0xca, 0xfe],
         Operation::ImplicitValue {
             bytes: &[0xca, 0xfe],
         },
     );
-    spells(&rt, &[0x9f], Operation::StackValue);
+    encodes(&rt, &[0x9f], Operation::StackValue);
 }
 
 /// Lines without operands.
 #[test]
 fn plain_operations(rt: HostRuntime) {
-    spells(&rt, &[0x06], Operation::Deref);
-    spells(&rt, &[0x12], Operation::Dup);
-    spells(&rt, &[0x13], Operation::Drop);
-    spells(&rt, &[0x14], Operation::Over);
-    spells(&rt, &[0x16], Operation::Swap);
-    spells(&rt, &[0x17], Operation::Rot);
-    spells(&rt, &[0x19], Operation::Abs);
-    spells(&rt, &[0x1a], Operation::And);
-    spells(&rt, &[0x1b], Operation::Div);
-    spells(&rt, &[0x1c], Operation::Minus);
-    spells(&rt, &[0x1d], Operation::Mod);
-    spells(&rt, &[0x1e], Operation::Mul);
+    encodes(&rt, &[0x06], Operation::Deref);
+    encodes(&rt, &[0x12], Operation::Dup);
+    encodes(&rt, &[0x13], Operation::Drop);
+    encodes(&rt, &[0x14], Operation::Over);
+    encodes(&rt, &[0x16], Operation::Swap);
+    encodes(&rt, &[0x17], Operation::Rot);
+    encodes(&rt, &[0x19], Operation::Abs);
+    encodes(&rt, &[0x1a], Operation::And);
+    encodes(&rt, &[0x1b], Operation::Div);
+    encodes(&rt, &[0x1c], Operation::Minus);
+    encodes(&rt, &[0x1d], Operation::Mod);
+    encodes(&rt, &[0x1e], Operation::Mul);
 }
 
 /// More of them.
 #[test]
 fn more_plain_operations(rt: HostRuntime) {
-    spells(&rt, &[0x1f], Operation::Neg);
-    spells(&rt, &[0x20], Operation::Not);
-    spells(&rt, &[0x21], Operation::Or);
-    spells(&rt, &[0x22], Operation::Plus);
-    spells(&rt, &[0x24], Operation::Shl);
-    spells(&rt, &[0x25], Operation::Shr);
-    spells(&rt, &[0x26], Operation::Shra);
-    spells(&rt, &[0x27], Operation::Xor);
-    spells(&rt, &[0x29], Operation::Eq);
-    spells(&rt, &[0x2d], Operation::Lt);
-    spells(&rt, &[0x2e], Operation::Ne);
-    spells(&rt, &[0x2a], Operation::Ge);
-    spells(&rt, &[0x2b], Operation::Gt);
-    spells(&rt, &[0x2c], Operation::Le);
+    encodes(&rt, &[0x1f], Operation::Neg);
+    encodes(&rt, &[0x20], Operation::Not);
+    encodes(&rt, &[0x21], Operation::Or);
+    encodes(&rt, &[0x22], Operation::Plus);
+    encodes(&rt, &[0x24], Operation::Shl);
+    encodes(&rt, &[0x25], Operation::Shr);
+    encodes(&rt, &[0x26], Operation::Shra);
+    encodes(&rt, &[0x27], Operation::Xor);
+    encodes(&rt, &[0x29], Operation::Eq);
+    encodes(&rt, &[0x2d], Operation::Lt);
+    encodes(&rt, &[0x2e], Operation::Ne);
+    encodes(&rt, &[0x2a], Operation::Ge);
+    encodes(&rt, &[0x2b], Operation::Gt);
+    encodes(&rt, &[0x2c], Operation::Le);
 }
 
 /// An address has the target's size and order.
@@ -185,7 +185,7 @@ fn an_address(rt: HostRuntime) -> Result<(), Fail> {
     Ok(())
 }
 
-/// Bytes that spell no operation: the kind of the fault, and where it stands.
+/// Bytes that encode no operation: the kind of the fault, and where it stands.
 #[test]
 fn each_fault(rt: HostRuntime) {
     let cases: [(&[u8], FaultKind, u32); 12] = [

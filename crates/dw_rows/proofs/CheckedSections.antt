@@ -7,7 +7,7 @@ use Rattle.dw_frame.specs.Sections.{entries_of, top_of}
 use Rattle.dw_frame.specs.Bounds.{Ascends, IsSoundCie, IsSoundFde}
 use Rattle.dw_rows.specs.Judgement.{cie_fault}
 use Rattle.dw_rows.specs.Section.{Frame, CoversOnce, IsChecked, section_fault, frame_of, parts_fault}
-use Rattle.dw_rows.specs.Kept.{Kept}
+use Rattle.dw_rows.specs.RuleSet.{KeptRules}
 use Rattle.dw_rows.specs.Initial.{AreLeftBy}
 use Rattle.dw_rows.specs.Overlap.{cie_offset, fde_offset, IsIndexOf, IsKept}
 use Rattle.dw_rows.proofs.Faults.{none-each}
@@ -51,7 +51,7 @@ pub checked-fits : (s : Frame) → IsChecked s → (f : Fde) → Contains s.fdes
 checked-fits s k f among = (checked-fdes-sound s k f among).range
 
 -- what a section without a fault keeps
-pub kept : (target : Target) (section : List ℕ) (cies : List Cie) (left : List Kept) (fdes index : List Fde)
+pub kept : (target : Target) (section : List ℕ) (cies : List Cie) (left : List KeptRules) (fdes index : List Fde)
     → fault_in (entries_of target section) ≡ None → cies ≡ (frame_of target section).cies → fdes ≡ (frame_of target section).fdes
     → parts_fault cies fdes ≡ None → AreLeftBy cies left → IsIndexOf fdes index
     → IsKept (record { target = target; section = section; cies = cies; fdes = fdes }) left index

@@ -9,11 +9,11 @@ use Rattle.dw_frame.specs.Records.{Cie, Fde}
 use Rattle.dw_frame.specs.Codes.{instructions_of}
 use Rattle.dw_rows.specs.Rules.{Row}
 use Rattle.dw_rows.specs.Effects.{Effect, effect_of, effects_of}
-use Rattle.dw_rows.specs.Meaning.{Start, location_of}
+use Rattle.dw_rows.specs.InForce.{Start, location_of}
 use Rattle.dw_rows.specs.Judgement.{refusal_at, standing_at, fde_start, fde_fault_from, fde_fault}
 use Rattle.dw_rows.specs.UnwindRows.{rows_up_to, rows_after, rows_of, has_address, Cover}
 use Rattle.dw_rows.proofs.Judging.{passed-from}
-use Rattle.dw_rows.proofs.Walking.{or_else-none, standing_at-none, forward}
+use Rattle.dw_rows.proofs.RowCursors.{or_else-none, standing_at-none, forward}
 
 cover-up : (s : Start) (before : List Effect) (to : ℕ) (rows : List Row) (end : ℕ) → location_of s before ≤ to → Cover to rows end → Cover (location_of s before) (rows_up_to s before to ++ rows) end
 cover-up s before to rows end le h = elim (cases_lt (location_of s before) to) [

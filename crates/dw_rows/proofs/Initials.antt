@@ -8,9 +8,9 @@ use Rattle.dw_rows.specs.declared.map.RuleEntry.{RuleEntry}
 use Rattle.dw_rows.specs.declared.map.TheConstants.{MAX_RULES}
 use Rattle.dw_rows.specs.declared.initial_rules.RuleSpan.{RuleSpan}
 use Rattle.dw_rows.specs.Rules.{IsTable}
-use Rattle.dw_rows.specs.Kept.{Kept}
+use Rattle.dw_rows.specs.RuleSet.{KeptRules}
 use Rattle.dw_rows.specs.Views.{entries_of}
-use Rattle.dw_rows.specs.Machine.{IsLeftBy}
+use Rattle.dw_rows.specs.ProgramState.{IsLeftBy}
 use Rattle.dw_rows.specs.Initial.{AreLeftBy, kept_in_span, kept_in_spans, IsSpan, AreSpans}
 
 -- ---- more entries behind those that are there
@@ -69,19 +69,19 @@ pushed entries more spans s all here there few table =
 
 -- ---- what the CIEs leave, one after the other
 
-pub left-one : (cies : List Cie) (left : List Kept) (c : Cie) (k : Kept) → AreLeftBy cies left → IsLeftBy c k → AreLeftBy (cies ++ c ∷ []) (left ++ k ∷ [])
+pub left-one : (cies : List Cie) (left : List KeptRules) (c : Cie) (k : KeptRules) → AreLeftBy cies left → IsLeftBy c k → AreLeftBy (cies ++ c ∷ []) (left ++ k ∷ [])
 left-one [] [] c k all one = (one, tt)
 left-one [] (x ∷ left) c k all one = absurd all
 left-one (d ∷ cies) [] c k all one = absurd all
 left-one (d ∷ cies) (x ∷ left) c k all one = (all.0, left-one cies left c k all.1 one)
 
-pub left-count : (cies : List Cie) (left : List Kept) → AreLeftBy cies left → length left ≡ length cies
+pub left-count : (cies : List Cie) (left : List KeptRules) → AreLeftBy cies left → length left ≡ length cies
 left-count [] [] all = refl
 left-count [] (x ∷ left) all = absurd all
 left-count (d ∷ cies) [] all = absurd all
 left-count (d ∷ cies) (x ∷ left) all = ap suc (left-count cies left all.1)
 
-pub left-at : (cies : List Cie) (left : List Kept) (i : ℕ) (c : Cie) (k : Kept) → AreLeftBy cies left → slice_get cies i ≡ Some c → slice_get left i ≡ Some k → IsLeftBy c k
+pub left-at : (cies : List Cie) (left : List KeptRules) (i : ℕ) (c : Cie) (k : KeptRules) → AreLeftBy cies left → slice_get cies i ≡ Some c → slice_get left i ≡ Some k → IsLeftBy c k
 left-at [] left i c k all is there = let no : None ≡ Some c = is in cc
 left-at (d ∷ cies) [] i c k all is there = absurd all
 left-at (d ∷ cies) (x ∷ left) zero c k all is there =

@@ -1,6 +1,6 @@
 pub mod Tables
 pub mod Edits
-pub mod Stepping
+pub mod Effects
 pub mod Running
 mod Search
 mod Sweeps
@@ -11,12 +11,12 @@ mod Clashes
 mod Parts
 mod SectionOrder
 pub mod Judging
-pub mod Walking
+pub mod RowCursors
 pub mod Coming
 pub mod Covering
 pub mod Matching
 pub mod Beginnings
-pub mod Meanings
+pub mod InForce
 pub mod Goods
 pub mod Programs
 pub mod RowsOf

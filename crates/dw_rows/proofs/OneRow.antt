@@ -5,7 +5,7 @@ use Rattle.std.specs.Prelude.{◌&&◌, find, filter}
 use Rattle.dw_frame.specs.Records.{Fde}
 use Rattle.dw_rows.specs.Rules.{Row, rule_in}
 use Rattle.dw_rows.specs.Effects.{Effect}
-use Rattle.dw_rows.specs.Meaning.{Start}
+use Rattle.dw_rows.specs.InForce.{Start}
 use Rattle.dw_rows.specs.UnwindRows.{rows_of, has_address}
 use Rattle.dw_rows.specs.Clauses.{IsRowAt, IsRow, AreRowsFrom, start_in, program_in}
 use Rattle.dw_rows.specs.Section.{Frame, Covers, IsCoverOf, IsChecked, rows_in, rows_behind}

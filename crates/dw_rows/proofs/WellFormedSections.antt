@@ -33,7 +33,7 @@ well-formed laws target section none =
     let up = cies-ascend target section split.0 in
     record {
       records = records;
-      spelled = are-records target section split.0;
+      encoded = are-records target section split.0;
       pointers = λ f among. let pointed = pointed-in cies fdes split.1 f among in let found = at-found cies f.cie_pointer pointed.0 pointed.1 in (pointed.0, found.0, found.1);
       cie_programs = λ c among. (laws.cie c).0 (none-each cie_fault cies parts.cie_programs c among);
       fde_programs = λ f c f_in c_in same. let good = good-behind cies fdes split.1 f f_in c (found-at cies up c f.cie_pointer c_in same) in (laws.fde c f good.0).0 good.1;
@@ -71,7 +71,7 @@ passes laws cies fdes up pointers cie_programs fde_programs once = record {
 no-fault : ProgramLaws → (target : Target) (section : List ℕ) → IsWellFormed target section → section_fault target section ≡ None
 unfolding section_fault
 no-fault laws target section w =
-    let read : entries_of target section ≡ map Ok w.records = (sections-are-records target section w.records).1 w.spelled in
+    let read : entries_of target section ≡ map Ok w.records = (sections-are-records target section w.records).1 w.encoded in
     let none : fault_in (entries_of target section) ≡ None = ap fault_in read ∙ all-read-fault w.records in
     let values : values_in (entries_of target section) ≡ w.records = ap values_in read ∙ all-read-values w.records in
     let up : Ascends cie_offset (cies_among w.records) = subst (λ l. Ascends cie_offset (cies_among l)) values (cies-ascend target section none) in

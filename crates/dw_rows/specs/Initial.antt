@@ -7,12 +7,12 @@ use Rattle.dw_rows.specs.declared.map.RuleEntry.{RuleEntry}
 use Rattle.dw_rows.specs.declared.map.TheConstants.{MAX_RULES}
 use Rattle.dw_rows.specs.declared.initial_rules.RuleSpan.{RuleSpan}
 use Rattle.dw_rows.specs.Rules.{IsTable}
-use Rattle.dw_rows.specs.Kept.{Kept}
+use Rattle.dw_rows.specs.RuleSet.{KeptRules}
 use Rattle.dw_rows.specs.Views.{cfa_rule_of, entries_of}
-use Rattle.dw_rows.specs.Machine.{IsLeftBy}
+use Rattle.dw_rows.specs.ProgramState.{IsLeftBy}
 
 -- what the CIEs leave, one for each, in their order
-abbrev pub AreLeftBy : List Cie → List Kept → Type 0
+abbrev pub AreLeftBy : List Cie → List KeptRules → Type 0
 AreLeftBy [] [] = Unit {0}
 AreLeftBy (c ∷ cies) (k ∷ left) = IsLeftBy c k × AreLeftBy cies left
 AreLeftBy [] (k ∷ left) = ⊥
@@ -21,10 +21,10 @@ AreLeftBy (c ∷ cies) [] = ⊥
 -- ---- rules that lie one behind the other
 
 -- the rules of a span of entries
-abbrev pub kept_in_span : List RuleEntry → RuleSpan → Kept
+abbrev pub kept_in_span : List RuleEntry → RuleSpan → KeptRules
 kept_in_span entries s = record { cfa = option_map cfa_rule_of s.cfa; rules = entries_of (slice_range entries s.start s.end) }
 
-abbrev pub kept_in_spans : List RuleEntry → List RuleSpan → List Kept
+abbrev pub kept_in_spans : List RuleEntry → List RuleSpan → List KeptRules
 kept_in_spans entries spans = map (kept_in_span entries) spans
 
 -- a span lies among the entries, and its rules are those of a row

@@ -3,7 +3,7 @@ use Rattle.std.specs.Prelude.{◌≡◌, ℕ, ◌<◌, ◌≤◌, List, length, 
 use Rattle.std.specs.List.Sorted.{IsNonDecreasingBy}
 use Rattle.dw_frame.specs.Records.{Cie, Fde}
 use Rattle.dw_rows.specs.Section.{Frame, SharesAddress, IsChecked}
-use Rattle.dw_rows.specs.Kept.{Kept}
+use Rattle.dw_rows.specs.RuleSet.{KeptRules}
 use Rattle.dw_rows.specs.Initial.{AreLeftBy}
 
 abbrev pub fde_offset : Fde → ℕ
@@ -60,7 +60,7 @@ pub record IsIndexOf (fdes index : List Fde) : Type 0 where
   pub ordered : IsOrdered index
 
 -- what a checked section keeps: its records, what its CIEs leave, and its FDEs in order of address
-pub record IsKept (s : Frame) (left : List Kept) (index : List Fde) : Type 0 where
+pub record IsKept (s : Frame) (left : List KeptRules) (index : List Fde) : Type 0 where
   pub checked : IsChecked s
   pub left_by : AreLeftBy s.cies left
   pub index_of : IsIndexOf s.fdes index

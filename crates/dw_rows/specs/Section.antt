@@ -5,7 +5,7 @@ use Rattle.dw_bytes.specs.declared.target.Target.{Target}
 use Rattle.dw_bytes.specs.declared.fault.Fault.{Fault}
 use Rattle.dw_bytes.specs.declared.fault.FaultKind.TheVariants.{NoSuchCie, Overlap}
 use Rattle.dw_bytes.specs.Answers.{values_in, fault_in}
-use Rattle.dw_frame.specs.Records.{Cie, Fde, Record, common, description}
+use Rattle.dw_frame.specs.Records.{Cie, Fde, Record, cie_record, fde_record}
 use Rattle.dw_frame.specs.Sections.{entries_of}
 use Rattle.dw_rows.specs.Rules.{Row}
 use Rattle.dw_rows.specs.Judgement.{or_else, cie_fault, fde_fault}
@@ -19,19 +19,19 @@ pub record Frame : Type 0 where
   pub cies : List Cie
   pub fdes : List Fde
 
-abbrev pub common_in : Record → Option Cie
-common_in (common c) = Some c
-common_in (description f) = None
+abbrev pub cie_in_record : Record → Option Cie
+cie_in_record (cie_record c) = Some c
+cie_in_record (fde_record f) = None
 
-abbrev pub description_in : Record → Option Fde
-description_in (common c) = None
-description_in (description f) = Some f
+abbrev pub fde_in_record : Record → Option Fde
+fde_in_record (cie_record c) = None
+fde_in_record (fde_record f) = Some f
 
 abbrev pub cies_among : List Record → List Cie
-cies_among records = filter_map common_in records
+cies_among records = filter_map cie_in_record records
 
 abbrev pub fdes_among : List Record → List Fde
-fdes_among records = filter_map description_in records
+fdes_among records = filter_map fde_in_record records
 
 abbrev pub frame_of : Target → List ℕ → Frame
 frame_of target section =

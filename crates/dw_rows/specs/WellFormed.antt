@@ -6,11 +6,11 @@ use Rattle.dw_frame.specs.Sections.{AreRecords}
 use Rattle.dw_rows.specs.Good.{IsGoodCieProgram, IsGoodFdeProgram}
 use Rattle.dw_rows.specs.Section.{cies_among, fdes_among, CoversOnce}
 
--- The bytes are the spellings of records without a gap; each CIE_pointer is the offset of a CIE; all programs are good, those
+-- The bytes are the encodings of records without a gap; each CIE_pointer is the offset of a CIE; all programs are good, those
 -- of FDEs behind their CIE's; and no address is covered by two FDEs.
 pub record IsWellFormed (target : Target) (section : List ℕ) : Type 0 where
   pub records : List Record
-  pub spelled : AreRecords target 0 section records
+  pub encoded : AreRecords target 0 section records
   pub pointers : (f : Fde) → Contains (fdes_among records) f → (c : Cie) × Contains (cies_among records) c × (c.offset ≡ f.cie_pointer)
   pub cie_programs : (c : Cie) → Contains (cies_among records) c → IsGoodCieProgram c
   pub fde_programs : (f : Fde) (c : Cie) → Contains (fdes_among records) f → Contains (cies_among records) c → c.offset ≡ f.cie_pointer → IsGoodFdeProgram c f

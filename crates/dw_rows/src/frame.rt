@@ -9,17 +9,17 @@ ghost use Rattle.dw_rows.specs.Judgement.{cie_fault, fde_fault};
 ghost use Rattle.dw_rows.specs.Section.{IsCoverOf, first_fault, overlap_fault, programs_fault, parts_fault, section_fault, IsChecked, frame_of, cie_in, rows_in, row_of};
 ghost use Rattle.dw_rows.specs.Overlap.{cie_offset, fde_offset, IsIndexOf};
 ghost use Rattle.dw_frame.specs.Bounds.{Ascends};
-ghost use Rattle.dw_rows.specs.Machine.{IsLeftBy};
+ghost use Rattle.dw_rows.specs.ProgramState.{IsLeftBy};
 ghost use Rattle.dw_rows.specs.Initial.{AreLeftBy};
 
 use crate::index::{covering, first_overlap, index_of};
 use crate::initial_rules::InitialRules;
 use crate::lookup::write_row_at;
-use crate::machine::Machine;
-use crate::position::Position;
 use crate::row::UnwindTableRow;
 use crate::row_iter::Rows;
-use crate::section::{MEMORY, check_cies, check_fdes, check_pointers, find_cie, recall_cie};
+use crate::section::{MEMORY, begin_with_cie, check_cies, check_fdes, check_pointers, find_cie};
+use crate::unwind_context::UnwindContext;
+use crate::unwind_state::UnwindState;
 use dw_bytes::{Fault, FaultKind, Target};
 use dw_frame::{CommonInformationEntry, Entry, FrameDescriptionEntry, entries};
 use std::alloc::Global;
@@ -116,9 +116,9 @@ fn check_programs(
     ensures left { IfOk result (λ initial. AreLeftBy (map cie_of cies.now) initial) }
 {
     check_pointers(cies, fdes)?;
-    let mut machine = Machine::new();
-    let initial = check_cies(alloc, &mut machine.position, cies)?;
-    check_fdes(&mut machine, cies, &initial, fdes)?;
+    let mut context = UnwindContext::new();
+    let initial = check_cies(alloc, &mut context.state, cies)?;
+    check_fdes(&mut context, cies, &initial, fdes)?;
     Ok(initial)
 }
 
@@ -222,18 +222,18 @@ impl<'a> CheckedFrame<'a> {
         }
     }
 
-    /// The CIE of one of the FDEs, as `cie_of`. What it leaves is kept at the position, as the rules that programs begin with.
-    pub(crate) fn recall_cie(
+    /// The CIE of one of the FDEs, as `cie_of`. What it leaves is kept at the state, as the rules that programs begin with.
+    pub(crate) fn begin_with_cie(
         &self,
-        position: &mut Position,
+        state: &mut UnwindState,
         fde: &FrameDescriptionEntry<'a>,
     ) -> CommonInformationEntry<'a>
         requires { Contains self.now.fdes (fde_of fde.now) }
         ensures cie { cie_in self.now (fde_of fde.now) ≡ Some (cie_of result) }
         ensures fde_program { fde_fault (cie_of result) (fde_of fde.now) ≡ None }
-        ensures left { IsLeftBy (cie_of result) position.new.first }
+        ensures left { IsLeftBy (cie_of result) state.new.first }
     {
-        match recall_cie(position, &self.cies, &self.initial, fde.cie_pointer) {
+        match begin_with_cie(state, &self.cies, &self.initial, fde.cie_pointer) {
             Some(cie) => cie,
             None => unreachable!(),
         }
@@ -281,9 +281,9 @@ impl<'a> CheckedFrame<'a> {
         ensures none { IfNone result ((row_of self.now address ≡ None) × (row.new ≡ row.old)) }
     {
         let fde = self.fde_for_address(address)?;
-        let mut position = Position::new();
-        let cie = self.recall_cie(&mut position, &fde);
-        write_row_at(&mut position, &cie, &fde, address, row);
+        let mut state = UnwindState::new();
+        let cie = self.begin_with_cie(&mut state, &fde);
+        write_row_at(&mut state, &cie, &fde, address, row);
         Some((cie, fde))
     }
 }

@@ -4,7 +4,7 @@ ghost use Rattle.std.specs.Prelude.{◌≡◌, ◌<◌, [], ◌∷◌, ◌++◌,
 
 use crate::map::RuleEntry;
 use crate::row::CfaRule;
-use crate::row_rules::RowRules;
+use crate::rule_set::RuleSet;
 use std::alloc::{AllocError, Global};
 use std::marker::Model;
 
@@ -26,9 +26,9 @@ pub struct InitialRules {
 
 impl Model for InitialRules {
     ghost use Rattle.std.specs.Prelude.{List};
-    ghost use Rattle.dw_rows.specs.Kept.{Kept};
+    ghost use Rattle.dw_rows.specs.RuleSet.{KeptRules};
 
-    ghost Value = { List Kept };
+    ghost Value = { List KeptRules };
 
     ghost use Rattle.dw_rows.specs.Initial.{kept_in_spans, AreSpans};
 
@@ -49,7 +49,7 @@ impl InitialRules {
     }
 
     /// Keeps the rules that one more CIE leaves. Where memory is refused, what was kept stays.
-    pub fn push(&mut self, rules: &RowRules) -> Result<(), AllocError>
+    pub fn push(&mut self, rules: &RuleSet) -> Result<(), AllocError>
         ensures { MatchResult result (λ _. self.new ≡ self.old ++ rules.now ∷ []) (λ _. self.new ≡ self.old) }
     {
         let start = self.entries.len();
@@ -67,7 +67,7 @@ impl InitialRules {
     }
 
     /// Gives back the rules that the CIE at a place leaves. Its cost is that of the rules that there are.
-    pub fn copy_to(&self, place: usize, rules: &mut RowRules)
+    pub fn copy_to(&self, place: usize, rules: &mut RuleSet)
         requires { place < length self.now }
         ensures { slice_get self.now place ≡ Some rules.new }
     {

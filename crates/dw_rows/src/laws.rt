@@ -4,8 +4,8 @@
 ghost use Rattle.std.specs.Prelude.{◌≡◌, ℕ, ◌+◌, ◌<◌, ◌≤◌, ◌↔◌, List, length, Option, Some, None, slice_get, filter, [], ◌∷◌, Err, Contains};
 ghost use Rattle.dw_frame.specs.Records.{Cie, Fde};
 ghost use Rattle.dw_rows.specs.Rules.{Rule, Cfa, Row, IsTable, rule_in, rule_list};
-ghost use Rattle.dw_rows.specs.Effects.{Effect, pops};
-ghost use Rattle.dw_rows.specs.Meaning.{Start};
+ghost use Rattle.dw_rows.specs.Effects.{Effect, restores_state};
+ghost use Rattle.dw_rows.specs.InForce.{Start};
 ghost use Rattle.dw_rows.specs.Judgement.{cie_fault, fde_fault};
 ghost use Rattle.dw_rows.specs.UnwindRows.{rows_of, has_address, Cover};
 ghost use Rattle.dw_rows.specs.Good.{rule_after, cfa_after, Match, IsGoodCieProgram, IsGoodFdeProgram};
@@ -17,14 +17,14 @@ ghost use Rattle.dw_rows.specs.ExactRows.{HasOneRow};
 ghost use Rattle.dw_rows.specs.Section.{Frame, Covers, row_of, IsChecked, section_fault};
 ghost use Rattle.dw_rows.specs.WellFormed.{IsWellFormed};
 ghost use Rattle.dw_rows.specs.declared.map.TheConstants.{MAX_RULES};
-ghost use Rattle.dw_rows.specs.declared.remembered.TheConstants.{MAX_REMEMBERED};
+ghost use Rattle.dw_rows.specs.declared.remember_stack.TheConstants.{MAX_REMEMBERED};
 
 /// The rules after each instruction are those that the instruction gives, a restore_state those before
 /// its match. No others are.
 pub fn rules_by_instruction()
     ensures meet { (s : Start) (program : List Effect) → AreRules s program (rule_after s program) (cfa_after s program) }
     ensures only { (s : Start) (program : List Effect) (rule : ℕ → ℕ → Rule) (cfa : ℕ → Option Cfa) → AreRules s program rule cfa →
-        ((j : ℕ) → slice_get program j ≡ Some pops → (i : ℕ) × Match program i j) →
+        ((j : ℕ) → slice_get program j ≡ Some restores_state → (i : ℕ) × Match program i j) →
         (k : ℕ) → k ≤ length program → ((r : ℕ) → rule k r ≡ rule_after s program k r) × (cfa k ≡ cfa_after s program k) }
 {}
 

@@ -4,14 +4,14 @@ ghost use Rattle.std.specs.Prelude.{◌≡◌, ◌+◌, ◌<◌, ◌≤◌, ◌�
 ghost use Rattle.dw_frame.specs.Views.{cie_of, fde_of};
 ghost use Rattle.dw_rows.specs.Judgement.{cie_fault, fde_fault};
 ghost use Rattle.dw_rows.specs.UnwindRows.{rows_of, has_address};
-ghost use Rattle.dw_rows.specs.Machine.{IsLeftBy};
-ghost use Rattle.dw_rows.specs.Walks.{remembering, Seeks};
+ghost use Rattle.dw_rows.specs.ProgramState.{IsLeftBy};
+ghost use Rattle.dw_rows.specs.RowCursors.{remembering, Seeks};
 
-use crate::machine::Machine;
-use crate::position::Position;
 use crate::row::UnwindTableRow;
+use crate::row_cursor::{Next, begin_at, next_plain, next_range, run_good};
 use crate::row_iter::Rows;
-use crate::walk::{Next, begin_at, next_plain, next_range, run_good};
+use crate::unwind_context::UnwindContext;
+use crate::unwind_state::UnwindState;
 use dw_frame::{CommonInformationEntry, FrameDescriptionEntry, Instructions};
 
 /// The rows of an FDE, in the order of their addresses (DWARF 5, section 6.4.1). Its program and its
@@ -42,40 +42,40 @@ pub fn row_at<'a>(
     if address - fde.initial_location >= fde.address_range {
         return None;
     }
-    let mut position = Position::new();
-    run_good(&mut position, cie);
+    let mut state = UnwindState::new();
+    run_good(&mut state, cie);
     let mut row = UnwindTableRow::empty();
-    write_row_at(&mut position, cie, fde, address, &mut row);
+    write_row_at(&mut state, cie, fde, address, &mut row);
     Some(row)
 }
 
-/// Writes the row that has an address into the place of another. The FDE covers the address, and the position has kept what
+/// Writes the row that has an address into the place of another. The FDE covers the address, and the state has kept what
 /// the CIE's program leaves.
 pub(crate) fn write_row_at<'a>(
-    position: &mut Position,
+    state: &mut UnwindState,
     cie: &CommonInformationEntry<'a>,
     fde: &FrameDescriptionEntry<'a>,
     address: u64,
     row: &mut UnwindTableRow,
 )
-    requires left { IsLeftBy (cie_of cie.now) position.old.first }
+    requires left { IsLeftBy (cie_of cie.now) state.old.first }
     requires fde { fde_fault (cie_of cie.now) (fde_of fde.now) ≡ None }
     requires low { fde.now.initial_location ≤ address }
     requires high { address < fde.now.initial_location + fde.now.address_range }
     ensures { find (has_address address) (rows_of (cie_of cie.now) (fde_of fde.now)) ≡ Some row.new }
 {
     let limit = fde.initial_location + fde.address_range;
-    let mut instructions = begin_at(position, fde);
+    let mut instructions = begin_at(state, fde);
     loop {
-        match next_plain(position, &mut instructions, cie, limit) {
+        match next_plain(state, &mut instructions, cie, limit) {
             Next::Row(start, end) => {
                 if address < end {
-                    position.write_row(start, end, row);
+                    state.write_row(start, end, row);
                     return;
                 }
             }
             Next::Remembers => {
-                write_row_behind(position, instructions, cie, fde, address, row);
+                write_row_behind(state, instructions, cie, fde, address, row);
                 return;
             }
             Next::End => unreachable!(),
@@ -83,11 +83,11 @@ pub(crate) fn write_row_at<'a>(
     }
 }
 
-/// The same where the row isn't before the remember_state at the position. Most programs have none: only here is room made for
+/// The same where the row isn't before the remember_state at the state. Most programs have none: only here is room made for
 /// what is remembered.
 #[inline(never)]
 fn write_row_behind<'a>(
-    position: &Position,
+    state: &UnwindState,
     mut instructions: Instructions<'a>,
     cie: &CommonInformationEntry<'a>,
     fde: &FrameDescriptionEntry<'a>,
@@ -97,15 +97,15 @@ fn write_row_behind<'a>(
     requires fde { fde_fault (cie_of cie.now) (fde_of fde.now) ≡ None }
     requires low { fde.now.initial_location ≤ address }
     requires high { address < fde.now.initial_location + fde.now.address_range }
-    requires seeks { Seeks (cie_of cie.now) (fde_of fde.now) address (remembering (record { cie = cie_of cie.now; end = fde.now.initial_location + fde.now.address_range; machine = position.now; instructions = instructions })) }
+    requires seeks { Seeks (cie_of cie.now) (fde_of fde.now) address (remembering (record { cie = cie_of cie.now; end = fde.now.initial_location + fde.now.address_range; context = state.now; instructions = instructions })) }
     ensures { find (has_address address) (rows_of (cie_of cie.now) (fde_of fde.now)) ≡ Some row.new }
 {
     let limit = fde.initial_location + fde.address_range;
-    let mut machine = Machine::new();
-    machine.remember_at(position);
-    while let Some((start, end)) = next_range(&mut machine, &mut instructions, cie, limit) {
+    let mut context = UnwindContext::new();
+    context.remember_at(state);
+    while let Some((start, end)) = next_range(&mut context, &mut instructions, cie, limit) {
         if address < end {
-            machine.write_row(start, end, row);
+            context.write_row(start, end, row);
             return;
         }
     }

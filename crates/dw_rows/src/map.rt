@@ -6,7 +6,7 @@ ghost use Rattle.dw_bytes.specs.declared.fault.FaultKind.{FaultKind};
 ghost use Rattle.std.specs.Bool.{OnTrue, OnFalse};
 ghost use Rattle.dw_rows.specs.Rules.{Rule, IsTable, rule_in, rule_list, rule_count, changed_at};
 ghost use Rattle.dw_rows.specs.Views.{rule_of, rule_by, entry_of, entries_of};
-ghost use Rattle.dw_rows.specs.Places.{place_in};
+ghost use Rattle.dw_rows.specs.RememberStack.{place_in};
 
 use crate::row::{RegisterRule, RegisterRules};
 use arrayvec::ArrayVec;

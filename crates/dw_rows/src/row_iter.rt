@@ -6,9 +6,9 @@ ghost use Rattle.dw_rows.specs.Judgement.{cie_fault, fde_fault};
 ghost use Rattle.dw_rows.specs.UnwindRows.{rows_of};
 
 use crate::frame::CheckedFrame;
-use crate::machine::Machine;
 use crate::row::UnwindTableRow;
-use crate::walk::{begin, next_range, run_good};
+use crate::row_cursor::{begin, next_range, run_good};
+use crate::unwind_context::UnwindContext;
 use dw_frame::{CommonInformationEntry, FrameDescriptionEntry, Instructions};
 use std::iter::FusedIterator;
 use std::marker::Model;
@@ -19,7 +19,7 @@ use std::marker::Model;
 pub struct Rows<'a> {
     cie: CommonInformationEntry<'a>,
     fde: FrameDescriptionEntry<'a>,
-    machine: Machine,
+    context: UnwindContext,
     instructions: Instructions<'a>,
     given: u64,
 }
@@ -32,11 +32,11 @@ impl<'a> Model for Rows<'a> {
 
     ghost use Rattle.dw_frame.specs.Views.{cie_of, fde_of};
     ghost use Rattle.dw_rows.specs.UnwindRows.{rows_of};
-    ghost use Rattle.dw_rows.specs.Walks.{IsReady};
+    ghost use Rattle.dw_rows.specs.RowCursors.{IsReady};
 
     ghost view = { λ r. drop r.given (rows_of (cie_of r.cie) (fde_of r.fde)) };
 
-    ghost invariant = { λ r. IsReady (cie_of r.cie) (fde_of r.fde) (record { cie = cie_of r.cie; end = r.fde.initial_location + r.fde.address_range; machine = r.machine; instructions = r.instructions }) r.given };
+    ghost invariant = { λ r. IsReady (cie_of r.cie) (fde_of r.fde) (record { cie = cie_of r.cie; end = r.fde.initial_location + r.fde.address_range; context = r.context; instructions = r.instructions }) r.given };
 }
 
 impl<'a> Rows<'a> {
@@ -53,13 +53,13 @@ impl<'a> Rows<'a> {
         requires fde { fde_fault (cie_of cie.now) (fde_of fde.now) ≡ None }
         ensures { result ≡ rows_of (cie_of cie.now) (fde_of fde.now) }
     {
-        let mut machine = Machine::new();
-        run_good(&mut machine.position, cie);
-        let instructions = begin(&mut machine, fde);
+        let mut context = UnwindContext::new();
+        run_good(&mut context.state, cie);
+        let instructions = begin(&mut context, fde);
         Rows {
             cie: *cie,
             fde: *fde,
-            machine,
+            context,
             instructions,
             given: 0,
         }
@@ -70,13 +70,13 @@ impl<'a> Rows<'a> {
         requires { Contains frame.now.fdes (fde_of fde.now) }
         ensures { result ≡ rows_in frame.now (fde_of fde.now) }
     {
-        let mut machine = Machine::new();
-        let cie = frame.recall_cie(&mut machine.position, fde);
-        let instructions = begin(&mut machine, fde);
+        let mut context = UnwindContext::new();
+        let cie = frame.begin_with_cie(&mut context.state, fde);
+        let instructions = begin(&mut context, fde);
         Rows {
             cie,
             fde: *fde,
-            machine,
+            context,
             instructions,
             given: 0,
         }
@@ -87,8 +87,8 @@ impl<'a> Rows<'a> {
         requires { Contains frame.now.fdes (fde_of fde.now) }
         ensures { self.new ≡ rows_in frame.now (fde_of fde.now) }
     {
-        let cie = frame.recall_cie(&mut self.machine.position, fde);
-        self.instructions = begin(&mut self.machine, fde);
+        let cie = frame.begin_with_cie(&mut self.context.state, fde);
+        self.instructions = begin(&mut self.context, fde);
         self.cie = cie;
         self.fde = *fde;
         self.given = 0;
@@ -102,10 +102,10 @@ impl<'a> Rows<'a> {
         ensures none { OnFalse result ((self.old ≡ []) × (self.new ≡ []) × (row.new ≡ row.old)) }
     {
         let limit = self.fde.initial_location + self.fde.address_range;
-        match next_range(&mut self.machine, &mut self.instructions, &self.cie, limit) {
+        match next_range(&mut self.context, &mut self.instructions, &self.cie, limit) {
             Some((start, end)) => {
                 self.given += 1;
-                self.machine.write_row(start, end, row);
+                self.context.write_row(start, end, row);
                 true
             }
             None => false,

@@ -7,13 +7,13 @@ ghost use Rattle.dw_rows.specs.Judgement.{cie_fault};
 ghost use Rattle.dw_rows.specs.Section.{cie_at, first_fault, pointer_fault, program_fault};
 ghost use Rattle.dw_rows.specs.Overlap.{cie_offset};
 ghost use Rattle.dw_frame.specs.Bounds.{Ascends};
-ghost use Rattle.dw_rows.specs.Machine.{IsLeftBy};
+ghost use Rattle.dw_rows.specs.ProgramState.{IsLeftBy};
 ghost use Rattle.dw_rows.specs.Initial.{AreLeftBy};
 
 use crate::check::{check_program, run_cie};
 use crate::initial_rules::InitialRules;
-use crate::machine::Machine;
-use crate::position::Position;
+use crate::unwind_context::UnwindContext;
+use crate::unwind_state::UnwindState;
 use dw_bytes::{Fault, FaultKind};
 use dw_frame::{CommonInformationEntry, FrameDescriptionEntry};
 use std::alloc::Global;
@@ -49,9 +49,9 @@ pub fn find_cie<'a>(
     Some(cies[place])
 }
 
-/// The CIE that begins at an offset. What it leaves is kept at the position, as the rules that programs begin with.
-pub fn recall_cie<'a>(
-    position: &mut Position,
+/// The CIE that begins at an offset. What it leaves is kept at the state, as the rules that programs begin with.
+pub fn begin_with_cie<'a>(
+    state: &mut UnwindState,
     cies: &[CommonInformationEntry<'a>],
     initial: &InitialRules,
     offset: u64,
@@ -59,10 +59,10 @@ pub fn recall_cie<'a>(
     requires order { Ascends cie_offset (map cie_of cies.now) }
     requires left { AreLeftBy (map cie_of cies.now) initial.now }
     ensures cie { option_map cie_of result ≡ cie_at (map cie_of cies.now) offset }
-    ensures first { IfSome result (λ cie. IsLeftBy (cie_of cie) position.new.first) }
+    ensures first { IfSome result (λ cie. IsLeftBy (cie_of cie) state.new.first) }
 {
     let place = place_of_cie(cies, offset)?;
-    position.keep_initial(initial, place);
+    state.set_initial_rules(initial, place);
     Some(cies[place])
 }
 
@@ -88,7 +88,7 @@ pub fn check_pointers(
 /// Each CIE's program has to be good. What it leaves is kept.
 pub fn check_cies(
     alloc: Global,
-    position: &mut Position,
+    state: &mut UnwindState,
     cies: &[CommonInformationEntry<'_>],
 ) -> Result<InitialRules, Fault>
     ensures answer { Answers (first_fault cie_fault (map cie_of cies.now)) result }
@@ -96,8 +96,8 @@ pub fn check_cies(
 {
     let mut left = InitialRules::new(alloc);
     for cie in cies {
-        run_cie(position, cie)?;
-        if left.push(position.first()).is_err() {
+        run_cie(state, cie)?;
+        if left.push(state.first()).is_err() {
             return Err(MEMORY);
         }
     }
@@ -106,7 +106,7 @@ pub fn check_cies(
 
 /// Each FDE's program has to be good behind its CIE's.
 pub fn check_fdes(
-    machine: &mut Machine,
+    context: &mut UnwindContext,
     cies: &[CommonInformationEntry<'_>],
     initial: &InitialRules,
     fdes: &[FrameDescriptionEntry<'_>],
@@ -116,8 +116,8 @@ pub fn check_fdes(
     ensures { Judges (first_fault (program_fault (map cie_of cies.now)) (map fde_of fdes.now)) result }
 {
     for fde in fdes {
-        if let Some(cie) = recall_cie(&mut machine.position, cies, initial, fde.cie_pointer) {
-            check_program(machine, &cie, fde)?;
+        if let Some(cie) = begin_with_cie(&mut context.state, cies, initial, fde.cie_pointer) {
+            check_program(context, &cie, fde)?;
         }
     }
     Ok(())

@@ -5,28 +5,28 @@ use Rattle.std.proofs.lemmas.List.{drop-drop}
 use Rattle.std.proofs.Math.Seq.{drop-append_seam}
 use Rattle.std.proofs.lemmas.Option.{same_Some}
 use Rattle.dw_bytes.specs.declared.target.Target.{Target}
-use Rattle.dw_bytes.specs.Reading.{Reading}
+use Rattle.dw_bytes.specs.Reading.{ReadPosition}
 use Rattle.dw_ops.specs.Opcodes.{AreOperations, operation_at}
 use Rattle.dw_ops.proofs.Lists.{exact-operation}
 use Rattle.dw_stack.specs.Paths.{Placed, place}
 use Rattle.dw_stack.specs.Expressions.{operations_in, reading_at}
-use Rattle.dw_stack.proofs.Spelled.{first_place}
+use Rattle.dw_stack.proofs.Encoded.{first_place}
 
-abbrev reading : Target → ℕ → List ℕ → Reading
+abbrev reading : Target → ℕ → List ℕ → ReadPosition
 reading target at rest = record { target = target; position = at; rest = rest }
 
 stands_from : (target : Target) (bytes : List ℕ) (at : ℕ) (rest : List ℕ) (ops : List Placed) → AreOperations target at rest ops → rest ≡ drop at bytes → (k : ℕ) (x : Placed) → slice_get ops k ≡ Some x → operation_at (reading_at target bytes x.0) ≡ Ok (x.1, reading_at target bytes (place ops (at + length rest) (suc k)))
 stands_from target bytes at rest [] are here k x is = absurd (cc)
-stands_from target bytes at rest (y ∷ ops) (first, others, parts, spelled, tail) here zero x is =
+stands_from target bytes at rest (y ∷ ops) (first, others, parts, encoded, tail) here zero x is =
     let same : y ≡ x = same_Some y x is in
     let behind : others ≡ drop (at + length first) bytes = sym (drop-append_seam first others) ∙ (ap (drop (length first)) (sym parts ∙ here) ∙ drop-drop (length first) at bytes) in
-    let exact = (exact-operation (reading target at rest)).only y.1 (reading target (at + length first) others) (record { bytes = first; spelled = spelled.1; parts = parts; position = refl; target = refl }) in
+    let exact = (exact-operation (reading target at rest)).only y.1 (reading target (at + length first) others) (record { bytes = first; encoded = encoded.1; parts = parts; position = refl; target = refl }) in
     let long : at + length rest ≡ at + length first + length others = omega (arith, ap length parts, length-append first others) in
     let next : place ops (at + length rest) 0 ≡ at + length first = ap (λ (n : ℕ). place ops n 0) long ∙ first_place target (at + length first) others ops tail in
-    let from : reading_at target bytes x.0 ≡ reading target at rest = ap (λ (p : Placed). reading_at target bytes p.0) (sym same) ∙ (ap (reading_at target bytes) spelled.0 ∙ ap (reading target at) (sym here)) in
+    let from : reading_at target bytes x.0 ≡ reading target at rest = ap (λ (p : Placed). reading_at target bytes p.0) (sym same) ∙ (ap (reading_at target bytes) encoded.0 ∙ ap (reading target at) (sym here)) in
     let to : reading target (at + length first) others ≡ reading_at target bytes (place ops (at + length rest) 0) = ap (reading target (at + length first)) behind ∙ ap (reading_at target bytes) (sym next) in
-    ap operation_at from ∙ (exact ∙ (ap (λ (r : Reading). Ok (y.1, r)) to ∙ ap (λ (p : Placed). Ok (p.1, reading_at target bytes (place ops (at + length rest) 0))) same))
-stands_from target bytes at rest (y ∷ ops) (first, others, parts, spelled, tail) here (suc k) x is =
+    ap operation_at from ∙ (exact ∙ (ap (λ (r : ReadPosition). Ok (y.1, r)) to ∙ ap (λ (p : Placed). Ok (p.1, reading_at target bytes (place ops (at + length rest) 0))) same))
+stands_from target bytes at rest (y ∷ ops) (first, others, parts, encoded, tail) here (suc k) x is =
     let behind : others ≡ drop (at + length first) bytes = sym (drop-append_seam first others) ∙ (ap (drop (length first)) (sym parts ∙ here) ∙ drop-drop (length first) at bytes) in
     let later = stands_from target bytes (at + length first) others ops tail behind k x is in
     let long : at + length first + length others ≡ at + length rest = omega (arith, ap length parts, length-append first others) in

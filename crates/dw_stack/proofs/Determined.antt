@@ -5,17 +5,17 @@ use Rattle.std.proofs.lemmas.Option.{slice_get_within, same_Some}
 use Rattle.dw_stack.specs.declared.state.Kind.{Kind}
 use Rattle.dw_stack.specs.Effects.{effect_of}
 use Rattle.dw_stack.specs.Paths.{Placed, place, IsLaidOut}
-use Rattle.dw_stack.specs.Machine.{Whereabouts, Piece, Configuration, Trouble, Meaning, named, jumps, JumpsTo, LeadsTo, extent_of, location_of, stack_after, pieces_after, Meets, Step, Stops, Run, Ended, IsOver}
+use Rattle.dw_stack.specs.Machine.{LocationDescription, Piece, Configuration, EvaluationError, Meaning, named, jumps, JumpsTo, LeadsTo, extent_of, location_of, stack_after, pieces_after, Meets, Step, Stops, Run, Ended, IsOver}
 use Rattle.dw_stack.proofs.Places.{place_of_some, place_past, place_mono, place_inj}
 
-abbrev made : ℕ → List ℕ → Option Whereabouts → List Piece → Configuration
+abbrev made : ℕ → List ℕ → Option LocationDescription → List Piece → Configuration
 made offset stack pending pieces = record { offset = offset; stack = stack; pending = pending; pieces = pieces }
 
 same_configuration : (d e : Configuration) → d.offset ≡ e.offset → d.stack ≡ e.stack → d.pending ≡ e.pending → d.pieces ≡ e.pieces → d ≡ e
 same_configuration d e offset stack pending pieces =
     let first : made d.offset d.stack d.pending d.pieces ≡ made e.offset d.stack d.pending d.pieces = ap (λ (n : ℕ). made n d.stack d.pending d.pieces) offset in
     let second : made e.offset d.stack d.pending d.pieces ≡ made e.offset e.stack d.pending d.pieces = ap (λ (s : List ℕ). made e.offset s d.pending d.pieces) stack in
-    let third : made e.offset e.stack d.pending d.pieces ≡ made e.offset e.stack e.pending d.pieces = ap (λ (p : Option Whereabouts). made e.offset e.stack p d.pieces) pending in
+    let third : made e.offset e.stack d.pending d.pieces ≡ made e.offset e.stack e.pending d.pieces = ap (λ (p : Option LocationDescription). made e.offset e.stack p d.pieces) pending in
     let fourth : made e.offset e.stack e.pending d.pieces ≡ made e.offset e.stack e.pending e.pieces = ap (λ (ps : List Piece). made e.offset e.stack e.pending ps) pieces in
     first ∙ (second ∙ (third ∙ fourth))
 
@@ -24,13 +24,13 @@ one_offset true None next a b here there = absurd here
 one_offset true (Some z) next a b here there = let same : pos a ≡ pos b = here ∙ sym there in cc
 one_offset false o next a b here there = here ∙ sym there
 
-answered_with : Result (List ℕ) Trouble → List ℕ → List ℕ
+answered_with : Result (List ℕ) EvaluationError → List ℕ → List ℕ
 answered_with (Ok new) other = new
 answered_with (Err why) other = other
 
-one_answer : (a : Result (List ℕ) Trouble) (x y : List ℕ) → a ≡ Ok x → a ≡ Ok y → x ≡ y
+one_answer : (a : Result (List ℕ) EvaluationError) (x y : List ℕ) → a ≡ Ok x → a ≡ Ok y → x ≡ y
 unfolding answered_with
-one_answer a x y here there = ap (λ (r : Result (List ℕ) Trouble). answered_with r x) (sym here ∙ there)
+one_answer a x y here there = ap (λ (r : Result (List ℕ) EvaluationError). answered_with r x) (sym here ∙ there)
 
 module _ (m : Meaning) (ops : List Placed) (len : ℕ) (laid : IsLaidOut ops len) where
   within : (c : Configuration) (t : Meets ops c) → t.number < length ops
@@ -69,7 +69,7 @@ module _ (m : Meaning) (ops : List Placed) (len : ℕ) (laid : IsLaidOut ops len
       omega (arith, before, past, at, ended.there)
 
   -- a step that has no answer has none for one reason
-  pub one_trouble : (c : Configuration) (w v : Trouble) → Stops m ops c w → Stops m ops c v → w ≡ v
+  pub one_trouble : (c : Configuration) (w v : EvaluationError) → Stops m ops c w → Stops m ops c v → w ≡ v
   one_trouble c w v a b =
       let both : Err w ≡ Err v = sym a.answered ∙ (ap (λ (x : Placed). m.answer x.1 c.stack) (one_operation c a.meets b.meets) ∙ b.answered) in
       cc

@@ -9,14 +9,14 @@ use Rattle.dw_stack.specs.declared.state.Kind.{Kind}
 use Rattle.dw_stack.specs.Expressions.{operations_in, reading_fault, IsGoodExpression, IsDepthOf, AreStatesOf, IsOtherCount, IsFaultOf, Knows}
 use Rattle.dw_stack.specs.Faults.{KnowsOnly}
 use Rattle.dw_stack.proofs.Deciding.{Certified, named}
-use Rattle.dw_stack.proofs.Spelled.{laid_out, spelled_of, laid_if_read}
+use Rattle.dw_stack.proofs.Encoded.{laid_out, encoded_of, laid_if_read}
 use Rattle.dw_stack.proofs.Verdicts.{good_refuses}
 use Rattle.dw_stack.proofs.Whole.{states_known}
 
 module _ (kind : Kind) (target : Target) (bytes : List ℕ) where
   certified_of : IsGoodExpression kind target bytes → Certified kind (operations_in target bytes) (length bytes) None
   certified_of good =
-      let laid = laid_out target bytes (operations_in target bytes) good.spelled in
+      let laid = laid_out target bytes (operations_in target bytes) good.encoded in
       elim (named kind (operations_in target bytes) (length bytes) laid None) [
         | inl certified ↦ certified.1
         | inr bad ↦ absurd (good_refuses kind (operations_in target bytes) (length bytes) laid None (λ k x s stands r. tt) good.good bad.0 bad.1 bad.3.refuses)
@@ -51,7 +51,7 @@ module _ (kind : Kind) (target : Target) (bytes : List ℕ) where
       by_reading None is = elim (count_tells given) [
         | inr other ↦ inr (record { kind = CertLength; at = 0 }, inr (inl (is, other, refl)))
         | inl same ↦ elim (named kind (operations_in target bytes) (length bytes) (laid_if_read target bytes is) given) [
-          | inl certified ↦ inl (record { spelled = spelled_of target bytes is; good = certified.1.good }, knows_of given same certified.1.known)
+          | inl certified ↦ inl (record { encoded = encoded_of target bytes is; good = certified.1.good }, knows_of given same certified.1.known)
           | inr bad ↦ inr (record { kind = bad.0; at = bad.1 }, inr (inr (is, same, bad.3)))
         ]
       ]

@@ -6,20 +6,20 @@ use Rattle.std.proofs.lemmas.Option.{same_Some}
 use Rattle.dw_bytes.specs.declared.fault.FaultKind.{FaultKind}
 use Rattle.dw_bytes.specs.declared.fault.FaultKind.TheVariants as fault
 use Rattle.dw_stack.specs.declared.effect.StackEffect.{StackEffect}
-use Rattle.dw_stack.specs.declared.judge.Outgoing.{Outgoing}
+use Rattle.dw_stack.specs.declared.judge.OutState.{OutState}
 use Rattle.dw_stack.specs.declared.judge.TheConstants.{MAX_HEIGHT, MAX_PIECES}
 use Rattle.dw_stack.specs.declared.state.StackState.{StackState}
 use Rattle.dw_stack.specs.declared.state.Kind.{Kind}
 use Rattle.dw_stack.specs.Effects.{effect_of}
 use Rattle.dw_stack.specs.States.{stands_alone, height_after, next_mode}
-use Rattle.dw_stack.specs.Paths.{Placed, place, aim, aimed, has_operation, is_piece}
-use Rattle.dw_stack.specs.declared.arrivals.Arrival.{Arrival}
-use Rattle.dw_stack.specs.declared.arrivals.Arrival.TheVariants.{Nothing, One}
+use Rattle.dw_stack.specs.Paths.{Placed, place, branch_target, jump_target, has_operation, is_piece}
+use Rattle.dw_stack.specs.declared.in_state.InState.{InState}
+use Rattle.dw_stack.specs.declared.in_state.InState.TheVariants.{Unreached, Known}
 use Rattle.dw_stack.specs.declared.state.State.{State}
-use Rattle.dw_stack.specs.Arrivals.{StepObjects}
+use Rattle.dw_stack.specs.InStates.{StepObjects}
 use Rattle.dw_stack.specs.Faults.{Given, judgements, is_ahead, is_start, suits, passes, first_failed, rank}
 use Rattle.dw_stack.specs.Judge.{IsEffectAt, Suits, TargetObjects, TargetIs, Judged, Objects}
-use Rattle.dw_stack.proofs.Arriving.{Has}
+use Rattle.dw_stack.proofs.InStates.{Has}
 use Rattle.dw_stack.proofs.Telling.{start_tells}
 
 -- ---- the first that isn't passed
@@ -87,7 +87,7 @@ few_holds : (piece : Bool) (pieces : ℕ) → not piece || ltb pieces MAX_PIECES
 few_holds false pieces is names = absurd (cc)
 few_holds true pieces is names = ltb-true pieces MAX_PIECES is
 
-pub ahead_passes : (next : ℕ) (o : Option ℤ) → ((z : ℤ) → o ≡ Some z → aim next z ≡ None → ⊥) → is_ahead next o ≡ true
+pub ahead_passes : (next : ℕ) (o : Option ℤ) → ((z : ℤ) → o ≡ Some z → branch_target next z ≡ None → ⊥) → is_ahead next o ≡ true
 ahead_passes next None ahead = refl
 ahead_passes next (Some (pos n)) ahead = refl
 ahead_passes next (Some (negsuc n)) ahead = absurd (ahead (negsuc n) refl refl)
@@ -133,7 +133,7 @@ branched_none true true is = (refl, refl)
 branched_none true false is = absurd (cc)
 branched_none false start is = absurd (cc)
 
-branch_fails : (ops : List Placed) (len k : ℕ) (z : ℤ) (f : FaultKind) → TargetObjects ops len k z f → branched (is_ahead (place ops len (k + 1)) (Some z)) (is_start ops len (aimed (place ops len (k + 1)) (Some z))) ≡ Some f
+branch_fails : (ops : List Placed) (len k : ℕ) (z : ℤ) (f : FaultKind) → TargetObjects ops len k z f → branched (is_ahead (place ops len (k + 1)) (Some z)) (is_start ops len (jump_target (place ops len (k + 1)) (Some z))) ≡ Some f
 branch_fails ops len k z fault.Backward back = ap (λ (t : Option ℕ). branched (is_some t) (is_start ops len t)) back
 branch_fails ops len k z fault.TargetNotStart none =
     ap (λ (t : Option ℕ). branched (is_some t) (is_start ops len t)) none.1 ∙ elim (start_tells ops len none.0) [
@@ -147,7 +147,7 @@ module _ (kind : Kind) (ops : List Placed) (len k pieces : ℕ) (s : StackState)
   few = not (is_piece e.role) || ltb pieces MAX_PIECES
 
   abbrev branch : Option FaultKind
-  branch = branched (is_ahead (place ops len (k + 1)) e.jump) (is_start ops len (aimed (place ops len (k + 1)) e.jump))
+  branch = branched (is_ahead (place ops len (k + 1)) e.jump) (is_start ops len (jump_target (place ops len (k + 1)) e.jump))
 
   suits_passed : (height : ℕ) → Suits kind e pieces s height → first_failed (passes kind ops len k pieces e s) ≡ branch
   suits_passed height fits =
@@ -155,11 +155,11 @@ module _ (kind : Kind) (ops : List Placed) (len k pieces : ℕ) (s : StackState)
       stacked_passed (has_operation kind e) (stands_alone e.role s.mode s.height) _ _ few branch fits.allowed fits.alone (le-leb e.needs s.height fits.needs) (le-leb (height_after e s) MAX_HEIGHT low) (few_passes (is_piece e.role) pieces fits.few)
 
   -- where all are passed the operation suits, and has a target if it jumps
-  pub all_passed : first_failed (passes kind ops len k pieces e s) ≡ None → Suits kind e pieces s (height_after e s) × (is_ahead (place ops len (k + 1)) e.jump ≡ true) × (is_start ops len (aimed (place ops len (k + 1)) e.jump) ≡ true)
+  pub all_passed : first_failed (passes kind ops len k pieces e s) ≡ None → Suits kind e pieces s (height_after e s) × (is_ahead (place ops len (k + 1)) e.jump ≡ true) × (is_start ops len (jump_target (place ops len (k + 1)) e.jump) ≡ true)
   all_passed is =
       let all = stacked_none (has_operation kind e) (stands_alone e.role s.mode s.height) _ _ few branch is in
       let fits : Suits kind e pieces s (height_after e s) = record { allowed = all.0; alone = all.1; needs = leb-true e.needs s.height all.2; limit = leb-true (height_after e s) MAX_HEIGHT all.3; few = few_holds (is_piece e.role) pieces all.4; height_is = refl } in
-      let aims = branched_none (is_ahead (place ops len (k + 1)) e.jump) (is_start ops len (aimed (place ops len (k + 1)) e.jump)) all.5 in
+      let aims = branched_none (is_ahead (place ops len (k + 1)) e.jump) (is_start ops len (jump_target (place ops len (k + 1)) e.jump)) all.5 in
       (fits, aims.0, aims.1)
 
   module _ (at : IsEffectAt ops k e) where
@@ -171,13 +171,13 @@ module _ (kind : Kind) (ops : List Placed) (len k pieces : ℕ) (s : StackState)
 
     module _ (height : ℕ) (fits : Suits kind e pieces s height) where
       pub objects_target : (z : ℤ) (f : FaultKind) → e.jump ≡ Some z → TargetObjects ops len k z f → Objects kind ops len k pieces s f
-      objects_target z f is bad = objects f (suits_passed height fits ∙ ap (λ (o : Option ℤ). branched (is_ahead (place ops len (k + 1)) o) (is_start ops len (aimed (place ops len (k + 1)) o))) is ∙ branch_fails ops len k z f bad)
+      objects_target z f is bad = objects f (suits_passed height fits ∙ ap (λ (o : Option ℤ). branched (is_ahead (place ops len (k + 1)) o) (is_start ops len (jump_target (place ops len (k + 1)) o))) is ∙ branch_fails ops len k z f bad)
 
       here : Suits kind (effect_of at.placed.1) pieces s height
       here = subst (λ (d : StackEffect). Suits kind d pieces s height) at.is fits
 
-      pub judged : (target : Option ℕ) (out : Outgoing) → TargetIs ops len k e.jump target → out.state ≡ next_mode e.role height s.pieced → out.height ≡ height → out.piece ≡ is_piece e.role → out.falls ≡ e.falls → out.target ≡ target → Judged kind ops len k pieces s out
-      judged target out is state_is h piece falls target_is = record {
+      pub judged : (target : Option ℕ) (out : OutState) → TargetIs ops len k e.jump target → out.state ≡ next_mode e.role height s.pieced → out.height ≡ height → out.piece ≡ is_piece e.role → out.falls_through ≡ e.falls_through → out.target ≡ target → Judged kind ops len k pieces s out
+      judged target out is state_is h piece falls_through target_is = record {
         placed = at.placed;
         stands = at.stands;
         allowed = here.allowed;
@@ -188,12 +188,12 @@ module _ (kind : Kind) (ops : List Placed) (len k pieces : ℕ) (s : StackState)
         height = h ∙ here.height_is;
         state = state_is ∙ ap (λ (n : ℕ). next_mode e.role n s.pieced) fits.height_is ∙ ap (λ (d : StackEffect). next_mode d.role (height_after d s) s.pieced) at.is;
         piece = piece ∙ ap (λ (d : StackEffect). is_piece d.role) at.is;
-        falls = falls ∙ ap (λ (d : StackEffect). d.falls) at.is;
+        falls_through = falls_through ∙ ap (λ (d : StackEffect). d.falls_through) at.is;
         target = subst (λ (t : Option ℕ). TargetIs ops len k (effect_of at.placed.1).jump t) (sym target_is) (subst (λ (d : StackEffect). TargetIs ops len k d.jump target) at.is is);
       }
 
 -- where one state comes to an operation, what is judged of it first is what its step objects to
-pub step_objects : (kind : Kind) (ops : List Placed) (len : ℕ) (given : Option (List State)) (i pieces : ℕ) (old : List Arrival) (f : FaultKind) (s : StackState) → slice_index_or old i Nothing ≡ One s → Given ops len given i s → Objects kind ops len i pieces s f → StepObjects kind ops len given i pieces old f
+pub step_objects : (kind : Kind) (ops : List Placed) (len : ℕ) (given : Option (List State)) (i pieces : ℕ) (old : List InState) (f : FaultKind) (s : StackState) → slice_index_or old i Unreached ≡ Known s → Given ops len given i s → Objects kind ops len i pieces s f → StepObjects kind ops len given i pieces old f
 step_objects kind ops len given i pieces old f s one is o = by f (failed (passes kind ops len i pieces (effect_of o.placed.1) s) judgements f o.first) o
   where
     by : (g : FaultKind) → passes kind ops len i pieces (effect_of o.placed.1) s g ≡ false → Objects kind ops len i pieces s g → StepObjects kind ops len given i pieces old g

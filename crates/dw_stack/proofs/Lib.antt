@@ -5,7 +5,7 @@ pub mod Describes
 pub mod Judging
 pub mod Walks
 pub mod Verdicts
-pub mod Spelled
+pub mod Encoded
 pub mod Ends
 pub mod Runs
 pub mod Stable
@@ -15,7 +15,7 @@ pub mod Bytes
 pub mod Deciding
 pub mod Pieces
 pub mod Heights
-pub mod Arriving
+pub mod InStates
 pub mod Telling
 pub mod Named
 pub mod Existing

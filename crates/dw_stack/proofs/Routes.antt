@@ -60,7 +60,7 @@ pub lands : (ops : List Placed) (len k : ℕ) (x : Placed) (b : ℕ) → slice_g
 lands ops len k x b s leads =
     let within = slice_get_within ops k x s in
     elim leads [
-      | inl falls ↦ record { number = k + 1; later = omega arith; within = omega arith; there = sym falls.1 }
+      | inl falls_through ↦ record { number = k + 1; later = omega arith; within = omega arith; there = sym falls_through.1 }
       | inr goes ↦ record { number = goes.1.number; later = goes.1.later; within = goes.1.within; there = goes.1.there }
     ]
 

@@ -16,8 +16,8 @@ use Rattle.dw_stack.specs.declared.state.Mode.{Mode}
 use Rattle.dw_stack.specs.declared.state.Mode.TheVariants as mode
 use Rattle.dw_stack.specs.Effects.{effect_of}
 use Rattle.dw_stack.specs.States.{start_of, next_mode, height_after, state_after, StandsAlone, at_offset}
-use Rattle.dw_stack.specs.Paths.{Placed, place, IsLaidOut, aimed, Leads, Edge, Follows, Reaches, IsStart, is_piece, pieces_before, IsGood, AreStates, IsDepth}
-use Rattle.dw_stack.specs.Machine.{Whereabouts, Piece, Configuration, Trouble, Meaning, entry, named, jumps, JumpsTo, extent_of, location_of, stack_after, pieces_after, CanDo, Meets, Step, Run, offsets_of, Starts, PendingIs, has_pieces, Agrees, GoesOn, IsOver, RunsWell}
+use Rattle.dw_stack.specs.Paths.{Placed, place, IsLaidOut, jump_target, Leads, Edge, Follows, Reaches, IsStart, is_piece, pieces_before, IsGood, AreStates, IsDepth}
+use Rattle.dw_stack.specs.Machine.{LocationDescription, Piece, Configuration, EvaluationError, Meaning, entry, named, jumps, JumpsTo, extent_of, location_of, stack_after, pieces_after, CanDo, Meets, Step, Run, offsets_of, Starts, PendingIs, has_pieces, Agrees, IsNotStuck, IsOver, RunsWell}
 use Rattle.dw_stack.proofs.Places.{place_of_some, place_past, place_mono, place_inj}
 use Rattle.dw_stack.proofs.Heights.{next_height_le}
 use Rattle.dw_stack.proofs.Pieces.{pieces_mono, pieces_with, length-pieces_after}
@@ -25,7 +25,7 @@ use Rattle.dw_stack.proofs.Ends.{pieced_after, result_there}
 use Rattle.dw_stack.proofs.Routes.{reach_from, extend, at_start, reached_place, edge_lands}
 
 -- per operation: what it names is what its role says
-pending_is : (op : Operation) (s : List ℕ) (p : Option Whereabouts) (h : ℕ) (b : Bool) → p ≡ named op s → PendingIs (next_mode (effect_of op).role h b).mode p (next_mode (effect_of op).role h b).height
+pending_is : (op : Operation) (s : List ℕ) (p : Option LocationDescription) (h : ℕ) (b : Bool) → p ≡ named op s → PendingIs (next_mode (effect_of op).role h b).mode p (next_mode (effect_of op).role h b).height
 pending_is (reg r) s p h b e = (r, e)
 pending_is (regx r) s p h b e = (r, e)
 pending_is (implicit_value bytes) s p h b e = inr (bytes, e)
@@ -35,7 +35,7 @@ pending_is (bit_piece n m) s p h b e = (e, refl)
 pending_is _ s p h b e = e
 
 -- per operation: where it jumps it has a jump, and else it falls through
-branches : (op : Operation) (s : List ℕ) → MatchBool (jumps op s) ((z : ℤ) × ((effect_of op).jump ≡ Some z)) (IsTrue (effect_of op).falls)
+branches : (op : Operation) (s : List ℕ) → MatchBool (jumps op s) ((z : ℤ) × ((effect_of op).jump ≡ Some z)) (IsTrue (effect_of op).falls_through)
 branches (bra z) s = either (not (eqb (entry s 0) 0))
   where
     either : (b : Bool) → MatchBool b ((y : ℤ) × ((effect_of (bra z)).jump ≡ Some y)) (IsTrue true)
@@ -84,7 +84,7 @@ agrees_after m ops len s c d t a = record {
         omega (arith, l, fair, a.height)
 
 -- where the roles agree with the state, the step is there
-can_do : (r : Role) (m : Mode) (h n : ℕ) (p : Option Whereabouts) → n ≡ h → StandsAlone r m h → PendingIs m p h → CanDo r n p
+can_do : (r : Role) (m : Mode) (h n : ℕ) (p : Option LocationDescription) → n ≡ h → StandsAlone r m h → PendingIs m p h → CanDo r n p
 can_do role.Piece mode.Stack h n None e alone is = omega (arith, leb-true h 1 alone, e)
 can_do role.Piece mode.AfterPiece h n None e alone is = let z = is.1 in omega (arith, z, e)
 can_do role.Piece mode.Register h n None e alone is = omega (arith, eqb-true h 0 alone, e)
@@ -118,12 +118,12 @@ module _ (kind : Kind) (ops : List Placed) (len : ℕ) (laid : IsLaidOut ops len
   ahead_of k x (negsuc n) stands jump = absurd (good.ahead k (negsuc n) x stands jump refl)
 
   -- where a jump leads is its target on paths
-  target_is : (k b : ℕ) (x : Placed) (o : Option ℤ) → slice_get ops k ≡ Some x → (effect_of x.1).jump ≡ o → JumpsTo o (place ops len (k + 1)) b → aimed (place ops len (k + 1)) o ≡ Some b
+  target_is : (k b : ℕ) (x : Placed) (o : Option ℤ) → slice_get ops k ≡ Some x → (effect_of x.1).jump ≡ o → JumpsTo o (place ops len (k + 1)) b → jump_target (place ops len (k + 1)) o ≡ Some b
   target_is k b x None stands jump to = absurd to
   target_is k b x (Some (pos n)) stands jump to = let same : pos b ≡ pos (place ops len (k + 1) + n) = to in cc
   target_is k b x (Some (negsuc n)) stands jump to = absurd (good.ahead k (negsuc n) x stands jump refl)
 
-  leads_there : (k b : ℕ) (x : Placed) (j : Bool) → slice_get ops k ≡ Some x → MatchBool j ((z : ℤ) × ((effect_of x.1).jump ≡ Some z)) (IsTrue (effect_of x.1).falls) → MatchBool j (JumpsTo (effect_of x.1).jump (place ops len (k + 1)) b) (b ≡ place ops len (k + 1)) → Leads ops len k (effect_of x.1) b
+  leads_there : (k b : ℕ) (x : Placed) (j : Bool) → slice_get ops k ≡ Some x → MatchBool j ((z : ℤ) × ((effect_of x.1).jump ≡ Some z)) (IsTrue (effect_of x.1).falls_through) → MatchBool j (JumpsTo (effect_of x.1).jump (place ops len (k + 1)) b) (b ≡ place ops len (k + 1)) → Leads ops len k (effect_of x.1) b
   leads_there k b x true stands br to = let there = target_is k b x (effect_of x.1).jump stands refl to in inr (there, good.targets k b x stands there)
   leads_there k b x false stands br to = inl (br, to)
 
@@ -157,7 +157,7 @@ module _ (kind : Kind) (ops : List Placed) (len : ℕ) (laid : IsLaidOut ops len
     pieces = unpieced kind c.pieces s.pieces;
   }
     where
-      plain : (k : Kind) (p : Option Whereabouts) → p ≡ None → PendingIs (start_of k).mode p (start_of k).height
+      plain : (k : Kind) (p : Option LocationDescription) → p ≡ None → PendingIs (start_of k).mode p (start_of k).height
       plain FrameCfa p e = e
       plain FrameRegister p e = e
       plain Location p e = e
@@ -210,7 +210,7 @@ module _ (kind : Kind) (ops : List Placed) (len : ℕ) (laid : IsLaidOut ops len
   }
 
   -- a step from an operation that is there
-  go_to : (m : Meaning) (c : Configuration) (new : List ℕ) (t : Meets ops c) (j : Bool) → m.answer t.placed.1 c.stack ≡ Ok new → j ≡ jumps t.placed.1 c.stack → MatchBool j ((z : ℤ) × ((effect_of t.placed.1).jump ≡ Some z)) (IsTrue (effect_of t.placed.1).falls) → (e : Configuration) × Step m ops len c e
+  go_to : (m : Meaning) (c : Configuration) (new : List ℕ) (t : Meets ops c) (j : Bool) → m.answer t.placed.1 c.stack ≡ Ok new → j ≡ jumps t.placed.1 c.stack → MatchBool j ((z : ℤ) × ((effect_of t.placed.1).jump ≡ Some z)) (IsTrue (effect_of t.placed.1).falls_through) → (e : Configuration) × Step m ops len c e
   unfolding behind
   go_to m c new t true answered is br =
       let next : ℕ = place ops len (t.number + 1) in
@@ -223,7 +223,7 @@ module _ (kind : Kind) (ops : List Placed) (len : ℕ) (laid : IsLaidOut ops len
       (behind t.placed c new next, record { meets = t; new = new; answered = answered; to = subst (λ (b : Bool). MatchBool b (JumpsTo (effect_of t.placed.1).jump next next) (next ≡ next)) is refl; stack = refl; pending = refl; pieces = refl })
 
   -- an operation that is there answers, or says why it doesn't
-  answer_of : (m : Meaning) (c : Configuration) (t : Meets ops c) (a : Result (List ℕ) Trouble) → m.answer t.placed.1 c.stack ≡ a → GoesOn kind m ops len c
+  answer_of : (m : Meaning) (c : Configuration) (t : Meets ops c) (a : Result (List ℕ) EvaluationError) → m.answer t.placed.1 c.stack ≡ a → IsNotStuck kind m ops len c
   answer_of m c t (Ok new) is = inr (inl (go_to m c new t (jumps t.placed.1 c.stack) is refl (branches t.placed.1 c.stack)))
   answer_of m c t (Err why) is = inr (inr (why, record { meets = t; answered = is }))
 
@@ -242,7 +242,7 @@ module _ (kind : Kind) (ops : List Placed) (len : ℕ) (laid : IsLaidOut ops len
       }
 
   -- from where a path comes, it goes on, or stops, or this is the end
-  on_from : (m : Meaning) (c : Configuration) → Stands c → GoesOn kind m ops len c
+  on_from : (m : Meaning) (c : Configuration) → Stands c → IsNotStuck kind m ops len c
   unfolding Stands
   on_from m c r =
       let p = reached_place kind ops len laid c.offset r.0 r.1 in

@@ -14,11 +14,11 @@ use Rattle.dw_stack.specs.declared.state.StackState.{StackState}
 use Rattle.dw_stack.specs.declared.state.Kind.{Kind}
 use Rattle.dw_stack.specs.Effects.{effect_of}
 use Rattle.dw_stack.specs.States.{at_offset}
-use Rattle.dw_stack.specs.Paths.{Placed, place, IsLaidOut, target_of, IsTarget, IsGood, AreStates}
+use Rattle.dw_stack.specs.Paths.{Placed, place, IsLaidOut, branch_target_of, IsTarget, IsGood, AreStates}
 use Rattle.dw_stack.specs.FirstFault.{number_of}
 use Rattle.dw_stack.specs.Expressions.{operations_in, reading_fault, Checked, IsChecked}
 use Rattle.dw_stack.proofs.Places.{place_inj}
-use Rattle.dw_stack.proofs.Spelled.{spelled_of, read_of, laid_out}
+use Rattle.dw_stack.proofs.Encoded.{encoded_of, read_of, laid_out}
 
 mode_of : ℕ → Mode
 mode_of zero = mode.Stack
@@ -92,7 +92,7 @@ find_place ops len t (suc n) = elim (find_place ops len t n) [
 ]
 
 module _ (kind : Kind) (ops : List Placed) (len : ℕ) (laid : IsLaidOut ops len) (h : ∥ IsGood kind ops len ∥₁) where
-  target_stable : (k t : ℕ) (x : Placed) → slice_get ops k ≡ Some x → target_of ops len k (effect_of x.1) ≡ Some t → IsTarget ops len k t
+  target_stable : (k t : ℕ) (x : Placed) → slice_get ops k ≡ Some x → branch_target_of ops len k (effect_of x.1) ≡ Some t → IsTarget ops len k t
   target_stable k t x stands to = elim (find_place ops len t (length ops)) [
     | inl found ↦ record {
       number = found.0;
@@ -123,15 +123,15 @@ module _ (kind : Kind) (ops : List Placed) (len : ℕ) (laid : IsLaidOut ops len
 module _ (c : Checked) (h : ∥ IsChecked c ∥₁) where
   read_stable : (o : Option Fault) → reading_fault c.target c.bytes ≡ o → reading_fault c.target c.bytes ≡ None
   read_stable None is = is
-  read_stable (Some f) is = absurd (∥∥₁_elim h ⊥_prop (λ checked. let none = read_of c.target c.bytes (operations_in c.target c.bytes) checked.good.spelled in let other : None ≡ Some f = sym none ∙ is in cc))
+  read_stable (Some f) is = absurd (∥∥₁_elim h ⊥_prop (λ checked. let none = read_of c.target c.bytes (operations_in c.target c.bytes) checked.good.encoded in let other : None ≡ Some f = sym none ∙ is in cc))
 
   pub checked_stable : IsChecked c
   checked_stable =
-      let spelled = spelled_of c.target c.bytes (read_stable (reading_fault c.target c.bytes) refl) in
-      let laid = laid_out c.target c.bytes (operations_in c.target c.bytes) spelled in
+      let encoded = encoded_of c.target c.bytes (read_stable (reading_fault c.target c.bytes) refl) in
+      let laid = laid_out c.target c.bytes (operations_in c.target c.bytes) encoded in
       record {
         good = record {
-          spelled = spelled;
+          encoded = encoded;
           good = good_stable c.kind (operations_in c.target c.bytes) (length c.bytes) laid (∥∥₁_elim h ∥∥₁_prop (λ checked. ∣ checked.good.good ∣₁));
         };
         depth = record {

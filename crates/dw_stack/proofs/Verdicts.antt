@@ -10,8 +10,8 @@ use Rattle.std.proofs.lemmas.Option.{slice_get_within, same_Some, slice_get_case
 use Rattle.dw_stack.specs.Paths.{Placed}
 use Rattle.dw_ops.specs.Operations.{Operation, skip}
 use Rattle.dw_stack.specs.declared.judge.TheConstants.{MAX_HEIGHT, MAX_PIECES}
-use Rattle.dw_stack.specs.declared.arrivals.Arrival.{Arrival}
-use Rattle.dw_stack.specs.declared.arrivals.Arrival.TheVariants.{Nothing, One, Many}
+use Rattle.dw_stack.specs.declared.in_state.InState.{InState}
+use Rattle.dw_stack.specs.declared.in_state.InState.TheVariants.{Unreached, Known, Conflict}
 use Rattle.dw_stack.specs.declared.state.StackState.{StackState}
 use Rattle.dw_stack.specs.declared.state.Kind.{Kind}
 use Rattle.dw_bytes.specs.declared.fault.FaultKind.{FaultKind}
@@ -19,10 +19,10 @@ use Rattle.dw_bytes.specs.declared.fault.FaultKind.TheVariants as fault
 use Rattle.dw_stack.specs.Effects.{effect_of}
 use Rattle.dw_stack.specs.declared.state.State.{State}
 use Rattle.dw_stack.specs.States.{start_of, height_after, state_after, HasResult, at_offset}
-use Rattle.dw_stack.specs.Paths.{place, IsLaidOut, aim, aimed, target_of, IsTarget, Leads, Reaches, IsGood, AreStates, IsDepth, is_piece, pieces_before}
+use Rattle.dw_stack.specs.Paths.{place, IsLaidOut, branch_target, jump_target, branch_target_of, IsTarget, Leads, Reaches, IsGood, AreStates, IsDepth, is_piece, pieces_before}
 use Rattle.dw_stack.specs.Faults.{Given, judgements, passes, first_failed, Objection, Refuses, rank, IsFirstFault}
 use Rattle.dw_stack.specs.Judge.{Objects}
-use Rattle.dw_stack.specs.Arrivals.{StepObjects}
+use Rattle.dw_stack.specs.InStates.{StepObjects}
 use Rattle.dw_stack.proofs.Places.{place_of_some, place_past, place_inj, place_mono, place_lt}
 use Rattle.dw_stack.proofs.Routes.{reach_from, extend, at_start, Comes, reaches_from_comes, comes_from_reaches, reached_place}
 use Rattle.dw_stack.proofs.Describes.{Describes, describes_is}
@@ -48,7 +48,7 @@ module _ (kind : Kind) (ops : List Placed) (len : ℕ) (laid : IsLaidOut ops len
   fine_passes fault.TooDeep k x s fine = le-leb (height_after (effect_of x.1) s) MAX_HEIGHT fine.limit
   fine_passes fault.TooManyPieces k x s fine = few_passes (is_piece (effect_of x.1).role) (pieces_before ops k) fine.few
   fine_passes fault.Backward k x s fine = ahead_passes (place ops len (k + 1)) (effect_of x.1).jump fine.ahead
-  fine_passes fault.TargetNotStart k x s fine = start_passes ops len (target_of ops len k (effect_of x.1)) (λ t is. let target = fine.target t is in (target.number, target.within, target.there))
+  fine_passes fault.TargetNotStart k x s fine = start_passes ops len (branch_target_of ops len k (effect_of x.1)) (λ t is. let target = fine.target t is in (target.number, target.within, target.there))
   fine_passes _ k x s fine = refl
 
   fine_objection : (f : FaultKind) (k : ℕ) (x : Placed) (s : StackState) → Fine kind ops len k x s → Objection kind ops len k (pieces_before ops k) x s f → ⊥
@@ -102,8 +102,8 @@ module _ (kind : Kind) (ops : List Placed) (len : ℕ) (laid : IsLaidOut ops len
     accepted_passes f i s lt a = λ x e o. fine_objection f i x s (a.fine x e) o
 
     -- the state at an operation that was judged
-    pub state_of : (i : ℕ) (states : List State) (arrivals : List Arrival) (depth pieces k : ℕ) → Walked kind ops len given i states arrivals depth pieces → k < i → (s : StackState) × (slice_get states k ≡ Some (at_offset (place ops len k) s)) × Accepted kind ops len given k s
-    state_of i states arrivals depth pieces k w lt =
+    pub state_of : (i : ℕ) (states : List State) (in_states : List InState) (depth pieces k : ℕ) → Walked kind ops len given i states in_states depth pieces → k < i → (s : StackState) × (slice_get states k ≡ Some (at_offset (place ops len k) s)) × Accepted kind ops len given k s
+    state_of i states in_states depth pieces k w lt =
         elim (slice_get_cases states k).1 [
           | inl found ↦
               let here = w.accepted k found.0 found.2 in
@@ -118,14 +118,14 @@ module _ (kind : Kind) (ops : List Placed) (len : ℕ) (laid : IsLaidOut ops len
     refusal_place fault.EndsEmpty a r = (length ops, omega arith, place_past ops len (length ops) (omega arith) ∙ sym r.0)
     refusal_place f a r = (r.0, omega (arith, slice_get_within ops r.0 r.1 r.3), place_of_some ops len r.0 r.1 r.3 ∙ r.4)
 
-    module _ (i : ℕ) (states : List State) (arrivals : List Arrival) (depth pieces : ℕ) (w : Walked kind ops len given i states arrivals depth pieces) where
+    module _ (i : ℕ) (states : List State) (in_states : List InState) (depth pieces : ℕ) (w : Walked kind ops len given i states in_states depth pieces) where
       -- nothing refuses at an operation that was judged
       none_below : i ≤ length ops → (f : FaultKind) (a : ℕ) → a < place ops len i → Refuses kind ops len given f a → ⊥
       none_below le f a lt r =
           let p = refusal_place f a r in
           let low : place ops len p.0 < place ops len i = omega (arith, p.2) in
           let k_lt : p.0 < i = place_lt ops len laid p.0 i p.1 le low in
-          let h = state_of i states arrivals depth pieces p.0 w k_lt in
+          let h = state_of i states in_states depth pieces p.0 w k_lt in
           let lt' : p.0 < length ops = omega arith in
           pass_refuses f p.0 h.0 a p.1 (sym p.2) (accepted_passes fault.Unreachable p.0 h.0 lt' h.2) (accepted_passes fault.Mismatch p.0 h.0 lt' h.2) (accepted_passes f p.0 h.0 lt' h.2) r
 
@@ -140,10 +140,10 @@ module _ (kind : Kind) (ops : List Placed) (len : ℕ) (laid : IsLaidOut ops len
       }
 
       -- the first fault at an operation that one state reaches
-      one_fault : (f : FaultKind) (s : StackState) → i < length ops → get_or arrivals i Nothing ≡ One s → (Reaches kind ops len (place ops len i) s → Refuses kind ops len given f (place ops len i)) → ((g : FaultKind) → rank g < rank f → Passes i s fault.Unreachable → Passes i s fault.Mismatch → Passes i s g) → IsFirstFault kind ops len given f (place ops len i)
+      one_fault : (f : FaultKind) (s : StackState) → i < length ops → get_or in_states i Unreached ≡ Known s → (Reaches kind ops len (place ops len i) s → Refuses kind ops len given f (place ops len i)) → ((g : FaultKind) → rank g < rank f → Passes i s fault.Unreachable → Passes i s fault.Mismatch → Passes i s g) → IsFirstFault kind ops len given f (place ops len i)
       unfolding Passes
       one_fault f s lt e r before =
-          let here = one_state kind ops len laid given i s (get_or arrivals i Nothing) (omega arith) e (w.described i (omega arith) (omega arith)) in
+          let here = one_state kind ops len laid given i s (get_or in_states i Unreached) (omega arith) e (w.described i (omega arith) (omega arith)) in
           first_here f (place ops len i) (omega arith) refl (r here.0) (λ g less refuses. pass_refuses g i s (place ops len i) (omega arith) refl here.0 here.1 (before g less here.0 here.1) refuses)
 
       before_state : (g : FaultKind) (s : StackState) → rank g < rank fault.CertState → Passes i s fault.Unreachable → Passes i s fault.Mismatch → Passes i s g
@@ -171,7 +171,7 @@ module _ (kind : Kind) (ops : List Placed) (len : ℕ) (laid : IsLaidOut ops len
       local_refuses fault.EndsEmpty x s stands o there = absurd (cc)
       local_refuses f x s stands o there = (i, x, s, stands, sym (place_of_some ops len i x stands), there, o)
 
-      pub objects_fault : (f : FaultKind) (s : StackState) → i < length ops → get_or arrivals i Nothing ≡ One s → Given ops len given i s → Objects kind ops len i pieces s f → IsFirstFault kind ops len given f (place ops len i)
+      pub objects_fault : (f : FaultKind) (s : StackState) → i < length ops → get_or in_states i Unreached ≡ Known s → Given ops len given i s → Objects kind ops len i pieces s f → IsFirstFault kind ops len given f (place ops len i)
       unfolding Passes
       objects_fault f s lt e is o =
           let first : first_failed (passes kind ops len i (pieces_before ops i) (effect_of o.placed.1) s) ≡ Some f = subst (λ (n : ℕ). first_failed (passes kind ops len i n (effect_of o.placed.1) s) ≡ Some f) w.counted o.first in
@@ -179,16 +179,16 @@ module _ (kind : Kind) (ops : List Placed) (len : ℕ) (laid : IsLaidOut ops len
           (λ g less u m. before_local f g o.placed s lt o.stands first less u m is)
 
       -- what a step objects to is the first fault
-      pub step_fault : (f : FaultKind) → i < length ops → StepObjects kind ops len given i pieces arrivals f → IsFirstFault kind ops len given f (place ops len i)
+      pub step_fault : (f : FaultKind) → i < length ops → StepObjects kind ops len given i pieces in_states f → IsFirstFault kind ops len given f (place ops len i)
       unfolding Passes
       step_fault fault.Unreachable lt o =
-          let d : Describes Nothing (Comes kind ops len i (place ops len i)) = describes_is (get_or arrivals i Nothing) Nothing (Comes kind ops len i (place ops len i)) o (w.described i (omega arith) (omega arith)) in
+          let d : Describes Unreached (Comes kind ops len i (place ops len i)) = describes_is (get_or in_states i Unreached) Unreached (Comes kind ops len i (place ops len i)) o (w.described i (omega arith) (omega arith)) in
           elim (slice_get_cases ops i).1 [
             | inl some ↦ first_here fault.Unreachable (place ops len i) (omega arith) refl (i, some.0, some.2, sym (place_of_some ops len i some.0 some.2), λ s r. d s (comes_from_reaches kind ops len laid i s (omega arith) r)) (λ g less _. omega (arith, less))
             | inr none ↦ absurd (omega (arith, none.0))
           ]
       step_fault fault.Mismatch lt o =
-          let d : Describes Many (Comes kind ops len i (place ops len i)) = describes_is (get_or arrivals i Nothing) Many (Comes kind ops len i (place ops len i)) o (w.described i (omega arith) (omega arith)) in
+          let d : Describes Conflict (Comes kind ops len i (place ops len i)) = describes_is (get_or in_states i Unreached) Conflict (Comes kind ops len i (place ops len i)) o (w.described i (omega arith) (omega arith)) in
           let s = reaches_from_comes kind ops len laid i (place ops len i) d.0 d.2 in
           let t = reaches_from_comes kind ops len laid i (place ops len i) d.1 d.3 in
           first_here fault.Mismatch (place ops len i) (omega arith) refl (d.0, d.1, s, t, d.4) (below_mismatch d.0 s)
@@ -211,21 +211,21 @@ module _ (kind : Kind) (ops : List Placed) (len : ℕ) (laid : IsLaidOut ops len
     at_end : place ops len (length ops) ≡ len
     at_end = place_past ops len (length ops) (omega arith)
 
-    end_reached : (i k : ℕ) → length ops ≡ k → i ≡ k → (states : List State) (arrivals : List Arrival) (depth pieces : ℕ) → Walked kind ops len given i states arrivals depth pieces → (g : StackState) × Reaches kind ops len (place ops len (length ops)) g
-    end_reached i zero none e states arrivals depth pieces w =
+    end_reached : (i k : ℕ) → length ops ≡ k → i ≡ k → (states : List State) (in_states : List InState) (depth pieces : ℕ) → Walked kind ops len given i states in_states depth pieces → (g : StackState) × Reaches kind ops len (place ops len (length ops)) g
+    end_reached i zero none e states in_states depth pieces w =
         (start_of kind, reach_from kind ops len 0 (place ops len (length ops)) (start_of kind) (start_of kind) (sym laid.first ∙ ap (place ops len) (sym none)) refl (at_start kind ops len))
-    end_reached i (suc k) some e states arrivals depth pieces w =
-        let last = state_of i states arrivals depth pieces k w (omega arith) in
+    end_reached i (suc k) some e states in_states depth pieces w =
+        let last = state_of i states in_states depth pieces k w (omega arith) in
         elim (slice_get_cases ops k).1 [
           | inl found ↦ goes k (omega arith) found.0 last.0 found.2 last.2
           | inr past ↦ absurd (omega (arith, past.0))
         ]
       where
-        leads_on : (op : Operation) → IsTrue (effect_of op).falls ⊎ ((z : ℤ) × ((effect_of op).jump ≡ Some z))
+        leads_on : (op : Operation) → IsTrue (effect_of op).falls_through ⊎ ((z : ℤ) × ((effect_of op).jump ≡ Some z))
         leads_on (skip z) = inr (z, refl)
         leads_on _ = inl refl
 
-        goal_at : (next : ℕ) (z : ℤ) → (aim next z ≡ None) ⊎ ((t : ℕ) × (aim next z ≡ Some t))
+        goal_at : (next : ℕ) (z : ℤ) → (branch_target next z ≡ None) ⊎ ((t : ℕ) × (branch_target next z ≡ Some t))
         goal_at next (negsuc n) = inl refl
         goal_at next z = inr (_, refl)
 
@@ -234,11 +234,11 @@ module _ (kind : Kind) (ops : List Placed) (len : ℕ) (laid : IsLaidOut ops len
             let arrive : Leads ops len k (effect_of x.1) (place ops len (length ops)) → (g : StackState) × Reaches kind ops len (place ops len (length ops)) g = λ leads.
             (state_after (effect_of x.1) h, extend kind ops len (place ops len k) h (place ops len (length ops)) (state_after (effect_of x.1) h) a.reached (record { number = k; placed = x; stands = s; from = sym (place_of_some ops len k x s); leads = leads; state = refl })) in
             elim (leads_on x.1) [
-              | inl falls ↦ arrive (inl (falls, ap (place ops len) e))
+              | inl falls_through ↦ arrive (inl (falls_through, ap (place ops len) e))
               | inr jump ↦ elim (goal_at (place ops len (k + 1)) jump.0) [
                 | inl back ↦ absurd ((a.fine x s).ahead jump.0 jump.1 back)
                 | inr found ↦
-                    let aimed_at : target_of ops len k (effect_of x.1) ≡ Some found.0 = ap (aimed (place ops len (k + 1))) jump.1 ∙ found.1 in
+                    let aimed_at : branch_target_of ops len k (effect_of x.1) ≡ Some found.0 = ap (jump_target (place ops len (k + 1))) jump.1 ∙ found.1 in
                     let t = (a.fine x s).target found.0 aimed_at in
                     let same : place ops len t.number ≡ place ops len (length ops) = ap (place ops len) (omega (arith, t.later, t.within)) in
                     let e_t : found.0 ≡ place ops len (length ops) = sym t.there ∙ same in
@@ -246,23 +246,23 @@ module _ (kind : Kind) (ops : List Placed) (len : ℕ) (laid : IsLaidOut ops len
               ]
             ]
 
-    module _ (i : ℕ) (all : i ≡ length ops) (states : List State) (arrivals : List Arrival) (depth pieces : ℕ) (w : Walked kind ops len given i states arrivals depth pieces) where
-      end_described : Describes (get_or arrivals (length ops) Nothing) (Comes kind ops len (length ops) (place ops len (length ops)))
-      end_described = subst (λ (n : ℕ). Describes (get_or arrivals (length ops) Nothing) (Comes kind ops len n (place ops len (length ops)))) all (w.described (length ops) (omega arith) (omega arith))
+    module _ (i : ℕ) (all : i ≡ length ops) (states : List State) (in_states : List InState) (depth pieces : ℕ) (w : Walked kind ops len given i states in_states depth pieces) where
+      end_described : Describes (get_or in_states (length ops) Unreached) (Comes kind ops len (length ops) (place ops len (length ops)))
+      end_described = subst (λ (n : ℕ). Describes (get_or in_states (length ops) Unreached) (Comes kind ops len n (place ops len (length ops)))) all (w.described (length ops) (omega arith) (omega arith))
 
       -- some path comes to the end
-      pub end_not_nothing : get_or arrivals (length ops) Nothing ≡ Nothing → ⊥
+      pub end_not_nothing : get_or in_states (length ops) Unreached ≡ Unreached → ⊥
       end_not_nothing e =
-          let r = end_reached i (length ops) refl all states arrivals depth pieces w in
-          let d : Describes Nothing (Comes kind ops len (length ops) (place ops len (length ops))) = subst (λ (a : Arrival). Describes a (Comes kind ops len (length ops) (place ops len (length ops)))) e end_described in
+          let r = end_reached i (length ops) refl all states in_states depth pieces w in
+          let d : Describes Unreached (Comes kind ops len (length ops) (place ops len (length ops))) = subst (λ (a : InState). Describes a (Comes kind ops len (length ops) (place ops len (length ops)))) e end_described in
           d r.0 (comes_from_reaches kind ops len laid (length ops) r.0 (omega arith) r.1)
 
       end_first : (f : FaultKind) → Refuses kind ops len given f len → ((g : FaultKind) → rank g < rank f → Refuses kind ops len given g len → ⊥) → IsFirstFault kind ops len given f len
-      end_first f r here = first_here i states arrivals depth pieces w f len (omega arith) (sym at_end ∙ ap (place ops len) (sym all)) r here
+      end_first f r here = first_here i states in_states depth pieces w f len (omega arith) (sym at_end ∙ ap (place ops len) (sym all)) r here
 
-      pub end_mismatch : get_or arrivals (length ops) Nothing ≡ Many → IsFirstFault kind ops len given fault.Mismatch len
+      pub end_mismatch : get_or in_states (length ops) Unreached ≡ Conflict → IsFirstFault kind ops len given fault.Mismatch len
       end_mismatch e =
-          let d : Describes Many (Comes kind ops len (length ops) (place ops len (length ops))) = subst (λ (a : Arrival). Describes a (Comes kind ops len (length ops) (place ops len (length ops)))) e end_described in
+          let d : Describes Conflict (Comes kind ops len (length ops) (place ops len (length ops))) = subst (λ (a : InState). Describes a (Comes kind ops len (length ops) (place ops len (length ops)))) e end_described in
           let at : (n : StackState) → Comes kind ops len (length ops) (place ops len (length ops)) n → Reaches kind ops len len n = λ n c. reach_from kind ops len (place ops len (length ops)) len n n at_end refl (reaches_from_comes kind ops len laid (length ops) (place ops len (length ops)) n c) in
           end_first fault.Mismatch (d.0, d.1, at d.0 d.2, at d.1 d.3, d.4) below_mismatch
         where
@@ -270,12 +270,12 @@ module _ (kind : Kind) (ops : List Placed) (len : ℕ) (laid : IsLaidOut ops len
           below_mismatch fault.Unreachable less r = no_operation_at_end r.0 r.1 r.2 r.3
           below_mismatch _ less r = omega (arith, less)
 
-      end_one : (s : StackState) → get_or arrivals (length ops) Nothing ≡ One s → Reaches kind ops len len s × ((t : StackState) → Reaches kind ops len len t → t ≡ s)
+      end_one : (s : StackState) → get_or in_states (length ops) Unreached ≡ Known s → Reaches kind ops len len s × ((t : StackState) → Reaches kind ops len len t → t ≡ s)
       end_one s e =
-          let here = one_state kind ops len laid given (length ops) s (get_or arrivals (length ops) Nothing) (omega arith) e end_described in
+          let here = one_state kind ops len laid given (length ops) s (get_or in_states (length ops) Unreached) (omega arith) e end_described in
           (reach_from kind ops len (place ops len (length ops)) len s s at_end refl here.0, λ t r. here.1 t (reach_from kind ops len len (place ops len (length ops)) t t (sym at_end) refl r))
 
-      pub end_empty : (s : StackState) → get_or arrivals (length ops) Nothing ≡ One s → (HasResult kind (length ops == 0) s → ⊥) → IsFirstFault kind ops len given fault.EndsEmpty len
+      pub end_empty : (s : StackState) → get_or in_states (length ops) Unreached ≡ Known s → (HasResult kind (length ops == 0) s → ⊥) → IsFirstFault kind ops len given fault.EndsEmpty len
       end_empty s e low = end_first fault.EndsEmpty (refl, (s, (end_one s e).0, low)) below_empty
         where
           below_empty : (f : FaultKind) → rank f < rank fault.EndsEmpty → Refuses kind ops len given f len → ⊥
@@ -286,7 +286,7 @@ module _ (kind : Kind) (ops : List Placed) (len : ℕ) (laid : IsLaidOut ops len
 
       -- the state at each operation
       accepted_at : (k : ℕ) (x : Placed) → slice_get ops k ≡ Some x → (s : StackState) × (slice_get states k ≡ Some (at_offset (place ops len k) s)) × Accepted kind ops len given k s
-      accepted_at k x s = state_of i states arrivals depth pieces k w (omega (arith, slice_get_within ops k x s))
+      accepted_at k x s = state_of i states in_states depth pieces k w (omega (arith, slice_get_within ops k x s))
 
       is_state : (k : ℕ) (g h : StackState) (x : Placed) → slice_get ops k ≡ Some x → Accepted kind ops len given k h → Reaches kind ops len x.0 g → h ≡ g
       is_state k g h x s a r = sym (a.one g (reach_from kind ops len x.0 (place ops len k) g g (sym (place_of_some ops len k x s)) refl r))
@@ -297,7 +297,7 @@ module _ (kind : Kind) (ops : List Placed) (len : ℕ) (laid : IsLaidOut ops len
           let to : (n : StackState) → Reaches kind ops len b n → Reaches kind ops len (place ops len p.0) n = λ n t. reach_from kind ops len b (place ops len p.0) n n (sym p.2) refl t in
           elim (cases_lt p.0 (length ops)) [
             | inl within ↦
-                let a = state_of i states arrivals depth pieces p.0 w (omega arith) in
+                let a = state_of i states in_states depth pieces p.0 w (omega arith) in
                 a.2.one g (to g r) ∙ sym (a.2.one e (to e q))
             | inr past ↦
                 let b_is : b ≡ len = sym p.2 ∙ place_past ops len p.0 past in
@@ -310,7 +310,7 @@ module _ (kind : Kind) (ops : List Placed) (len : ℕ) (laid : IsLaidOut ops len
           let a = accepted_at k x stands in
           subst (λ (t : StackState). Fine kind ops len k x t) (is_state k s a.0 x stands a.2 r) (a.2.fine x stands)
 
-      pub end_good : (s : StackState) → get_or arrivals (length ops) Nothing ≡ One s → HasResult kind (length ops == 0) s → IsGood kind ops len
+      pub end_good : (s : StackState) → get_or in_states (length ops) Unreached ≡ Known s → HasResult kind (length ops == 0) s → IsGood kind ops len
       end_good s e result = record {
         allowed = λ k x stands. let a = accepted_at k x stands in (a.2.fine x stands).allowed;
         alone = λ k x t stands r. (fine_at k x t stands r).alone;

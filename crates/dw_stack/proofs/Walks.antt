@@ -4,11 +4,11 @@ use Rattle.std.specs.Prelude.{slice_get, max}
 use Rattle.std.proofs.lemmas.Bool.{cases_lt}
 use Rattle.std.proofs.lemmas.Option.{slice_get_within, same_Some}
 use Rattle.dw_stack.specs.Paths.{Placed}
-use Rattle.dw_stack.specs.declared.judge.Outgoing.{Outgoing}
+use Rattle.dw_stack.specs.declared.judge.OutState.{OutState}
 use Rattle.dw_stack.specs.declared.effect.StackEffect.{StackEffect}
 use Rattle.dw_stack.specs.declared.judge.TheConstants.{MAX_HEIGHT}
-use Rattle.dw_stack.specs.declared.arrivals.Arrival.{Arrival}
-use Rattle.dw_stack.specs.declared.arrivals.Arrival.TheVariants.{Nothing, One}
+use Rattle.dw_stack.specs.declared.in_state.InState.{InState}
+use Rattle.dw_stack.specs.declared.in_state.InState.TheVariants.{Unreached, Known}
 use Rattle.dw_stack.specs.declared.step.Done.{Done}
 use Rattle.dw_stack.specs.declared.state.StackState.{StackState}
 use Rattle.dw_stack.specs.declared.state.State.{State}
@@ -16,10 +16,10 @@ use Rattle.dw_stack.specs.declared.state.Kind.{Kind}
 use Rattle.dw_stack.specs.declared.judge.TheConstants.{MAX_PIECES}
 use Rattle.dw_stack.specs.Effects.{effect_of}
 use Rattle.dw_stack.specs.States.{start_of, StandsAlone, height_after, state_after, at_offset}
-use Rattle.dw_stack.specs.Paths.{place, IsLaidOut, aim, aimed, target_of, IsTarget, Leads, Edge, Reaches, IsAllowed, is_piece, pieces_before}
+use Rattle.dw_stack.specs.Paths.{place, IsLaidOut, branch_target, jump_target, branch_target_of, IsTarget, Leads, Edge, Reaches, IsAllowed, is_piece, pieces_before}
 use Rattle.dw_stack.specs.Faults.{Given}
 use Rattle.dw_stack.specs.Judge.{Judged, TargetIs}
-use Rattle.dw_stack.specs.Arrivals.{PassesOn, Stepped}
+use Rattle.dw_stack.specs.InStates.{PassesOn, Stepped}
 use Rattle.dw_stack.proofs.Places.{place_of_some, place_inj, place_mono}
 use Rattle.dw_stack.proofs.Routes.{reach_from, Comes, reaches_from_comes, comes_from_reaches}
 use Rattle.dw_stack.proofs.Describes.{Describes, describes_same, describes_is, describes_next, describes_target, length_next, length_target}
@@ -33,8 +33,8 @@ pub record Fine (kind : Kind) (ops : List Placed) (len k : ℕ) (x : Placed) (s 
   pub needs : (effect_of x.1).needs ≤ s.height
   pub limit : height_after (effect_of x.1) s ≤ MAX_HEIGHT
   pub few : is_piece (effect_of x.1).role ≡ true → pieces_before ops k < MAX_PIECES
-  pub ahead : (z : ℤ) → (effect_of x.1).jump ≡ Some z → aim (place ops len (k + 1)) z ≡ None → ⊥
-  pub target : (t : ℕ) → target_of ops len k (effect_of x.1) ≡ Some t → IsTarget ops len k t
+  pub ahead : (z : ℤ) → (effect_of x.1).jump ≡ Some z → branch_target (place ops len (k + 1)) z ≡ None → ⊥
+  pub target : (t : ℕ) → branch_target_of ops len k (effect_of x.1) ≡ Some t → IsTarget ops len k t
 
 -- the operation numbered k was judged, at the state s that paths have there
 pub record Accepted (kind : Kind) (ops : List Placed) (len : ℕ) (given : Option (List State)) (k : ℕ) (s : StackState) : Type 0 where
@@ -52,11 +52,11 @@ pub record DepthBelow (kind : Kind) (ops : List Placed) (len i d : ℕ) : Type 0
   pub touched : TouchesBelow kind ops len i d
   pub greatest : (h : ℕ) → TouchesBelow kind ops len i h → h ≤ d
 
-pub record Walked (kind : Kind) (ops : List Placed) (len : ℕ) (given : Option (List State)) (i : ℕ) (states : List State) (arrivals : List Arrival) (depth pieces : ℕ) : Type 0 where
+pub record Walked (kind : Kind) (ops : List Placed) (len : ℕ) (given : Option (List State)) (i : ℕ) (states : List State) (in_states : List InState) (depth pieces : ℕ) : Type 0 where
   pub long : length states ≡ i
   pub accepted : (k : ℕ) (t : State) → slice_get states k ≡ Some t → (s : StackState) × (t ≡ at_offset (place ops len k) s) × Accepted kind ops len given k s
-  pub wide : length arrivals ≡ length ops + 1
-  pub described : (j : ℕ) → i ≤ j → j ≤ length ops → Describes (get_or arrivals j Nothing) (Comes kind ops len i (place ops len j))
+  pub wide : length in_states ≡ length ops + 1
+  pub described : (j : ℕ) → i ≤ j → j ≤ length ops → Describes (get_or in_states j Unreached) (Comes kind ops len i (place ops len j))
   pub deepest : DepthBelow kind ops len i depth
   pub counted : pieces ≡ pieces_before ops i
   pub few : pieces ≤ MAX_PIECES
@@ -72,7 +72,7 @@ get_push (x ∷ hs) h (suc k) g e =
       | inr new ↦ inr (omega (arith, new.0), new.1)
     ]
 
-module _ (kind : Kind) (ops : List Placed) (len : ℕ) (laid : IsLaidOut ops len) (given : Option (List State)) (i pieces : ℕ) (h : StackState) (out : Outgoing) (lt : i < length ops) (j : Judged kind ops len i pieces h out) where
+module _ (kind : Kind) (ops : List Placed) (len : ℕ) (laid : IsLaidOut ops len) (given : Option (List State)) (i pieces : ℕ) (h : StackState) (out : OutState) (lt : i < length ops) (j : Judged kind ops len i pieces h out) where
   -- a height that stands behind the operation numbered i, at the place numbered n
   Goes : ℕ → StackState → Type 0
   Goes n g = Leads ops len i (effect_of j.placed.1) (place ops len n) × (g ≡ out.state)
@@ -113,7 +113,7 @@ module _ (kind : Kind) (ops : List Placed) (len : ℕ) (laid : IsLaidOut ops len
       ]
 
 -- what the operation's target and the number found for it say of each other
-target_to : (ops : List Placed) (len k n : ℕ) (o : Option ℤ) (o' : Option ℕ) → TargetIs ops len k o o' → o' ≡ Some n → (aimed (place ops len (k + 1)) o ≡ Some (place ops len n)) × IsTarget ops len k (place ops len n)
+target_to : (ops : List Placed) (len k n : ℕ) (o : Option ℤ) (o' : Option ℕ) → TargetIs ops len k o o' → o' ≡ Some n → (jump_target (place ops len (k + 1)) o ≡ Some (place ops len n)) × IsTarget ops len k (place ops len n)
 target_to ops len k n None None is e = absurd (cc)
 target_to ops len k n None (Some m) is e = absurd is
 target_to ops len k n (Some z) None is e = absurd is
@@ -121,7 +121,7 @@ target_to ops len k n (Some z) (Some m) is e =
     let same : m ≡ n = same_Some m n e in
     (is.there ∙ ap (λ (x : ℕ). Some (place ops len x)) same, record { number = m; later = is.later; within = is.within; there = ap (place ops len) same })
 
-target_from : (ops : List Placed) (len k n : ℕ) → IsLaidOut ops len → (o : Option ℤ) (o' : Option ℕ) → TargetIs ops len k o o' → n ≤ length ops → aimed (place ops len (k + 1)) o ≡ Some (place ops len n) → o' ≡ Some n
+target_from : (ops : List Placed) (len k n : ℕ) → IsLaidOut ops len → (o : Option ℤ) (o' : Option ℕ) → TargetIs ops len k o o' → n ≤ length ops → jump_target (place ops len (k + 1)) o ≡ Some (place ops len n) → o' ≡ Some n
 target_from ops len k n laid None None is le e = absurd (cc)
 target_from ops len k n laid None (Some m) is le e = absurd is
 target_from ops len k n laid (Some z) None is le e = absurd is
@@ -129,17 +129,17 @@ target_from ops len k n laid (Some z) (Some m) is le e =
     let same : place ops len m ≡ place ops len n = same_Some (place ops len m) (place ops len n) (sym is.there ∙ e) in
     ap (λ (x : ℕ). Some x) (place_inj ops len laid m n is.within le same)
 
-pub target_is_target : (ops : List Placed) (len k t : ℕ) (o : Option ℤ) (o' : Option ℕ) → TargetIs ops len k o o' → aimed (place ops len (k + 1)) o ≡ Some t → IsTarget ops len k t
+pub target_is_target : (ops : List Placed) (len k t : ℕ) (o : Option ℤ) (o' : Option ℕ) → TargetIs ops len k o o' → jump_target (place ops len (k + 1)) o ≡ Some t → IsTarget ops len k t
 target_is_target ops len k t None o' is e = absurd (cc)
 target_is_target ops len k t (Some z) None is e = absurd is
 target_is_target ops len k t (Some z) (Some m) is e =
     record { number = m; later = is.later; within = is.within; there = same_Some (place ops len m) t (sym is.there ∙ e) }
 
-pub target_ahead : (ops : List Placed) (len k : ℕ) (z : ℤ) (o : Option ℤ) (o' : Option ℕ) → TargetIs ops len k o o' → o ≡ Some z → aim (place ops len (k + 1)) z ≡ None → ⊥
+pub target_ahead : (ops : List Placed) (len k : ℕ) (z : ℤ) (o : Option ℤ) (o' : Option ℕ) → TargetIs ops len k o o' → o ≡ Some z → branch_target (place ops len (k + 1)) z ≡ None → ⊥
 target_ahead ops len k z None o' is e back = cc
 target_ahead ops len k z (Some y) None is e back = is
 target_ahead ops len k z (Some y) (Some m) is e back =
-    let both : aimed (place ops len (k + 1)) (Some y) ≡ aimed (place ops len (k + 1)) (Some z) = ap (aimed (place ops len (k + 1))) e in
+    let both : jump_target (place ops len (k + 1)) (Some y) ≡ jump_target (place ops len (k + 1)) (Some z) = ap (jump_target (place ops len (k + 1))) e in
     let none : Some (place ops len m) ≡ None = sym is.there ∙ both ∙ back in
     cc
 
@@ -152,35 +152,35 @@ target_within ops len k n (Some z) (Some m) is e = let same = same_Some m n e in
 true_from : (b c : Bool) → b ≡ c → IsTrue b → IsTrue c
 true_from b c e t = subst (λ (x : Bool). IsTrue x) e t
 
-pub length-passed : (old new : List Arrival) (i : ℕ) (out : Outgoing) → PassesOn old i out new → length new ≡ length old
-length-passed old new i out p = length_target out.target p.mid new out.state p.target ∙ length_next out.falls old p.mid (i + 1) out.state p.next
+pub length-passed : (old new : List InState) (i : ℕ) (out : OutState) → PassesOn old i out new → length new ≡ length old
+length-passed old new i out p = length_target out.target p.mid new out.state p.target ∙ length_next out.falls_through old p.mid (i + 1) out.state p.next
 
-module _ (kind : Kind) (ops : List Placed) (len : ℕ) (laid : IsLaidOut ops len) (given : Option (List State)) (i pieces : ℕ) (h : StackState) (out : Outgoing) (lt : i < length ops) (j : Judged kind ops len i pieces h out) where
-  pub described_passed : (old new : List Arrival) (n : ℕ) → length old ≡ length ops + 1 → PassesOn old i out new → n ≤ length ops → Reaches kind ops len (place ops len i) h → ((g : StackState) → Reaches kind ops len (place ops len i) g → g ≡ h) → Describes (get_or old n Nothing) (Comes kind ops len i (place ops len n)) → Describes (get_or new n Nothing) (Comes kind ops len (i + 1) (place ops len n))
+module _ (kind : Kind) (ops : List Placed) (len : ℕ) (laid : IsLaidOut ops len) (given : Option (List State)) (i pieces : ℕ) (h : StackState) (out : OutState) (lt : i < length ops) (j : Judged kind ops len i pieces h out) where
+  pub described_passed : (old new : List InState) (n : ℕ) → length old ≡ length ops + 1 → PassesOn old i out new → n ≤ length ops → Reaches kind ops len (place ops len i) h → ((g : StackState) → Reaches kind ops len (place ops len i) g → g ≡ h) → Describes (get_or old n Unreached) (Comes kind ops len i (place ops len n)) → Describes (get_or new n Unreached) (Comes kind ops len (i + 1) (place ops len n))
   unfolding Goes
   described_passed old new n wide p le reached one d =
       let e : StackEffect = effect_of j.placed.1 in
       let P : StackState → Type 0 = Comes kind ops len i (place ops len n) in
-      let P1 : StackState → Type 0 = λ g. P g ⊎ (IsTrue out.falls × (n ≡ i + 1) × (g ≡ out.state)) in
+      let P1 : StackState → Type 0 = λ g. P g ⊎ (IsTrue out.falls_through × (n ≡ i + 1) × (g ≡ out.state)) in
       let P2 : StackState → Type 0 = λ g. P1 g ⊎ ((out.target ≡ Some n) × (g ≡ out.state)) in
-      let d1 : Describes (get_or p.mid n Nothing) P1 = describes_next out.falls old p.mid (i + 1) out.state n P (omega arith) p.next d in
-      let within : (k : ℕ) → out.target ≡ Some k → k < length p.mid = λ k is. omega (arith, target_within ops len i k e.jump out.target j.target is, length_next out.falls old p.mid (i + 1) out.state p.next) in
-      let d2 : Describes (get_or new n Nothing) P2 = describes_target out.target p.mid new out.state n P1 within p.target d1 in
+      let d1 : Describes (get_or p.mid n Unreached) P1 = describes_next out.falls_through old p.mid (i + 1) out.state n P (omega arith) p.next d in
+      let within : (k : ℕ) → out.target ≡ Some k → k < length p.mid = λ k is. omega (arith, target_within ops len i k e.jump out.target j.target is, length_next out.falls_through old p.mid (i + 1) out.state p.next) in
+      let d2 : Describes (get_or new n Unreached) P2 = describes_target out.target p.mid new out.state n P1 within p.target d1 in
       let to : (g : StackState) → P2 g → Comes kind ops len (i + 1) (place ops len n) g = λ g q. comes_back kind ops len laid given i pieces h out lt j reached n g (elim q [
         | inl first ↦ elim first [
           | inl old ↦ inl old
-          | inr falls ↦ inr (inl (true_from out.falls e.falls j.falls falls.0, ap (place ops len) falls.1), falls.2)
+          | inr falls_through ↦ inr (inl (true_from out.falls_through e.falls_through j.falls_through falls_through.0, ap (place ops len) falls_through.1), falls_through.2)
         ]
         | inr goes ↦ inr (inr (target_to ops len i n e.jump out.target j.target goes.0), goes.1)
       ]) in
       let from : (g : StackState) → Comes kind ops len (i + 1) (place ops len n) g → P2 g = λ g c. elim (comes_more kind ops len laid given i pieces h out lt j one n g c) [
         | inl old ↦ inl (inl old)
         | inr new ↦ elim new.0 [
-          | inl falls ↦ inl (inr (true_from e.falls out.falls (sym j.falls) falls.0, place_inj ops len laid n (i + 1) le (omega arith) falls.1, new.1))
+          | inl falls_through ↦ inl (inr (true_from e.falls_through out.falls_through (sym j.falls_through) falls_through.0, place_inj ops len laid n (i + 1) le (omega arith) falls_through.1, new.1))
           | inr goes ↦ inr (target_from ops len i n laid e.jump out.target j.target le goes.0, new.1)
         ]
       ] in
-      describes_same (get_or new n Nothing) P2 (Comes kind ops len (i + 1) (place ops len n)) to from d2
+      describes_same (get_or new n Unreached) P2 (Comes kind ops len (i + 1) (place ops len n)) to from d2
 
 le_right : (n a b : ℕ) → n ≡ b → n ≤ max a b
 le_right n a b e = omega arith
@@ -250,8 +250,8 @@ few_more pieces false c is few le = omega (arith, le)
 
 module _ (kind : Kind) (ops : List Placed) (len : ℕ) (laid : IsLaidOut ops len) (given : Option (List State)) where
   -- nothing was judged yet
-  pub walked_start : (arrivals : List Arrival) → length arrivals ≡ length ops + 1 → get_or arrivals 0 Nothing ≡ One (start_of kind) → ((j : ℕ) → 0 < j → j ≤ length ops → get_or arrivals j Nothing ≡ Nothing) → Walked kind ops len given 0 [] arrivals (start_of kind).height 0
-  walked_start arrivals wide first others = record {
+  pub walked_start : (in_states : List InState) → length in_states ≡ length ops + 1 → get_or in_states 0 Unreached ≡ Known (start_of kind) → ((j : ℕ) → 0 < j → j ≤ length ops → get_or in_states j Unreached ≡ Unreached) → Walked kind ops len given 0 [] in_states (start_of kind).height 0
+  walked_start in_states wide first others = record {
     long = refl;
     accepted = λ k s e. absurd (none k s e);
     wide = wide;
@@ -264,27 +264,27 @@ module _ (kind : Kind) (ops : List Placed) (len : ℕ) (laid : IsLaidOut ops len
       none : (k : ℕ) (s : State) → slice_get [] k ≡ Some s → ⊥
       none k s e = cc
 
-      at_first : (j : ℕ) → 0 ≡ j → Describes (get_or arrivals j Nothing) (Comes kind ops len 0 (place ops len j))
+      at_first : (j : ℕ) → 0 ≡ j → Describes (get_or in_states j Unreached) (Comes kind ops len 0 (place ops len j))
       at_first j e =
-          let d : Describes (One (start_of kind)) (Comes kind ops len 0 (place ops len 0)) = (inl (sym laid.first, refl), λ h c. elim c [ inl same ↦ sym same.1 | inr before ↦ absurd (omega (arith, before.below)) ]) in
-          subst (λ (n : ℕ). Describes (get_or arrivals n Nothing) (Comes kind ops len 0 (place ops len n))) e (describes_is (One (start_of kind)) (get_or arrivals 0 Nothing) (Comes kind ops len 0 (place ops len 0)) (sym first) d)
+          let d : Describes (Known (start_of kind)) (Comes kind ops len 0 (place ops len 0)) = (inl (sym laid.first, refl), λ h c. elim c [ inl same ↦ sym same.1 | inr before ↦ absurd (omega (arith, before.below)) ]) in
+          subst (λ (n : ℕ). Describes (get_or in_states n Unreached) (Comes kind ops len 0 (place ops len n))) e (describes_is (Known (start_of kind)) (get_or in_states 0 Unreached) (Comes kind ops len 0 (place ops len 0)) (sym first) d)
 
-      at_other : (j : ℕ) → 0 < j → j ≤ length ops → Describes (get_or arrivals j Nothing) (Comes kind ops len 0 (place ops len j))
+      at_other : (j : ℕ) → 0 < j → j ≤ length ops → Describes (get_or in_states j Unreached) (Comes kind ops len 0 (place ops len j))
       at_other j pos le =
-          let d : Describes Nothing (Comes kind ops len 0 (place ops len j)) = λ h c. elim c [ inl same ↦ absurd (omega (arith, same.0, laid.first, place_mono ops len laid 0 j pos le)) | inr before ↦ absurd (omega (arith, before.below)) ] in
-          describes_is Nothing (get_or arrivals j Nothing) (Comes kind ops len 0 (place ops len j)) (sym (others j pos le)) d
+          let d : Describes Unreached (Comes kind ops len 0 (place ops len j)) = λ h c. elim c [ inl same ↦ absurd (omega (arith, same.0, laid.first, place_mono ops len laid 0 j pos le)) | inr before ↦ absurd (omega (arith, before.below)) ] in
+          describes_is Unreached (get_or in_states j Unreached) (Comes kind ops len 0 (place ops len j)) (sym (others j pos le)) d
 
-      described : (j : ℕ) → 0 ≤ j → j ≤ length ops → Describes (get_or arrivals j Nothing) (Comes kind ops len 0 (place ops len j))
+      described : (j : ℕ) → 0 ≤ j → j ≤ length ops → Describes (get_or in_states j Unreached) (Comes kind ops len 0 (place ops len j))
       described j low le = elim (cases_lt 0 j) [ inl pos ↦ at_other j pos le | inr low_end ↦ at_first j (omega arith) ]
 
   -- the one state at an operation, as paths have it
-  pub one_state : (i : ℕ) (s : StackState) (a : Arrival) → i ≤ length ops → a ≡ One s → Describes a (Comes kind ops len i (place ops len i)) → Reaches kind ops len (place ops len i) s × ((t : StackState) → Reaches kind ops len (place ops len i) t → t ≡ s)
+  pub one_state : (i : ℕ) (s : StackState) (a : InState) → i ≤ length ops → a ≡ Known s → Describes a (Comes kind ops len i (place ops len i)) → Reaches kind ops len (place ops len i) s × ((t : StackState) → Reaches kind ops len (place ops len i) t → t ≡ s)
   one_state i s a le e d =
-      let d' : Describes (One s) (Comes kind ops len i (place ops len i)) = describes_is a (One s) (Comes kind ops len i (place ops len i)) e d in
+      let d' : Describes (Known s) (Comes kind ops len i (place ops len i)) = describes_is a (Known s) (Comes kind ops len i (place ops len i)) e d in
       (reaches_from_comes kind ops len laid i (place ops len i) s d'.0, λ t r. d'.1 t (comes_from_reaches kind ops len laid i t le r))
 
   -- one operation more
-  pub walked_step : (i : ℕ) (states : List State) (old new : List Arrival) (depth pieces : ℕ) (done : Done) → i < length ops → Walked kind ops len given i states old depth pieces → Stepped kind ops len given i pieces old done new → Walked kind ops len given (i + 1) (states ++ at_offset (place ops len i) done.state ∷ []) new (max (max depth done.state.height) done.height) (pieces + cond done.piece 1 0)
+  pub walked_step : (i : ℕ) (states : List State) (old new : List InState) (depth pieces : ℕ) (done : Done) → i < length ops → Walked kind ops len given i states old depth pieces → Stepped kind ops len given i pieces old done new → Walked kind ops len given (i + 1) (states ++ at_offset (place ops len i) done.state ∷ []) new (max (max depth done.state.height) done.height) (pieces + cond done.piece 1 0)
   walked_step i states old new depth pieces done lt w s = record {
     long = simp length-append (omega (arith, w.long));
     accepted = accepted;
@@ -296,7 +296,7 @@ module _ (kind : Kind) (ops : List Placed) (len : ℕ) (laid : IsLaidOut ops len
   }
     where
       here : Reaches kind ops len (place ops len i) done.state × ((t : StackState) → Reaches kind ops len (place ops len i) t → t ≡ done.state)
-      here = one_state i done.state (get_or old i Nothing) (omega arith) s.one (w.described i (omega arith) (omega arith))
+      here = one_state i done.state (get_or old i Unreached) (omega arith) s.one (w.described i (omega arith) (omega arith))
 
       fine : Fine kind ops len i s.judged.placed done.state
       fine = record {
@@ -326,7 +326,7 @@ module _ (kind : Kind) (ops : List Placed) (len : ℕ) (laid : IsLaidOut ops len
                 subst (λ (n : ℕ). (g : StackState) × (t ≡ at_offset (place ops len n) g) × Accepted kind ops len given n g) k_is (done.state, sym last.1, accept)
           ]
 
-      described : (n : ℕ) → i + 1 ≤ n → n ≤ length ops → Describes (get_or new n Nothing) (Comes kind ops len (i + 1) (place ops len n))
+      described : (n : ℕ) → i + 1 ≤ n → n ≤ length ops → Describes (get_or new n Unreached) (Comes kind ops len (i + 1) (place ops len n))
       described n low le = described_passed kind ops len laid given i pieces done.state s.out lt s.judged old new n w.wide s.passes le here.0 here.1 (w.described n (omega arith) le)
 
       at : place ops len i ≡ s.judged.placed.0

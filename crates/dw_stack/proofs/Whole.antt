@@ -11,12 +11,12 @@ use Rattle.dw_stack.specs.declared.state.StackState.{StackState}
 use Rattle.dw_stack.specs.States.{at_offset}
 use Rattle.dw_stack.specs.Paths.{Placed, IsLaidOut, Reaches, IsGood, AreStates, IsDepth}
 use Rattle.dw_stack.specs.Faults.{Given, IsFirstFault, KnowsOnly}
-use Rattle.dw_stack.specs.Arrivals.{given_of}
+use Rattle.dw_stack.specs.InStates.{given_of}
 use Rattle.dw_stack.specs.Expressions.{operations_in, reading_fault, IsGoodExpression, IsDepthOf, RunsWellWithin, IsOtherCount, IsFaultOf, Checked, IsChecked, IsOf, Knows}
 use Rattle.dw_stack.proofs.Places.{place_of_some}
 use Rattle.dw_stack.proofs.Verdicts.{good_refuses}
 use Rattle.dw_stack.proofs.Runs.{good_runs}
-use Rattle.dw_stack.proofs.Spelled.{laid_out, spelled_of, read_of, laid_if_read}
+use Rattle.dw_stack.proofs.Encoded.{laid_out, encoded_of, read_of, laid_if_read}
 
 -- the counts are the same
 pub same_count : (target : Target) (bytes : List ℕ) (given : Option (Bor (List State))) (n : ℕ) → n ≡ length (operations_in target bytes) → IfSome given (λ states. length states.now ≡ n) → IsOtherCount target bytes (given_of given) → ⊥
@@ -31,7 +31,7 @@ module _ (kind : Kind) (target : Target) (bytes : List ℕ) (ops : List Placed) 
   pub checked_for : (depth count : ℕ) → IsGood kind ops len → IsDepth kind ops len depth → count ≡ length ops → IsChecked (record { kind = kind; target = target; bytes = bytes; depth = depth; count = count })
   checked_for depth count good deepest counted = record {
     good = record {
-      spelled = spelled_of target bytes read;
+      encoded = encoded_of target bytes read;
       good = subst (λ (xs : List Placed). IsGood kind xs (length bytes)) are (subst (λ (n : ℕ). IsGood kind ops n) long good);
     };
     depth = subst (λ (xs : List Placed). IsDepth kind xs (length bytes) depth) are (subst (λ (n : ℕ). IsDepth kind ops n depth) long deepest);
@@ -59,7 +59,7 @@ knows_for kind target bytes ops len (Some states) n are long count same knows =
 -- every run of a good expression
 pub good_expressions_run_well : (kind : Kind) (target : Target) (bytes : List ℕ) (depth : ℕ) → IsGoodExpression kind target bytes → IsDepthOf kind target bytes depth → RunsWellWithin kind target bytes depth
 good_expressions_run_well kind target bytes depth good deepest =
-    good_runs kind (operations_in target bytes) (length bytes) (laid_out target bytes (operations_in target bytes) good.spelled) good.good depth deepest
+    good_runs kind (operations_in target bytes) (length bytes) (laid_out target bytes (operations_in target bytes) good.encoded) good.good depth deepest
 
 -- every run of what was checked
 pub runs_for : (kind : Kind) (target : Target) (bytes : List ℕ) (c : Checked) → IsChecked c → IsOf kind target bytes c → RunsWellWithin kind target bytes c.depth
@@ -70,10 +70,10 @@ runs_for kind target bytes c checked is =
 -- a good expression has no fault, where the given states are right
 pub good_faultless : (kind : Kind) (target : Target) (bytes : List ℕ) (given : Option (List State)) (f : Fault) → Knows kind target bytes given → IsGoodExpression kind target bytes → IsFaultOf kind target bytes given f → ⊥
 good_faultless kind target bytes given f right good fault = elim fault [
-  | inl unread ↦ let both : None ≡ Some f = sym (read_of target bytes (operations_in target bytes) good.spelled) ∙ unread in cc
+  | inl unread ↦ let both : None ≡ Some f = sym (read_of target bytes (operations_in target bytes) good.encoded) ∙ unread in cc
   | inr rest ↦ elim rest [
     | inl count ↦ no_other given right count.1
-    | inr first ↦ good_refuses kind (operations_in target bytes) (length bytes) (laid_out target bytes (operations_in target bytes) good.spelled) given (λ k x s stands r. known given right k x s stands r) good.good f.kind f.at first.2.refuses
+    | inr first ↦ good_refuses kind (operations_in target bytes) (length bytes) (laid_out target bytes (operations_in target bytes) good.encoded) given (λ k x s stands r. known given right k x s stands r) good.good f.kind f.at first.2.refuses
   ]
 ]
   where

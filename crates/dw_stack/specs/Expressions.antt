@@ -3,7 +3,7 @@ use Rattle.std.specs.Prelude.{◌≡◌, ℕ, ◌⊎◌, List, drop, length, Opt
 use Rattle.dw_bytes.specs.declared.target.Target.{Target}
 use Rattle.dw_bytes.specs.declared.fault.Fault.{Fault}
 use Rattle.dw_bytes.specs.declared.fault.FaultKind.TheVariants.{CertLength}
-use Rattle.dw_bytes.specs.Reading.{Reading}
+use Rattle.dw_bytes.specs.Reading.{ReadPosition}
 use Rattle.dw_bytes.specs.Answers.{values_in, fault_in}
 use Rattle.dw_ops.specs.Opcodes.{AreOperations, operations_of}
 use Rattle.dw_stack.specs.declared.state.State.{State}
@@ -13,19 +13,19 @@ use Rattle.dw_stack.specs.Faults.{IsFirstFault}
 use Rattle.dw_stack.specs.Machine.{RunsWell}
 
 -- bytes from one of their offsets on
-abbrev pub reading_at : Target → List ℕ → ℕ → Reading
+abbrev pub reading_at : Target → List ℕ → ℕ → ReadPosition
 reading_at target bytes at = record { target = target; position = at; rest = drop at bytes }
 
--- the operations that bytes spell, up to the first that can't be read, and that one's fault
+-- the operations that bytes encode, up to the first that can't be read, and that one's fault
 abbrev pub operations_in : Target → List ℕ → List Placed
 operations_in target bytes = values_in (operations_of (record { target = target; position = 0; rest = bytes }))
 
 abbrev pub reading_fault : Target → List ℕ → Option Fault
 reading_fault target bytes = fault_in (operations_of (record { target = target; position = 0; rest = bytes }))
 
--- a good expression: its bytes are the spellings of its operations, and these are good over all paths
+-- a good expression: its bytes are the encodings of its operations, and these are good over all paths
 pub record IsGoodExpression (kind : Kind) (target : Target) (bytes : List ℕ) : Type 0 where
-  pub spelled : AreOperations target 0 bytes (operations_in target bytes)
+  pub encoded : AreOperations target 0 bytes (operations_in target bytes)
   pub good : IsGood kind (operations_in target bytes) (length bytes)
 
 -- the state before each of its operations, as paths have it

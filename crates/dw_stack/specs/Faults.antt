@@ -10,7 +10,7 @@ use Rattle.dw_stack.specs.declared.state.StackState.{StackState}
 use Rattle.dw_stack.specs.declared.state.Kind.{Kind}
 use Rattle.dw_stack.specs.Effects.{effect_of}
 use Rattle.dw_stack.specs.States.{stands_alone, height_after, HasResult, at_offset}
-use Rattle.dw_stack.specs.Paths.{Placed, place, aim, target_of, Reaches, has_operation, is_piece, pieces_before}
+use Rattle.dw_stack.specs.Paths.{Placed, place, branch_target, branch_target_of, Reaches, has_operation, is_piece, pieces_before}
 
 -- the states at hand, if there are any, have this one at k
 abbrev pub Keeps : Option (List State) → ℕ → State → Type 0
@@ -30,7 +30,7 @@ judgements = fault.NotInFrame ∷ fault.NotAlone ∷ fault.Underflow ∷ fault.T
 -- the jump, if there is one, isn't backward
 abbrev pub is_ahead : ℕ → Option ℤ → Bool
 is_ahead next None = true
-is_ahead next (Some z) = is_some (aim next z)
+is_ahead next (Some z) = is_some (branch_target next z)
 
 -- some operation begins at the target, or it is the end
 abbrev pub is_start : List Placed → ℕ → Option ℕ → Bool
@@ -49,7 +49,7 @@ suits kind pieces e s _ = true
 -- and whether it may branch where it does, if its number is k
 abbrev pub passes : Kind → List Placed → ℕ → ℕ → ℕ → StackEffect → StackState → FaultKind → Bool
 passes kind ops len k pieces e s fault.Backward = is_ahead (place ops len (k + 1)) e.jump
-passes kind ops len k pieces e s fault.TargetNotStart = is_start ops len (target_of ops len k e)
+passes kind ops len k pieces e s fault.TargetNotStart = is_start ops len (branch_target_of ops len k e)
 passes kind ops len k pieces e s f = suits kind pieces e s f
 
 -- the first judgement that isn't passed, if there is one

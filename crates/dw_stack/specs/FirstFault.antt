@@ -16,7 +16,7 @@ use Rattle.dw_stack.specs.declared.state.StackState.{StackState}
 use Rattle.dw_stack.specs.declared.state.Kind.{Kind}
 use Rattle.dw_stack.specs.Effects.{effect_of}
 use Rattle.dw_stack.specs.States.{start_of, state_after, has_result}
-use Rattle.dw_stack.specs.Paths.{Placed, place, target_of, pieces_before}
+use Rattle.dw_stack.specs.Paths.{Placed, place, branch_target_of, pieces_before}
 use Rattle.dw_stack.specs.Faults.{judgements, passes}
 use Rattle.dw_stack.specs.Expressions.{operations_in, reading_fault}
 
@@ -28,7 +28,7 @@ offsets_to (Some t) = t ∷ []
 
 -- the offsets that may come after the operation numbered k, of this effect: the next one, and where it branches to
 abbrev pub offsets_after : List Placed → ℕ → ℕ → StackEffect → List ℕ
-offsets_after ops len k e = (if e.falls then place ops len (k + 1) ∷ [] else []) ++ offsets_to (target_of ops len k e)
+offsets_after ops len k e = (if e.falls_through then place ops len (k + 1) ∷ [] else []) ++ offsets_to (branch_target_of ops len k e)
 
 -- of offsets with states, the states at this offset
 abbrev pub states_at : ℕ → List (ℕ × StackState) → List StackState

@@ -3,13 +3,13 @@ use Rattle.std.specs.Prelude.{◌≡◌, ◌≢◌, ℕ, ℤ, ◌+◌, ◌<◌, 
 use Rattle.dw_bytes.specs.declared.fault.FaultKind.{FaultKind}
 use Rattle.dw_bytes.specs.declared.fault.FaultKind.TheVariants as fault
 use Rattle.dw_stack.specs.declared.effect.StackEffect.{StackEffect}
-use Rattle.dw_stack.specs.declared.judge.Outgoing.{Outgoing}
+use Rattle.dw_stack.specs.declared.judge.OutState.{OutState}
 use Rattle.dw_stack.specs.declared.judge.TheConstants.{MAX_HEIGHT, MAX_PIECES}
 use Rattle.dw_stack.specs.declared.state.StackState.{StackState}
 use Rattle.dw_stack.specs.declared.state.Kind.{Kind}
 use Rattle.dw_stack.specs.Effects.{effect_of}
 use Rattle.dw_stack.specs.States.{StandsAlone, height_after, state_after}
-use Rattle.dw_stack.specs.Paths.{Placed, place, aim, IsAllowed, is_piece}
+use Rattle.dw_stack.specs.Paths.{Placed, place, branch_target, IsAllowed, is_piece}
 use Rattle.dw_stack.specs.Faults.{passes, first_failed}
 
 -- e is what the operation numbered k does
@@ -31,12 +31,12 @@ pub record Suits (kind : Kind) (e : StackEffect) (pieces : ℕ) (s : StackState)
 pub record TargetPlace (ops : List Placed) (len k : ℕ) (z : ℤ) (j : ℕ) : Type 0 where
   pub later : k < j
   pub within : j ≤ length ops
-  pub there : aim (place ops len (k + 1)) z ≡ Some (place ops len j)
+  pub there : branch_target (place ops len (k + 1)) z ≡ Some (place ops len j)
 
 abbrev pub TargetObjects : List Placed → ℕ → ℕ → ℤ → FaultKind → Type 0
-TargetObjects ops len k z fault.Backward = aim (place ops len (k + 1)) z ≡ None
+TargetObjects ops len k z fault.Backward = branch_target (place ops len (k + 1)) z ≡ None
 TargetObjects ops len k z fault.TargetNotStart =
-    (t : ℕ) × (aim (place ops len (k + 1)) z ≡ Some t) × ((j : ℕ) → j ≤ length ops → place ops len j ≢ t)
+    (t : ℕ) × (branch_target (place ops len (k + 1)) z ≡ Some t) × ((j : ℕ) → j ≤ length ops → place ops len j ≢ t)
 TargetObjects ops len k z _ = ⊥
 
 abbrev pub TargetIs : List Placed → ℕ → ℕ → Option ℤ → Option ℕ → Type 0
@@ -46,7 +46,7 @@ TargetIs ops len k None (Some j) = ⊥
 TargetIs ops len k (Some z) None = ⊥
 
 -- the operation passed all judgements, and out is what it passes on
-pub record Judged (kind : Kind) (ops : List Placed) (len k pieces : ℕ) (s : StackState) (out : Outgoing) : Type 0 where
+pub record Judged (kind : Kind) (ops : List Placed) (len k pieces : ℕ) (s : StackState) (out : OutState) : Type 0 where
   pub placed : Placed
   pub stands : slice_get ops k ≡ Some placed
   pub allowed : IsAllowed kind (effect_of placed.1)
@@ -57,7 +57,7 @@ pub record Judged (kind : Kind) (ops : List Placed) (len k pieces : ℕ) (s : St
   pub height : out.height ≡ height_after (effect_of placed.1) s
   pub state : out.state ≡ state_after (effect_of placed.1) s
   pub piece : out.piece ≡ is_piece (effect_of placed.1).role
-  pub falls : out.falls ≡ (effect_of placed.1).falls
+  pub falls_through : out.falls_through ≡ (effect_of placed.1).falls_through
   pub target : TargetIs ops len k (effect_of placed.1).jump out.target
 
 -- or this is the first judgement that it doesn't pass

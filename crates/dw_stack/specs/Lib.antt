@@ -3,7 +3,7 @@ pub mod States
 pub mod Paths
 pub mod Faults
 pub mod Judge
-pub mod Arrivals
+pub mod InStates
 pub mod Machine
 pub mod Expressions
 pub mod Views

@@ -33,17 +33,17 @@ pub record IsLaidOut (ops : List Placed) (len : ℕ) : Type 0 where
   pub each : (j : ℕ) → j < length ops → place ops len j < place ops len (j + 1)
 
 -- where a jump leads on paths, counted from the next operation: nowhere, if it is backward
-abbrev pub aim : ℕ → ℤ → Option ℕ
-aim next (pos n) = Some (next + n)
-aim next (negsuc n) = None
+abbrev pub branch_target : ℕ → ℤ → Option ℕ
+branch_target next (pos n) = Some (next + n)
+branch_target next (negsuc n) = None
 
 -- the target of the operation numbered k, if it has a jump that isn't backward
-abbrev pub aimed : ℕ → Option ℤ → Option ℕ
-aimed next None = None
-aimed next (Some z) = aim next z
+abbrev pub jump_target : ℕ → Option ℤ → Option ℕ
+jump_target next None = None
+jump_target next (Some z) = branch_target next z
 
-abbrev pub target_of : List Placed → ℕ → ℕ → StackEffect → Option ℕ
-target_of ops len k e = aimed (place ops len (k + 1)) e.jump
+abbrev pub branch_target_of : List Placed → ℕ → ℕ → StackEffect → Option ℕ
+branch_target_of ops len k e = jump_target (place ops len (k + 1)) e.jump
 
 -- offset t is that of a later operation than the one numbered k, or the length
 pub record IsTarget (ops : List Placed) (len k t : ℕ) : Type 0 where
@@ -54,7 +54,7 @@ pub record IsTarget (ops : List Placed) (len k t : ℕ) : Type 0 where
 
 -- b may come after the operation numbered k, of this effect
 abbrev pub Leads : List Placed → ℕ → ℕ → StackEffect → ℕ → Type 0
-Leads ops len k e b = (IsTrue e.falls × (b ≡ place ops len (k + 1))) ⊎ ((target_of ops len k e ≡ Some b) × IsTarget ops len k b)
+Leads ops len k e b = (IsTrue e.falls_through × (b ≡ place ops len (k + 1))) ⊎ ((branch_target_of ops len k e ≡ Some b) × IsTarget ops len k b)
 
 -- an edge from the operation at offset a to offset b, and what it does to the state
 pub record Edge (ops : List Placed) (len a : ℕ) (s : StackState) (b : ℕ) (t : StackState) : Type 0 where
@@ -78,7 +78,7 @@ pub record Reaches (kind : Kind) (ops : List Placed) (len b : ℕ) (s : StackSta
 -- the kind has this operation
 abbrev pub has_operation : Kind → StackEffect → Bool
 has_operation Location e = true
-has_operation _ e = e.framed
+has_operation _ e = e.allowed_in_cfi
 
 abbrev pub IsAllowed : Kind → StackEffect → Type 0
 IsAllowed kind e = IsTrue (has_operation kind e)
@@ -104,8 +104,8 @@ pub record IsGood (kind : Kind) (ops : List Placed) (len : ℕ) : Type 0 where
   -- every operation is on a path
   pub each : (k : ℕ) (x : Placed) → slice_get ops k ≡ Some x → ∥ ((s : StackState) × Reaches kind ops len x.0 s) ∥₁
   -- no branch goes back, and every target is a later operation's offset, or the length
-  pub ahead : (k : ℕ) (z : ℤ) (x : Placed) → slice_get ops k ≡ Some x → (effect_of x.1).jump ≡ Some z → aim (place ops len (k + 1)) z ≡ None → ⊥
-  pub targets : (k t : ℕ) (x : Placed) → slice_get ops k ≡ Some x → target_of ops len k (effect_of x.1) ≡ Some t → IsTarget ops len k t
+  pub ahead : (k : ℕ) (z : ℤ) (x : Placed) → slice_get ops k ≡ Some x → (effect_of x.1).jump ≡ Some z → branch_target (place ops len (k + 1)) z ≡ None → ⊥
+  pub targets : (k t : ℕ) (x : Placed) → slice_get ops k ≡ Some x → branch_target_of ops len k (effect_of x.1) ≡ Some t → IsTarget ops len k t
   pub pieces : pieces_before ops (length ops) ≤ MAX_PIECES
   -- every path to the end has a result
   pub ends : (s : StackState) → Reaches kind ops len len s → HasResult kind (length ops == 0) s

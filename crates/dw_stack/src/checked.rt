@@ -62,7 +62,7 @@ impl<'a> CheckedExpression<'a> {
         self.depth
     }
 
-    /// How many operations the bytes spell. `depth` promises that no run takes more steps (`runs`).
+    /// How many operations the bytes encode. `depth` promises that no run takes more steps (`runs`).
     pub fn operation_count(&self) -> u32
         ensures value { result ≡ (checked_of self.now).count }
         ensures count { result ≡ length (operations_in (checked_of self.now).target (checked_of self.now).bytes) }

@@ -32,9 +32,9 @@ pub struct StackEffect {
     pub adds: u16,
     pub role: Role,
     /// Whether the expressions of a frame have it.
-    pub framed: bool,
+    pub allowed_in_cfi: bool,
     /// Whether the next operation may follow.
-    pub falls: bool,
+    pub falls_through: bool,
     /// Where it may branch, counted from the next operation.
     pub jump: Option<i16>,
 }
@@ -48,8 +48,8 @@ fn computes(needs: u16, takes: u16, adds: u16) -> StackEffect
         takes,
         adds,
         role: Role::Plain,
-        framed: true,
-        falls: true,
+        allowed_in_cfi: true,
+        falls_through: true,
         jump: None,
     }
 }
@@ -59,7 +59,7 @@ fn asks_context() -> StackEffect
     ensures { result ≡ contextual }
 {
     StackEffect {
-        framed: false,
+        allowed_in_cfi: false,
         ..computes(0, 0, 1)
     }
 }
@@ -70,17 +70,17 @@ fn names(role: Role, needs: u16, takes: u16) -> StackEffect
 {
     StackEffect {
         role,
-        framed: false,
+        allowed_in_cfi: false,
         ..computes(needs, takes, 0)
     }
 }
 
 #[inline(always)]
-fn branches(needs: u16, falls: bool, offset: i16) -> StackEffect
-    ensures { result ≡ record (computing needs needs 0) { falls = falls; jump = Some offset } }
+fn branches(needs: u16, falls_through: bool, offset: i16) -> StackEffect
+    ensures { result ≡ record (computing needs needs 0) { falls_through = falls_through; jump = Some offset } }
 {
     StackEffect {
-        falls,
+        falls_through,
         jump: Some(offset),
         ..computes(needs, needs, 0)
     }

@@ -20,7 +20,7 @@ pub const MAX_PIECES: usize = 32;
 
 /// What an operation that was judged passes on.
 #[derive(Clone, Copy)]
-pub struct Outgoing {
+pub struct OutState {
     /// The state behind it.
     pub state: StackState,
     /// The height behind it, before a piece clears it.
@@ -28,7 +28,7 @@ pub struct Outgoing {
     /// Whether it names a piece.
     pub piece: bool,
     /// Whether the next operation may follow.
-    pub falls: bool,
+    pub falls_through: bool,
     /// The number of the operation that it may branch to, the count of operations for the end.
     pub target: Option<usize>,
 }
@@ -60,7 +60,7 @@ fn suits(
     ensures err { IfErr result (λ f. first_failed (suits kind pieces effect.now state) ≡ Some f) }
 {
     let located = matches!(kind, Kind::Location);
-    if !located && !effect.framed {
+    if !located && !effect.allowed_in_cfi {
         return Err(FaultKind::NotInFrame);
     }
     if !stands_alone(effect.role, state) {
@@ -88,7 +88,7 @@ pub fn judge(
     i: usize,
     pieces: usize,
     state: StackState,
-) -> Result<Outgoing, FaultKind>
+) -> Result<OutState, FaultKind>
     requires laid { IsLaidOut (listed operations.now) end }
     requires i { i < length operations.now }
     ensures ok { IfOk result (Judged kind (listed operations.now) end i pieces state) }
@@ -100,11 +100,11 @@ pub fn judge(
         Some(jump) => Some(place_of_jump(operations, end, i, jump)?),
         None => None,
     };
-    Ok(Outgoing {
+    Ok(OutState {
         state: next(effect.role, height, state.pieced),
         height,
         piece: matches!(effect.role, Role::Piece),
-        falls: effect.falls,
+        falls_through: effect.falls_through,
         target,
     })
 }

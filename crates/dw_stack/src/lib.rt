@@ -2,10 +2,10 @@
 //! never too high, whatever the branches do.
 #![tactic(auto)]
 
-mod arrivals;
 mod certificate;
 mod checked;
 mod effect;
+mod in_state;
 mod judge;
 pub mod laws;
 mod pass;

@@ -4,10 +4,10 @@ ghost use Rattle.std.specs.Prelude.{◌≡◌, ◌+◌, ◌<◌, ◌≤◌, ◌^
 ghost use Rattle.dw_bytes.specs.Answers.{memory};
 ghost use Rattle.dw_stack.specs.Paths.{IsLaidOut, IsGood, AreStates, IsDepth};
 ghost use Rattle.dw_stack.specs.Faults.{IsFirstFault, KnowsOnly};
-ghost use Rattle.dw_stack.specs.Arrivals.{given_of};
+ghost use Rattle.dw_stack.specs.InStates.{given_of};
 ghost use Rattle.dw_stack.specs.Views.{listed};
 
-use crate::arrivals::{Arrival, state_at};
+use crate::in_state::{InState, state_at};
 use crate::state::{Kind, StackState, State, has_result, start};
 use crate::step::step;
 use crate::target::place_of;
@@ -41,15 +41,15 @@ fn first_arrivals(
     alloc: Global,
     count: usize,
     start: StackState,
-) -> Result<SmallVec<Arrival, 17>, Fault>
+) -> Result<SmallVec<InState, 17>, Fault>
     requires { count < 2 ^ 63 }
-    ensures ok { IfOk result (λ v. v.items ≡ slice_set (replicate (count + 1) Arrival.Nothing) 0 (Arrival.One start)) }
+    ensures ok { IfOk result (λ v. v.items ≡ slice_set (replicate (count + 1) InState.Unreached) 0 (InState.Known start)) }
     ensures err { IfErr result (λ f. f ≡ memory) }
 {
-    match SmallVec::from_elem(alloc, Arrival::Nothing, count + 1) {
-        Ok(mut arrivals) => {
-            arrivals.as_mut_slice()[0] = Arrival::One(start);
-            Ok(arrivals)
+    match SmallVec::from_elem(alloc, InState::Unreached, count + 1) {
+        Ok(mut in_states) => {
+            in_states.as_mut_slice()[0] = InState::Known(start);
+            Ok(in_states)
         }
         Err(_) => Err(MEMORY),
     }
@@ -75,12 +75,12 @@ pub fn pass(
     ensures inside { IfErr result (λ f. f.at ≤ end) }
 {
     let start = start(kind);
-    let mut arrivals = first_arrivals(alloc, operations.len(), start)?;
+    let mut in_states = first_arrivals(alloc, operations.len(), start)?;
     let mut states = SmallVec::new(alloc);
     let mut depth = start.height;
     let mut pieces = 0;
     for i in 0..operations.len() {
-        match step(kind, operations, end, given, i, pieces, &mut arrivals) {
+        match step(kind, operations, end, given, i, pieces, &mut in_states) {
             Ok(done) => {
                 if states
                     .push(done.state.at(place_of(operations, end, i)))
@@ -94,7 +94,7 @@ pub fn pass(
             Err(kind) => return Err(refusal(kind, place_of(operations, end, i))),
         }
     }
-    match state_at(arrivals.as_slice(), operations.len()) {
+    match state_at(in_states.as_slice(), operations.len()) {
         Err(kind) => Err(refusal(kind, end)),
         Ok(state) => {
             if !has_result(kind, operations.is_empty(), state) {

@@ -3,10 +3,10 @@
 ghost use Rattle.std.specs.Prelude.{◌≡◌, ◌+◌, ◌<◌, length, ◌↔◌, IsTrue, IfOk, IfErr, IfSome};
 ghost use Rattle.dw_stack.specs.Paths.{IsLaidOut};
 ghost use Rattle.dw_stack.specs.Faults.{Keeps};
-ghost use Rattle.dw_stack.specs.Arrivals.{Stepped, StepObjects, given_of};
+ghost use Rattle.dw_stack.specs.InStates.{Stepped, StepObjects, given_of};
 ghost use Rattle.dw_stack.specs.Views.{listed};
 
-use crate::arrivals::{Arrival, pass_on, state_at};
+use crate::in_state::{InState, pass_on, state_at};
 use crate::judge::judge;
 use crate::state::{Kind, StackState, State};
 use crate::target::place_of;
@@ -42,21 +42,21 @@ pub fn step(
     given: Option<&[State]>,
     i: usize,
     pieces: usize,
-    arrivals: &mut [Arrival],
+    in_states: &mut [InState],
 ) -> Result<Done, FaultKind>
     requires laid { IsLaidOut (listed operations.now) end }
     requires i { i < length operations.now }
-    requires wide { length arrivals.old ≡ length operations.now + 1 }
+    requires wide { length in_states.old ≡ length operations.now + 1 }
     requires given { IfSome given (λ states. length states.now ≡ length operations.now) }
-    ensures ok { IfOk result (λ done. Stepped kind (listed operations.now) end (given_of given.entry) i pieces arrivals.old done arrivals.new) }
-    ensures err { IfErr result (StepObjects kind (listed operations.now) end (given_of given.entry) i pieces arrivals.old) }
+    ensures ok { IfOk result (λ done. Stepped kind (listed operations.now) end (given_of given.entry) i pieces in_states.old done in_states.new) }
+    ensures err { IfErr result (StepObjects kind (listed operations.now) end (given_of given.entry) i pieces in_states.old) }
 {
-    let state = state_at(arrivals, i)?;
+    let state = state_at(in_states, i)?;
     if !is_given(given, i, state.at(place_of(operations, end, i))) {
         return Err(FaultKind::CertState);
     }
     let out = judge(kind, operations, end, i, pieces, state)?;
-    pass_on(arrivals, i, &out);
+    pass_on(in_states, i, &out);
     Ok(Done {
         state,
         height: out.height,

@@ -2,7 +2,7 @@
 
 ghost use Rattle.std.specs.Prelude.{◌≡◌, ◌≢◌, ◌+◌, ◌<◌, ◌≤◌, ℕ, length, IfOk, IfErr};
 ghost use Rattle.dw_bytes.specs.declared.fault.FaultKind.{FaultKind};
-ghost use Rattle.dw_stack.specs.Paths.{IsLaidOut, place, aim};
+ghost use Rattle.dw_stack.specs.Paths.{IsLaidOut, place, branch_target};
 ghost use Rattle.dw_stack.specs.Judge.{TargetPlace, TargetObjects};
 ghost use Rattle.dw_stack.specs.Views.{listed};
 
@@ -25,7 +25,7 @@ pub fn place_of(operations: &[(u32, Operation<'_>)], end: u32, i: usize) -> u32
 /// Where a jump leads that is counted from the next operation; nowhere for one backward.
 #[inline(always)]
 fn aim_at(next: u32, jump: i16) -> Option<u64>
-    ensures { result ≡ aim next jump }
+    ensures { result ≡ branch_target next jump }
 {
     if jump < 0 {
         return None;

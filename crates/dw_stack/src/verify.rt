@@ -3,7 +3,7 @@
 ghost use Rattle.std.specs.Prelude.{◌≡◌, ◌⊎◌, ◌≤◌, ◌↔◌, IsTrue, IfSome, length, OnOk, IfOk, IfErr, None, Some};
 ghost use Rattle.dw_bytes.specs.Answers.{memory, Answers};
 ghost use Rattle.dw_ops.specs.Views.{bytes_of, target_of};
-ghost use Rattle.dw_stack.specs.Arrivals.{given_of};
+ghost use Rattle.dw_stack.specs.InStates.{given_of};
 ghost use Rattle.dw_stack.specs.Expressions.{AreStatesOf, IsChecked, IsFaultOf, IsOf, Knows};
 ghost use Rattle.dw_stack.specs.FirstFault.{expression_fault};
 ghost use Rattle.dw_stack.specs.Certificates.{checked_of, checked_in, states_in};

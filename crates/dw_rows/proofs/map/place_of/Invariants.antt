@@ -1,5 +1,5 @@
 use Rattle.std.proofs.Common.{◌≡◌, drop, ◌+◌}
-use Rattle.dw_rows.specs.Places.{place_in}
+use Rattle.dw_rows.specs.RememberStack.{place_in}
 use Rattle.dw_rows.specs.Views.{entries_of}
 use Rattle.dw_rows.proofs.map.place_of.Given as goal
 

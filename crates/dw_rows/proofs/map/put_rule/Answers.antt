@@ -1,6 +1,6 @@
 use Rattle.std.proofs.Common.{arith, ◌≡◌, ◌<◌, length}
 use Rattle.std.proofs.lemmas.Grind.{common_steps}
-use Rattle.dw_rows.specs.Places.{place_in}
+use Rattle.dw_rows.specs.RememberStack.{place_in}
 use Rattle.dw_rows.specs.Views.{rule_of, entries_of}
 use Rattle.dw_rows.proofs.Tables.{inserted, Clears, puts-inserted, full-count}
 use Rattle.dw_rows.proofs.Edits.{insert-place, rule_of-some, length-entries_of}

@@ -2,7 +2,7 @@ use Rattle.std.proofs.Common.{◌≡◌, ◌+◌, [], ◌∷◌, ◌++◌, map, 
 use Rattle.std.specs.Result.{is_err}
 use Rattle.dw_frame.specs.Views.{cie_of}
 use Rattle.dw_rows.specs.Judgement.{cie_fault}
-use Rattle.dw_rows.specs.Machine.{IsLeftBy}
+use Rattle.dw_rows.specs.ProgramState.{IsLeftBy}
 use Rattle.dw_rows.proofs.Elements.{front-map}
 use Rattle.dw_rows.proofs.Faults.{passed}
 use Rattle.dw_rows.proofs.Initials.{left-one}

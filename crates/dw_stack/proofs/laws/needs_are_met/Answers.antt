@@ -1,8 +1,8 @@
 use Rattle.std.proofs.Common.{length}
 use Rattle.dw_stack.specs.Expressions.{operations_in}
 use Rattle.dw_stack.proofs.Runs.{meets_at}
-use Rattle.dw_stack.proofs.Spelled.{laid_out}
+use Rattle.dw_stack.proofs.Encoded.{laid_out}
 use Rattle.dw_stack.proofs.laws.needs_are_met.Goals as goal
 
 pub returns : goal.returns
-returns c = λ kind target bytes good. meets_at kind (operations_in target bytes) (length bytes) (laid_out target bytes (operations_in target bytes) good.spelled) good.good
+returns c = λ kind target bytes good. meets_at kind (operations_in target bytes) (length bytes) (laid_out target bytes (operations_in target bytes) good.encoded) good.good

@@ -1,6 +1,6 @@
 use Rattle.std.proofs.Common.{◌∙◌, length, sym, ap, subst, arith, rules}
 use Rattle.dw_ops.specs.Views.{bytes_of, target_of}
-use Rattle.dw_stack.specs.Arrivals.{given_of}
+use Rattle.dw_stack.specs.InStates.{given_of}
 use Rattle.dw_stack.specs.Views.{listed}
 use Rattle.dw_stack.specs.Expressions.{Checked, IsChecked}
 use Rattle.dw_stack.proofs.Lists.{listed_length}

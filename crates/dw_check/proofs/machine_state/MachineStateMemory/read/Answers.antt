@@ -4,7 +4,7 @@ use Rattle.std.specs.BTreeMap.{get}
 use Rattle.std.specs.Option.{option_map}
 use Rattle.std.proofs.lemmas.List.{take_more_set}
 use Rattle.byteorder.specs.Endian.{big_number, little_number}
-use Rattle.dw_bytes.specs.Spelling.{number}
+use Rattle.dw_bytes.specs.Encoding.{number}
 use Rattle.dw_check.proofs.Assembled.{Gathered, gathered_more, gathered_stops, gathered_all}
 use Rattle.dw_check.proofs.machine_state.MachineStateMemory.read.Goals as goal
 

@@ -1,0 +1,60 @@
+//! Where an operation leads, and what it names.
+
+ghost use Rattle.std.specs.Prelude.{◌≡◌, ◌≤◌, length};
+ghost use Rattle.std.specs.Option.{option_map};
+ghost use Rattle.dw_ops.specs.Views.{operation_of};
+ghost use Rattle.dw_stack.specs.Effects.{effect_of};
+ghost use Rattle.dw_stack.specs.Machine.{named, LeadsTo};
+ghost use Rattle.dw_eval.specs.Views.{location_description_of};
+ghost use Rattle.dw_eval.specs.Steps.{GoesForward, EndsPiece};
+
+use crate::location::{Location, PieceSize};
+use crate::stack::Stack;
+use dw_ops::Operation;
+
+/// Where the operation leads, which may be a jump forward.
+#[inline(always)]
+pub fn next_offset(operation: &Operation<'_>, stack: &Stack, next: u32) -> u32
+    requires needs { (effect_of (operation_of operation.now)).needs ≤ length stack.now }
+    requires target { GoesForward (operation_of operation.now) stack.now next }
+    ensures { LeadsTo (operation_of operation.now) stack.now next result }
+{
+    match *operation {
+        Operation::Bra { offset } => {
+            if stack.entry(0) == 0 {
+                next
+            } else {
+                next + u32::from(offset.unsigned_abs())
+            }
+        }
+        Operation::Skip { offset } => next + u32::from(offset.unsigned_abs()),
+        _ => next,
+    }
+}
+
+/// The location that the operation names.
+#[inline(always)]
+pub fn location_named<'a>(operation: &Operation<'a>, stack: &Stack) -> Option<Location<'a>>
+    requires { (effect_of (operation_of operation.now)).needs ≤ length stack.now }
+    ensures { option_map location_description_of result ≡ named (operation_of operation.now) stack.now }
+{
+    match *operation {
+        Operation::Reg { register } => Some(Location::Register(u16::from(register))),
+        Operation::Regx { register } => Some(Location::Register(register)),
+        Operation::ImplicitValue { bytes } => Some(Location::Bytes(bytes)),
+        Operation::StackValue => Some(Location::Value(stack.entry(0))),
+        _ => None,
+    }
+}
+
+/// The size of the piece that the operation ends, if it ends one.
+#[inline(always)]
+pub fn piece_size(operation: &Operation<'_>) -> Option<PieceSize>
+    ensures { EndsPiece (operation_of operation.now) result }
+{
+    match *operation {
+        Operation::Piece { size } => Some(PieceSize::Bytes(size)),
+        Operation::BitPiece { size, offset } => Some(PieceSize::Bits { size, offset }),
+        _ => None,
+    }
+}

@@ -1,0 +1,82 @@
+//! What operations ask of the environment.
+
+ghost use Rattle.std.specs.Prelude.{◌≡◌, ◌+◌, ◌+ℤ◌, ◌^◌, ◌<◌, ◌∷◌, [], pos, Ok};
+ghost use Rattle.dw_eval.specs.World.{IsSize, width};
+ghost use Rattle.dw_eval.specs.Values.{pushed, present, loaded};
+ghost use Rattle.dw_eval.specs.StackChanges.{one_of};
+ghost use Rattle.dw_bytes.specs.Encoding.{bytes_of_address};
+ghost use Rattle.dw_eval.specs.Handed.{world_in};
+
+use crate::context::{Context, Memory, Registers};
+use crate::evaluation_error::EvaluationError;
+use crate::width::Width;
+use dw_bytes::Target;
+
+/// What an evaluation is handed, under the target of its expression.
+#[derive(Drop)]
+pub struct Environment<'m, R: Registers, M: Memory> {
+    pub target: Target,
+    pub context: &'m Context,
+    pub registers: &'m R,
+    pub memory: &'m M,
+}
+
+impl<'m, R: Registers, M: Memory> Environment<'m, R, M> {
+    /// The width of an entry.
+    #[inline(always)]
+    pub fn width(&self) -> Width
+        ensures { result.size ≡ self.now.target.address_size }
+    {
+        Width {
+            size: self.target.address_size,
+        }
+    }
+
+    /// How many bytes a word has.
+    #[inline(always)]
+    pub fn word(&self) -> u8
+        ensures value { result ≡ bytes_of_address self.now.target.address_size }
+        ensures size { IsSize result }
+    {
+        self.target.address_size.bytes()
+    }
+
+    /// What is handed in and an offset, modulo 2^w.
+    #[inline(always)]
+    pub fn sum(&self, value: Option<u64>, offset: i64) -> Result<u64, EvaluationError>
+        ensures { one_of result ≡ present value (λ n. pushed (world_in R.contents M.bytes self.now) (pos n +ℤ offset)) }
+    {
+        match value {
+            Some(number) => Ok(self.width().offset(number, offset)),
+            None => Err(EvaluationError::Unreadable),
+        }
+    }
+
+    /// What is handed in, modulo 2^w.
+    #[inline(always)]
+    pub fn given(&self, value: Option<u64>) -> Result<u64, EvaluationError>
+        ensures { one_of result ≡ present value (λ n. pushed (world_in R.contents M.bytes self.now) (pos n)) }
+    {
+        match value {
+            Some(number) => Ok(self.width().reduce(number)),
+            None => Err(EvaluationError::Unreadable),
+        }
+    }
+
+    /// So many bytes at an address, of which the last is below 2^w.
+    #[inline(always)]
+    pub fn load(&self, address: u64, size: u8) -> Result<u64, EvaluationError>
+        requires address { address < 2 ^ width (world_in R.contents M.bytes self.now) }
+        requires size { IsSize size }
+        ensures { one_of result ≡ loaded (world_in R.contents M.bytes self.now) address size }
+    {
+        let width = self.width();
+        if address > width.max() - u64::from(size - 1) {
+            return Err(EvaluationError::Unreadable);
+        }
+        match self.memory.read(address, size, self.target.order) {
+            Some(number) => Ok(width.reduce(number)),
+            None => Err(EvaluationError::Unreadable),
+        }
+    }
+}

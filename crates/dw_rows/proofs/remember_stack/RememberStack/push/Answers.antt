@@ -1,0 +1,25 @@
+use Rattle.std.proofs.Common.{arith, ◌<◌, length, List, ap, ◌∙◌, ◌∷◌}
+use Rattle.dw_rows.specs.declared.remember_stack.TheConstants.{MAX_REMEMBERED}
+use Rattle.dw_rows.specs.RuleSet.{KeptRules}
+use Rattle.dw_rows.specs.RememberStack.{kept_in}
+use Rattle.dw_rows.proofs.Stacks.{stack-length, stack-pushed, kept-pushed}
+use Rattle.dw_rows.proofs.remember_stack.RememberStack.push.Goals as goal
+
+pub offset_bounds-self-inside-self-inside : goal.offset_bounds-self-inside-self-inside
+offset_bounds-self-inside-self-inside c = omega (arith, c.self.invariant.within)
+
+pub listed : goal.listed
+listed c = omega (arith, stack-length c.self.inside.depth c.self.inside.rows c.self.invariant, ap (λ (l : List KeptRules). length l) c.self.view_is, c.requires, c.self.invariant.full)
+
+pub bounds-self-inside-self-inside : goal.bounds-self-inside-self-inside
+bounds-self-inside-self-inside c = omega (arith, stack-length c.self.inside.depth c.self.inside.rows c.self.invariant, ap (λ (l : List KeptRules). length l) c.self.view_is, c.requires)
+
+pub invariant_of-self : goal.invariant_of-self
+invariant_of-self c =
+    let room : c.self.inside.depth < MAX_REMEMBERED = omega (arith, stack-length c.self.inside.depth c.self.inside.rows c.self.invariant, ap (λ (l : List KeptRules). length l) c.self.view_is, c.requires) in
+    stack-pushed c.self.inside.depth c.self.inside.rows c.copy.result room c.self.invariant
+
+pub returns : goal.returns
+returns c =
+    let room : c.self.inside.depth < MAX_REMEMBERED = omega (arith, stack-length c.self.inside.depth c.self.inside.rows c.self.invariant, ap (λ (l : List KeptRules). length l) c.self.view_is, c.requires) in
+    kept-pushed c.self.inside.depth c.self.inside.rows c.copy.result room c.self.invariant ∙ ap (λ (k : KeptRules). k ∷ kept_in c.self.inside.depth c.self.inside.rows) c.copy.ensures ∙ ap (λ (l : List KeptRules). c.args.rules.now ∷ l) c.self.view_is

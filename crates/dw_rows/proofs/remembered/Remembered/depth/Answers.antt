@@ -1,7 +1,0 @@
-use Rattle.std.proofs.Common.{sym, ap, ◌∙◌, length, List}
-use Rattle.dw_rows.specs.Kept.{Kept}
-use Rattle.dw_rows.proofs.Stacks.{stack-length}
-use Rattle.dw_rows.proofs.remembered.Remembered.depth.Goals as goal
-
-pub returns : goal.returns
-returns c = sym (stack-length c.self.inside.depth c.self.inside.rows c.self.invariant) ∙ ap (λ (l : List Kept). length l) c.self.view_is

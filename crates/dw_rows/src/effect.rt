@@ -1,0 +1,186 @@
+//! What an instruction does.
+
+ghost use Rattle.std.specs.Prelude.{◌≡◌, ℤ, pos, ◌*◌, ◌*ℤ◌};
+ghost use Rattle.dw_frame.specs.Views.{cie_of, instruction_of};
+ghost use Rattle.dw_rows.specs.Effects.{effect_of};
+ghost use Rattle.dw_rows.specs.EffectViews.{effect_by};
+
+use crate::row::RegisterRule;
+use dw_frame::{CallFrameInstruction, CommonInformationEntry, UnwindExpression};
+
+/// What an instruction does to the location, the rules and what is remembered. Its numbers are
+/// whole: an offset is not yet judged to fit.
+#[derive(Clone, Copy, Debug)]
+pub enum InstructionEffect<'a> {
+    Stays,
+    AdvanceLoc(u128),
+    SetLoc(u64),
+    DefinesCfa {
+        register: u16,
+        offset: i128,
+    },
+    DefinesCfaExpression(UnwindExpression<'a>),
+    ChangesRegister(u16),
+    ChangesOffset(i128),
+    Sets {
+        register: u16,
+        rule: RegisterRule,
+    },
+    SetsOffset {
+        register: u16,
+        offset: i128,
+    },
+    SetsValOffset {
+        register: u16,
+        offset: i128,
+    },
+    SetsExpression {
+        register: u16,
+        expression: UnwindExpression<'a>,
+    },
+    SetsValExpression {
+        register: u16,
+        expression: UnwindExpression<'a>,
+    },
+    Restores(u16),
+    RememberState,
+    RestoreState,
+}
+
+/// An unsigned offset that isn't factored.
+#[inline(always)]
+fn unfactored(offset: u64) -> i128
+    ensures { result ≡ pos offset }
+{
+    offset.into()
+}
+
+/// An unsigned offset times the data alignment factor.
+#[inline(always)]
+fn factored(cie: &CommonInformationEntry<'_>, offset: u64) -> i128
+    ensures { result ≡ pos offset *ℤ cie.now.data_alignment_factor }
+{
+    i128::from(offset) * i128::from(cie.data_alignment_factor)
+}
+
+/// A signed offset times the data alignment factor.
+#[inline(always)]
+fn factored_sf(cie: &CommonInformationEntry<'_>, offset: i64) -> i128
+    ensures { result ≡ offset *ℤ cie.now.data_alignment_factor }
+{
+    i128::from(offset) * i128::from(cie.data_alignment_factor)
+}
+
+/// An advance by a delta times the code alignment factor.
+#[inline(always)]
+fn advance<'a>(cie: &CommonInformationEntry<'_>, delta: u32) -> InstructionEffect<'a>
+    ensures { result ≡ InstructionEffect.AdvanceLoc (delta * cie.now.code_alignment_factor) }
+{
+    InstructionEffect::AdvanceLoc(u128::from(delta) * u128::from(cie.code_alignment_factor))
+}
+
+/// What the instruction does, by the factors of the CIE.
+#[inline(always)]
+pub fn action_of<'a>(
+    cie: &CommonInformationEntry<'_>,
+    instruction: CallFrameInstruction<'a>,
+) -> InstructionEffect<'a>
+    ensures { effect_by result ≡ effect_of (cie_of cie.now) (instruction_of instruction.entry) }
+{
+    match instruction {
+        CallFrameInstruction::Nop => InstructionEffect::Stays,
+        CallFrameInstruction::AdvanceLoc { delta } => advance(cie, u32::from(delta)),
+        CallFrameInstruction::AdvanceLoc1 { delta } => advance(cie, u32::from(delta)),
+        CallFrameInstruction::AdvanceLoc2 { delta } => advance(cie, u32::from(delta)),
+        CallFrameInstruction::AdvanceLoc4 { delta } => advance(cie, delta),
+        CallFrameInstruction::SetLoc { address } => InstructionEffect::SetLoc(address),
+        CallFrameInstruction::DefCfa { register, offset } => InstructionEffect::DefinesCfa {
+            register,
+            offset: unfactored(offset),
+        },
+        CallFrameInstruction::DefCfaSf {
+            register,
+            factored_offset,
+        } => InstructionEffect::DefinesCfa {
+            register,
+            offset: factored_sf(cie, factored_offset),
+        },
+        CallFrameInstruction::DefCfaRegister { register } => InstructionEffect::ChangesRegister(
+            register,
+        ),
+        CallFrameInstruction::DefCfaOffset { offset } => InstructionEffect::ChangesOffset(
+            unfactored(offset),
+        ),
+        CallFrameInstruction::DefCfaOffsetSf { factored_offset } => {
+            InstructionEffect::ChangesOffset(factored_sf(cie, factored_offset))
+        }
+        CallFrameInstruction::DefCfaExpression { expression } => {
+            InstructionEffect::DefinesCfaExpression(expression)
+        }
+        CallFrameInstruction::Undefined { register } => InstructionEffect::Sets {
+            register,
+            rule: RegisterRule::Undefined,
+        },
+        CallFrameInstruction::SameValue { register } => InstructionEffect::Sets {
+            register,
+            rule: RegisterRule::SameValue,
+        },
+        CallFrameInstruction::Register { register, source } => InstructionEffect::Sets {
+            register,
+            rule: RegisterRule::Register(source),
+        },
+        CallFrameInstruction::Offset {
+            register,
+            factored_offset,
+        } => InstructionEffect::SetsOffset {
+            register,
+            offset: factored(cie, factored_offset),
+        },
+        CallFrameInstruction::OffsetExtended {
+            register,
+            factored_offset,
+        } => InstructionEffect::SetsOffset {
+            register,
+            offset: factored(cie, factored_offset),
+        },
+        CallFrameInstruction::OffsetExtendedSf {
+            register,
+            factored_offset,
+        } => InstructionEffect::SetsOffset {
+            register,
+            offset: factored_sf(cie, factored_offset),
+        },
+        CallFrameInstruction::ValOffset {
+            register,
+            factored_offset,
+        } => InstructionEffect::SetsValOffset {
+            register,
+            offset: factored(cie, factored_offset),
+        },
+        CallFrameInstruction::ValOffsetSf {
+            register,
+            factored_offset,
+        } => InstructionEffect::SetsValOffset {
+            register,
+            offset: factored_sf(cie, factored_offset),
+        },
+        CallFrameInstruction::Expression {
+            register,
+            expression,
+        } => InstructionEffect::SetsExpression {
+            register,
+            expression,
+        },
+        CallFrameInstruction::ValExpression {
+            register,
+            expression,
+        } => InstructionEffect::SetsValExpression {
+            register,
+            expression,
+        },
+        CallFrameInstruction::Restore { register } => InstructionEffect::Restores(register),
+        CallFrameInstruction::RestoreExtended { register } => InstructionEffect::Restores(register),
+        CallFrameInstruction::RememberState => InstructionEffect::RememberState,
+        CallFrameInstruction::RestoreState => InstructionEffect::RestoreState,
+    }
+}

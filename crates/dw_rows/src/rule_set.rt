@@ -1,0 +1,118 @@
+//! The rules of a row together.
+
+use crate::map::{MAX_RULES, RegisterRuleMap, RuleEntry};
+use crate::row::{CfaRule, RegisterRule};
+use dw_bytes::FaultKind;
+use std::marker::Model;
+
+/// The rules of a row.
+#[derive(Drop)]
+pub struct RuleSet {
+    cfa: Option<CfaRule>,
+    rules: RegisterRuleMap,
+}
+
+impl Model for RuleSet {
+    ghost use Rattle.dw_rows.specs.RuleSet.{KeptRules};
+
+    ghost Value = { KeptRules };
+
+    ghost use Rattle.std.specs.Option.{option_map};
+    ghost use Rattle.dw_rows.specs.Views.{cfa_rule_of};
+
+    ghost view = { λ r. record { cfa = option_map cfa_rule_of r.cfa; rules = r.rules } };
+}
+
+impl RuleSet {
+    ghost use Rattle.std.specs.Prelude.{◌≡◌, ◌≤◌, None, Some, [], length};
+    ghost use Rattle.std.specs.Option.{option_map};
+    ghost use Rattle.dw_rows.specs.Rules.{IsTable, rule_in};
+    ghost use Rattle.dw_rows.specs.Views.{rule_of, cfa_rule_of, entries_of};
+    ghost use Rattle.dw_rows.specs.ProgramState.{Sets};
+
+    /// No rules.
+    pub fn new() -> Self
+        ensures { result ≡ record { cfa = None; rules = [] } }
+    {
+        RuleSet {
+            cfa: None,
+            rules: RegisterRuleMap::new(),
+        }
+    }
+
+    /// The same rules again.
+    pub fn copy(&self) -> Self
+        ensures { result ≡ self.now }
+    {
+        RuleSet {
+            cfa: self.cfa,
+            rules: self.rules.copy(),
+        }
+    }
+
+    /// Drops all rules.
+    pub fn clear(&mut self)
+        ensures { self.new ≡ record { cfa = None; rules = [] } }
+    {
+        self.cfa = None;
+        self.rules.clear();
+    }
+
+    /// Takes on other rules.
+    pub fn copy_from(&mut self, other: &RuleSet)
+        ensures { self.new ≡ other.now }
+    {
+        self.cfa = other.cfa;
+        self.rules.copy_from(&other.rules);
+    }
+
+    /// Takes on a rule of the CFA, and the rules of some entries.
+    pub fn assign(&mut self, cfa: Option<CfaRule>, entries: &[RuleEntry])
+        requires few { length entries.now ≤ MAX_RULES }
+        requires table { IsTable 0 (entries_of entries.now) }
+        ensures { self.new ≡ record { cfa = option_map cfa_rule_of cfa; rules = entries_of entries.now } }
+    {
+        self.cfa = cfa;
+        self.rules.assign(entries);
+    }
+
+    /// The CFA's rule.
+    #[inline(always)]
+    pub fn cfa(&self) -> Option<CfaRule>
+        ensures { self.now.cfa ≡ option_map cfa_rule_of result }
+    {
+        self.cfa
+    }
+
+    /// Gives the CFA a rule.
+    #[inline(always)]
+    pub fn set_cfa(&mut self, cfa: CfaRule)
+        ensures { self.new ≡ record { cfa = Some (cfa_rule_of cfa); rules = self.old.rules } }
+    {
+        self.cfa = Some(cfa);
+    }
+
+    /// The rules of registers.
+    #[inline(always)]
+    pub fn register_rules(&self) -> &RegisterRuleMap
+        ensures { result.now ≡ self.now.rules }
+    {
+        &self.rules
+    }
+
+    /// The rule of a register.
+    #[inline(always)]
+    pub fn register(&self, number: u16) -> RegisterRule
+        ensures { rule_of result ≡ rule_in self.now.rules number }
+    {
+        self.rules.register(number)
+    }
+
+    /// Gives a register a rule.
+    #[inline(always)]
+    pub fn set(&mut self, register: u16, rule: RegisterRule) -> Result<(), FaultKind>
+        ensures { Sets self.old register (rule_of rule) result self.new }
+    {
+        self.rules.set(register, rule)
+    }
+}
