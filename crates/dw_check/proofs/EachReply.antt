@@ -10,19 +10,19 @@ use Rattle.dw_stack.specs.FirstFault.{expression_fault}
 use Rattle.dw_stack.proofs.Existing.{each_has_a_depth}
 use Rattle.dw_stack.proofs.Named.{good_if_none}
 use Rattle.dw_eval.proofs.Determined.{each_evaluation}
-use Rattle.dw_check.specs.Asked.{Asked}
-use Rattle.dw_check.specs.StateFile.{Given}
+use Rattle.dw_check.specs.Requests.{Asked}
+use Rattle.dw_check.specs.StateFile.{StateFact}
 use Rattle.dw_check.specs.Outcomes.{evaluation_text}
 use Rattle.dw_check.specs.Evaluations.{world_of}
 use Rattle.dw_check.specs.Runs.{Reply, text, refusal, not_hex, bad_line, frame_reply, IsOutcome, OfSection, OfState, IsRowsReply, IsEvalReply, IsReplyTo, IsReply}
-use Rattle.dw_check.specs.Files.{section_bytes, state_given}
+use Rattle.dw_check.specs.Files.{section_bytes, state_facts}
 use Rattle.std.specs.Prelude.{slice_get}
 use Rattle.dw_check.specs.declared.stop.Section.TheVariants.{Expression}
-use Rattle.dw_check.specs.declared.asked.Task.{Task}
-use Rattle.dw_check.specs.declared.asked.Task.TheVariants.{Rows, Row, Eval}
+use Rattle.dw_check.specs.declared.requests.Task.{Task}
+use Rattle.dw_check.specs.declared.requests.Task.TheVariants.{Rows, Row, Eval}
 use Rattle.dw_check.proofs.Evaluated.{refused_short, refused_long}
 
-module _ (kind : Kind) (target : Target) (bytes : List ℕ) (gs : List Given) where
+module _ (kind : Kind) (target : Target) (bytes : List ℕ) (gs : List StateFact) where
   good_outcome : length bytes < 2 ^ 32 → IsGoodExpression kind target bytes → (r : Reply) × IsOutcome kind target bytes gs r
   good_outcome short good =
       let deep = each_has_a_depth kind target bytes good in
@@ -53,7 +53,7 @@ each_of_section : (place : ℕ) (found : Option (List ℕ)) (Is : List ℕ → R
 each_of_section place None Is each = (not_hex place, refl)
 each_of_section place (Some bytes) Is each = each bytes
 
-each_of_state : (given : Result (List Given) ℕ) (Is : List Given → Reply → Type 0) → ((gs : List Given) → (r : Reply) × Is gs r) → (r : Reply) × OfState given Is r
+each_of_state : (given : Result (List StateFact) ℕ) (Is : List StateFact → Reply → Type 0) → ((gs : List StateFact) → (r : Reply) × Is gs r) → (r : Reply) × OfState given Is r
 each_of_state (Err n) Is each = (bad_line n, refl)
 each_of_state (Ok gs) Is each = each gs
 
@@ -63,8 +63,8 @@ each_rows address target hex files =
 
 each_eval : (kind : Kind) (target : Target) (hex : Bool) (files : List (List ℕ)) → (r : Reply) × IsEvalReply kind target hex files r
 each_eval kind target hex files =
-    each_of_section 0 (section_bytes hex (slice_get files 0)) (λ bytes. OfState (state_given target (slice_get files 1)) (IsOutcome kind target bytes))
-    (λ bytes. each_of_state (state_given target (slice_get files 1)) (IsOutcome kind target bytes) (each_outcome kind target bytes))
+    each_of_section 0 (section_bytes hex (slice_get files 0)) (λ bytes. OfState (state_facts target (slice_get files 1)) (IsOutcome kind target bytes))
+    (λ bytes. each_of_state (state_facts target (slice_get files 1)) (IsOutcome kind target bytes) (each_outcome kind target bytes))
 
 each_to : (task : Task) (target : Target) (hex : Bool) (files : List (List ℕ)) → (r : Reply) × IsReplyTo task target hex files r
 each_to Rows target hex files = each_rows None target hex files

@@ -4,10 +4,10 @@ use Rattle.std.specs.Prelude.{Option, Some, Result, Ok, Err}
 use Rattle.std.specs.Result.{IsErr, IsErrAnd}
 use Rattle.std.specs.Io.KnownBytes.{Appends}
 use Rattle.dw_bytes.specs.declared.fault.Fault.{Fault}
-use Rattle.dw_check.specs.StateFile.{Given}
+use Rattle.dw_check.specs.StateFile.{StateFact}
 use Rattle.dw_check.specs.Stops.{ended_by, IsBadState, IsRefusal}
-use Rattle.dw_check.specs.Taken.{AppendsFront}
-use Rattle.dw_check.specs.Written.{Writes, WritesWhole}
+use Rattle.dw_check.specs.SinkBytes.{AppendsFront}
+use Rattle.dw_check.specs.WriteResults.{Writes, WritesWhole}
 use Rattle.dw_check.specs.Runs.{Reply, text, refusal, bad_line, accepted_text, OfSection, OfState, Goes}
 use Rattle.dw_check.specs.declared.stop.Section.{Section}
 use Rattle.dw_check.specs.declared.stop.ReportFault.{ReportFault}
@@ -28,11 +28,11 @@ goes_section count place found bytes Is old new r e h = subst (λ o. Goes count 
 
 -- ---- the state
 
-pub goes_state : (count : ℕ) (given : Result (List Given) ℕ) (gs : List Given) (Is : List Given → Reply → Type 0) (old new : Option (List ℕ)) (r : Result (Unit {0}) Stop)
+pub goes_state : (count : ℕ) (given : Result (List StateFact) ℕ) (gs : List StateFact) (Is : List StateFact → Reply → Type 0) (old new : Option (List ℕ)) (r : Result (Unit {0}) Stop)
     → given ≡ Ok gs → Goes count (Is gs) old new r → Goes count (OfState given Is) old new r
 goes_state count given gs Is old new r e h = subst (λ g. Goes count (OfState g Is) old new r) (sym e) h
 
-pub goes_bad_state : (count : ℕ) (given : Result (List Given) ℕ) (Is : List Given → Reply → Type 0) (a : Option (List ℕ)) (stop : Stop)
+pub goes_bad_state : (count : ℕ) (given : Result (List StateFact) ℕ) (Is : List StateFact → Reply → Type 0) (a : Option (List ℕ)) (stop : Stop)
     → IsBadState given stop → Goes count (OfState given Is) a a (Err stop)
 goes_bad_state count given Is a (StateLine n) h = (subst (λ g. OfState g Is (bad_line n)) (sym h) refl, appends_nothing a)
 goes_bad_state count given Is a Memory h = λ reply is. front_none a a (accepted_text reply) (appends_nothing a)

@@ -6,7 +6,7 @@ use Rattle.std.proofs.Math.Seq.{get_or-append_seam}
 use Rattle.std.proofs.lemmas.List.{append_assoc, append-nil, drop_all}
 use Rattle.std.proofs.lemmas.Grind.{flat_map-append}
 use Rattle.std.specs.Io.KnownBytes.{Appends}
-use Rattle.dw_check.specs.Taken.{AppendsFront}
+use Rattle.dw_check.specs.SinkBytes.{AppendsFront}
 use Rattle.dw_check.proofs.Growth.{appends_nothing, appends_more, front_wider, front_more}
 
 -- The texts of those that came are written, and the rest is to come.

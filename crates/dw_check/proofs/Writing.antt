@@ -9,9 +9,9 @@ use Rattle.dw_frame.specs.Records.{Cie, Fde}
 use Rattle.dw_rows.specs.Rules.{Row}
 use Rattle.dw_rows.specs.Section.{Frame, cie_in, rows_in, rows_behind, row_of}
 use Rattle.dw_rows.specs.UnwindRows.{rows_of}
-use Rattle.dw_check.specs.Taken.{AppendsFront}
+use Rattle.dw_check.specs.SinkBytes.{AppendsFront}
 use Rattle.dw_check.specs.Text.{fde_line, row_line, lines_of, fde_text, found_text, lookup_text}
-use Rattle.dw_check.specs.Written.{Writes, WritesWhole}
+use Rattle.dw_check.specs.WriteResults.{Writes, WritesWhole}
 use Rattle.dw_check.specs.declared.stop.ReportFault.{ReportFault}
 use Rattle.dw_check.specs.declared.stop.ReportFault.TheVariants.{Memory, Write}
 use Rattle.dw_check.proofs.Growth.{appends_more, front_more, front_wider}

@@ -1,5 +1,6 @@
 pub mod Addresses
-pub mod Asked
+pub mod Arguments
+pub mod Requests
 pub mod Commands
 pub mod Evaluations
 pub mod Files
@@ -11,6 +12,6 @@ pub mod StateFile
 pub mod StateViews
 pub mod Statuses
 pub mod Stops
-pub mod Taken
+pub mod SinkBytes
 pub mod Text
-pub mod Written
+pub mod WriteResults

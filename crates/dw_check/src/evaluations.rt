@@ -8,9 +8,9 @@ ghost use Rattle.dw_eval.specs.Views.{outcome_of};
 ghost use Rattle.dw_check.specs.Text.{digits_of};
 ghost use Rattle.dw_check.specs.Outcomes.{evaluation_text};
 ghost use Rattle.dw_check.specs.Evaluations.{Evaluates};
-ghost use Rattle.dw_check.specs.StateFile.{Given, IsGivenBy};
-ghost use Rattle.dw_check.specs.StateViews.{known_of};
-ghost use Rattle.dw_check.specs.Written.{IsSame, WritesWhole, is_write};
+ghost use Rattle.dw_check.specs.StateFile.{StateFact, IsGivenBy};
+ghost use Rattle.dw_check.specs.StateViews.{known_state_of};
+ghost use Rattle.dw_check.specs.WriteResults.{IsSame, WritesWhole, is_write};
 
 use crate::machine_state::MachineState;
 use crate::outcomes::push_evaluation;
@@ -55,7 +55,7 @@ pub(crate) fn write_outcome<S: Sink>(
     requires size { out.old.size ≡ (checked_of checked.now).target.address_size }
     requires runs { S.has_stopped out.old.sink.now ≡ false }
     ensures same { IsSame out.old out.new }
-    ensures written { (gs : List Given) → IsGivenBy (known_of state.now) gs → (text : List ℕ)
+    ensures written { (gs : List StateFact) → IsGivenBy (known_state_of state.now) gs → (text : List ℕ)
         × Evaluates (checked_of checked.now).kind (checked_of checked.now).target (checked_of checked.now).bytes gs text
         × WritesWhole (S.taken out.old.sink.now) (S.taken out.new.sink.now) result text }
     ensures stops { S.has_stopped out.new.sink.now ≡ is_write result }

@@ -6,13 +6,13 @@ ghost use Rattle.dw_stack.specs.Certificates.{checked_of};
 ghost use Rattle.dw_stack.specs.Expressions.{IsOf};
 ghost use Rattle.dw_check.specs.Runs.{Ends, Goes, IsPlaceIn, IsReply, IsReplyTo, IsRowsReply, IsEvalReply, frame_refusal, expression_refusal, rows_text};
 ghost use Rattle.dw_check.specs.Stops.{IsRefusal, ended_by, is_output};
-ghost use Rattle.dw_check.specs.Written.{IsSame, Writes, is_write};
+ghost use Rattle.dw_check.specs.WriteResults.{IsSame, Writes, is_write};
 ghost use Rattle.dw_check.specs.declared.stop.Section.TheVariants as sections;
 
-use crate::asked::{End, Request, Task};
 use crate::evaluations::write_outcome;
 use crate::files::{Files, section_at, state_at};
 use crate::output::{write_frame, write_lookup, write_refused};
+use crate::requests::{End, Request, Task};
 use crate::sink::Sink;
 use crate::stop::{ReportFault, Section, Stop};
 use crate::writer::Writer;

@@ -1,6 +1,6 @@
 use Rattle.std.proofs.Common.{◌≡◌, rules, length, ◌<◌, ◌≤◌, arith}
 use Rattle.std.specs.Str.Parse.{without_leading_plus}
-use Rattle.dw_check.proofs.Parsed.{no_plus, read_ok, read_none, digits_fit, digits_are_text, radix_small}
+use Rattle.dw_check.proofs.Digits.{no_plus, read_ok, read_none, digits_fit, digits_are_text, radix_small}
 use Rattle.dw_check.proofs.addresses.parse_number.Goals as goal
 
 pub returns-in_default : goal.returns-in_default

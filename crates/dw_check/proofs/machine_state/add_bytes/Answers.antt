@@ -1,7 +1,7 @@
 use Rattle.std.proofs.Common.{◌+◌, arith, slice_index}
 use Rattle.std.specs.Ordering.{nat_cmp}
 use Rattle.std.specs.BTreeMap.{get}
-use Rattle.dw_check.proofs.Known.{added, byte_added}
+use Rattle.dw_check.proofs.KnownState.{added, byte_added}
 use Rattle.dw_check.proofs.machine_state.add_bytes.Goals as goal
 
 pub loop-index-preserved : goal.loop-index-preserved

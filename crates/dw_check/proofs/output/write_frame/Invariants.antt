@@ -1,7 +1,7 @@
 use Rattle.std.proofs.Common.{◌≡◌, false, map, drop}
 use Rattle.dw_frame.specs.Views.{fde_of}
 use Rattle.dw_check.specs.Text.{fde_text}
-use Rattle.dw_check.specs.Written.{IsSame}
+use Rattle.dw_check.specs.WriteResults.{IsSame}
 use Rattle.dw_check.proofs.Sent.{Sent}
 use Rattle.dw_check.proofs.output.write_frame.Given as goal
 

@@ -4,9 +4,9 @@ use Rattle.std.specs.Cow.{cow_slice_items}
 use Rattle.dw_stack.specs.Certificates.{checked_of}
 use Rattle.dw_stack.specs.FirstFault.{expression_fault}
 use Rattle.dw_stack.proofs.Named.{good_if_none}
-use Rattle.dw_check.specs.Files.{section_bytes, state_given}
+use Rattle.dw_check.specs.Files.{section_bytes, state_facts}
 use Rattle.dw_check.specs.Runs.{OfState, Goes, IsEvalReply, IsOutcome, expression_refusal}
-use Rattle.dw_check.specs.Written.{WritesWhole}
+use Rattle.dw_check.specs.WriteResults.{WritesWhole}
 use Rattle.dw_check.specs.declared.stop.Section.TheVariants.{Expression}
 use Rattle.dw_check.proofs.Evaluated.{good_checked, written_same}
 use Rattle.dw_check.proofs.Lengths.{short_fault}
@@ -19,7 +19,7 @@ returns-in_err-state-clause-goes g c =
     let files = map (λ file. file.items) c.args.files.now.contents.now in
     let asked = c.args.files.now in
     let a = g.S.Sink.taken c.args.out.now.sink.now in
-    let given = state_given asked.target (slice_get files 1) in
+    let given = state_facts asked.target (slice_get files 1) in
     let is = λ (bytes : List ℕ). OfState given (IsOutcome c.args.kind asked.target bytes) in
     handed_on (Goes count (IsEvalReply c.args.kind asked.target asked.hex files) a a) _ c.in_err-state.field-0.0 c.from_residual-in_err-state.ensures
     (goes_section count 0 (section_bytes asked.hex (slice_get files 0)) _ is a a (Err c.in_err-state.field-0.0) c.in_ok-bytes.ensures.bytes
@@ -32,7 +32,7 @@ returns-in_err-checked-clause-goes g c =
     let asked = c.args.files.now in
     let a = g.S.Sink.taken c.args.out.now.sink.now in
     let e = c.in_err-checked.field-0.0 in
-    let given = state_given asked.target (slice_get files 1) in
+    let given = state_facts asked.target (slice_get files 1) in
     let bytes = cow_slice_items c.in_ok-bytes.bytes in
     let is = λ (bytes : List ℕ). OfState given (IsOutcome c.args.kind asked.target bytes) in
     let gs = c.in_ok-state.ensures.state.0 in
@@ -57,7 +57,7 @@ returns-clause-goes g c =
     let asked = c.args.files.now in
     let old = g.S.Sink.taken c.args.out.now.sink.now in
     let new = g.S.Sink.taken c.write_outcome.new.out.sink.now in
-    let given = state_given asked.target (slice_get files 1) in
+    let given = state_facts asked.target (slice_get files 1) in
     let bytes = cow_slice_items c.in_ok-bytes.bytes in
     let is = λ (bytes : List ℕ). OfState given (IsOutcome c.args.kind asked.target bytes) in
     let gs = c.in_ok-state.ensures.state.0 in

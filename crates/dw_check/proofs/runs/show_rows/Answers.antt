@@ -3,7 +3,7 @@ use Rattle.std.specs.Prelude.{Err, Some, slice_get}
 use Rattle.dw_rows.specs.Section.{frame_of}
 use Rattle.dw_check.specs.Files.{section_bytes}
 use Rattle.dw_check.specs.Runs.{Reply, Goes, IsRowsReply, frame_refusal, frame_reply, rows_text}
-use Rattle.dw_check.specs.Written.{Writes}
+use Rattle.dw_check.specs.WriteResults.{Writes}
 use Rattle.dw_check.specs.declared.stop.Section.TheVariants.{Frame}
 use Rattle.dw_check.proofs.Replies.{goes_section, goes_refusal, goes_text, handed_on}
 use Rattle.dw_check.proofs.Sections.{rows_done, rows_refused}

@@ -1,15 +1,19 @@
 //! What a command line asks for.
 
-ghost use Rattle.std.specs.Prelude.{◌≡◌, ◌⊎◌, ◌∷◌, [], IfOk, IfErr, Some, map, option_map};
-ghost use Rattle.std.specs.Option.{IsSomeAnd};
+ghost use Rattle.std.specs.Prelude.{◌≡◌, ◌⊎◌, ◌∷◌, [], IfOk, IfErr, Some, map, option_map, codes};
+ghost use Rattle.std.specs.Option.{IsSomeAnd, option_to_list};
 ghost use Rattle.std.specs.String.{string_bytes};
 ghost use Rattle.clap.specs.Words.{found_of, rows_of, first_of, kind_of, subcommand_rows_of};
-ghost use Rattle.dw_check.specs.Commands.{flag_of, target_of, asked_of, rows_asked, row_asked, kind_of as kind_named, with_state, eval_asked, asked_by, RefusesAddress, RefusesKind, RefusesArgument, IsUsageOf, AsksFor};
-ghost use Rattle.dw_check.specs.declared.asked.Usage.TheVariants.{Memory, BadArgument};
+ghost use Rattle.dw_check.specs.Arguments.{flag_of, target_of, kind_of as kind_named, IsBad, address, kind};
+ghost use Rattle.dw_check.specs.Commands.{rows_command, row_command, eval_command};
+ghost use Rattle.dw_check.specs.Requests.{asked_of, asked_by, HasBadWord, IsUsageOf, AsksFor};
+ghost use Rattle.dw_check.specs.declared.requests.Usage.TheVariants.{Memory, BadArgument};
 
 use crate::addresses::parse_address;
-use crate::asked::{Request, Task, Usage};
-use crate::command_line::whole_command;
+use crate::command_line::{
+    ADDR4, ADDRESS, BIG, EVAL, EXPR, FRAME, HEX, KIND, ROW, ROWS, STATE, whole_command,
+};
+use crate::requests::{Request, Task, Usage};
 use clap::error::ErrorKind;
 use clap::{ArgMatches, Error};
 use dw_bytes::{AddressSize, Order, Target};
@@ -37,12 +41,12 @@ fn has_flag(matches: &ArgMatches<'_>, name: &str) -> bool
 fn target_of(matches: &ArgMatches<'_>) -> Target
     ensures { result ≡ target_of (rows_of (found_of matches.now)) }
 {
-    let order = if has_flag(matches, "big") {
+    let order = if has_flag(matches, BIG) {
         Order::Big
     } else {
         Order::Little
     };
-    let address_size = if has_flag(matches, "addr4") {
+    let address_size = if has_flag(matches, ADDR4) {
         AddressSize::Four
     } else {
         AddressSize::Eight
@@ -55,12 +59,15 @@ fn target_of(matches: &ArgMatches<'_>) -> Target
 
 /// A request with the flags of a subcommand, over these files.
 fn request_with(matches: &ArgMatches<'_>, task: Task, files: Vec<String>) -> Request
-    ensures { result ≡ asked_of (rows_of (found_of matches.now)) task (map (λ s. string_bytes s) files.items) }
+    ensures task { result.task ≡ task }
+    ensures target { result.target ≡ target_of (rows_of (found_of matches.now)) }
+    ensures hex { result.hex ≡ flag_of (codes "hex") (rows_of (found_of matches.now)) }
+    ensures files { result.files ≡ map (λ s. string_bytes s) files.items }
 {
     Request {
         task,
         target: target_of(matches),
-        hex: has_flag(matches, "hex"),
+        hex: has_flag(matches, HEX),
         files,
     }
 }
@@ -72,7 +79,10 @@ fn request_over(
     task: Task,
     file: &str,
 ) -> Result<Request, Usage>
-    ensures ok { IfOk result (λ r. r ≡ asked_of (rows_of (found_of matches.now)) task (file.now ∷ [])) }
+    ensures task { IfOk result (λ r. r.task ≡ task) }
+    ensures target { IfOk result (λ r. r.target ≡ target_of (rows_of (found_of matches.now))) }
+    ensures hex { IfOk result (λ r. r.hex ≡ flag_of (codes "hex") (rows_of (found_of matches.now))) }
+    ensures files { IfOk result (λ r. r.files ≡ file.now ∷ []) }
     ensures err { IfErr result (λ e. e ≡ Memory) }
 {
     let files = vec![in alloc; String::from_str(alloc, file)?]?;
@@ -81,10 +91,10 @@ fn request_over(
 
 /// What `rows` asks for.
 fn rows_request(alloc: Global, matches: &ArgMatches<'_>) -> Result<Request, Usage>
-    ensures ok { IfOk result (λ r. rows_asked (rows_of (found_of matches.now)) ≡ Some r) }
+    ensures ok { IfOk result (λ r. asked_of rows_command (rows_of (found_of matches.now)) ≡ Some r) }
     ensures err { IfErr result (λ e. e ≡ Memory) }
 {
-    match text_of(matches, "FRAME") {
+    match text_of(matches, FRAME) {
         Some(file) => request_over(alloc, matches, Task::Rows, file),
         None => Err(Usage::Memory),
     }
@@ -92,10 +102,10 @@ fn rows_request(alloc: Global, matches: &ArgMatches<'_>) -> Result<Request, Usag
 
 /// What `row` asks for.
 fn row_request(alloc: Global, matches: &ArgMatches<'_>) -> Result<Request, Usage>
-    ensures ok { IfOk result (λ r. row_asked (rows_of (found_of matches.now)) ≡ Some r) }
-    ensures err { IfErr result (λ e. (e ≡ Memory) ⊎ ((e ≡ BadArgument) × RefusesAddress (rows_of (found_of matches.now)))) }
+    ensures ok { IfOk result (λ r. asked_of row_command (rows_of (found_of matches.now)) ≡ Some r) }
+    ensures err { IfErr result (λ e. (e ≡ Memory) ⊎ ((e ≡ BadArgument) × IsBad (rows_of (found_of matches.now)) (codes "ADDRESS", address))) }
 {
-    let (Some(file), Some(text)) = (text_of(matches, "FRAME"), text_of(matches, "ADDRESS")) else {
+    let (Some(file), Some(text)) = (text_of(matches, FRAME), text_of(matches, ADDRESS)) else {
         return Err(Usage::Memory);
     };
     match parse_address(text.as_bytes(), target_of(matches)) {
@@ -122,7 +132,7 @@ fn parse_kind(name: &str) -> Option<Kind>
 
 /// The names of an expression's file and of a state file, if there is one.
 fn files_with_state(alloc: Global, file: &str, state: Option<&str>) -> Result<Vec<String>, Usage>
-    ensures ok { IfOk result (λ files. map (λ s. string_bytes s) files.items ≡ with_state file.now (option_map (λ s. s.now) state.entry)) }
+    ensures ok { IfOk result (λ files. map (λ s. string_bytes s) files.items ≡ file.now ∷ option_to_list (option_map (λ s. s.now) state.entry)) }
     ensures err { IfErr result (λ e. e ≡ Memory) }
 {
     let mut files = vec![in alloc; String::from_str(alloc, file)?]?;
@@ -134,16 +144,16 @@ fn files_with_state(alloc: Global, file: &str, state: Option<&str>) -> Result<Ve
 
 /// What `eval` asks for.
 fn eval_request(alloc: Global, matches: &ArgMatches<'_>) -> Result<Request, Usage>
-    ensures ok { IfOk result (λ r. eval_asked (rows_of (found_of matches.now)) ≡ Some r) }
-    ensures err { IfErr result (λ e. (e ≡ Memory) ⊎ ((e ≡ BadArgument) × RefusesKind (rows_of (found_of matches.now)))) }
+    ensures ok { IfOk result (λ r. asked_of eval_command (rows_of (found_of matches.now)) ≡ Some r) }
+    ensures err { IfErr result (λ e. (e ≡ Memory) ⊎ ((e ≡ BadArgument) × IsBad (rows_of (found_of matches.now)) (codes "KIND", kind))) }
 {
-    let (Some(file), Some(name)) = (text_of(matches, "EXPR"), text_of(matches, "KIND")) else {
+    let (Some(file), Some(name)) = (text_of(matches, EXPR), text_of(matches, KIND)) else {
         return Err(Usage::Memory);
     };
     let Some(kind) = parse_kind(name) else {
         return Err(Usage::BadArgument);
     };
-    let files = files_with_state(alloc, file, text_of(matches, "state"))?;
+    let files = files_with_state(alloc, file, text_of(matches, STATE))?;
     Ok(request_with(matches, Task::Eval { kind }, files))
 }
 
@@ -151,15 +161,15 @@ fn eval_request(alloc: Global, matches: &ArgMatches<'_>) -> Result<Request, Usag
 /// clap takes no other subcommand, and none without its words.
 fn request_of(alloc: Global, name: &str, matches: &ArgMatches<'_>) -> Result<Request, Usage>
     ensures ok { IfOk result (λ r. asked_by name.now (rows_of (found_of matches.now)) ≡ Some r) }
-    ensures err { IfErr result (λ e. (e ≡ Memory) ⊎ ((e ≡ BadArgument) × RefusesArgument name.now (rows_of (found_of matches.now)))) }
+    ensures err { IfErr result (λ e. (e ≡ Memory) ⊎ ((e ≡ BadArgument) × HasBadWord name.now (rows_of (found_of matches.now)))) }
 {
-    if name == "rows" {
+    if name == ROWS {
         return rows_request(alloc, matches);
     }
-    if name == "row" {
+    if name == ROW {
         return row_request(alloc, matches);
     }
-    if name == "eval" {
+    if name == EVAL {
         return eval_request(alloc, matches);
     }
     Err(Usage::Memory)
@@ -168,7 +178,7 @@ fn request_of(alloc: Global, name: &str, matches: &ArgMatches<'_>) -> Result<Req
 /// The request of the subcommand that the matches have.
 fn answer_of(alloc: Global, matches: &ArgMatches<'_>) -> Result<Request, Usage>
     ensures ok { IfOk result (λ r. IsSomeAnd (subcommand_rows_of matches.now) (λ (name, rows). asked_by name rows ≡ Some r)) }
-    ensures err { IfErr result (λ e. (e ≡ Memory) ⊎ ((e ≡ BadArgument) × IsSomeAnd (subcommand_rows_of matches.now) (λ (name, rows). RefusesArgument name rows))) }
+    ensures err { IfErr result (λ e. (e ≡ Memory) ⊎ ((e ≡ BadArgument) × IsSomeAnd (subcommand_rows_of matches.now) (λ (name, rows). HasBadWord name rows))) }
 {
     match matches.subcommand() {
         Some((name, inner)) => request_of(alloc, name, inner),

@@ -8,7 +8,7 @@ use Rattle.std.specs.Cmp.{nat_cmp_is}
 use Rattle.std.specs.Map.{lookup}
 use Rattle.std.specs.BTreeMap.{BTreeMap, get, Updates, IsUnchanged}
 use Rattle.std.proofs.lemmas.Bool.Decides.{nat_tests}
-use Rattle.dw_check.specs.StateFile.{Given, bytes, first_that, content_in, byte_in, cfa_in, frame_base_in, object_in, Known, IsGivenBy}
+use Rattle.dw_check.specs.StateFile.{StateFact, bytes, first_that, content_in, byte_in, cfa_in, frame_base_in, object_in, KnownState, IsGivenBy}
 
 cmp_lt : (k q : ℕ) → k < q → is_eq (nat_cmp k q) ≡ (k == q)
 cmp_lt k q h = let other : (k == q) ≡ false = grind (arith, nat_tests) in rw (sym (nat_cmp_is k q Less h), other) refl
@@ -39,7 +39,7 @@ or_or (Some x) q r = refl
 
 -- ---- lists of what was given
 
-pub first_more : {X : Type 0} → (pick : Given → Option X) (gs : List Given) (g : Given) → first_that pick (gs ++ g ∷ []) ≡ option_or (first_that pick gs) (pick g)
+pub first_more : {X : Type 0} → (pick : StateFact → Option X) (gs : List StateFact) (g : StateFact) → first_that pick (gs ++ g ∷ []) ≡ option_or (first_that pick gs) (pick g)
 first_more pick [] g = or_none (pick g)
 first_more pick (h ∷ gs) g = ap (option_or (pick h)) (first_more pick gs g) ∙ sym (or_or (pick h) (first_that pick gs) (pick g))
 
@@ -102,17 +102,17 @@ added old new k v h q = cases old new k q v (get nat_cmp old k) refl h
 
 -- ---- what is known, and one line more
 
-pub record After (old : Known) (g : Given) (new : Known) : Type 0 where
+pub record After (old : KnownState) (g : StateFact) (new : KnownState) : Type 0 where
   pub registers : (n : ℕ) → new.registers n ≡ option_or (old.registers n) (content_in n g)
   pub memory : (a : ℕ) → new.memory a ≡ option_or (old.memory a) (byte_in a g)
   pub cfa : new.cfa ≡ option_or old.cfa (cfa_in g)
   pub frame_base : new.frame_base ≡ option_or old.frame_base (frame_base_in g)
   pub object : new.object ≡ option_or old.object (object_in g)
 
-one_more : {X : Type 0} → (pick : Given → Option X) (gs : List Given) (g : Given) (old new : Option X) → new ≡ option_or old (pick g) → old ≡ first_that pick gs → new ≡ first_that pick (gs ++ g ∷ [])
+one_more : {X : Type 0} → (pick : StateFact → Option X) (gs : List StateFact) (g : StateFact) (old new : Option X) → new ≡ option_or old (pick g) → old ≡ first_that pick gs → new ≡ first_that pick (gs ++ g ∷ [])
 one_more pick gs g old new h is = h ∙ ap (λ o. option_or o (pick g)) is ∙ sym (first_more pick gs g)
 
-pub given_more : (old new : Known) (g : Given) → After old g new → (gs : List Given) → IsGivenBy old gs → IsGivenBy new (gs ++ g ∷ [])
+pub given_more : (old new : KnownState) (g : StateFact) → After old g new → (gs : List StateFact) → IsGivenBy old gs → IsGivenBy new (gs ++ g ∷ [])
 given_more old new g h gs is = record {
   registers = λ n. one_more (content_in n) gs g (old.registers n) (new.registers n) (h.registers n) (is.registers n);
   memory = λ a. one_more (byte_in a) gs g (old.memory a) (new.memory a) (h.memory a) (is.memory a);

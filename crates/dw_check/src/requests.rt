@@ -2,9 +2,9 @@
 
 ghost use Rattle.std.specs.Prelude.{◌≡◌, length, map};
 ghost use Rattle.std.specs.String.{string_bytes};
-ghost use Rattle.dw_check.specs.Asked.{Asked};
+ghost use Rattle.dw_check.specs.Requests.{Asked};
 ghost use Rattle.dw_check.specs.Statuses.{status_of_usage, status_of_end};
-ghost use Rattle.dw_check.specs.declared.asked.Usage.TheVariants.{Memory};
+ghost use Rattle.dw_check.specs.declared.requests.Usage.TheVariants.{Memory};
 
 use dw_bytes::Target;
 use dw_stack::Kind;
