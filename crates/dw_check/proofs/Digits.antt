@@ -19,7 +19,8 @@ both false b h = cc
 
 digits_from_test : (r : ℕ) (ds : List ℕ) → list_all (λ c. nat_lt (digit_value c) r) ds ≡ true → AllDigits r ds
 digits_from_test r [] h = tt
-digits_from_test r (c ∷ cs) h = let p = both (nat_lt (digit_value c) r) (list_all (λ c. nat_lt (digit_value c) r) cs) h in (ltb-true (digit_value c) r p.0, digits_from_test r cs p.1)
+digits_from_test r (c ∷ cs) h = let p = both (nat_lt (digit_value c) r) (list_all (λ c. nat_lt (digit_value c) r) cs) h in
+    (ltb-true (digit_value c) r p.0, digits_from_test r cs p.1)
 
 test_from_digits : (r : ℕ) (ds : List ℕ) → AllDigits r ds → list_all (λ c. nat_lt (digit_value c) r) ds ≡ true
 test_from_digits r [] h = refl
@@ -42,7 +43,8 @@ pub no_plus : (ds : List ℕ) → (get_or ds 0 0 ≡ 43 → ⊥) → without_lea
 no_plus ds h = grind (arith, nat_tests)
 
 -- a number was read
-pub read_ok : (r most : ℕ) (ds : List ℕ) (n : ℕ) → 0 < length ds → length ds ≤ most → AllDigits r ds → n ≡ digits_value r ds → Some n ≡ number_of r most ds
+pub read_ok : (r most : ℕ) (ds : List ℕ) (n : ℕ) → 0 < length ds → length ds ≤ most → AllDigits r ds → n ≡ digits_value r ds
+    → Some n ≡ number_of r most ds
 read_ok r most ds n some short all e = rw (lt-ltb 0 (length ds) some, le-leb (length ds) most short, test_from_digits r ds all) (ap Some e)
 
 -- none was

@@ -21,7 +21,8 @@ answered faults matches (Err BadArgument) none ok (inr e) = (none, e.1)
 answered faults matches (Err Memory) none ok err = tt
 
 -- the answer where it found a fault
-pub refused : (faults : Kinds) (matches : Option (Text × List Row)) (e : Error) (u : Usage) → HasKind faults e → IsUsageOf (kind_of e) u → AsksBy faults matches (Err u)
+pub refused : (faults : Kinds) (matches : Option (Text × List Row)) (e : Error) (u : Usage) → HasKind faults e → IsUsageOf (kind_of e) u
+    → AsksBy faults matches (Err u)
 refused faults matches e (Line text) (inl h) k = absurd (k h)
 refused faults matches e (Line text) (inr h) k = λ none. subst (λ ks. IsAmong (kind_of e) ks) none h
 refused faults matches e BadArgument h k = absurd k

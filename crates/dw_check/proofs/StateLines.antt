@@ -8,7 +8,8 @@ joined_long : (b : ℕ) (parts : List (List ℕ)) (n : ℕ) → length parts ≤
 joined_long b [] n h = omega arith
 joined_long b (p ∷ ps) n h = omega (arith, h)
 
-parts_step : (s b : ℕ) (bytes : List ℕ) (t : Bool) → (b == s) ≡ t → length (parts_of s bytes) ≤ length bytes + 1 → length (parts_of s (b ∷ bytes)) ≤ length (b ∷ bytes) + 1
+parts_step : (s b : ℕ) (bytes : List ℕ) (t : Bool) → (b == s) ≡ t → length (parts_of s bytes) ≤ length bytes + 1
+    → length (parts_of s (b ∷ bytes)) ≤ length (b ∷ bytes) + 1
 parts_step s b bytes true e h = rw e (omega (arith, h))
 parts_step s b bytes false e h = rw e (omega (arith, joined_long b (parts_of s bytes) (length bytes) h))
 
@@ -21,7 +22,9 @@ few_parts s (b ∷ bytes) = parts_step s b bytes (b == s) refl (few_parts s byte
 pub record Reading (target : Target) (text : List ℕ) (gs : List StateFact) (n : ℕ) (lines : List (List ℕ)) : Type 0 where
   pub is : facts_of_file target text ≡ facts_of_lines target gs n lines
 
-pub reads_line : (target : Target) (text : List ℕ) (gs : List StateFact) (n : ℕ) (line : List ℕ) (lines : List (List ℕ)) (g : StateFact) → 0 < length line → Reading target text gs n (line ∷ lines) → fact_of_line target line ≡ Some g → Reading target text (gs ++ g ∷ []) (n + 1) lines
+pub reads_line : (target : Target) (text : List ℕ) (gs : List StateFact) (n : ℕ) (line : List ℕ) (lines : List (List ℕ)) (g : StateFact)
+    → 0 < length line → Reading target text gs n (line ∷ lines) → fact_of_line target line ≡ Some g
+    → Reading target text (gs ++ g ∷ []) (n + 1) lines
 reads_line target text gs n [] lines g some h is = absurd (omega (arith, some))
 reads_line target text gs n (b ∷ line) lines g some h is =
     let next : n + 1 ≡ suc n = omega arith in

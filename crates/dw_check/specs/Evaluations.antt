@@ -20,7 +20,8 @@ world_of target gs = record {
 }
 
 -- The expression is good, its run on what was given comes to this outcome after so many steps, and this is its depth.
-pub record ComesTo (kind : Kind) (target : Target) (bytes : List ℕ) (gs : List StateFact) (outcome : Outcome) (steps depth : ℕ) : Type 0 where
+pub record ComesTo (kind : Kind) (target : Target) (bytes : List ℕ) (gs : List StateFact) (outcome : Outcome)
+    (steps depth : ℕ) : Type 0 where
   pub short : length bytes < 2 ^ 32
   pub good : IsGoodExpression kind target bytes
   pub run : IsRun (world_of target gs) kind (operations_in target bytes) (length bytes) outcome steps

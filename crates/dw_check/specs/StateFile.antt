@@ -38,7 +38,8 @@ register_fact target place value = option_and_then (λ r. option_map (register r
 
 -- `mem 0xA HEX`
 abbrev pub memory_fact : Target → List ℕ → List ℕ → Option StateFact
-memory_fact target place value = option_and_then (λ a. option_and_then (bytes_fact target a) (result_ok (decode_of value))) (address_of target place)
+memory_fact target place value = option_and_then (λ a. option_and_then (bytes_fact target a) (result_ok (decode_of value)))
+    (address_of target place)
 
 abbrev pub numbered : Target → List ℕ → List ℕ → List ℕ → Option StateFact
 numbered target word place value =
@@ -75,7 +76,8 @@ with_fact gs (Some g) n rest = rest (gs ++ g ∷ [])
 abbrev pub facts_of_lines : Target → List StateFact → ℕ → List (List ℕ) → Result (List StateFact) ℕ
 facts_of_lines target gs n [] = Ok gs
 facts_of_lines target gs n ([] ∷ lines) = facts_of_lines target gs (suc n) lines
-facts_of_lines target gs n ((b ∷ line) ∷ lines) = with_fact gs (fact_of_line target (b ∷ line)) n (λ hs. facts_of_lines target hs (suc n) lines)
+facts_of_lines target gs n ((b ∷ line) ∷ lines) =
+    with_fact gs (fact_of_line target (b ∷ line)) n (λ hs. facts_of_lines target hs (suc n) lines)
 
 -- Lines end at LFs, and are counted from 1.
 abbrev pub facts_of_file : Target → List ℕ → Result (List StateFact) ℕ

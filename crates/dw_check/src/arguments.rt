@@ -81,7 +81,8 @@ fn request_over(
 ) -> Result<Request, Usage>
     ensures task { IfOk result (λ r. r.task ≡ task) }
     ensures target { IfOk result (λ r. r.target ≡ target_of (rows_of (found_of matches.now))) }
-    ensures hex { IfOk result (λ r. r.hex ≡ flag_of (codes "hex") (rows_of (found_of matches.now))) }
+    ensures hex { IfOk result (λ r. r.hex ≡ flag_of (codes "hex")
+        (rows_of (found_of matches.now))) }
     ensures files { IfOk result (λ r. r.files ≡ file.now ∷ []) }
     ensures err { IfErr result (λ e. e ≡ Memory) }
 {
@@ -91,7 +92,8 @@ fn request_over(
 
 /// What `rows` asks for.
 fn rows_request(alloc: Global, matches: &ArgMatches<'_>) -> Result<Request, Usage>
-    ensures ok { IfOk result (λ r. asked_of rows_command (rows_of (found_of matches.now)) ≡ Some r) }
+    ensures ok { IfOk result (λ r. asked_of rows_command (rows_of (found_of matches.now))
+        ≡ Some r) }
     ensures err { IfErr result (λ e. e ≡ Memory) }
 {
     match text_of(matches, FRAME) {
@@ -103,7 +105,8 @@ fn rows_request(alloc: Global, matches: &ArgMatches<'_>) -> Result<Request, Usag
 /// What `row` asks for.
 fn row_request(alloc: Global, matches: &ArgMatches<'_>) -> Result<Request, Usage>
     ensures ok { IfOk result (λ r. asked_of row_command (rows_of (found_of matches.now)) ≡ Some r) }
-    ensures err { IfErr result (λ e. (e ≡ Memory) ⊎ ((e ≡ BadArgument) × IsBad (rows_of (found_of matches.now)) (codes "ADDRESS", address))) }
+    ensures err { IfErr result (λ e. (e ≡ Memory)
+        ⊎ ((e ≡ BadArgument) × IsBad (rows_of (found_of matches.now)) (codes "ADDRESS", address))) }
 {
     let (Some(file), Some(text)) = (text_of(matches, FRAME), text_of(matches, ADDRESS)) else {
         return Err(Usage::Memory);
@@ -132,7 +135,8 @@ fn parse_kind(name: &str) -> Option<Kind>
 
 /// The names of an expression's file and of a state file, if there is one.
 fn files_with_state(alloc: Global, file: &str, state: Option<&str>) -> Result<Vec<String>, Usage>
-    ensures ok { IfOk result (λ files. map (λ s. string_bytes s) files.items ≡ file.now ∷ option_to_list (option_map (λ s. s.now) state.entry)) }
+    ensures ok { IfOk result (λ files. map (λ s. string_bytes s) files.items ≡ file.now
+        ∷ option_to_list (option_map (λ s. s.now) state.entry)) }
     ensures err { IfErr result (λ e. e ≡ Memory) }
 {
     let mut files = vec![in alloc; String::from_str(alloc, file)?]?;
@@ -144,8 +148,10 @@ fn files_with_state(alloc: Global, file: &str, state: Option<&str>) -> Result<Ve
 
 /// What `eval` asks for.
 fn eval_request(alloc: Global, matches: &ArgMatches<'_>) -> Result<Request, Usage>
-    ensures ok { IfOk result (λ r. asked_of eval_command (rows_of (found_of matches.now)) ≡ Some r) }
-    ensures err { IfErr result (λ e. (e ≡ Memory) ⊎ ((e ≡ BadArgument) × IsBad (rows_of (found_of matches.now)) (codes "KIND", kind))) }
+    ensures ok { IfOk result (λ r. asked_of eval_command (rows_of (found_of matches.now))
+        ≡ Some r) }
+    ensures err { IfErr result (λ e. (e ≡ Memory)
+        ⊎ ((e ≡ BadArgument) × IsBad (rows_of (found_of matches.now)) (codes "KIND", kind))) }
 {
     let (Some(file), Some(name)) = (text_of(matches, EXPR), text_of(matches, KIND)) else {
         return Err(Usage::Memory);
@@ -161,7 +167,8 @@ fn eval_request(alloc: Global, matches: &ArgMatches<'_>) -> Result<Request, Usag
 /// clap takes no other subcommand, and none without its words.
 fn request_of(alloc: Global, name: &str, matches: &ArgMatches<'_>) -> Result<Request, Usage>
     ensures ok { IfOk result (λ r. asked_by name.now (rows_of (found_of matches.now)) ≡ Some r) }
-    ensures err { IfErr result (λ e. (e ≡ Memory) ⊎ ((e ≡ BadArgument) × HasBadWord name.now (rows_of (found_of matches.now)))) }
+    ensures err { IfErr result (λ e. (e ≡ Memory)
+        ⊎ ((e ≡ BadArgument) × HasBadWord name.now (rows_of (found_of matches.now)))) }
 {
     if name == ROWS {
         return rows_request(alloc, matches);
@@ -177,8 +184,11 @@ fn request_of(alloc: Global, name: &str, matches: &ArgMatches<'_>) -> Result<Req
 
 /// The request of the subcommand that the matches have.
 fn answer_of(alloc: Global, matches: &ArgMatches<'_>) -> Result<Request, Usage>
-    ensures ok { IfOk result (λ r. IsSomeAnd (subcommand_rows_of matches.now) (λ (name, rows). asked_by name rows ≡ Some r)) }
-    ensures err { IfErr result (λ e. (e ≡ Memory) ⊎ ((e ≡ BadArgument) × IsSomeAnd (subcommand_rows_of matches.now) (λ (name, rows). HasBadWord name rows))) }
+    ensures ok { IfOk result (λ r. IsSomeAnd (subcommand_rows_of matches.now)
+        (λ (name, rows). asked_by name rows ≡ Some r)) }
+    ensures err { IfErr result (λ e. (e ≡ Memory)
+        ⊎ ((e ≡ BadArgument) × IsSomeAnd (subcommand_rows_of matches.now)
+        (λ (name, rows). HasBadWord name rows))) }
 {
     match matches.subcommand() {
         Some((name, inner)) => request_of(alloc, name, inner),

@@ -80,7 +80,8 @@ fn with_word<'a>(
     help: &'a str,
 ) -> Result<Command<'a>, AllocError>
     requires { (fields_of command).has_globals ≡ false }
-    ensures app { IfOk result (λ c. app_of c ≡ with_rule (app_of command.entry) (word_rule name.entry.now)) }
+    ensures app { IfOk result (λ c. app_of c ≡ with_rule (app_of command.entry)
+        (word_rule name.entry.now)) }
     ensures local { IfOk result (λ c. (fields_of c).has_globals ≡ false) }
 {
     command.arg(word(alloc, name, help))
@@ -89,7 +90,8 @@ fn with_word<'a>(
 fn with_command<'a>(command: Command<'a>, inner: Command<'a>) -> Result<Command<'a>, AllocError>
     requires local { (fields_of command).has_globals ≡ false }
     requires inner_local { (fields_of inner).has_globals ≡ false }
-    ensures app { IfOk result (λ c. app_of c ≡ with_subcommand (app_of command.entry) (app_of inner.entry).top) }
+    ensures app { IfOk result (λ c. app_of c ≡ with_subcommand (app_of command.entry)
+        (app_of inner.entry).top) }
     ensures local { IfOk result (λ c. (fields_of c).has_globals ≡ false) }
 {
     command.subcommand(inner)

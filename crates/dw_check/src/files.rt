@@ -45,9 +45,11 @@ pub(crate) fn section_at<'a>(
     place: usize,
 ) -> Result<CowSlice<'a, u8, Global>, Stop>
     ensures bytes { IfOk result (λ bytes.
-        section_bytes hex (slice_get (map (λ file. file.items) files.entry.now) place) ≡ Some (cow_slice_items bytes)) }
+        section_bytes hex (slice_get (map (λ file. file.items) files.entry.now) place) ≡ Some
+        (cow_slice_items bytes)) }
     ensures stop { IfErr result (IsBadSection
-        (section_bytes hex (slice_get (map (λ file. file.items) files.entry.now) place)) place (length files.entry.now)) }
+        (section_bytes hex (slice_get (map (λ file. file.items) files.entry.now) place)) place
+        (length files.entry.now)) }
 {
     let Some(file) = files.get(place) else {
         return Ok(CowSlice::Borrowed(&[]));

@@ -6,7 +6,8 @@ ghost use Rattle.dw_check.specs.Runs.{Reply, IsReply};
 
 /// A request has one reply, whatever its files contain.
 pub fn one_reply()
-    ensures { (asked : Asked) (files : List (List ℕ)) (r s : Reply) → IsReply asked files r → IsReply asked files s → r ≡ s }
+    ensures { (asked : Asked) (files : List (List ℕ)) (r s : Reply) → IsReply asked files r
+        → IsReply asked files s → r ≡ s }
 {}
 
 /// And it has one.

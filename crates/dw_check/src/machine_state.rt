@@ -33,7 +33,8 @@ fn add_first<K: Ord + Copy, V: Drop>(
     key: K,
     value: V,
 ) -> Result<(), AllocError>
-    ensures { OnOk result (MatchOption (get K.cmp map.old key) (Updates K.cmp map.old map.new key (Some value)) (λ _. IsUnchanged map.old map.new)) }
+    ensures { OnOk result (MatchOption (get K.cmp map.old key)
+        (Updates K.cmp map.old map.new key (Some value)) (λ _. IsUnchanged map.old map.new)) }
 {
     if !map.contains_key(&key) {
         map.insert(key, value)?;
@@ -51,7 +52,8 @@ fn or_value(old: Option<u64>, value: u64) -> Option<u64>
 /// Adds bytes at an address.
 fn add_bytes(memory: &mut BTreeMap<u64, u8>, address: u64, bytes: &[u8]) -> Result<(), AllocError>
     requires { address + length bytes.now ≤ 2 ^ 64 }
-    ensures { OnOk result ((a : ℕ) → get nat_cmp memory.new a ≡ option_or (get nat_cmp memory.old a) (byte_in a (StateFact.bytes address bytes.now))) }
+    ensures { OnOk result ((a : ℕ) → get nat_cmp memory.new a ≡ option_or (get nat_cmp memory.old a)
+        (byte_in a (StateFact.bytes address bytes.now))) }
 {
     for (index, byte) in bytes.iter().enumerate() {
         add_first(memory, address + index as u64, *byte)?;
@@ -76,7 +78,8 @@ impl MachineState {
     /// Adds what a line gives. What was given before stays.
     fn add(&mut self, line: StateLine) -> Result<(), AllocError>
         requires { FitsAddresses (fact_of line) }
-        ensures { OnOk result ((gs : List StateFact) → IsGivenBy (known_state_of self.old) gs → IsGivenBy (known_state_of self.new) (gs ++ fact_of line ∷ [])) }
+        ensures { OnOk result ((gs : List StateFact) → IsGivenBy (known_state_of self.old) gs
+            → IsGivenBy (known_state_of self.new) (gs ++ fact_of line ∷ [])) }
     {
         match line {
             StateLine::Register { number, content } => add_first(

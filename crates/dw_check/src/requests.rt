@@ -38,7 +38,12 @@ pub struct Request {
 impl Model for Request {
     ghost Value = { Asked };
 
-    ghost view = { λ r. record { task = r.task; target = r.target; hex = r.hex; files = map (λ s. string_bytes s) r.files.items } };
+    ghost view = { λ r. record {
+      task = r.task;
+      target = r.target;
+      hex = r.hex;
+      files = map (λ s. string_bytes s) r.files.items;
+    } };
 }
 
 impl Request {

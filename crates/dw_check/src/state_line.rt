@@ -56,7 +56,8 @@ fn parse_memory_line(
     place: &[u8],
     value: &[u8],
 ) -> Result<Option<StateLine>, AllocError>
-    ensures given { IfOk result (λ r. option_map fact_of r ≡ memory_fact target place.now value.now) }
+    ensures given { IfOk result (λ r. option_map fact_of r
+        ≡ memory_fact target place.now value.now) }
     ensures fits { IfOk result (λ r. IfSome r (λ line. FitsAddresses (fact_of line))) }
 {
     let Some(address) = parse_address(place, target) else {
@@ -77,7 +78,8 @@ fn parse_numbered(
     place: &[u8],
     value: &[u8],
 ) -> Result<Option<StateLine>, AllocError>
-    ensures given { IfOk result (λ r. option_map fact_of r ≡ numbered target word.now place.now value.now) }
+    ensures given { IfOk result (λ r. option_map fact_of r
+        ≡ numbered target word.now place.now value.now) }
     ensures fits { IfOk result (λ r. IfSome r (λ line. FitsAddresses (fact_of line))) }
 {
     if word == "reg".as_bytes() {

@@ -7,7 +7,8 @@ pub returns-in_default : goal.returns-in_default
 returns-in_default c =
     let ds = c.args.digits.now in
     let r = radix_small c.args.radix c.requires.radix in
-    read_none c.args.radix c.args.most ds (search rules) (search rules) (λ all. c.in_default.ensures.cases.0 (digits_are_text c.args.radix ds r.1 all))
+    read_none c.args.radix c.args.most ds (search rules) (search rules)
+    (λ all. c.in_default.ensures.cases.0 (digits_are_text c.args.radix ds r.1 all))
 
 pub returns-in-Ok-from_str_radix : goal.returns-in-Ok-from_str_radix
 returns-in-Ok-from_str_radix c =

@@ -21,4 +21,6 @@ returns c =
     let app = c.in_ok-command.ensures.app in
     let words : map (λ w. string_bytes w) c.as_slice.result.now ≡ map (λ w. string_bytes w) c.args.words.items = search rules in
     let kind = c.in-Err.ensures.kinds (ap is_simple_and_free app ∙ is_free_dwcheck) in
-    refused (fault_of dwcheck (map (λ w. string_bytes w) c.args.words.items)) (subcommand_of dwcheck (map (λ w. string_bytes w) c.args.words.items)) c.in-Err.error _ (subst (λ ks. HasKind ks c.in-Err.error) (ap₂ fault_of app words) kind) c.usage_of.ensures
+    refused (fault_of dwcheck (map (λ w. string_bytes w) c.args.words.items))
+    (subcommand_of dwcheck (map (λ w. string_bytes w) c.args.words.items)) c.in-Err.error _
+    (subst (λ ks. HasKind ks c.in-Err.error) (ap₂ fault_of app words) kind) c.usage_of.ensures

@@ -18,5 +18,6 @@ returns-clause-written g c = λ gs given.
     let outcome = outcome_of c.evaluate-evaluation.result.outcome in
     let steps = c.evaluate-evaluation.result.steps in
     let size = c.requires.size in
-    let shown = evaluates checked (known_state_of c.args.state.now) gs outcome steps c.depth.result c.requires.short c.requires.good given c.evaluate-evaluation.ensures.run c.depth.ensures.depth in
+    let shown = evaluates checked
+    (known_state_of c.args.state.now) gs outcome steps c.depth.result c.requires.short c.requires.good given c.evaluate-evaluation.ensures.run c.depth.ensures.depth in
     (evaluation_text checked.target.address_size outcome steps c.depth.result, shown, rw (← size) c.write_evaluation.ensures.written)

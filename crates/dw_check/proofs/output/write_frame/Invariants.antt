@@ -9,5 +9,6 @@ abbrev pub invariant-loop-fde : goal.invariant-loop-fde
 invariant-loop-fde g l = record {
   same : IsSame l.fn.out l.out;
   runs : g.S.Sink.has_stopped l.out.sink.now ≡ false;
-  sent : Sent (fde_text l.frame) l.frame.fdes (map fde_of (drop l.fde-index l.fdes)) (g.S.Sink.taken l.fn.out.sink.now) (g.S.Sink.taken l.out.sink.now);
+  sent : Sent (fde_text l.frame) l.frame.fdes (map fde_of (drop l.fde-index l.fdes)) (g.S.Sink.taken l.fn.out.sink.now)
+      (g.S.Sink.taken l.out.sink.now);
 }

@@ -9,7 +9,8 @@ use Rattle.dw_check.proofs.machine_state.MachineState.add.Goals as goal
 pub returns-in_ok-add_first-in-Register : goal.returns-in_ok-add_first-in-Register
 returns-in_ok-add_first-in-Register c =
     let old = known_state_of c.args.self.now in
-    rw c.in-Register.is (given_more old (record old { registers = get nat_cmp c.add_first.new.map }) (register c.in-Register.number c.in-Register.content) (record {
+    rw c.in-Register.is (given_more old (record old { registers = get nat_cmp c.add_first.new.map })
+    (register c.in-Register.number c.in-Register.content) (record {
       registers = added c.args.self.now.registers c.add_first.new.map c.in-Register.number c.in-Register.content c.in_ok-add_first-in-Register.ensures;
       memory = λ a. sym (or_none (old.memory a));
       cfa = sym (or_none old.cfa);
@@ -20,7 +21,8 @@ returns-in_ok-add_first-in-Register c =
 pub returns-in_ok-add_bytes-in-Memory : goal.returns-in_ok-add_bytes-in-Memory
 returns-in_ok-add_bytes-in-Memory c =
     let old = known_state_of c.args.self.now in
-    rw c.in-Memory.is (given_more old (record old { memory = get nat_cmp c.add_bytes.new.memory }) (bytes c.in-Memory.address c.in-Memory.bytes.items) (record {
+    rw c.in-Memory.is (given_more old (record old { memory = get nat_cmp c.add_bytes.new.memory })
+    (bytes c.in-Memory.address c.in-Memory.bytes.items) (record {
       registers = λ n. sym (or_none (old.registers n));
       memory = search (rules, c.in_ok-add_bytes-in-Memory.ensures);
       cfa = sym (or_none old.cfa);
@@ -42,7 +44,8 @@ returns-in-Cfa c =
 pub returns-in-FrameBase : goal.returns-in-FrameBase
 returns-in-FrameBase c =
     let old = known_state_of c.args.self.now in
-    rw c.in-FrameBase.is (given_more old (record old { frame_base = c.or_value-self-in-FrameBase.result }) (frame_base c.in-FrameBase.value) (record {
+    rw c.in-FrameBase.is (given_more old (record old { frame_base = c.or_value-self-in-FrameBase.result }) (frame_base c.in-FrameBase.value)
+    (record {
       registers = λ n. sym (or_none (old.registers n));
       memory = λ a. sym (or_none (old.memory a));
       cfa = sym (or_none old.cfa);
