@@ -10,4 +10,3 @@ pub mod Ends
 pub mod Going
 pub mod Loop
 pub mod Determined
-pub mod Contiguous

@@ -11,8 +11,6 @@ pub mod laws;
 mod location;
 mod run;
 mod stack;
-#[cfg(test)]
-mod tests;
 mod width;
 
 pub use context::{Context, Memory, Registers};

@@ -19,10 +19,3 @@ pub use checked::CheckedExpression;
 pub use judge::{MAX_HEIGHT, MAX_PIECES};
 pub use state::{Kind, Mode, State};
 pub use verify::{CertFault, certify, check_expression, recheck};
-
-#[cfg(test)]
-mod given_tests;
-#[cfg(test)]
-mod hostile_tests;
-#[cfg(test)]
-mod tests;

@@ -1,4 +1,4 @@
-use super::*;
+use dw_ops::{Expression, Operation, decode_one, operations};
 use dw_bytes::{AddressSize, Fault, FaultKind, Order, Target};
 use std::process::Abort;
 use std::test::Fail;

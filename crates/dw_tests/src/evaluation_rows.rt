@@ -1,6 +1,10 @@
 //! One row for each operation, in eight bytes and in four.
 
-use super::*;
+use crate::evaluation::{Bytes, LITTLE, OneRegister, SMALL, evaluated};
+use dw_bytes::{AddressSize, Order, Target};
+use dw_eval::{Context, Location, Outcome};
+use dw_stack::Kind;
+use std::alloc::Global;
 use std::process::Abort;
 
 const BIG: Target = Target {

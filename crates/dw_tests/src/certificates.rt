@@ -1,6 +1,6 @@
 ghost use Rattle.std.specs.Prelude.{◌<◌, ◌^◌, length};
 
-use super::*;
+use dw_stack::{Kind, certify, check_expression};
 use dw_bytes::{AddressSize, Fault, FaultKind, Order, Target};
 use dw_ops::Expression;
 use std::alloc::Global;

@@ -2,8 +2,8 @@
 
 ghost use Rattle.std.specs.Prelude.{◌<◌, ◌^◌, length};
 
-use super::*;
-use crate::tests::{LITTLE, refusal};
+use dw_stack::{CertFault, Kind, Mode, State, certify, recheck};
+use crate::certificates::{LITTLE, refusal};
 use dw_bytes::FaultKind;
 use dw_ops::Expression;
 use std::alloc::Global;

@@ -1,8 +1,8 @@
 use Rattle.std.proofs.Common.{Some, take, ap}
 use Rattle.dw_bytes.specs.Reading.{ReadPosition}
 use Rattle.dw_bytes.specs.Encoding.{number}
-use Rattle.dw_eval.proofs.Contiguous.{number_refused}
-use Rattle.dw_eval.proofs.tests.number_of.Goals as goal
+use Rattle.dw_tests.proofs.Contiguous.{number_refused}
+use Rattle.dw_tests.proofs.evaluation.number_of.Goals as goal
 
 pub returns-in-Err : goal.returns-in-Err
 returns-in-Err c = number_refused 1 c.args.size c.new-cursor.result c.args.bytes.now c.in-Err.field-0 (Some (number c.args.order c.args.size (take c.args.size c.args.bytes.now))) (ap (λ (r : ReadPosition). r.rest) c.new-cursor.ensures) c.in-1.is c.in-Err.ensures.exact.0

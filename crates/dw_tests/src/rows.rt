@@ -1,6 +1,8 @@
 ghost use Rattle.std.specs.Prelude.{◌<◌, ◌^◌, length};
 
-use super::*;
+use dw_rows::{
+    CfaRule, CheckedFrame, RegisterRule, UnwindTableRow, check_fde, check_frame, row_at, rows,
+};
 use dw_bytes::{AddressSize, FaultKind, Order, Target};
 use dw_frame::{CommonInformationEntry, Entry, FrameDescriptionEntry, entries};
 use std::alloc::Global;

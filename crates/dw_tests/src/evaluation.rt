@@ -2,19 +2,19 @@ ghost use Rattle.std.specs.Prelude.{◌≡◌, ◌-◌, ◌<◌, ◌^◌, ◌==�
 ghost use Rattle.dw_bytes.specs.Encoding.{number};
 ghost use Rattle.dw_eval.specs.World.{IsSize};
 
-use super::*;
+use dw_eval::{
+    Context, Evaluation, Location, Memory, Outcome, Piece, PieceSize, Registers, evaluate,
+};
 use dw_bytes::{AddressSize, Cursor, Order, Target};
 use dw_ops::Expression;
 use dw_stack::{Kind, certify};
 use std::alloc::Global;
 
-mod rows;
-
 /// One register that is known.
 #[derive(Clone, Copy)]
-struct OneRegister {
-    known: u16,
-    content: u64,
+pub(crate) struct OneRegister {
+    pub(crate) known: u16,
+    pub(crate) content: u64,
 }
 
 impl Registers for OneRegister {
@@ -31,9 +31,9 @@ impl Registers for OneRegister {
 
 /// Bytes that follow each other from an address on.
 #[derive(Clone, Copy)]
-struct Bytes<'a> {
-    start: u64,
-    bytes: &'a [u8],
+pub(crate) struct Bytes<'a> {
+    pub(crate) start: u64,
+    pub(crate) bytes: &'a [u8],
     ghost short: { length bytes.now < 2 ^ 32 },
 }
 
@@ -97,12 +97,12 @@ impl Memory for Zeros {
     }
 }
 
-const LITTLE: Target = Target {
+pub(crate) const LITTLE: Target = Target {
     order: Order::Little,
     address_size: AddressSize::Eight,
 };
 
-const SMALL: Target = Target {
+pub(crate) const SMALL: Target = Target {
     order: Order::Little,
     address_size: AddressSize::Four,
 };
@@ -129,7 +129,7 @@ fn no_bytes() -> Bytes<'static> {
 type Answer<'a> = Option<(Outcome<'a>, u32)>;
 
 /// What an expression comes to, where it is good.
-fn evaluated<'a, M: Memory>(
+pub(crate) fn evaluated<'a, M: Memory>(
     alloc: Global,
     bytes: &'a [u8],
     target: Target,

@@ -1,6 +1,6 @@
 use Rattle.std.proofs.Common.{arith}
-use Rattle.dw_eval.proofs.Contiguous.{number_missing, byte_missing, byte_past, some_size, number_there}
-use Rattle.dw_eval.proofs.tests.BytesMemory.read.Goals as goal
+use Rattle.dw_tests.proofs.Contiguous.{number_missing, byte_missing, byte_past, some_size, number_there}
+use Rattle.dw_tests.proofs.evaluation.BytesMemory.read.Goals as goal
 
 pub returns : goal.returns
 returns c = number_there c.args.self.now.start c.args.self.now.bytes.now c.args.order c.args.address c.args.size c.number_of.result c.if-address-self.false c.if-skipped-self.false c.number_of.ensures

@@ -1,7 +1,7 @@
 //! Expressions that are made to take long, or to come close to a limit.
 
-use super::*;
-use crate::tests::{judged, refusal};
+use dw_stack::Kind;
+use crate::certificates::{judged, refusal};
 use dw_bytes::{Fault, FaultKind};
 use std::alloc::Global;
 use std::process::Abort;
