@@ -23,15 +23,19 @@ byte_at start bytes k =
     let back : (start + k) - start ≡ k = omega arith in
     ap (λ (b : Bool). if b then None else slice_get bytes ((start + k) - start)) after ∙ ap (slice_get bytes) back
 
-from_next : (start : ℕ) (bytes : List ℕ) (n k : ℕ) → bytes_from (contiguous start bytes) (start + k + 1) n ≡ bytes_from (contiguous start bytes) (start + (k + 1)) n
-from_next start bytes n k = let e : start + k + 1 ≡ start + (k + 1) = omega arith in ap (λ (a : ℕ). bytes_from (contiguous start bytes) a n) e
+from_next : (start : ℕ) (bytes : List ℕ) (n k : ℕ)
+    → bytes_from (contiguous start bytes) (start + k + 1) n ≡ bytes_from (contiguous start bytes) (start + (k + 1)) n
+from_next start bytes n k = let e : start + k + 1 ≡ start + (k + 1) = omega arith in
+    ap (λ (a : ℕ). bytes_from (contiguous start bytes) a n) e
 
-bytes_there : (start : ℕ) (bytes : List ℕ) (n k : ℕ) → k + n ≤ length bytes → bytes_from (contiguous start bytes) (start + k) n ≡ Some (take n (drop k bytes))
+bytes_there : (start : ℕ) (bytes : List ℕ) (n k : ℕ) → k + n ≤ length bytes
+    → bytes_from (contiguous start bytes) (start + k) n ≡ Some (take n (drop k bytes))
 unfolding bytes_from
 bytes_there start bytes zero k le = refl
 bytes_there start bytes (suc n) k le =
     let within : k < length bytes = omega arith in
-    let rest : bytes_from (contiguous start bytes) (start + k + 1) n ≡ Some (take n (drop (k + 1) bytes)) = from_next start bytes n k ∙ bytes_there start bytes n (k + 1) (omega arith) in
+    let rest : bytes_from (contiguous start bytes) (start + k + 1) n ≡ Some (take n (drop (k + 1) bytes)) = from_next start bytes n k
+    ∙ bytes_there start bytes n (k + 1) (omega arith) in
     let first : contiguous start bytes (start + k) ≡ Some (get_or bytes k 0) = byte_at start bytes k ∙ slice_get-get_or bytes k 0 within in
     let next : k + 1 ≡ suc k = omega arith in
     ap (λ (o : Option ℕ). joined o (bytes_from (contiguous start bytes) (start + k + 1) n)) first
@@ -39,14 +43,18 @@ bytes_there start bytes (suc n) k le =
     ∙ ap (λ (m : ℕ). Some (get_or bytes k 0 ∷ take n (drop m bytes))) next
     ∙ ap (λ (xs : List ℕ). Some (take (suc n) xs)) (sym (drop-cons bytes k 0 within))
 
-bytes_missing : (start : ℕ) (bytes : List ℕ) (n k : ℕ) → k ≤ length bytes → length bytes < k + n → bytes_from (contiguous start bytes) (start + k) n ≡ None
+bytes_missing : (start : ℕ) (bytes : List ℕ) (n k : ℕ) → k ≤ length bytes → length bytes < k + n
+    → bytes_from (contiguous start bytes) (start + k) n ≡ None
 unfolding bytes_from
 bytes_missing start bytes zero k le lacks = absurd (omega arith)
 bytes_missing start bytes (suc n) k le lacks = elim (cases_lt k (length bytes)) [
   | inl within ↦
-      let rest : bytes_from (contiguous start bytes) (start + k + 1) n ≡ None = from_next start bytes n k ∙ bytes_missing start bytes n (k + 1) (omega arith) (omega arith) in
-      let first : contiguous start bytes (start + k) ≡ Some (get_or bytes k 0) = byte_at start bytes k ∙ slice_get-get_or bytes k 0 within in
-      ap (λ (o : Option ℕ). joined o (bytes_from (contiguous start bytes) (start + k + 1) n)) first ∙ ap (joined (Some (get_or bytes k 0))) rest
+      let rest : bytes_from (contiguous start bytes) (start + k + 1) n ≡ None = from_next start bytes n k
+      ∙ bytes_missing start bytes n (k + 1) (omega arith) (omega arith) in
+      let first : contiguous start bytes (start + k) ≡ Some (get_or bytes k 0) = byte_at start bytes k
+      ∙ slice_get-get_or bytes k 0 within in
+      ap (λ (o : Option ℕ). joined o (bytes_from (contiguous start bytes) (start + k + 1) n)) first
+      ∙ ap (joined (Some (get_or bytes k 0))) rest
   | inr past ↦
       let first : contiguous start bytes (start + k) ≡ None = byte_at start bytes k ∙ slice_get_past bytes k past in
       ap (λ (o : Option ℕ). joined o (bytes_from (contiguous start bytes) (start + k + 1) n)) first
@@ -56,7 +64,8 @@ bytes_missing start bytes (suc n) k le lacks = elim (cases_lt k (length bytes)) 
 pub number_missing : (memory : ℕ → Option ℕ) (order : Order) (a n : ℕ) → 0 < n → memory a ≡ None → None ≡ number_at memory order a n
 unfolding bytes_from
 number_missing memory order a zero some none = absurd (omega arith)
-number_missing memory order a (suc n) some none = sym (ap (λ (o : Option ℕ). option_map (number order (suc n)) (joined o (bytes_from memory (a + 1) n))) none)
+number_missing memory order a (suc n) some none =
+    sym (ap (λ (o : Option ℕ). option_map (number order (suc n)) (joined o (bytes_from memory (a + 1) n))) none)
 
 pub byte_missing : (start : ℕ) (bytes : List ℕ) (a : ℕ) → (a < start) → contiguous start bytes a ≡ None
 byte_missing start bytes a below =
@@ -69,44 +78,64 @@ byte_past start bytes a from past =
     ap (λ (b : Bool). if b then None else slice_get bytes (a - start)) after ∙ slice_get_past bytes (a - start) past
 
 -- the number that the bytes at a are
-pub number_there : (start : ℕ) (bytes : List ℕ) (order : Order) (a n : ℕ) (o : Option ℕ) → start ≤ a → a - start ≤ length bytes → o ≡ (if nat_lt (length (slice_range bytes (a - start) (length bytes))) n then None else Some (number order n (take n (slice_range bytes (a - start) (length bytes))))) → o ≡ number_at (contiguous start bytes) order a n
+pub number_there : (start : ℕ) (bytes : List ℕ) (order : Order) (a n : ℕ) (o : Option ℕ) → start ≤ a → a - start ≤ length bytes
+    → o ≡ (if nat_lt (length (slice_range bytes (a - start) (length bytes))) n then None
+    else Some (number order n (take n (slice_range bytes (a - start) (length bytes))))) → o ≡ number_at (contiguous start bytes) order a n
 number_there start bytes order a n o from within seen =
-    let tail : take (length bytes - (a - start)) (drop (a - start) bytes) ≡ drop (a - start) bytes = take_all (length bytes - (a - start)) (drop (a - start) bytes) (omega (arith, length-drop (a - start) bytes)) in
-    let is : o ≡ (if nat_lt (length (drop (a - start) bytes)) n then None else Some (number order n (take n (drop (a - start) bytes)))) = seen ∙ ap (λ (xs : List ℕ). if nat_lt (length xs) n then None else Some (number order n (take n xs))) tail in
+    let tail : take (length bytes - (a - start)) (drop (a - start) bytes) ≡ drop (a - start) bytes =
+    take_all (length bytes - (a - start)) (drop (a - start) bytes) (omega (arith, length-drop (a - start) bytes)) in
+    let is : o ≡ (if nat_lt (length (drop (a - start) bytes)) n then None else Some (number order n (take n (drop (a - start) bytes)))) =
+    seen ∙ ap (λ (xs : List ℕ). if nat_lt (length xs) n then None else Some (number order n (take n xs))) tail in
     let at : a ≡ start + (a - start) = omega arith in
     let rest : length (drop (a - start) bytes) ≡ length bytes - (a - start) = length-drop (a - start) bytes in
     is ∙ elim (cases_lt (length (drop (a - start) bytes)) n) [
       | inl lacks ↦
           let yes : nat_lt (length (drop (a - start) bytes)) n ≡ true = lt-ltb (length (drop (a - start) bytes)) n lacks in
           ap (λ (b : Bool). if b then None else Some (number order n (take n (drop (a - start) bytes)))) yes
-          ∙ sym (ap (λ (m : ℕ). option_map (number order n) (bytes_from (contiguous start bytes) m n)) at ∙ ap (option_map (number order n)) (bytes_missing start bytes n (a - start) within (omega arith)))
+          ∙ sym (ap (λ (m : ℕ). option_map (number order n) (bytes_from (contiguous start bytes) m n)) at
+          ∙ ap (option_map (number order n)) (bytes_missing start bytes n (a - start) within (omega arith)))
       | inr enough ↦
           let not_less : nat_lt (length (drop (a - start) bytes)) n ≡ false = le-ltb (length (drop (a - start) bytes)) n enough in
           ap (λ (b : Bool). if b then None else Some (number order n (take n (drop (a - start) bytes)))) not_less
-          ∙ sym (ap (λ (m : ℕ). option_map (number order n) (bytes_from (contiguous start bytes) m n)) at ∙ ap (option_map (number order n)) (bytes_there start bytes n (a - start) (omega arith)))
+          ∙ sym (ap (λ (m : ℕ). option_map (number order n) (bytes_from (contiguous start bytes) m n)) at
+          ∙ ap (option_map (number order n)) (bytes_there start bytes n (a - start) (omega arith)))
     ]
 
 -- a number is refused where there are too few bytes
 abbrev valued : Order → ℕ → List ℕ × ReadPosition → Result (ℕ × ReadPosition) Fault
 valued order n bytes = Ok (number order n bytes.0, bytes.1)
 
-refused : (n : ℕ) (r : ReadPosition) (f : Fault) (o : Option ℕ) → fixed_at n r ≡ Err f → None ≡ (if nat_lt (length r.rest) n then None else o)
+refused : (n : ℕ) (r : ReadPosition) (f : Fault) (o : Option ℕ) → fixed_at n r ≡ Err f
+    → None ≡ (if nat_lt (length r.rest) n then None else o)
 unfolding fixed_at take_at
 refused n r f o is = by (nat_lt (length r.rest) n) is
   where
-    by : (b : Bool) → (placed (if b then Err Truncated else Ok (take n r.rest, n)) r >>= valued r.target.order n) ≡ Err f → None ≡ (if b then None else o)
+    by : (b : Bool) → (placed (if b then Err Truncated else Ok (take n r.rest, n)) r >>= valued r.target.order n) ≡ Err f
+        → None ≡ (if b then None else o)
     by true at = refl
     by false at = absurd (cc)
 
-pub number_refused : (n size : ℕ) (r : ReadPosition) (bytes : List ℕ) (f : Fault) (o : Option ℕ) → r.rest ≡ bytes → size ≡ n → fixed_at n r ≡ Err f → None ≡ (if nat_lt (length bytes) size then None else o)
-number_refused n size r bytes f o rest size_is is = refused n r f o is ∙ ap (λ (xs : List ℕ). if nat_lt (length xs) n then None else o) rest ∙ ap (λ (m : ℕ). if nat_lt (length bytes) m then None else o) (sym size_is)
+pub number_refused : (n size : ℕ) (r : ReadPosition) (bytes : List ℕ) (f : Fault) (o : Option ℕ) → r.rest ≡ bytes → size ≡ n
+    → fixed_at n r ≡ Err f → None ≡ (if nat_lt (length bytes) size then None else o)
+number_refused n size r bytes f o rest size_is is = refused n r f o is ∙ ap (λ (xs : List ℕ). if nat_lt (length xs) n then None else o) rest
+    ∙ ap (λ (m : ℕ). if nat_lt (length bytes) m then None else o) (sym size_is)
 
 -- a read has a byte at least
 pub some_size : (n : ℕ) → IsSize n → 0 < n
-some_size n is = elim is [ inl one ↦ omega (arith, one) | inr more ↦ elim more [ inl two ↦ omega (arith, two) | inr most ↦ elim most [ inl four ↦ omega (arith, four) | inr eight ↦ omega (arith, eight) ] ] ]
+some_size n is = elim is [
+  | inl one ↦ omega
+      (arith, one)
+  | inr more ↦ elim more [
+    | inl two ↦ omega
+        (arith, two)
+    | inr most ↦ elim most [ inl four ↦ omega (arith, four) | inr eight ↦ omega (arith, eight) ]
+  ]
+]
 
 -- zeros are 0
 pub zeros_read : (order : Order) (a n : ℕ) → IsSize n → Some 0 ≡ number_at (λ _. Some 0) order a n
 unfolding bytes_from
-zeros_read Little a n is = elim is [ inl one ↦ rw one refl | inr more ↦ elim more [ inl two ↦ rw two refl | inr most ↦ elim most [ inl four ↦ rw four refl | inr eight ↦ rw eight refl ] ] ]
-zeros_read Big a n is = elim is [ inl one ↦ rw one refl | inr more ↦ elim more [ inl two ↦ rw two refl | inr most ↦ elim most [ inl four ↦ rw four refl | inr eight ↦ rw eight refl ] ] ]
+zeros_read Little a n is =
+    elim is [ inl one ↦ rw one refl | inr more ↦ elim more [ inl two ↦ rw two refl | inr most ↦ elim most [ inl four ↦ rw four refl | inr eight ↦ rw eight refl ] ] ]
+zeros_read Big a n is =
+    elim is [ inl one ↦ rw one refl | inr more ↦ elim more [ inl two ↦ rw two refl | inr most ↦ elim most [ inl four ↦ rw four refl | inr eight ↦ rw eight refl ] ] ]

@@ -1,8 +1,8 @@
 ghost use Rattle.std.specs.Prelude.{◌<◌, ◌^◌, length};
 
-use dw_stack::{Kind, certify, check_expression};
 use dw_bytes::{AddressSize, Fault, FaultKind, Order, Target};
 use dw_ops::Expression;
+use dw_stack::{Kind, certify, check_expression};
 use std::alloc::Global;
 use std::process::Abort;
 use std::test::Fail;

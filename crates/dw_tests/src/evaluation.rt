@@ -2,10 +2,10 @@ ghost use Rattle.std.specs.Prelude.{◌≡◌, ◌-◌, ◌<◌, ◌^◌, ◌==�
 ghost use Rattle.dw_bytes.specs.Encoding.{number};
 ghost use Rattle.dw_eval.specs.World.{IsSize};
 
+use dw_bytes::{AddressSize, Cursor, Order, Target};
 use dw_eval::{
     Context, Evaluation, Location, Memory, Outcome, Piece, PieceSize, Registers, evaluate,
 };
-use dw_bytes::{AddressSize, Cursor, Order, Target};
 use dw_ops::Expression;
 use dw_stack::{Kind, certify};
 use std::alloc::Global;
@@ -42,7 +42,8 @@ pub(crate) struct Bytes<'a> {
 fn number_of(bytes: &[u8], size: u8, order: Order) -> Option<u64>
     requires short { length bytes.now < 2 ^ 32 }
     requires size { IsSize size }
-    ensures { result ≡ (if nat_lt (length bytes.now) size then None else Some (number order size (take size bytes.now))) }
+    ensures { result ≡ (if nat_lt (length bytes.now) size then None
+        else Some (number order size (take size bytes.now))) }
 {
     let target = Target {
         order,

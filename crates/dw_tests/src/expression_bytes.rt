@@ -1,5 +1,5 @@
-use dw_ops::{Expression, Operation, decode_one, operations};
 use dw_bytes::{AddressSize, Fault, FaultKind, Order, Target};
+use dw_ops::{Expression, Operation, decode_one, operations};
 use std::process::Abort;
 use std::test::Fail;
 

@@ -1,9 +1,7 @@
 ghost use Rattle.std.specs.Prelude.{◌<◌, ◌^◌, length};
 
-use dw_frame::{
-    CallFrameInstruction, Entry, cie_at, entries,
-};
 use dw_bytes::{AddressSize, Fault, FaultKind, Format, Order, Target};
+use dw_frame::{CallFrameInstruction, Entry, cie_at, entries};
 use std::test::Fail;
 
 const LITTLE: Target = Target {

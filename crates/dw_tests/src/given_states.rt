@@ -2,10 +2,10 @@
 
 ghost use Rattle.std.specs.Prelude.{◌<◌, ◌^◌, length};
 
-use dw_stack::{CertFault, Kind, Mode, State, certify, recheck};
 use crate::certificates::{LITTLE, refusal};
 use dw_bytes::FaultKind;
 use dw_ops::Expression;
+use dw_stack::{CertFault, Kind, Mode, State, certify, recheck};
 use std::alloc::Global;
 use std::process::Abort;
 use std::test::Fail;

@@ -1,8 +1,8 @@
 //! Expressions that are made to take long, or to come close to a limit.
 
-use dw_stack::Kind;
 use crate::certificates::{judged, refusal};
 use dw_bytes::{Fault, FaultKind};
+use dw_stack::Kind;
 use std::alloc::Global;
 use std::process::Abort;
 use std::test::Fail;

@@ -1,5 +1,5 @@
 //! Tests of the libraries by their public calls alone, the lowest first: bytes, records, rows, certificates and evaluations;
-//! then texts by `request` and `run`.
+//! then texts by `request` and `run`. `examples` has callers that are proved.
 #![tactic(auto)]
 
 #[cfg(test)]
@@ -10,6 +10,7 @@ mod certificates;
 mod evaluation;
 #[cfg(test)]
 mod evaluation_rows;
+pub mod examples;
 #[cfg(test)]
 mod expression_bytes;
 #[cfg(test)]

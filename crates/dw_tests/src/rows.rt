@@ -1,10 +1,10 @@
 ghost use Rattle.std.specs.Prelude.{◌<◌, ◌^◌, length};
 
+use dw_bytes::{AddressSize, FaultKind, Order, Target};
+use dw_frame::{CommonInformationEntry, Entry, FrameDescriptionEntry, entries};
 use dw_rows::{
     CfaRule, CheckedFrame, RegisterRule, UnwindTableRow, check_fde, check_frame, row_at, rows,
 };
-use dw_bytes::{AddressSize, FaultKind, Order, Target};
-use dw_frame::{CommonInformationEntry, Entry, FrameDescriptionEntry, entries};
 use std::alloc::Global;
 use std::test::Fail;
 
