@@ -4,9 +4,12 @@
 mod branch_target;
 mod change;
 mod context;
+mod description;
 mod environment;
 mod evaluation;
 mod evaluation_error;
+mod execution;
+mod frame;
 pub mod laws;
 mod location;
 mod run;

@@ -4,16 +4,16 @@ ghost use Rattle.std.specs.Prelude.{◌≤◌};
 ghost use Rattle.std.specs.Option.{ForSome};
 ghost use Rattle.arrayvec.specs.ArrayVec.{array_vec_len};
 
-use crate::branch_target::{location_named, next_offset, piece_size};
-use crate::change::{change_of, make};
+use crate::branch_target::{location_named, piece_size};
 use crate::context::{Memory, Registers};
 use crate::environment::Environment;
 use crate::evaluation_error::EvaluationError;
+use crate::execution::execute;
 use crate::location::{Location, Outcome, Piece, PieceSize, Pieces};
 use crate::stack::Stack;
 use arrayvec::ArrayVec;
 use dw_ops::Operation;
-use dw_stack::{Kind, MAX_HEIGHT, MAX_PIECES};
+use dw_stack::{MAX_HEIGHT, MAX_PIECES};
 
 /// Where a run stands, but for its offset.
 #[derive(Drop)]
@@ -33,6 +33,7 @@ impl<'a> Run<'a> {
     ghost use Rattle.dw_stack.specs.Effects.{effect_of};
     ghost use Rattle.dw_stack.specs.Paths.{is_piece};
     ghost use Rattle.dw_stack.specs.Machine.{location_of, CanDo, GivesResult};
+    ghost use Rattle.dw_stack.specs.declared.state.Kind.{Kind};
     ghost use Rattle.dw_eval.specs.World.{width};
     ghost use Rattle.dw_eval.specs.Values.{answer};
     ghost use Rattle.dw_eval.specs.StackChanges.{IsSized, error_of};
@@ -122,17 +123,18 @@ impl<'a> Run<'a> {
         requires below { All (λ n. n < 2 ^ width (world_in R.contents M.bytes environment.now)) self.old.stack }
         ensures { MatchResult result (λ to. Moves (world_in R.contents M.bytes environment.now) (operation_of operation.now) next (configured 0 self.old) (configured to self.new)) (λ why. answer (world_in R.contents M.bytes environment.now) (operation_of operation.now) self.old.stack ≡ Err (error_of why)) }
     {
-        let to = next_offset(operation, &self.stack, next);
         match piece_size(operation) {
-            Some(size) => self.end_piece(size),
+            Some(size) => {
+                self.end_piece(size);
+                Ok(next)
+            }
             None => {
                 let named = location_named(operation, &self.stack);
-                let change = change_of(environment, operation, &self.stack)?;
-                make(change, &mut self.stack);
+                let to = execute(environment, operation, next, &mut self.stack)?;
                 self.pending = named;
+                Ok(to)
             }
         }
-        Ok(to)
     }
 
     /// Where the object is, at the end of a location with operations.
@@ -154,15 +156,15 @@ impl<'a> Run<'a> {
         }
     }
 
-    /// What the end gives, of an expression with or without operations.
-    pub fn into_outcome(self, kind: Kind, is_empty: bool) -> Outcome<'a>
-        requires { GivesResult kind is_empty (configured 0 self) }
-        ensures { outcome_of result ≡ result_of kind is_empty (configured 0 self.entry) }
+    /// What the end gives, of a location with or without operations.
+    pub fn into_outcome(self, is_empty: bool) -> Outcome<'a>
+        requires { GivesResult Kind.Location is_empty (configured 0 self) }
+        ensures { outcome_of result ≡ result_of Kind.Location is_empty (configured 0 self.entry) }
     {
-        match kind {
-            Kind::FrameCfa | Kind::FrameRegister => Outcome::Value(self.stack.entry(0)),
-            Kind::Location if is_empty => Outcome::Single(Location::Empty),
-            Kind::Location => self.into_location(),
+        if is_empty {
+            Outcome::Single(Location::Empty)
+        } else {
+            self.into_location()
         }
     }
 }
