@@ -9,3 +9,4 @@ pub mod Results
 pub mod Fits
 pub mod Views
 pub mod Steps
+pub mod BareOperations

@@ -1,6 +1,7 @@
 //! The evaluation of expressions (DWARF 5, sections 2.5 and 2.6).
 #![tactic(auto)]
 
+mod bare;
 mod branch_target;
 mod change;
 mod context;
