@@ -1,6 +1,6 @@
 use Rattle.std.proofs.Common.{◌≡◌, ℕ, ◌<◌, ◌≤◌, List, [], length, refl, sym, ap, subst, ◌∙◌, arith}
 use Rattle.std.specs.Prelude.{◌==◌}
-use Rattle.dw_ops.specs.Views.{bytes_of, operation_of}
+use Rattle.dw_ops.specs.Views.{bytes_of}
 use Rattle.dw_stack.specs.declared.state.Kind.TheVariants.{Location}
 use Rattle.dw_stack.specs.Machine.{GivesResult}
 use Rattle.dw_eval.specs.Handed.{world_in}
@@ -8,8 +8,8 @@ use Rattle.dw_eval.specs.StackChanges.{error_of}
 use Rattle.dw_eval.specs.Results.{result_of}
 use Rattle.dw_eval.specs.Views.{outcome_of}
 use Rattle.dw_eval.specs.Steps.{configured}
-use Rattle.dw_eval.proofs.Going.{one_more, few_steps, goes, ends, finished, finished_fits, failed}
-use Rattle.dw_eval.proofs.Loop.{moves_from, same_end, stands_here, ahead_here}
+use Rattle.dw_eval.proofs.Going.{one_more, few_steps, ends, finished, finished_fits, failed}
+use Rattle.dw_eval.proofs.Loop.{same_end, ahead_here, can_step_here, goes_to, goes_behind}
 use Rattle.dw_eval.proofs.description.run_location.Goals as goal
 
 -- the test of the loop
@@ -19,106 +19,66 @@ before at bytes seen is test = subst (λ (xs : List ℕ). at < length xs) is tes
 after : (at : ℕ) (bytes seen : List ℕ) → seen ≡ bytes → length seen ≤ at → length bytes ≤ at
 after at bytes seen is test = subst (λ (xs : List ℕ). length xs ≤ at) is test
 
-pub read-next-requires-clause-stands : goal.read-next-requires-clause-stands
-read-next-requires-clause-stands g c =
-    let e = world_in g.R.Registers.contents g.M.Memory.bytes c.args.environment.now in
-    let test = before c.loop-at.at (bytes_of c.args.expression.now) c.bytes.result.now c.bytes.ensures c.loop-at-test.true in
-    stands_here e Location c.args.expression.now c.requires.runs.0 c.requires.good c.requires.runs.1 c.requires.target [] refl c.loop-at.steps (configured c.loop-at.at c.loop-at.run) c.loop-at.invariant test
-
 pub overflow_add-steps : goal.overflow_add-steps
 overflow_add-steps g c =
     let e = world_in g.R.Registers.contents g.M.Memory.bytes c.args.environment.now in
     let test = before c.loop-at.at (bytes_of c.args.expression.now) c.bytes.result.now c.bytes.ensures c.loop-at-test.true in
-    omega (arith, one_more e Location (bytes_of c.args.expression.now) c.requires.runs.0 c.requires.good c.requires.runs.1 c.args.expression.now.short [] refl c.loop-at.steps (configured c.loop-at.at c.loop-at.run) c.loop-at.invariant test, few_steps e Location (bytes_of c.args.expression.now) c.requires.runs.0 c.requires.good c.requires.runs.1 c.args.expression.now.short [] refl, c.args.expression.now.short)
-
-pub step-requires-clause-needs : goal.step-requires-clause-needs
-step-requires-clause-needs g c =
-    let e = world_in g.R.Registers.contents g.M.Memory.bytes c.args.environment.now in
-    let test = before c.loop-at.at (bytes_of c.args.expression.now) c.bytes.result.now c.bytes.ensures c.loop-at-test.true in
-    let ahead = ahead_here e Location c.args.expression.now c.requires.runs.0 c.requires.good c.requires.runs.1 c.requires.target [] refl c.loop-at.steps (configured c.loop-at.at c.loop-at.run) c.loop-at.invariant test (operation_of c.read-next.result.0) c.read-next.result.1 c.read-next.ensures in
-    ahead.needs
+    omega (arith, one_more e Location (bytes_of c.args.expression.now) c.requires.runs.0 c.requires.good c.requires.runs.1 c.args.expression.now.short [] refl c.loop-at.steps (configured c.loop-at.at c.loop-at.run []) c.loop-at.invariant test, few_steps e Location (bytes_of c.args.expression.now) c.requires.runs.0 c.requires.good c.requires.runs.1 c.args.expression.now.short [] refl, c.args.expression.now.short)
 
 pub step-requires-clause-can : goal.step-requires-clause-can
 step-requires-clause-can g c =
     let e = world_in g.R.Registers.contents g.M.Memory.bytes c.args.environment.now in
     let test = before c.loop-at.at (bytes_of c.args.expression.now) c.bytes.result.now c.bytes.ensures c.loop-at-test.true in
-    let ahead = ahead_here e Location c.args.expression.now c.requires.runs.0 c.requires.good c.requires.runs.1 c.requires.target [] refl c.loop-at.steps (configured c.loop-at.at c.loop-at.run) c.loop-at.invariant test (operation_of c.read-next.result.0) c.read-next.result.1 c.read-next.ensures in
-    ahead.can
-
-pub step-requires-clause-few : goal.step-requires-clause-few
-step-requires-clause-few g c =
-    let e = world_in g.R.Registers.contents g.M.Memory.bytes c.args.environment.now in
-    let test = before c.loop-at.at (bytes_of c.args.expression.now) c.bytes.result.now c.bytes.ensures c.loop-at-test.true in
-    let ahead = ahead_here e Location c.args.expression.now c.requires.runs.0 c.requires.good c.requires.runs.1 c.requires.target [] refl c.loop-at.steps (configured c.loop-at.at c.loop-at.run) c.loop-at.invariant test (operation_of c.read-next.result.0) c.read-next.result.1 c.read-next.ensures in
-    ahead.few
-
-pub step-requires-clause-room : goal.step-requires-clause-room
-step-requires-clause-room g c =
-    let e = world_in g.R.Registers.contents g.M.Memory.bytes c.args.environment.now in
-    let test = before c.loop-at.at (bytes_of c.args.expression.now) c.bytes.result.now c.bytes.ensures c.loop-at-test.true in
-    let ahead = ahead_here e Location c.args.expression.now c.requires.runs.0 c.requires.good c.requires.runs.1 c.requires.target [] refl c.loop-at.steps (configured c.loop-at.at c.loop-at.run) c.loop-at.invariant test (operation_of c.read-next.result.0) c.read-next.result.1 c.read-next.ensures in
-    ahead.room
-
-pub step-requires-clause-target : goal.step-requires-clause-target
-step-requires-clause-target g c =
-    let e = world_in g.R.Registers.contents g.M.Memory.bytes c.args.environment.now in
-    let test = before c.loop-at.at (bytes_of c.args.expression.now) c.bytes.result.now c.bytes.ensures c.loop-at-test.true in
-    let ahead = ahead_here e Location c.args.expression.now c.requires.runs.0 c.requires.good c.requires.runs.1 c.requires.target [] refl c.loop-at.steps (configured c.loop-at.at c.loop-at.run) c.loop-at.invariant test (operation_of c.read-next.result.0) c.read-next.result.1 c.read-next.ensures in
-    ahead.target
-
-pub step-requires-clause-sized : goal.step-requires-clause-sized
-step-requires-clause-sized g c =
-    let e = world_in g.R.Registers.contents g.M.Memory.bytes c.args.environment.now in
-    let test = before c.loop-at.at (bytes_of c.args.expression.now) c.bytes.result.now c.bytes.ensures c.loop-at-test.true in
-    let ahead = ahead_here e Location c.args.expression.now c.requires.runs.0 c.requires.good c.requires.runs.1 c.requires.target [] refl c.loop-at.steps (configured c.loop-at.at c.loop-at.run) c.loop-at.invariant test (operation_of c.read-next.result.0) c.read-next.result.1 c.read-next.ensures in
-    ahead.sized
+    can_step_here e c.args.expression.now c.requires.runs.0 c.requires.good c.requires.runs.1 c.requires.target c.loop-at.steps c.loop-at.at c.loop-at.run [] c.loop-at.invariant test
 
 pub loop-at-preserved : goal.loop-at-preserved
 loop-at-preserved g c =
     let e = world_in g.R.Registers.contents g.M.Memory.bytes c.args.environment.now in
     let test = before c.loop-at.at (bytes_of c.args.expression.now) c.bytes.result.now c.bytes.ensures c.loop-at-test.true in
-    let ahead = ahead_here e Location c.args.expression.now c.requires.runs.0 c.requires.good c.requires.runs.1 c.requires.target [] refl c.loop-at.steps (configured c.loop-at.at c.loop-at.run) c.loop-at.invariant test (operation_of c.read-next.result.0) c.read-next.result.1 c.read-next.ensures in
-    let moves = moves_from e (operation_of c.read-next.result.0) c.read-next.result.1 c.loop-at.at c.loop-at.run (configured c.in-Ok.to c.step.new.self) c.in-Ok.ensures in
-    (goes e Location (bytes_of c.args.expression.now) c.requires.runs.0 c.requires.good c.requires.runs.1 c.args.expression.now.short [] refl c.loop-at.steps (configured c.loop-at.at c.loop-at.run) (configured c.in-Ok.to c.step.new.self) (operation_of c.read-next.result.0) c.read-next.result.1 c.loop-at.invariant ahead moves).0
+    (goes_to e c.args.expression.now c.requires.runs.0 c.requires.good c.requires.runs.1 c.requires.target c.loop-at.steps c.loop-at.at c.loop-at.run [] c.loop-at.invariant test c.in-Ok.step c.step.new.self c.in-Ok.ensures c.in-To.to c.in-To.is).0
 
 pub loop-at-smaller : goal.loop-at-smaller
 loop-at-smaller g c =
     let e = world_in g.R.Registers.contents g.M.Memory.bytes c.args.environment.now in
     let test = before c.loop-at.at (bytes_of c.args.expression.now) c.bytes.result.now c.bytes.ensures c.loop-at-test.true in
-    let ahead = ahead_here e Location c.args.expression.now c.requires.runs.0 c.requires.good c.requires.runs.1 c.requires.target [] refl c.loop-at.steps (configured c.loop-at.at c.loop-at.run) c.loop-at.invariant test (operation_of c.read-next.result.0) c.read-next.result.1 c.read-next.ensures in
-    let moves = moves_from e (operation_of c.read-next.result.0) c.read-next.result.1 c.loop-at.at c.loop-at.run (configured c.in-Ok.to c.step.new.self) c.in-Ok.ensures in
-    omega (arith, (goes e Location (bytes_of c.args.expression.now) c.requires.runs.0 c.requires.good c.requires.runs.1 c.args.expression.now.short [] refl c.loop-at.steps (configured c.loop-at.at c.loop-at.run) (configured c.in-Ok.to c.step.new.self) (operation_of c.read-next.result.0) c.read-next.result.1 c.loop-at.invariant ahead moves).1, c.loop-at-test.true)
+    omega (arith, (goes_to e c.args.expression.now c.requires.runs.0 c.requires.good c.requires.runs.1 c.requires.target c.loop-at.steps c.loop-at.at c.loop-at.run [] c.loop-at.invariant test c.in-Ok.step c.step.new.self c.in-Ok.ensures c.in-To.to c.in-To.is).1, c.loop-at-test.true)
+
+pub run_on-requires-clause-under_way : goal.run_on-requires-clause-under_way
+run_on-requires-clause-under_way g c =
+    let e = world_in g.R.Registers.contents g.M.Memory.bytes c.args.environment.now in
+    let test = before c.loop-at.at (bytes_of c.args.expression.now) c.bytes.result.now c.bytes.ensures c.loop-at-test.true in
+    (goes_behind e c.args.expression.now c.requires.runs.0 c.requires.good c.requires.runs.1 c.requires.target c.loop-at.steps c.loop-at.at c.loop-at.run [] c.loop-at.invariant test c.in-Ok.step c.step.new.self c.in-Ok.ensures c.in-Ends.piece c.in-Ends.to c.in-Ends.is).0
 
 pub returns-in-Err-clause-run : goal.returns-in-Err-clause-run
 returns-in-Err-clause-run g c =
     let e = world_in g.R.Registers.contents g.M.Memory.bytes c.args.environment.now in
     let test = before c.loop-at.at (bytes_of c.args.expression.now) c.bytes.result.now c.bytes.ensures c.loop-at-test.true in
-    let ahead = ahead_here e Location c.args.expression.now c.requires.runs.0 c.requires.good c.requires.runs.1 c.requires.target [] refl c.loop-at.steps (configured c.loop-at.at c.loop-at.run) c.loop-at.invariant test (operation_of c.read-next.result.0) c.read-next.result.1 c.read-next.ensures in
-    failed e Location (bytes_of c.args.expression.now) c.requires.runs.0 c.requires.good c.requires.runs.1 c.args.expression.now.short [] refl c.loop-at.steps (configured c.loop-at.at c.loop-at.run) (operation_of c.read-next.result.0) c.read-next.result.1 (error_of c.in-Err.why) (outcome_of c.unanswered.result) c.loop-at.invariant ahead c.in-Err.ensures c.unanswered.ensures
+    let ahead = ahead_here e Location c.args.expression.now c.requires.runs.0 c.requires.good c.requires.runs.1 c.requires.target [] refl c.loop-at.steps (configured c.loop-at.at c.loop-at.run []) c.loop-at.invariant test c.in-Err.ensures.operation c.in-Err.ensures.next c.in-Err.ensures.read in
+    failed e Location (bytes_of c.args.expression.now) c.requires.runs.0 c.requires.good c.requires.runs.1 c.args.expression.now.short [] refl c.loop-at.steps (configured c.loop-at.at c.loop-at.run []) c.in-Err.ensures.operation c.in-Err.ensures.next (error_of c.in-Err.why) (outcome_of c.unanswered.result) c.loop-at.invariant ahead c.in-Err.ensures.answered c.unanswered.ensures
 
 pub returns-in-Err-clause-steps : goal.returns-in-Err-clause-steps
 returns-in-Err-clause-steps g c =
     let e = world_in g.R.Registers.contents g.M.Memory.bytes c.args.environment.now in
     let test = before c.loop-at.at (bytes_of c.args.expression.now) c.bytes.result.now c.bytes.ensures c.loop-at-test.true in
-    one_more e Location (bytes_of c.args.expression.now) c.requires.runs.0 c.requires.good c.requires.runs.1 c.args.expression.now.short [] refl c.loop-at.steps (configured c.loop-at.at c.loop-at.run) c.loop-at.invariant test
+    one_more e Location (bytes_of c.args.expression.now) c.requires.runs.0 c.requires.good c.requires.runs.1 c.args.expression.now.short [] refl c.loop-at.steps (configured c.loop-at.at c.loop-at.run []) c.loop-at.invariant test
 
-pub into_outcome-requires : goal.into_outcome-requires
-into_outcome-requires g c =
+pub result-requires : goal.result-requires
+result-requires g c =
     let e = world_in g.R.Registers.contents g.M.Memory.bytes c.args.environment.now in
     let past = after c.loop-at.at (bytes_of c.args.expression.now) c.bytes.result.now c.bytes.ensures c.loop-at-test.false in
-    let end = ends e Location (bytes_of c.args.expression.now) c.requires.runs.0 c.requires.good c.requires.runs.1 c.args.expression.now.short [] refl c.loop-at.steps (configured c.loop-at.at c.loop-at.run) c.loop-at.invariant past in
-    subst (λ (xs : List ℕ). GivesResult Location (length xs == 0) (configured 0 c.loop-at.run)) (sym c.bytes.ensures) (same_end (length (bytes_of c.args.expression.now) == 0) c.loop-at.at c.loop-at.run end)
+    let end = ends e Location (bytes_of c.args.expression.now) c.requires.runs.0 c.requires.good c.requires.runs.1 c.args.expression.now.short [] refl c.loop-at.steps (configured c.loop-at.at c.loop-at.run []) c.loop-at.invariant past in
+    subst (λ (xs : List ℕ). GivesResult Location (length xs == 0) (configured 0 c.loop-at.run [])) (sym c.bytes.ensures) (same_end (length (bytes_of c.args.expression.now) == 0) c.loop-at.at c.loop-at.run [] end)
 
 pub returns-clause-run : goal.returns-clause-run
 returns-clause-run g c =
     let e = world_in g.R.Registers.contents g.M.Memory.bytes c.args.environment.now in
     let past = after c.loop-at.at (bytes_of c.args.expression.now) c.bytes.result.now c.bytes.ensures c.loop-at-test.false in
-    let gives = c.into_outcome.ensures ∙ ap (λ (xs : List ℕ). result_of Location (length xs == 0) (configured 0 c.loop-at.run)) c.bytes.ensures in
-    finished e Location (bytes_of c.args.expression.now) c.requires.runs.0 c.requires.good c.requires.runs.1 c.args.expression.now.short [] refl c.loop-at.steps (configured c.loop-at.at c.loop-at.run) (outcome_of c.into_outcome.result) c.loop-at.invariant past gives
+    let gives = ap (λ (xs : List ℕ). result_of Location (length xs == 0) (configured 0 c.loop-at.run [])) c.bytes.ensures in
+    finished e Location (bytes_of c.args.expression.now) c.requires.runs.0 c.requires.good c.requires.runs.1 c.args.expression.now.short [] refl c.loop-at.steps (configured c.loop-at.at c.loop-at.run []) _ c.loop-at.invariant past (c.result.ensures ∙ gives)
 
 pub returns-clause-fits : goal.returns-clause-fits
 returns-clause-fits g c =
     let e = world_in g.R.Registers.contents g.M.Memory.bytes c.args.environment.now in
     let past = after c.loop-at.at (bytes_of c.args.expression.now) c.bytes.result.now c.bytes.ensures c.loop-at-test.false in
-    let gives = c.into_outcome.ensures ∙ ap (λ (xs : List ℕ). result_of Location (length xs == 0) (configured 0 c.loop-at.run)) c.bytes.ensures in
-    finished_fits e Location (bytes_of c.args.expression.now) c.requires.runs.0 c.requires.good c.requires.runs.1 c.args.expression.now.short [] refl c.loop-at.steps (configured c.loop-at.at c.loop-at.run) (outcome_of c.into_outcome.result) c.loop-at.invariant past gives
+    let gives = ap (λ (xs : List ℕ). result_of Location (length xs == 0) (configured 0 c.loop-at.run [])) c.bytes.ensures in
+    finished_fits e Location (bytes_of c.args.expression.now) c.requires.runs.0 c.requires.good c.requires.runs.1 c.args.expression.now.short [] refl c.loop-at.steps (configured c.loop-at.at c.loop-at.run []) _ c.loop-at.invariant past (c.result.ensures ∙ gives)
