@@ -13,7 +13,7 @@ ghost use Rattle.dw_eval.specs.Handed.{world_in};
 
 use crate::context::{Memory, Registers};
 use crate::environment::Environment;
-use crate::execution::unanswered;
+use crate::execution::{read, unanswered};
 use crate::location::{Evaluation, Outcome, Piece};
 use crate::run::{Run, Step};
 use arrayvec::ArrayVec;
@@ -44,8 +44,9 @@ fn run_on<'a, R: Registers, M: Memory>(
     let mut at = from;
     let mut steps = before;
     while at < end {
+        let (operation, next) = read(expression, at);
         steps += 1;
-        match run.step(environment, expression, at) {
+        match run.apply(environment, &operation, next) {
             Ok(step) => match step {
                 Step::To(to) => at = to,
                 Step::Ends(piece, to) => {

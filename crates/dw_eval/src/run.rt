@@ -88,7 +88,7 @@ impl<'a> Run<'a> {
 
     /// What an operation does. The next one is at `next`.
     #[inline(always)]
-    fn apply<R: Registers, M: Memory>(
+    pub fn apply<R: Registers, M: Memory>(
         &mut self,
         environment: &Environment<'_, R, M>,
         operation: &Operation<'a>,
