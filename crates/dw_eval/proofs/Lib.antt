@@ -6,6 +6,7 @@ pub mod Topmost
 pub mod Sizes
 pub mod Pushes
 pub mod Ahead
+pub mod Codes
 pub mod Ends
 pub mod Going
 pub mod Loop

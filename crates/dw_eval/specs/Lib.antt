@@ -25,3 +25,7 @@ pub mod Handed
 pub mod StackChanges
 -- one step of the run of the code
 pub mod Steps
+-- what lies behind the start of a run
+pub mod UnderWay
+-- operations without operands, by their codes
+pub mod BareOperations

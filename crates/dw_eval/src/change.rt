@@ -40,7 +40,7 @@ fn put(taken: usize, value: u64) -> Result<Change, EvaluationError>
 
 /// A divisor, unless it is 0.
 #[inline(always)]
-fn divisor(b: u64) -> Result<u64, EvaluationError>
+pub fn divisor(b: u64) -> Result<u64, EvaluationError>
     ensures ok { IfOk result (λ c. (c ≡ b) × (0 < b)) }
     ensures err { IfErr result (λ why. (b ≡ 0) × (why ≡ EvaluationError.DivisionByZero)) }
 {

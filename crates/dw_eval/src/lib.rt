@@ -1,12 +1,16 @@
 //! The evaluation of expressions (DWARF 5, sections 2.5 and 2.6).
 #![tactic(auto)]
 
+mod bare;
 mod branch_target;
 mod change;
 mod context;
+mod description;
 mod environment;
 mod evaluation;
 mod evaluation_error;
+mod execution;
+mod frame;
 pub mod laws;
 mod location;
 mod run;

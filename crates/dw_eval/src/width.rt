@@ -32,6 +32,14 @@ impl Width {
         }
     }
 
+    /// A number of one byte, which is below 2^w.
+    #[inline(always)]
+    pub fn byte(self, n: u8) -> u64
+        ensures { result ≡ reduced (width_of self.size) (pos n) }
+    {
+        u64::from(n)
+    }
+
     /// The signed number modulo 2^w.
     #[inline(always)]
     pub fn reduce_signed(self, z: i64) -> u64

@@ -108,7 +108,7 @@ first_no-append [] ys = refl
 first_no-append ((true, f) ∷ xs) ys = first_no-append xs ys
 first_no-append ((false, f) ∷ xs) ys = refl
 
-at_seam : (before left : List Placed) (x : Placed) → slice_get (before ++ x ∷ left) (length before) ≡ Some x
+pub at_seam : (before left : List Placed) (x : Placed) → slice_get (before ++ x ∷ left) (length before) ≡ Some x
 at_seam [] left x = refl
 at_seam (y ∷ before) left x = at_seam before left x
 

@@ -11,6 +11,7 @@ pub mod laws;
 mod pass;
 mod state;
 mod step;
+mod straight;
 mod target;
 mod verify;
 

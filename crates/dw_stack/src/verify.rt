@@ -12,6 +12,7 @@ use crate::certificate::Certificate;
 use crate::checked::CheckedExpression;
 use crate::pass::pass;
 use crate::state::{Kind, State};
+use crate::straight::check_straight;
 use dw_bytes::{Fault, FaultKind};
 use dw_ops::{Expression, operations};
 use std::alloc::Global;
@@ -83,7 +84,8 @@ pub fn certify<'a>(
     check(alloc, expression, kind, None)
 }
 
-/// Certifies an expression, without the states: as `certify` and then `Certificate::into_checked`.
+/// Checks an expression: as `certify` and then `Certificate::into_checked`, but no state is kept. Where nothing branches, it
+/// is one pass over the bytes and takes no memory.
 pub fn check_expression<'a>(
     alloc: Global,
     expression: Expression<'a>,
@@ -94,6 +96,9 @@ pub fn check_expression<'a>(
     ensures answer { Answers (expression_fault kind (target_of expression.entry) (bytes_of expression.entry)) result }
     ensures inside { IfErr result (λ f. f.at ≤ length (bytes_of expression.entry)) }
 {
+    if let Some(checked) = check_straight(expression, kind) {
+        return Ok(checked);
+    }
     let certificate = certify(alloc, expression, kind)?;
     Ok(certificate.into_checked())
 }
