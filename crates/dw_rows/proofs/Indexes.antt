@@ -1,18 +1,23 @@
 -- The index: filtered and sorted.
-use Rattle.std.proofs.Common.{◌≡◌, ◌≢◌, ℕ, zero, suc, ◌+◌, ◌-◌, ◌<◌, ◌≤◌, List, [], ◌∷◌, length, get_or, Contains, refl, sym, ap, subst, ◌∙◌, arith, inl, inr, ◌⊎◌, ◌==◌, Bool, true, false, nat_lt, ltb-true, lt-ltb, filter, if◌then◌else◌, Option, Some, None}
+use Rattle.std.proofs.Common.{◌≡◌, ◌≢◌, ℕ, zero, suc, ◌+◌, ◌-◌, ◌<◌, ◌≤◌, List, [], ◌∷◌, length, get_or, take, map, ◌++◌, Contains, refl, sym, ap, subst, ◌∙◌, arith, inl, inr, ◌⊎◌, ◌==◌, Bool, true, false, nat_lt, ltb-true, lt-ltb, filter, if◌then◌else◌, Option, Some, None}
+use Rattle.std.specs.Prelude.{All}
 use Rattle.std.specs.List.{AllByRecursion, swap}
 use Rattle.std.specs.List.Sorted.{IsPermutation, IsNonDecreasingBy}
-use Rattle.std.proofs.lemmas.List.{get_or_default}
+use Rattle.std.proofs.lemmas.List.{get_or_default, get_or-map, length-map, take_more, map-append, append-nil}
 use Rattle.std.proofs.lemmas.List.Edits.{swapped_from_swap, length-swap, Swapped}
-use Rattle.std.proofs.lemmas.List.Elements.{All-filter, All-contains_itself, All-contains, filter_passes}
+use Rattle.std.proofs.lemmas.List.Elements.{All-append, All-filter, All-get_or, All-contains_itself, All-contains, filter-append, filter_passes}
 use Rattle.std.proofs.lemmas.List.Sorted.{IsPermutation-keeps, IsPermutation-sym, Contains-permutation}
 use Rattle.std.proofs.lemmas.Bool.Decides.{nat_tests}
 use Rattle.dw_rows.specs.Section.{Covers, CoversOnce, IsCoverOf}
-use Rattle.dw_rows.specs.Overlap.{fde_offset, initial_of, IsIndexOf, IsOrdered}
+use Rattle.dw_rows.specs.Overlap.{fde_offset, initial_of, IsIndexOf, IsOrdered, no_fde, fde_at, IsEntry, IsAddressIndex}
+use Rattle.dw_rows.specs.declared.index.IndexEntry.{IndexEntry}
+use Rattle.dw_frame.specs.Views.{fde_of}
+use Rattle.dw_frame.specs.declared.entry.FrameDescriptionEntry.{FrameDescriptionEntry}
+use Rattle.dw_rows.proofs.Elements.{placed-map, sorted-map, sorted-back, some-element}
 use Rattle.dw_frame.specs.Bounds.{Ascends}
 use Rattle.dw_frame.specs.Records.{Fde}
 use Rattle.dw_rows.proofs.Search.{ascending-at, squeeze, three_ways}
-use Rattle.std.proofs.lemmas.Bool.{cases_lt}
+use Rattle.std.proofs.lemmas.Bool.{cases_lt, le-ltb}
 
 -- no two places have one offset
 abbrev pub AreDistinct : List Fde → Type 0
@@ -130,3 +135,85 @@ once-indexed fdes index is once a f g f_in g_in = once a f g (is.from f f_in) (i
 pub cover-indexed : (fdes index : List Fde) → IsIndexOf fdes index → (a : ℕ) (o : Option Fde) → IsCoverOf index a o → IsCoverOf fdes a o
 cover-indexed fdes index is a None none = λ f f_in covered. none f (is.to f f_in (omega (arith, covered.0, covered.1))) covered
 cover-indexed fdes index is a (Some f) only = (is.from f only.0, only.1, λ g g_in covered. only.2 g (is.to g g_in (omega (arith, covered.0, covered.1))) covered)
+
+-- ---- the entries of the index
+
+-- the FDE at a place, and what is kept of it
+pub fde_at-is : (fdes : List FrameDescriptionEntry) (e : IndexEntry) (x : FrameDescriptionEntry) → e.place < length fdes → get_or fdes e.place x ≡ x → fde_at (map fde_of fdes) e ≡ fde_of x
+fde_at-is fdes e x within is = get_or-map fde_of fdes e.place x no_fde within ∙ ap fde_of is
+
+entry-is : (fdes : List FrameDescriptionEntry) (place : ℕ) (x : FrameDescriptionEntry) → place < length fdes → get_or fdes place x ≡ x → IsEntry (map fde_of fdes) (record { start = x.initial_location; place = place })
+entry-is fdes place x within is =
+    let long = length-map fdes fde_of in
+    record { within = omega arith; start = ap (λ (f : Fde). f.initial) (sym (fde_at-is fdes (record { start = x.initial_location; place = place }) x within is)) }
+
+all-one : {X : Type 0} (P : X → Type 0) (x : X) → P x → All P (x ∷ [])
+all-one P x h zero d lt = h
+all-one P x h (suc k) d lt = absurd (omega arith)
+
+-- one FDE more is looked at: it comes in where it covers an address
+pub entries-more : (fdes : List FrameDescriptionEntry) (place : ℕ) (x : FrameDescriptionEntry) (entries : List IndexEntry) → place < length fdes → get_or fdes place x ≡ x → 0 < x.address_range → All (IsEntry (map fde_of fdes)) entries → map (fde_at (map fde_of fdes)) entries ≡ filter is_some_fde (take place (map fde_of fdes))
+    → All (IsEntry (map fde_of fdes)) (entries ++ record { start = x.initial_location; place = place } ∷ []) × (map (fde_at (map fde_of fdes)) (entries ++ record { start = x.initial_location; place = place } ∷ []) ≡ filter is_some_fde (take (place + 1) (map fde_of fdes)))
+entries-more fdes place x entries within is some all same =
+    let e : IndexEntry = record { start = x.initial_location; place = place } in
+    let fs = map fde_of fdes in
+    let long = length-map fdes fde_of in
+    let next : take (place + 1) fs ≡ take place fs ++ fde_of x ∷ [] = take_more fs place (fde_of x) (omega arith) ∙ ap (λ y. take place fs ++ y ∷ []) (placed-map fde_of fdes place x is) in
+    let one : filter is_some_fde (fde_of x ∷ []) ≡ fde_of x ∷ [] = rw (lt-ltb 0 x.address_range some) refl in (
+      All-append (IsEntry fs) entries (e ∷ []) all (all-one (IsEntry fs) e (entry-is fdes place x within is)),
+      map-append (fde_at fs) entries (e ∷ []) ∙ ap (λ l. l ++ fde_at fs e ∷ []) same ∙ ap (λ y. filter is_some_fde (take place fs) ++ y ∷ []) (fde_at-is fdes e x within is)
+          ∙ ap (λ l. filter is_some_fde (take place fs) ++ l) (sym one) ∙ sym (filter-append is_some_fde (take place fs) (fde_of x ∷ [])) ∙ ap (filter is_some_fde) (sym next),
+    )
+
+pub entries-same : (fdes : List FrameDescriptionEntry) (place : ℕ) (x : FrameDescriptionEntry) → place < length fdes → get_or fdes place x ≡ x → x.address_range ≤ 0 → filter is_some_fde (take place (map fde_of fdes)) ≡ filter is_some_fde (take (place + 1) (map fde_of fdes))
+entries-same fdes place x within is none =
+    let fs = map fde_of fdes in
+    let long = length-map fdes fde_of in
+    let next : take (place + 1) fs ≡ take place fs ++ fde_of x ∷ [] = take_more fs place (fde_of x) (omega arith) ∙ ap (λ y. take place fs ++ y ∷ []) (placed-map fde_of fdes place x is) in
+    let no : filter is_some_fde (fde_of x ∷ []) ≡ [] = rw (le-ltb 0 x.address_range none) refl in
+    sym (ap (filter is_some_fde) next ∙ filter-append is_some_fde (take place fs) (fde_of x ∷ []) ∙ ap (λ l. filter is_some_fde (take place fs) ++ l) no ∙ append-nil (filter is_some_fde (take place fs)))
+
+-- entries in order of their beginnings are FDEs in order of address
+pub sorted-entries : (fdes : List Fde) (entries : List IndexEntry) → All (IsEntry fdes) entries → IsNonDecreasingBy (λ e. e.start) entries → IsNonDecreasingBy initial_of (map (fde_at fdes) entries)
+sorted-entries fdes entries all sorted =
+    sorted-map (fde_at fdes) initial_of entries (λ i j d le lt.
+    let a : (get_or entries i d).start ≡ (fde_at fdes (get_or entries i d)).initial = (All-get_or (IsEntry fdes) entries i d (omega arith) all).start in
+    let b : (get_or entries j d).start ≡ (fde_at fdes (get_or entries j d)).initial = (All-get_or (IsEntry fdes) entries j d lt all).start in
+    let h = sorted i j d le lt in
+    omega arith)
+
+-- an entry of the index, and its place among the FDEs
+pub entry-within : (fdes : List FrameDescriptionEntry) (entries : List IndexEntry) (i : ℕ) (d : IndexEntry) → All (IsEntry (map fde_of fdes)) entries → i < length entries → (get_or entries i d).place < length fdes
+entry-within fdes entries i d all i_in =
+    let long = length-map fdes fde_of in
+    let here : IsEntry (map fde_of fdes) (get_or entries i d) = All-get_or (IsEntry (map fde_of fdes)) entries i d i_in all in
+    omega (arith, here.within)
+
+pub entry-placed : (fdes : List FrameDescriptionEntry) (entries : List IndexEntry) (i : ℕ) (d : IndexEntry) (x : FrameDescriptionEntry) → All (IsEntry (map fde_of fdes)) entries → i < length entries → x ≡ get_or fdes (get_or entries i d).place x
+    → get_or (map (fde_at (map fde_of fdes)) entries) i (fde_of x) ≡ fde_of x
+entry-placed fdes entries i d x all i_in is =
+    get_or-map (fde_at (map fde_of fdes)) entries i d (fde_of x) i_in ∙ fde_at-is fdes (get_or entries i d) x (entry-within fdes entries i d all i_in) (sym is)
+
+pub entry-start : (fdes : List FrameDescriptionEntry) (entries : List IndexEntry) (i : ℕ) (d : IndexEntry) (x : FrameDescriptionEntry) → All (IsEntry (map fde_of fdes)) entries → i < length entries → x ≡ get_or fdes (get_or entries i d).place x → (get_or entries i d).start ≡ x.initial_location
+entry-start fdes entries i d x all i_in is =
+    (All-get_or (IsEntry (map fde_of fdes)) entries i d i_in all).start ∙ ap (λ (f : Fde). f.initial) (fde_at-is fdes (get_or entries i d) x (entry-within fdes entries i d all i_in) (sym is))
+
+-- the entries are sorted by where they begin
+pub starts-sorted : (fdes : List Fde) (entries : List IndexEntry) → IsAddressIndex fdes entries → IsNonDecreasingBy (λ (e : IndexEntry). e.start) entries
+starts-sorted fdes entries is i j d le lt =
+    let a : (get_or entries i d).start ≡ (fde_at fdes (get_or entries i d)).initial = (All-get_or (IsEntry fdes) entries i d (omega arith) is.each).start in
+    let b : (get_or entries j d).start ≡ (fde_at fdes (get_or entries j d)).initial = (All-get_or (IsEntry fdes) entries j d lt is.each).start in
+    let h = sorted-back (fde_at fdes) initial_of entries is.index_of.ordered.sorted i j d le lt in
+    omega (arith, h)
+
+-- where entries begin above an address, their FDEs do
+pub starts-above : (fdes : List Fde) (entries : List IndexEntry) (place a : ℕ) → All (IsEntry fdes) entries → ((k : ℕ) (d : IndexEntry) → place ≤ k → k < length entries → a < (get_or entries k d).start)
+    → (k : ℕ) (d : Fde) → place ≤ k → k < length (map (fde_at fdes) entries) → a < (get_or (map (fde_at fdes) entries) k d).initial
+starts-above fdes entries place a all above k d le lt =
+    let long = length-map entries (fde_at fdes) in
+    let k_in : k < length entries = omega arith in
+    let e = some-element entries k k_in in
+    let b : (get_or entries k e).start ≡ (fde_at fdes (get_or entries k e)).initial = (All-get_or (IsEntry fdes) entries k e k_in all).start in
+    let h = above k e le k_in in
+    let at : get_or (map (fde_at fdes) entries) k d ≡ fde_at fdes (get_or entries k e) = get_or-map (fde_at fdes) entries k e d k_in in
+    subst (λ (f : Fde). a < f.initial) (sym at) (omega (arith, h, b))

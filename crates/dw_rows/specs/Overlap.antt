@@ -1,5 +1,9 @@
 -- FDEs in order of offset, and in order of address. No contract of a public call speaks of these.
-use Rattle.std.specs.Prelude.{◌≡◌, ℕ, ◌<◌, ◌≤◌, List, length, Contains, slice_index_or}
+use Rattle.std.specs.Prelude.{◌≡◌, ℕ, ◌<◌, ◌≤◌, List, [], length, map, All, Contains, slice_index_or}
+use Rattle.dw_bytes.specs.declared.target.Format.TheVariants.{Dwarf32}
+use Rattle.dw_bytes.specs.declared.target.Order.TheVariants.{Little}
+use Rattle.dw_bytes.specs.declared.target.AddressSize.TheVariants.{Four}
+use Rattle.dw_rows.specs.declared.index.IndexEntry.{IndexEntry}
 use Rattle.std.specs.List.Sorted.{IsNonDecreasingBy}
 use Rattle.dw_frame.specs.Records.{Cie, Fde}
 use Rattle.dw_rows.specs.Section.{Frame, SharesAddress, IsChecked}
@@ -59,8 +63,27 @@ pub record IsIndexOf (fdes index : List Fde) : Type 0 where
   pub to : (f : Fde) → Contains fdes f → 0 < f.range → Contains index f
   pub ordered : IsOrdered index
 
+-- ---- the index as it is kept: where each FDE begins, and its place among all
+
+-- an FDE that is nowhere, as that of a place past the end, which no entry has
+abbrev pub no_fde : Fde
+no_fde = record { offset = 0; format = Dwarf32; cie_pointer = 0; pointer_offset = 0; initial = 0; range = 0; program = record { target = record { order = Little; address_size = Four }; position = 0; rest = [] } }
+
+-- the FDE of an entry
+abbrev pub fde_at : List Fde → IndexEntry → Fde
+fde_at fdes e = slice_index_or fdes e.place no_fde
+
+pub record IsEntry (fdes : List Fde) (e : IndexEntry) : Type 0 where
+  pub within : e.place < length fdes
+  pub start : e.start ≡ (fde_at fdes e).initial
+
+-- the entries are those of the FDEs that cover an address, in order of address
+pub record IsAddressIndex (fdes : List Fde) (entries : List IndexEntry) : Type 0 where
+  pub each : All (IsEntry fdes) entries
+  pub index_of : IsIndexOf fdes (map (fde_at fdes) entries)
+
 -- what a checked section keeps: its records, what its CIEs leave, and its FDEs in order of address
-pub record IsKept (s : Frame) (left : List KeptRules) (index : List Fde) : Type 0 where
+pub record IsKept (s : Frame) (left : List KeptRules) (index : List IndexEntry) : Type 0 where
   pub checked : IsChecked s
   pub left_by : AreLeftBy s.cies left
-  pub index_of : IsIndexOf s.fdes index
+  pub index_of : IsAddressIndex s.fdes index

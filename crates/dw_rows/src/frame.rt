@@ -7,12 +7,12 @@ ghost use Rattle.dw_frame.specs.Views.{cie_of, fde_of};
 ghost use Rattle.dw_bytes.specs.Answers.{Judges, Answers, fault_in};
 ghost use Rattle.dw_rows.specs.Judgement.{cie_fault, fde_fault};
 ghost use Rattle.dw_rows.specs.Section.{IsCoverOf, first_fault, overlap_fault, programs_fault, parts_fault, section_fault, IsChecked, frame_of, cie_in, rows_in, row_of};
-ghost use Rattle.dw_rows.specs.Overlap.{cie_offset, fde_offset, IsIndexOf};
+ghost use Rattle.dw_rows.specs.Overlap.{cie_offset, fde_offset, IsAddressIndex};
 ghost use Rattle.dw_frame.specs.Bounds.{Ascends};
 ghost use Rattle.dw_rows.specs.ProgramState.{IsLeftBy};
 ghost use Rattle.dw_rows.specs.Initial.{AreLeftBy};
 
-use crate::index::{covering, first_overlap, index_of};
+use crate::index::{IndexEntry, covering, first_overlap, index_of};
 use crate::initial_rules::InitialRules;
 use crate::lookup::write_row_at;
 use crate::row::UnwindTableRow;
@@ -35,7 +35,7 @@ pub struct CheckedFrame<'a> {
     initial: InitialRules,
     fdes: Vec<FrameDescriptionEntry<'a>>,
     /// The FDEs that cover an address, in order of address.
-    index: Vec<FrameDescriptionEntry<'a>>,
+    index: Vec<IndexEntry>,
 }
 
 impl<'a> Model for CheckedFrame<'a> {
@@ -48,8 +48,12 @@ impl<'a> Model for CheckedFrame<'a> {
 
     ghost view = { λ c. record { target = c.target; section = c.section.now; cies = map cie_of c.cies.items; fdes = map fde_of c.fdes.items } };
 
-    ghost invariant = { λ c. IsKept (record { target = c.target; section = c.section.now; cies = map cie_of c.cies.items; fdes = map fde_of c.fdes.items }) c.initial (map fde_of c.index.items) };
+    ghost invariant = { λ c. IsKept (record { target = c.target; section = c.section.now; cies = map cie_of c.cies.items; fdes = map fde_of c.fdes.items }) c.initial c.index.items };
 }
+
+/// An FDE of a compiler has as many bytes or more: room for so many is asked for at once, so that the list of them need
+/// not be moved as it grows.
+const USUAL_FDE: usize = 48;
 
 /// The records of a section, the CIEs and the FDEs apart. One pass.
 fn records_of<'a>(
@@ -69,7 +73,9 @@ fn records_of<'a>(
     ensures fdes { IfOk result (λ records. map fde_of records.1.items ≡ (frame_of target section.now).fdes) }
 {
     let mut cies = Vec::new(alloc);
-    let mut fdes = Vec::new(alloc);
+    let Ok(mut fdes) = Vec::with_capacity(alloc, section.len() / USUAL_FDE) else {
+        return Err(MEMORY);
+    };
     for entry in entries(section, target) {
         match entry? {
             Entry::Cie(cie) => {
@@ -88,12 +94,9 @@ fn records_of<'a>(
 }
 
 /// No address may be covered by two FDEs.
-fn check_overlap(
-    fdes: &[FrameDescriptionEntry<'_>],
-    index: &[FrameDescriptionEntry<'_>],
-) -> Result<(), Fault>
+fn check_overlap(fdes: &[FrameDescriptionEntry<'_>], index: &[IndexEntry]) -> Result<(), Fault>
     requires fdes { Ascends fde_offset (map fde_of fdes.now) }
-    requires index { IsIndexOf (map fde_of fdes.now) (map fde_of index.now) }
+    requires index { IsAddressIndex (map fde_of fdes.now) index.now }
     ensures { Judges (first_fault (overlap_fault (map fde_of fdes.now)) (map fde_of fdes.now)) result }
 {
     match first_overlap(fdes, index) {
@@ -128,12 +131,12 @@ fn check_parts<'a>(
     alloc: Global,
     cies: &[CommonInformationEntry<'a>],
     fdes: &[FrameDescriptionEntry<'a>],
-) -> Result<(InitialRules, Vec<FrameDescriptionEntry<'a>>), Fault>
+) -> Result<(InitialRules, Vec<IndexEntry>), Fault>
     requires cies { Ascends cie_offset (map cie_of cies.now) }
     requires fdes { Ascends fde_offset (map fde_of fdes.now) }
     ensures answer { Answers (parts_fault (map cie_of cies.now) (map fde_of fdes.now)) result }
     ensures left { IfOk result (λ parts. AreLeftBy (map cie_of cies.now) parts.0) }
-    ensures index { IfOk result (λ parts. IsIndexOf (map fde_of fdes.now) (map fde_of parts.1.items)) }
+    ensures index { IfOk result (λ parts. IsAddressIndex (map fde_of fdes.now) parts.1.items) }
 {
     let initial = check_programs(alloc, cies, fdes)?;
     let index = match index_of(alloc, fdes) {
@@ -206,7 +209,7 @@ impl<'a> CheckedFrame<'a> {
         ensures only { IsCoverOf self.now.fdes address (option_map fde_of result) }
         ensures fit { IfSome result (λ fde. fde.initial_location + fde.address_range ≤ top_of self.now.target) }
     {
-        covering(&self.index, address)
+        covering(&self.fdes, &self.index, address)
     }
 
     /// The CIE of one of the FDEs, found by halving. Both have good programs.
@@ -241,6 +244,7 @@ impl<'a> CheckedFrame<'a> {
 
     /// The rows of one of the FDEs, in the order of their addresses. Each call runs the FDE's program again as the rows are
     /// asked for, behind what was kept of its CIE's, and takes no memory.
+    #[inline(always)]
     pub fn rows(&self, fde: &FrameDescriptionEntry<'a>) -> Rows<'a>
         requires { Contains self.now.fdes (fde_of fde.now) }
         ensures { result ≡ rows_in self.now (fde_of fde.now) }

@@ -104,6 +104,7 @@ impl Model for RegisterRuleMap {
 
 impl RegisterRuleMap {
     /// No rule but `Default`.
+    #[inline(always)]
     pub fn new() -> Self
         ensures { result ≡ [] }
     {

@@ -53,6 +53,7 @@ impl Model for UnwindTableRow {
 
 impl UnwindTableRow {
     /// A row of no address, as a place for others: `Rows::next_into` writes a row there.
+    #[inline(always)]
     pub fn empty() -> Self
         ensures { result ≡ record { start = 0; end = 0; cfa = Some (Cfa.register_and_offset 0 (pos 0)); rules = [] } }
     {

@@ -66,6 +66,7 @@ impl<'a> Rows<'a> {
     }
 
     /// All rows of an FDE of a checked section.
+    #[inline(always)]
     pub(crate) fn of(frame: &CheckedFrame<'a>, fde: &FrameDescriptionEntry<'a>) -> Self
         requires { Contains frame.now.fdes (fde_of fde.now) }
         ensures { result ≡ rows_in frame.now (fde_of fde.now) }
@@ -122,6 +123,7 @@ impl<'a> Iterator for Rows<'a> {
 
     ghost remaining = { item_count (λ rows. rows) };
 
+    #[inline(always)]
     fn next(&mut self) -> Option<UnwindTableRow> {
         let mut row = UnwindTableRow::empty();
         if self.next_into(&mut row) {

@@ -31,6 +31,7 @@ impl RuleSet {
     ghost use Rattle.dw_rows.specs.ProgramState.{Sets};
 
     /// No rules.
+    #[inline(always)]
     pub fn new() -> Self
         ensures { result ≡ record { cfa = None; rules = [] } }
     {
