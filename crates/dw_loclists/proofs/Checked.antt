@@ -1,11 +1,10 @@
 -- What is known of a section that has no fault.
-use Rattle.std.proofs.Common.{◌≡◌, ℕ, ◌+◌, ◌<◌, ◌≤◌, List, [], ◌∷◌, ◌++◌, length, map, Contains, Option, Some, None, Result, Ok, Err, refl, sym, ap, subst, ◌∙◌, arith}
+use Rattle.std.proofs.Common.{◌≡◌, ℕ, ◌+◌, ◌≤◌, List, [], ◌∷◌, ◌++◌, length, Option, Some, None, Result, Ok, Err, refl, ap, ◌∙◌}
 use Rattle.dw_bytes.specs.declared.target.Target.{Target}
 use Rattle.dw_bytes.specs.declared.fault.Fault.{Fault}
 use Rattle.dw_bytes.specs.Answers.{values_in, fault_in}
 use Rattle.dw_bytes.proofs.Sequences.{all-read}
-use Rattle.dw_loclists.specs.Lists.{Loclist, Table, AreTables, lists_of, starts_of}
-use Rattle.dw_loclists.specs.Locations.{LocatedExpression, expressions_in}
+use Rattle.dw_loclists.specs.Lists.{Table, AreTables, starts_of}
 use Rattle.dw_loclists.specs.Bounds.{Ascends}
 use Rattle.dw_bytes.specs.Reading.{section_from}
 use Rattle.dw_loclists.specs.Reading.{table_at, tables_from, tables_of, lists_fault, ListSection, IsChecked, tables_in, lists_in, located_in}

@@ -1,20 +1,19 @@
 -- Entries are read exactly where they are encoded, and judged by what they say.
-use Rattle.std.proofs.Common.{◌≡◌, ℕ, ◌+◌, ◌<◌, ◌≤◌, Bool, true, false, cond, ltb, List, [], ◌∷◌, ◌++◌, length, Option, Some, None, Result, Ok, Err, refl, sym, ap, subst, ◌∙◌, arith, inl, inr}
-use Rattle.std.specs.Prelude.{◌==◌, ◌&&◌, nat_lt}
-use Rattle.std.proofs.lemmas.Bool.{lt-ltb, le-ltb, ltb-false}
+use Rattle.std.proofs.Common.{◌≡◌, ℕ, ◌+◌, ◌<◌, ◌≤◌, Bool, true, false, cond, List, [], ◌∷◌, length, Option, Some, None, Result, Ok, Err, refl, sym, ap, subst, ◌∙◌, arith, inl, inr}
+use Rattle.std.specs.Prelude.{◌==◌, ◌&&◌}
+use Rattle.std.proofs.lemmas.Bool.{le-ltb, ltb-false}
 use Rattle.std.proofs.lemmas.List.{length-append}
 use Rattle.dw_bytes.specs.declared.target.Target.{Target}
 use Rattle.dw_bytes.specs.declared.fault.Fault.{Fault}
 use Rattle.dw_bytes.specs.declared.fault.FaultKind.TheVariants.{UnknownEntry, SecondDefault, BackRange}
-use Rattle.dw_bytes.specs.Reading.{ReadPosition, Next, IsExact, ◌>>=◌}
-use Rattle.dw_bytes.specs.Operands.{Kind, address, unsigned, block, Block, IsBlock, IsOperand, Operands, AreEncoded, Line, line, none, one, three, AreOperands}
-use Rattle.dw_bytes.proofs.Readers.{ExactAt, bind-ok, ok-is}
+use Rattle.dw_bytes.specs.Reading.{ReadPosition, Next, ◌>>=◌}
+use Rattle.dw_bytes.specs.Operands.{Kind, address, unsigned, block, Block, IsBlock, Operands, Line, line, none, one, AreOperands}
+use Rattle.dw_bytes.proofs.Readers.{ExactAt, bind-ok}
 use Rattle.dw_bytes.proofs.Codes.{coded-exact, coded-some}
 use Rattle.dw_stack.specs.declared.state.Kind.TheVariants.{Location}
 use Rattle.dw_stack.specs.FirstFault.{expression_fault}
-use Rattle.dw_stack.specs.Expressions.{IsGoodExpression}
 use Rattle.dw_stack.proofs.Named.{none_if_good, good_if_none}
-use Rattle.dw_loclists.specs.Entries.{Entry, end_of_list, offset_pair, default_location, base_address, start_end, start_length, entry_line, IsEntry, is_end, is_default, expression_in, IsRange, IsGoodLocation}
+use Rattle.dw_loclists.specs.Entries.{Entry, end_of_list, offset_pair, default_location, base_address, start_end, start_length, entry_line, IsEntry, is_default, expression_in, IsRange, IsGoodLocation}
 use Rattle.dw_loclists.specs.Bounds.{IsUpTo, IsBefore}
 use Rattle.dw_loclists.specs.Reading.{entry_at, is_back_range, moved_by, location_fault, entry_fault, unless_fault, checked_entry_at}
 

@@ -1,6 +1,6 @@
 -- Lists are read exactly where they are encoded.
-use Rattle.std.proofs.Common.{◌≡◌, ℕ, zero, suc, ◌+◌, ◌-◌, ◌<◌, ◌≤◌, Bool, true, false, cond, ltb, List, [], ◌∷◌, ◌++◌, length, Option, Some, None, Result, Ok, Err, refl, sym, ap, subst, ◌∙◌, append_assoc, arith, inl, inr}
-use Rattle.std.specs.Prelude.{map, filter_map, ◌&&◌, ◌||◌, ◌⊎◌, count_by, nat_lt}
+use Rattle.std.proofs.Common.{◌≡◌, ℕ, zero, suc, ◌+◌, ◌-◌, ◌<◌, ◌≤◌, Bool, true, false, cond, ltb, List, [], ◌∷◌, ◌++◌, length, Result, Ok, Err, refl, sym, ap, subst, ◌∙◌, append_assoc, arith, inl, inr}
+use Rattle.std.specs.Prelude.{map, filter_map, ◌&&◌, ◌||◌, ◌⊎◌, count_by}
 use Rattle.std.specs.List.{AllByRecursion}
 use Rattle.std.proofs.lemmas.Bool.{lt-ltb, le-ltb, cases_lt}
 use Rattle.std.proofs.lemmas.List.{length-append, map-append}
@@ -8,9 +8,9 @@ use Rattle.std.proofs.lemmas.List.Elements.{filter_map-append}
 use Rattle.std.proofs.lemmas.List.Sums.{sum_by-append}
 use Rattle.dw_bytes.specs.declared.target.Target.{Target}
 use Rattle.dw_bytes.specs.declared.fault.Fault.{Fault}
-use Rattle.dw_bytes.specs.Reading.{ReadPosition, Next, IsExact, ◌>>=◌}
+use Rattle.dw_bytes.specs.Reading.{ReadPosition, Next, ◌>>=◌}
 use Rattle.dw_bytes.specs.Sequence.{Sequence}
-use Rattle.dw_bytes.proofs.Readers.{ExactAt, bind-ok, ok-is}
+use Rattle.dw_bytes.proofs.Readers.{bind-ok, ok-is}
 use Rattle.dw_loclists.specs.Entries.{Entry, end_of_list, offset_pair, default_location, base_address, start_end, start_length, IsEntry, is_end, is_default, expression_in, IsRange, IsGoodLocation}
 use Rattle.dw_loclists.specs.Lists.{Loclist, IsList}
 use Rattle.dw_loclists.specs.Locations.{LocatedExpression, location_of, expressions_of}
@@ -304,3 +304,8 @@ end-nothing e xs is = ap (λ (x : Entry). xs ++ expressions_of (x ∷ [])) (ends
 pub more-kept : (a b c : List LocatedExpression) (es : List Entry) (e : Entry) → b ≡ a ++ expressions_of es → c ≡ b ++ expressions_of (e ∷ []) → c ≡ a ++ expressions_of (es ++ e ∷ [])
 more-kept a b c es e so_far more =
     more ∙ (ap (λ (t : List LocatedExpression). t ++ expressions_of (e ∷ [])) so_far ∙ (append_assoc a (expressions_of es) (expressions_of (e ∷ [])) ∙ ap (λ (t : List LocatedExpression). a ++ t) (sym (expressions-more es e))))
+
+-- the entries of a list, read from its first byte on
+pub entries-read : (target : Target) (r : ReadPosition) (l : Loclist) (after : ReadPosition) → r.target ≡ target → Next (IsList target r.position) r l after → entries_at false r ≡ Ok (l.entries, after)
+unfolding entries_at
+entries-read target r l after same h = entries-only target (length r.rest) false r l.entries after same (omega arith) (record { bytes = h.bytes; encoded = entries-in target r.position h.bytes l h.encoded; parts = h.parts; position = h.position; target = h.target })

@@ -1,7 +1,6 @@
 -- Tables are read exactly where they are encoded.
-use Rattle.std.proofs.Common.{◌≡◌, ℕ, zero, suc, ◌+◌, ◌<◌, ◌≤◌, ◌↔◌, Bool, true, false, List, [], ◌∷◌, ◌++◌, ◌-◌, length, map, take, drop, Option, Some, None, Result, Ok, Err, refl, sym, ap, subst, ◌∙◌, append_assoc, arith, inl, inr}
+use Rattle.std.proofs.Common.{◌≡◌, ℕ, zero, suc, ◌+◌, ◌<◌, ◌≤◌, ◌↔◌, Bool, true, false, List, [], ◌∷◌, ◌++◌, ◌-◌, length, map, take, drop, Result, Ok, Err, refl, sym, ap, subst, ◌∙◌, append_assoc, arith, inl, inr}
 use Rattle.std.specs.Prelude.{◌==◌, ◌||◌, ◌⊎◌, Contains}
-use Rattle.std.specs.List.{list_any}
 use Rattle.std.proofs.lemmas.Bool.{eqb-true, eq-eqb}
 use Rattle.std.proofs.lemmas.List.{length-append, length-drop, take_all}
 use Rattle.dw_bytes.specs.declared.target.Target.{Target}
@@ -15,11 +14,11 @@ use Rattle.dw_bytes.specs.Reading.{ReadPosition, Next, IsExact, ◌>>=◌, secti
 use Rattle.dw_bytes.specs.Fields.{Encodes, unless, judged, fields_at}
 use Rattle.dw_bytes.specs.Bodies.{framed_at}
 use Rattle.dw_bytes.specs.Sequence.{Sequence, sequence_of, Exactly, exactly_of}
-use Rattle.dw_bytes.proofs.Readers.{ExactAt, bind-ok, ok-is, same-reading, offset-exact, leaves-suffix}
-use Rattle.dw_bytes.proofs.FieldsOf.{passed, fields-exact}
+use Rattle.dw_bytes.proofs.Readers.{ExactAt, bind-ok, ok-is, offset-exact, leaves-suffix}
+use Rattle.dw_bytes.proofs.FieldsOf.{fields-exact}
 use Rattle.dw_bytes.proofs.Bodies.{IsFramed, framed-found, framed-only}
 use Rattle.dw_bytes.proofs.Sequences.{ReadsEach, Forward, forward, goes-on, stops, ends, all-read, sequence-exact, exactly-exact}
-use Rattle.dw_loclists.specs.Entries.{Entry, end_of_list, IsEntry}
+use Rattle.dw_loclists.specs.Entries.{Entry, end_of_list}
 use Rattle.dw_loclists.specs.Lists.{Loclist, IsList, Table, table_header, starts_of, IsListOffset, IsTable, AreTables}
 use Rattle.dw_loclists.specs.Reading.{list_at, all_of, lists_at, is_among, list_offset_at, table_at, tables_from, tables_of}
 use Rattle.dw_loclists.proofs.EachEntry.{entry-some}

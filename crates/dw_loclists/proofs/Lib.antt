@@ -5,3 +5,5 @@ pub mod KeptLists
 pub mod Search
 pub mod Order
 pub mod Checked
+pub mod Walking
+pub mod Located

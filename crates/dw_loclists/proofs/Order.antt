@@ -1,20 +1,20 @@
 -- Lists and expressions come in order of their offsets.
 use Rattle.std.proofs.Common.{◌≡◌, ℕ, ◌+◌, ◌<◌, ◌≤◌, List, [], ◌∷◌, ◌++◌, length, map, refl, sym, ap, subst, ◌∙◌, arith, Option, Some, None, Bool}
 use Rattle.std.specs.List.{cons_option}
-use Rattle.std.specs.Prelude.{filter_map, flat_map, ◌||◌, false}
+use Rattle.std.specs.Prelude.{filter_map, ◌||◌, false}
 use Rattle.std.proofs.lemmas.List.{length-append, map-append}
 use Rattle.std.proofs.lemmas.List.Elements.{filter_map-append}
 use Rattle.std.proofs.lemmas.Grind.{flat_map-append}
 use Rattle.dw_bytes.specs.declared.target.Target.{Target}
 use Rattle.dw_bytes.specs.Operands.{Block}
 use Rattle.dw_bytes.specs.Sequence.{Sequence}
-use Rattle.dw_loclists.specs.Entries.{Entry, end_of_list, IsEntry, is_default, expression_in}
+use Rattle.dw_loclists.specs.Entries.{Entry, IsEntry, is_default, expression_in}
 use Rattle.dw_loclists.specs.Lists.{Loclist, IsList, Table, IsTable, AreTables, lists_of, starts_of}
 use Rattle.dw_loclists.specs.Locations.{LocatedExpression, location_of, expressions_of, expressions_in}
 use Rattle.dw_loclists.specs.Bounds.{RiseWithin}
 use Rattle.dw_loclists.proofs.EachEntry.{AllWithin, entry-within, entry-some}
 use Rattle.dw_loclists.proofs.EachList.{AreEntries, entries-in}
-use Rattle.dw_loclists.proofs.EachTable.{list-some, table-some, some-length}
+use Rattle.dw_loclists.proofs.EachTable.{list-some}
 use Rattle.dw_loclists.proofs.Search.{rise-append}
 
 -- ---- starts of lists
@@ -71,7 +71,7 @@ offsets-append xs ys = map-append (λ (x : LocatedExpression). x.offset) xs ys
 both-rise : (low mid high other : ℕ) (xs ys : List LocatedExpression) → other ≡ high → RiseWithin low mid (offsets-of xs) → RiseWithin mid other (offsets-of ys) → RiseWithin low high (offsets-of (xs ++ ys))
 both-rise low mid high other xs ys same h k = subst (RiseWithin low high) (sym (offsets-append xs ys)) (rise-append low mid high (offsets-of xs) (offsets-of ys) h (subst (λ n. RiseWithin mid n (offsets-of ys)) same k))
 
-entries-front : (e : Entry) (es : List Entry) → expressions_of (e ∷ es) ≡ expressions_of (e ∷ []) ++ expressions_of es
+pub entries-front : (e : Entry) (es : List Entry) → expressions_of (e ∷ es) ≡ expressions_of (e ∷ []) ++ expressions_of es
 entries-front e es = ap (map location_of) (filter_map-append expression_in (e ∷ []) es) ∙ map-append location_of (filter_map expression_in (e ∷ [])) (filter_map expression_in es)
 
 entries-rise : (target : Target) (d : Bool) (at : ℕ) (bytes : List ℕ) (es : List Entry) → AreEntries target d at bytes es → RiseWithin (at + 1) (at + length bytes + 1) (offsets-of (expressions_of es))

@@ -89,3 +89,6 @@ ascending-same at xs up x y (i, i_in, i_is) (j, j_in, j_is) same =
         | inr lt ↦ absurd (let h : at y < at x = subst (λ v. at v < at x) y_is (subst (λ v. at (get_or xs j x) < at v) i_is (ascending-at at xs up j i x lt i_in)) in omega arith)
       ]
     ]
+
+pub contains-behind : {X : Type 0} (x y : X) (xs : List X) → Contains xs x → Contains (y ∷ xs) x
+contains-behind x y xs (k, lt, is) = (suc k, omega arith, is)

@@ -8,3 +8,4 @@ pub mod Reading
 pub mod Views
 pub mod Bounds
 pub mod Kept
+pub mod Walks

@@ -1,9 +1,6 @@
 -- What the types of the code stand for.
-use Rattle.std.specs.Prelude.{ℕ, map, List, Result, Ok, Err, ◌⊎◌, ◌≡◌}
-use Rattle.dw_bytes.specs.declared.fault.Fault.{Fault}
+use Rattle.std.specs.Prelude.{ℕ, map, List}
 use Rattle.dw_bytes.specs.Operands.{block_of}
-use Rattle.dw_bytes.specs.Reading.{ReadPosition}
-use Rattle.dw_bytes.specs.Answers.{memory}
 use Rattle.dw_stack.specs.declared.checked.CheckedExpression.{CheckedExpression}
 use Rattle.dw_stack.specs.Certificates.{checked_of}
 use Rattle.dw_loclists.specs.declared.entry.Entry as declared

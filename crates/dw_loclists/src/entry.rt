@@ -1,6 +1,6 @@
 //! The entries of location lists.
 
-ghost use Rattle.std.specs.Prelude.{◌≡◌, ◌<◌, ◌≤◌, ◌+◌, length, IfErr, IfOk, IfSome, option_map};
+ghost use Rattle.std.specs.Prelude.{◌≡◌, ◌<◌, ◌≤◌, ◌+◌, nat_le, IfOk};
 ghost use Rattle.dw_bytes.specs.Reading.{MovesForward};
 ghost use Rattle.dw_bytes.specs.Readers.{ParsesBy, IsRefusedWithin};
 ghost use Rattle.dw_loclists.specs.Reading.{entry_at};
@@ -99,6 +99,7 @@ impl<'a> Entry<'a> {
     ghost use Rattle.std.specs.Prelude.{◌≡◌, option_map};
     ghost use Rattle.dw_bytes.specs.Operands.{block_of};
     ghost use Rattle.dw_loclists.specs.Entries.{is_end, is_default, expression_in};
+    ghost use Rattle.dw_loclists.specs.Locations.{holds};
     ghost use Rattle.dw_loclists.specs.Reading.{is_back_range};
     ghost use Rattle.dw_loclists.specs.Views.{entry_of};
 
@@ -138,5 +139,31 @@ impl<'a> Entry<'a> {
             | Entry::StartLength { expression, .. } => Some(expression),
             Entry::EndOfList | Entry::BaseAddress { .. } => None,
         }
+    }
+
+    /// Whether it is bounded and holds at an address. An `OffsetPair` counts from the base.
+    pub fn holds(&self, base: u64, address: u64) -> bool
+        ensures { result ≡ holds base address (entry_of self.now) }
+    {
+        match *self {
+            Entry::OffsetPair { begin, end, .. } => {
+                is_reached(base, begin, address) && !is_reached(base, end, address)
+            }
+            Entry::StartEnd { begin, end, .. } => begin <= address && address < end,
+            Entry::StartLength { begin, count, .. } => {
+                begin <= address && !is_reached(begin, count, address)
+            }
+            Entry::EndOfList | Entry::DefaultLocation { .. } | Entry::BaseAddress { .. } => false,
+        }
+    }
+}
+
+/// Whether a sum, which doesn't wrap, is at most an address.
+fn is_reached(base: u64, offset: u64, address: u64) -> bool
+    ensures { result ≡ nat_le (base + offset) address }
+{
+    match base.checked_add(offset) {
+        Some(sum) => sum <= address,
+        None => false,
     }
 }

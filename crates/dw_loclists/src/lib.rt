@@ -6,7 +6,10 @@ mod entry;
 mod find;
 mod list;
 mod lists;
+mod locations;
 mod table;
+mod walk;
 
 pub use contents::LocationList;
 pub use lists::{CheckedLists, check_lists};
+pub use locations::LocationsAt;

@@ -2,14 +2,17 @@
 
 ghost use Rattle.std.specs.Prelude.{◌≡◌, ◌<◌, ◌≤◌, ◌^◌, Contains, length, map, IfOk, IfErr, MatchOption};
 ghost use Rattle.dw_bytes.specs.Answers.{Answers};
-ghost use Rattle.dw_loclists.specs.Lists.{Table, starts_of};
+ghost use Rattle.dw_loclists.specs.Lists.{Loclist, Table, starts_of};
+ghost use Rattle.dw_loclists.specs.Locations.{locations_of};
 ghost use Rattle.dw_loclists.specs.Reading.{lists_fault, IsChecked, tables_in, lists_in, located_in};
 ghost use Rattle.dw_loclists.specs.Views.{start_of, all_located};
 
 use crate::contents::{Contents, LocationList};
 use crate::find::find_list;
+use crate::locations::LocationsAt;
 use crate::table::read_table;
-use dw_bytes::{Fault, Target};
+use crate::walk::ListWalk;
+use dw_bytes::{Cursor, Fault, Target};
 use dw_stack::CheckedExpression;
 use std::alloc::Global;
 use std::marker::Model;
@@ -111,5 +114,19 @@ impl<'a> CheckedLists<'a> {
             (λ list. (start_of list ≡ offset) × Contains (starts_of (lists_in self.now)) offset) }
     {
         find_list(&self.contents.lists, u64::from(offset))
+    }
+
+    /// The expressions of one of these lists that hold at an address, in order: those of the bounded entries whose range has the
+    /// address, or where none has it the default's. The base is the unit's; no sum wraps. It takes no memory.
+    pub fn locations_at(&self, list: &LocationList, base: u64, address: u64) -> LocationsAt<'_, 'a>
+        requires { Contains (starts_of (lists_in self.now)) (start_of list.now) }
+        ensures { (l : Loclist) → Contains (lists_in self.now) l → l.offset ≡ start_of list.now → result ≡ locations_of l base address }
+    {
+        let walk = ListWalk {
+            cursor: Cursor::at(self.section, self.target, list.offset()),
+            base,
+            default: None,
+        };
+        LocationsAt::new(walk, address, &self.contents.expressions)
     }
 }

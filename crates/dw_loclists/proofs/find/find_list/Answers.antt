@@ -1,4 +1,4 @@
-use Rattle.std.proofs.Common.{◌≡◌, ℕ, rules, sym, ap, subst, ◌∙◌, map, get_or, Contains, arith}
+use Rattle.std.proofs.Common.{◌≡◌, rules, sym, ap, subst, ◌∙◌, map, get_or, Contains}
 use Rattle.std.proofs.lemmas.List.Sorted.{answers_always}
 use Rattle.dw_loclists.specs.Views.{start_of}
 use Rattle.dw_loclists.proofs.Search.{searched-found, searched-none, contains-map, contained-map}

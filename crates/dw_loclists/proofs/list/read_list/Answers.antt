@@ -1,17 +1,16 @@
-use Rattle.std.proofs.Common.{rules, ◌≡◌, ◌<◌, ◌≤◌, ◌+◌, [], ◌∷◌, ◌++◌, length, Ok, Err, Some, None, ℕ, ◌-◌, Bool, true, false, List, refl, sym, ap, subst, ◌∙◌, arith, inl, inr, append_assoc, Result}
-use Rattle.std.specs.Prelude.{◌⊎◌, ◌||◌, Option}
+use Rattle.std.proofs.Common.{◌≡◌, ◌<◌, ◌≤◌, ◌+◌, [], ◌∷◌, ◌++◌, length, Err, Some, None, ℕ, true, false, List, sym, ap, subst, ◌∙◌, arith, inl, inr, Result}
+use Rattle.std.specs.Prelude.{◌⊎◌, ◌||◌}
 use Rattle.std.proofs.lemmas.Grind.{common_steps}
 use Rattle.dw_bytes.specs.declared.fault.Fault.{Fault}
 use Rattle.dw_bytes.specs.declared.fault.FaultKind.TheVariants.{NoEnd}
-use Rattle.dw_bytes.specs.Reading.{ReadPosition, MovesForward}
+use Rattle.dw_bytes.specs.Reading.{ReadPosition}
 use Rattle.dw_bytes.specs.Answers.{memory}
 use Rattle.dw_loclists.specs.Entries.{Entry, is_end, is_default}
 use Rattle.dw_loclists.specs.Bounds.{IsBefore}
-use Rattle.dw_loclists.specs.Locations.{expressions_of, LocatedExpression}
-use Rattle.dw_loclists.specs.Reading.{list_at, entries_at, entry_fault, checked_entry_at, no_end}
+use Rattle.dw_loclists.specs.Reading.{list_at, entries_at, entry_fault}
 use Rattle.dw_loclists.specs.Views.{entry_of, all_located}
 use Rattle.dw_loclists.proofs.EachEntry.{checked-refused, checked-none, checked-fault, before-inside}
-use Rattle.dw_loclists.proofs.EachList.{listed, put_all, put_before, put-one-more, entries-end, entries-last, entries-more, entries-refused, list-ends, list-stops, next-entry, end-nothing, more-kept}
+use Rattle.dw_loclists.proofs.EachList.{listed, entries-end, entries-last, entries-refused, list-ends, list-stops, next-entry, end-nothing, more-kept}
 use Rattle.dw_loclists.proofs.list.read_list.Goals as goal
 
 abbrev no-list : Fault → Result (List Entry × ReadPosition) Fault

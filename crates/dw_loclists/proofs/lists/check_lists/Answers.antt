@@ -1,13 +1,10 @@
-use Rattle.std.proofs.Common.{rules, ◌≡◌, ◌<◌, ◌≤◌, ◌+◌, [], ◌∷◌, ◌++◌, length, map, Ok, Err, Some, None, ℕ, List, Option, Result, refl, sym, ap, subst, ◌∙◌, append_assoc, arith, inl, inr}
+use Rattle.std.proofs.Common.{◌≡◌, [], ◌∷◌, ◌++◌, Some, sym, ap, ◌∙◌, arith, inl, inr}
 use Rattle.std.specs.Prelude.{◌⊎◌}
 use Rattle.std.proofs.lemmas.Grind.{common_steps}
-use Rattle.dw_bytes.specs.declared.fault.Fault.{Fault}
 use Rattle.dw_bytes.specs.Answers.{memory}
-use Rattle.dw_bytes.proofs.Sequences.{all-read}
-use Rattle.dw_loclists.specs.Lists.{Table}
-use Rattle.dw_loclists.specs.Reading.{tables_of, tables_from, lists_fault}
-use Rattle.dw_loclists.specs.Kept.{Kept, kept_of, kept_from, with_table}
-use Rattle.dw_loclists.proofs.EachTable.{at-fault, at-table, at-end}
+use Rattle.dw_loclists.specs.Reading.{tables_from, lists_fault}
+use Rattle.dw_loclists.specs.Kept.{Kept, kept_from, with_table}
+use Rattle.dw_loclists.proofs.EachTable.{at-fault}
 use Rattle.dw_loclists.proofs.KeptLists.{table-kept}
 use Rattle.dw_loclists.proofs.Checked.{all-tables, tables-checked, tables-are, tables-fault, one-more}
 use Rattle.dw_loclists.proofs.lists.check_lists.Goals as goal

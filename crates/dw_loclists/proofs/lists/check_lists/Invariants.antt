@@ -1,4 +1,4 @@
-use Rattle.std.proofs.Common.{◌≡◌, List, ◌++◌, ◌≤◌, ◌-◌, map, Ok, length}
+use Rattle.std.proofs.Common.{◌≡◌, List, ◌++◌, ◌≤◌, ◌-◌, length}
 use Rattle.dw_bytes.proofs.Sequences.{all-read}
 use Rattle.dw_loclists.specs.Lists.{Table}
 use Rattle.dw_loclists.specs.Reading.{tables_of, tables_from}

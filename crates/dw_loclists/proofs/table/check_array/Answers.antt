@@ -1,12 +1,11 @@
-use Rattle.std.proofs.Common.{rules, ◌≡◌, ◌<◌, ◌≤◌, ◌+◌, ◌^◌, [], ◌∷◌, ◌++◌, length, map, Ok, Err, ℕ, Bool, true, false, List, Result, Contains, min, refl, sym, ap, subst, ◌∙◌, arith, add-one}
+use Rattle.std.proofs.Common.{◌≡◌, ◌<◌, ◌+◌, ◌^◌, [], ◌∷◌, ◌++◌, map, Err, ℕ, List, Contains, min, sym, ap, subst, ◌∙◌, arith, add-one}
 use Rattle.std.proofs.lemmas.Grind.{common_steps}
 use Rattle.dw_bytes.specs.declared.fault.Fault.{Fault}
 use Rattle.dw_bytes.specs.declared.fault.FaultKind.TheVariants.{BadOffsetEntry}
-use Rattle.dw_bytes.specs.Reading.{ReadPosition, offset_at}
 use Rattle.dw_bytes.specs.Sequence.{exactly_of}
 use Rattle.dw_bytes.proofs.Sequences.{exactly-more, exactly-stops}
 use Rattle.dw_loclists.specs.declared.contents.LocationList.{LocationList}
-use Rattle.dw_loclists.specs.Reading.{is_among, list_offset_at}
+use Rattle.dw_loclists.specs.Reading.{list_offset_at}
 use Rattle.dw_loclists.specs.Views.{start_of}
 use Rattle.dw_loclists.proofs.EachTable.{offset-bad, offset-good, offset-refused}
 use Rattle.dw_loclists.proofs.Search.{contained-map}

@@ -1,15 +1,14 @@
-use Rattle.std.proofs.Common.{rules, ◌≡◌, ◌<◌, ◌≤◌, ◌+◌, [], ◌∷◌, ◌++◌, length, map, Ok, Err, ℕ, List, refl, sym, ap, subst, ◌∙◌, arith, inl, inr}
+use Rattle.std.proofs.Common.{◌≡◌, ◌<◌, [], ◌∷◌, ◌++◌, length, map, Err, List, sym, ap, ◌∙◌, arith, inl, inr}
 use Rattle.std.specs.Prelude.{◌⊎◌}
 use Rattle.std.proofs.lemmas.Grind.{common_steps}
 use Rattle.std.proofs.lemmas.List.{map-append}
 use Rattle.dw_bytes.specs.Answers.{memory}
 use Rattle.dw_loclists.specs.declared.contents.LocationList.{LocationList}
-use Rattle.dw_loclists.specs.Lists.{Loclist}
-use Rattle.dw_loclists.specs.Locations.{LocatedExpression, expressions_of}
+use Rattle.dw_loclists.specs.Locations.{expressions_of}
 use Rattle.dw_loclists.specs.Reading.{lists_at}
-use Rattle.dw_loclists.specs.Kept.{Kept, kept_of, with_lists}
+use Rattle.dw_loclists.specs.Kept.{kept_of}
 use Rattle.dw_loclists.specs.Views.{start_of, all_located}
-use Rattle.dw_loclists.proofs.EachTable.{put_lists, next-list, last-list, bad-list, list-begins}
+use Rattle.dw_loclists.proofs.EachTable.{next-list, last-list, bad-list, list-begins}
 use Rattle.dw_loclists.proofs.KeptLists.{kept-as, list-kept, same-kept}
 use Rattle.dw_loclists.proofs.table.read_lists.Goals as goal
 

@@ -1,17 +1,14 @@
-use Rattle.std.proofs.Common.{rules, ◌≡◌, ◌<◌, ◌≤◌, ◌+◌, ◌-◌, [], ◌∷◌, ◌++◌, length, map, take, drop, Ok, Err, ℕ, List, Result, refl, sym, ap, subst, ◌∙◌, arith, inl, inr}
-use Rattle.std.specs.Prelude.{◌⊎◌}
+use Rattle.std.proofs.Common.{◌≡◌, ◌≤◌, ◌+◌, ◌-◌, [], ◌∷◌, ◌++◌, length, map, take, drop, Ok, Err, ℕ, List, refl, sym, ap, subst, ◌∙◌, arith}
 use Rattle.std.proofs.lemmas.Grind.{common_steps}
 use Rattle.std.proofs.lemmas.List.{length-take}
-use Rattle.dw_bytes.specs.declared.fault.Fault.{Fault}
-use Rattle.dw_bytes.specs.Reading.{ReadPosition, section_from, offset_at}
+use Rattle.dw_bytes.specs.Reading.{ReadPosition, section_from}
 use Rattle.dw_bytes.specs.Fields.{fields_at}
 use Rattle.dw_bytes.specs.Sequence.{exactly_of}
-use Rattle.dw_bytes.specs.Answers.{memory}
 use Rattle.dw_loclists.specs.declared.contents.LocationList.{LocationList}
-use Rattle.dw_loclists.specs.Lists.{Loclist, Table, table_header, starts_of}
+use Rattle.dw_loclists.specs.Lists.{table_header, starts_of}
 use Rattle.dw_loclists.specs.Bounds.{Ascends}
-use Rattle.dw_loclists.specs.Reading.{lists_at, list_offset_at, table_at}
-use Rattle.dw_loclists.specs.Kept.{Kept, kept_of, with_lists, with_table}
+use Rattle.dw_loclists.specs.Reading.{list_offset_at, table_at}
+use Rattle.dw_loclists.specs.Kept.{Kept, kept_of}
 use Rattle.dw_loclists.specs.Views.{start_of}
 use Rattle.dw_loclists.proofs.EachTable.{table-made, table-unnamed, header-leaves, new-starts, table-of, lists-found}
 use Rattle.dw_loclists.proofs.KeptLists.{behind-lists}
