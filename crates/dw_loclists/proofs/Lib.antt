@@ -1,0 +1,9 @@
+pub mod EachEntry
+pub mod EachList
+pub mod EachTable
+pub mod KeptLists
+pub mod Search
+pub mod Order
+pub mod Checked
+pub mod Walking
+pub mod Located

@@ -1,0 +1,17 @@
+use Rattle.std.proofs.Common.{◌≡◌, List, ◌++◌, ◌-◌, false}
+use Rattle.dw_bytes.specs.Reading.{MovesForward}
+use Rattle.dw_loclists.specs.Entries.{Entry}
+use Rattle.dw_loclists.specs.Locations.{expressions_of}
+use Rattle.dw_loclists.specs.Reading.{entries_at}
+use Rattle.dw_loclists.specs.Views.{all_located}
+use Rattle.dw_loclists.proofs.EachList.{put_all}
+use Rattle.dw_loclists.proofs.list.read_list.Given as goal
+
+abbrev pub invariant-entries : goal.invariant-entries
+invariant-entries l = record {
+  so_far : (es : List Entry) × (entries_at false l.fn.cursor ≡ put_all es (entries_at l.has_default l.cursor)) × (all_located l.expressions.items ≡ all_located l.fn.expressions.items ++ expressions_of es);
+  goes : MovesForward l.fn.cursor l.cursor;
+}
+
+abbrev pub decreases-entries : goal.decreases-entries
+decreases-entries l = l.end - l.cursor.position

@@ -1,0 +1,24 @@
+-- Where things stand in their section. No contract of a public call speaks of these.
+use Rattle.std.specs.Prelude.{◌≤◌, ◌<◌, ◌+◌, ◌⊎◌, ℕ, List, [], ◌∷◌, length, Option, Some, None}
+use Rattle.std.specs.List.{AllByRecursion}
+use Rattle.dw_bytes.specs.Operands.{Block}
+use Rattle.dw_loclists.specs.Entries.{Entry, expression_in}
+
+-- up to the end of an expression, if there is one
+abbrev pub IsUpTo : ℕ → Option Block → Type 0
+IsUpTo at None = ⊥
+IsUpTo at (Some e) = at ≤ e.offset + length e.bytes
+
+-- an offset that is no further than the beginning of an entry, or than the end of its expression
+abbrev pub IsBefore : ℕ → Entry → ℕ → Type 0
+IsBefore begin entry at = (at ≤ begin) ⊎ IsUpTo at (expression_in entry)
+
+-- each is below those behind it, by this number
+abbrev pub Ascends : {X : Type 0} → (X → ℕ) → List X → Type 0
+Ascends at [] = Unit {0}
+Ascends at (x ∷ xs) = AllByRecursion (λ y. at x < at y) xs × Ascends at xs
+
+-- numbers from one on and below another, each above the one before it
+abbrev pub RiseWithin : ℕ → ℕ → List ℕ → Type 0
+RiseWithin low high [] = low ≤ high
+RiseWithin low high (n ∷ ns) = (low ≤ n) × RiseWithin (n + 1) high ns

@@ -1,0 +1,74 @@
+-- What a location list says of an address (DWARF 5, section 2.6.2).
+use Rattle.std.specs.Prelude.{ℕ, ◌+◌, ◌&&◌, nat_le, nat_lt, Bool, false, if◌then◌else◌, List, [], ◌∷◌, ◌++◌, map, filter_map, flat_map}
+use Rattle.dw_bytes.specs.declared.target.Target.{Target}
+use Rattle.dw_bytes.specs.Operands.{Block}
+use Rattle.dw_stack.specs.declared.state.Kind.{Kind}
+use Rattle.dw_stack.specs.declared.state.Kind.TheVariants.{Location}
+use Rattle.dw_loclists.specs.Entries.{Entry, end_of_list, offset_pair, default_location, base_address, start_end, start_length, expression_in, is_default}
+use Rattle.dw_loclists.specs.Lists.{Loclist}
+
+-- An expression where it stands: the offset of its first byte, the kind that it was judged as, what it is read under, and its
+-- bytes.
+pub record LocatedExpression : Type 0 where
+  pub offset : ℕ
+  pub kind : Kind
+  pub target : Target
+  pub bytes : List ℕ
+
+-- every expression of a list is a location
+abbrev pub location_of : Block → LocatedExpression
+location_of e = record { offset = e.offset; kind = Location; target = e.target; bytes = e.bytes }
+
+-- the expressions of entries, of lists and of tables, in order
+abbrev pub expressions_of : List Entry → List LocatedExpression
+expressions_of entries = map location_of (filter_map expression_in entries)
+
+abbrev pub expressions_in : List Loclist → List LocatedExpression
+expressions_in lists = flat_map (λ (l : Loclist). expressions_of l.entries) lists
+
+-- ---- the entries that hold at an address
+
+-- the base behind entries: that of the last base_address, or else the one before them all
+abbrev pub base_after : ℕ → List Entry → ℕ
+base_after base [] = base
+base_after base (base_address other ∷ entries) = base_after other entries
+base_after base (_ ∷ entries) = base_after base entries
+
+-- from the beginning on, and before the end
+abbrev pub is_between : ℕ → ℕ → ℕ → Bool
+is_between begin end address = nat_le begin address && nat_lt address end
+
+-- A bounded entry holds at the addresses of its range. Only an offset_pair counts from the base, and no sum wraps (own).
+abbrev pub holds : ℕ → ℕ → Entry → Bool
+holds base address end_of_list = false
+holds base address (offset_pair begin end e) = is_between (base + begin) (base + end) address
+holds base address (default_location e) = false
+holds base address (base_address other) = false
+holds base address (start_end begin end e) = is_between begin end address
+holds base address (start_length begin count e) = is_between begin (begin + count) address
+
+-- the expression of an entry that holds
+abbrev pub held_by : ℕ → ℕ → Entry → List LocatedExpression
+held_by base address entry = if holds base address entry then expressions_of (entry ∷ []) else []
+
+-- those of the bounded entries that hold, in order, where this base is the one before the first of them
+abbrev pub bounded_at : ℕ → ℕ → List Entry → List LocatedExpression
+bounded_at base address [] = []
+bounded_at base address (entry ∷ entries) = held_by base address entry ++ bounded_at (base_after base (entry ∷ [])) address entries
+
+-- that of the default, if there is one
+abbrev pub default_of : Entry → List LocatedExpression
+default_of entry = if is_default entry then expressions_of (entry ∷ []) else []
+
+abbrev pub defaults_in : List Entry → List LocatedExpression
+defaults_in entries = flat_map default_of entries
+
+-- where nothing bounded holds, something else
+abbrev pub or_else_all : {X : Type 0} → List X → List X → List X
+or_else_all [] others = others
+or_else_all (x ∷ xs) others = x ∷ xs
+
+-- The expressions of a list that hold at an address, in order: those of bounded entries, or where none holds the default's.
+-- The base is the unit's.
+abbrev pub locations_of : Loclist → ℕ → ℕ → List LocatedExpression
+locations_of l base address = or_else_all (bounded_at base address l.entries) (defaults_in l.entries)

@@ -1,0 +1,47 @@
+-- How a list is walked for an address. No contract of a public call speaks of these.
+use Rattle.std.specs.Prelude.{◌≡◌, ℕ, Bool, false, Contains, List, [], ◌∷◌, ◌++◌, if◌then◌else◌, is_some, Option, Some, None, Result, Ok, Err, IsOk}
+use Rattle.dw_bytes.specs.declared.block.Block as declared
+use Rattle.dw_bytes.specs.declared.fault.Fault.{Fault}
+use Rattle.dw_bytes.specs.Operands.{block_of}
+use Rattle.dw_bytes.specs.Reading.{ReadPosition}
+use Rattle.dw_loclists.specs.declared.walk.ListWalk.{ListWalk}
+use Rattle.dw_stack.specs.declared.checked.CheckedExpression.{CheckedExpression}
+use Rattle.dw_loclists.specs.Bounds.{Ascends}
+use Rattle.dw_loclists.specs.Entries.{Entry}
+use Rattle.dw_loclists.specs.Locations.{LocatedExpression, location_of, bounded_at, defaults_in, or_else_all}
+use Rattle.dw_loclists.specs.Reading.{entries_at}
+use Rattle.dw_loclists.specs.Views.{offset_of, all_located}
+
+-- the default that came, if one did
+abbrev pub default_located : Option declared.Block → List LocatedExpression
+default_located None = []
+default_located (Some b) = location_of (block_of b) ∷ []
+
+-- the entries that are left, behind a default or not
+abbrev pub entries_in : Result (List Entry × ReadPosition) Fault → List Entry
+entries_in (Ok found) = found.0
+entries_in (Err fault) = []
+
+abbrev pub left_of : ListWalk → Result (List Entry × ReadPosition) Fault
+left_of w = entries_at (is_some w.default) w.cursor
+
+-- they can be read up to the end of their list
+abbrev pub IsReadable : ListWalk → Type 0
+IsReadable w = IsOk (left_of w)
+
+-- what they give at an address, and what the default is where they give nothing
+abbrev pub held_ahead : ℕ → ListWalk → List LocatedExpression
+held_ahead address w = bounded_at w.base address (entries_in (left_of w))
+
+abbrev pub default_ahead : ListWalk → List LocatedExpression
+default_ahead w = default_located w.default ++ defaults_in (entries_in (left_of w))
+
+-- what is still to come, where something held already or not
+abbrev pub still_to_come : Bool → ℕ → ListWalk → List LocatedExpression
+still_to_come found address w = if found then held_ahead address w else or_else_all (held_ahead address w) (default_ahead w)
+
+-- A walk whose expressions are all kept, in order of their offsets.
+pub record IsWalk (ended : Bool) (address : ℕ) (w : ListWalk) (kept : List (ℕ × CheckedExpression)) : Type 0 where
+  pub readable : ended ≡ false → IsReadable w
+  pub order : Ascends offset_of kept
+  pub among : ended ≡ false → (x : LocatedExpression) → Contains (held_ahead address w ++ default_ahead w) x → Contains (all_located kept) x

@@ -1,0 +1,57 @@
+//! What a section has.
+
+ghost use Rattle.std.specs.Prelude.{◌<◌, ◌^◌};
+
+use dw_stack::CheckedExpression;
+use std::alloc::Global;
+
+/// A location list of a section (DWARF 5, section 7.7.3), named by where it begins.
+#[derive(Clone, Copy, Debug, PartialEq, Eq)]
+pub struct LocationList {
+    offset: u32,
+    pub ghost short: { offset < 2 ^ 32 },
+}
+
+impl LocationList {
+    ghost use Rattle.std.specs.Prelude.{◌≡◌};
+    ghost use Rattle.dw_loclists.specs.Views.{start_of};
+
+    /// The list that begins at an offset.
+    pub(crate) fn new(offset: u32) -> Self
+        ensures { start_of result ≡ offset }
+    {
+        LocationList { offset }
+    }
+
+    /// The offset of its first byte in the section.
+    pub fn offset(&self) -> u32
+        ensures { result ≡ start_of self.now }
+    {
+        self.offset
+    }
+}
+
+/// What is kept of the part of a section that was read: the offsets of its tables, its lists, and its expressions with their
+/// offsets, each in order.
+#[derive(Drop)]
+pub struct Contents<'a> {
+    pub tables: Vec<u32>,
+    pub lists: Vec<LocationList>,
+    pub expressions: Vec<(u32, CheckedExpression<'a>)>,
+}
+
+impl<'a> Contents<'a> {
+    ghost use Rattle.std.specs.Prelude.{◌≡◌, []};
+    ghost use Rattle.dw_loclists.specs.Kept.{kept_of, nothing_kept};
+
+    /// Of no table yet.
+    pub fn new(alloc: Global) -> Self
+        ensures { kept_of result ≡ nothing_kept }
+    {
+        Contents {
+            tables: Vec::new(alloc),
+            lists: Vec::new(alloc),
+            expressions: Vec::new(alloc),
+        }
+    }
+}

@@ -1,0 +1,169 @@
+//! The entries of location lists.
+
+ghost use Rattle.std.specs.Prelude.{◌≡◌, ◌<◌, ◌≤◌, ◌+◌, nat_le, IfOk};
+ghost use Rattle.dw_bytes.specs.Reading.{MovesForward};
+ghost use Rattle.dw_bytes.specs.Readers.{ParsesBy, IsRefusedWithin};
+ghost use Rattle.dw_loclists.specs.Reading.{entry_at};
+ghost use Rattle.dw_loclists.specs.Views.{entry_of};
+
+use dw_bytes::{Block, Cursor, Fault, FaultKind, operands};
+
+/// An entry of a location list (DWARF 5, section 7.7.3), with its operands as they are encoded.
+#[derive(Clone, Copy, Debug)]
+pub enum Entry<'a> {
+    EndOfList,
+    OffsetPair {
+        begin: u64,
+        end: u64,
+        expression: Block<'a>,
+    },
+    DefaultLocation {
+        expression: Block<'a>,
+    },
+    BaseAddress {
+        base: u64,
+    },
+    StartEnd {
+        begin: u64,
+        end: u64,
+        expression: Block<'a>,
+    },
+    StartLength {
+        begin: u64,
+        count: u64,
+        expression: Block<'a>,
+    },
+}
+
+impl<'a> Entry<'a> {
+    /// The next entry. An unknown code (51) stands at the entry, and a field that isn't there (1) or is out of
+    /// range (2) at the field's first byte.
+    #[tactic(auto, unfolding(crate::specs::Reading::entry_at))]
+    #[inline(always)]
+    pub fn read(cursor: &mut Cursor<'a>) -> Result<Self, Fault>
+        ensures exact { ParsesBy entry_of entry_at cursor.old result cursor.new }
+        ensures within { IsRefusedWithin cursor.old result }
+        ensures goes_on { MovesForward cursor.old cursor.new }
+        ensures forward { IfOk result (λ _. cursor.old.position < cursor.new.position) }
+    {
+        let at = cursor.position();
+        match cursor.u8()? {
+            0x00 => Ok(Entry::EndOfList),
+            0x04 => {
+                let begin = cursor.uleb()?;
+                let end = cursor.uleb()?;
+                let expression = operands::block(cursor, at)?;
+                Ok(Entry::OffsetPair {
+                    begin,
+                    end,
+                    expression,
+                })
+            }
+            0x05 => {
+                let expression = operands::block(cursor, at)?;
+                Ok(Entry::DefaultLocation { expression })
+            }
+            0x06 => {
+                let base = cursor.address()?;
+                Ok(Entry::BaseAddress { base })
+            }
+            0x07 => {
+                let begin = cursor.address()?;
+                let end = cursor.address()?;
+                let expression = operands::block(cursor, at)?;
+                Ok(Entry::StartEnd {
+                    begin,
+                    end,
+                    expression,
+                })
+            }
+            0x08 => {
+                let begin = cursor.address()?;
+                let count = cursor.uleb()?;
+                let expression = operands::block(cursor, at)?;
+                Ok(Entry::StartLength {
+                    begin,
+                    count,
+                    expression,
+                })
+            }
+            _ => Err(Fault {
+                kind: FaultKind::UnknownEntry,
+                at,
+            }),
+        }
+    }
+}
+
+impl<'a> Entry<'a> {
+    ghost use Rattle.std.specs.Prelude.{◌≡◌, option_map};
+    ghost use Rattle.dw_bytes.specs.Operands.{block_of};
+    ghost use Rattle.dw_loclists.specs.Entries.{is_end, is_default, expression_in};
+    ghost use Rattle.dw_loclists.specs.Locations.{holds};
+    ghost use Rattle.dw_loclists.specs.Reading.{is_back_range};
+    ghost use Rattle.dw_loclists.specs.Views.{entry_of};
+
+    /// Whether its list ends with it.
+    pub fn is_end(&self) -> bool
+        ensures { result ≡ is_end (entry_of self.now) }
+    {
+        matches!(self, Entry::EndOfList)
+    }
+
+    /// Whether it is a default.
+    pub fn is_default(&self) -> bool
+        ensures { result ≡ is_default (entry_of self.now) }
+    {
+        matches!(self, Entry::DefaultLocation { .. })
+    }
+
+    /// Whether its range ends before it begins.
+    pub fn is_back_range(&self) -> bool
+        ensures { result ≡ is_back_range (entry_of self.now) }
+    {
+        match self {
+            Entry::OffsetPair { begin, end, .. } | Entry::StartEnd { begin, end, .. } => end
+                < begin,
+            _ => false,
+        }
+    }
+
+    /// Its expression, if it has one.
+    pub fn expression(&self) -> Option<Block<'a>>
+        ensures { option_map block_of result ≡ expression_in (entry_of self.now) }
+    {
+        match *self {
+            Entry::OffsetPair { expression, .. }
+            | Entry::DefaultLocation { expression }
+            | Entry::StartEnd { expression, .. }
+            | Entry::StartLength { expression, .. } => Some(expression),
+            Entry::EndOfList | Entry::BaseAddress { .. } => None,
+        }
+    }
+
+    /// Whether it is bounded and holds at an address. An `OffsetPair` counts from the base.
+    pub fn holds(&self, base: u64, address: u64) -> bool
+        ensures { result ≡ holds base address (entry_of self.now) }
+    {
+        match *self {
+            Entry::OffsetPair { begin, end, .. } => {
+                is_reached(base, begin, address) && !is_reached(base, end, address)
+            }
+            Entry::StartEnd { begin, end, .. } => begin <= address && address < end,
+            Entry::StartLength { begin, count, .. } => {
+                begin <= address && !is_reached(begin, count, address)
+            }
+            Entry::EndOfList | Entry::DefaultLocation { .. } | Entry::BaseAddress { .. } => false,
+        }
+    }
+}
+
+/// Whether a sum, which doesn't wrap, is at most an address.
+fn is_reached(base: u64, offset: u64, address: u64) -> bool
+    ensures { result ≡ nat_le (base + offset) address }
+{
+    match base.checked_add(offset) {
+        Some(sum) => sum <= address,
+        None => false,
+    }
+}

@@ -1,0 +1,39 @@
+//! Finding things of a section by halving.
+
+ghost use Rattle.std.specs.Prelude.{◌≡◌, ◌<◌, ℕ, Contains, length, map, MatchOption};
+ghost use Rattle.dw_loclists.specs.Bounds.{Ascends};
+ghost use Rattle.dw_bytes.specs.Operands.{block_of};
+ghost use Rattle.dw_loclists.specs.Locations.{location_of};
+ghost use Rattle.dw_loclists.specs.Views.{start_of, offset_of, located_of, all_located};
+
+use crate::contents::LocationList;
+use dw_bytes::Block;
+use dw_stack::CheckedExpression;
+
+/// The list that begins at an offset.
+pub fn find_list(lists: &[LocationList], offset: u64) -> Option<LocationList>
+    requires { Ascends start_of lists.now }
+    ensures { MatchOption result
+        (¬ Contains (map start_of lists.now) offset)
+        (λ list. (start_of list ≡ offset) × Contains (map start_of lists.now) offset) }
+{
+    match lists.binary_search_by_key(&offset, |list| u64::from(list.offset())) {
+        Ok(place) => Some(lists[place]),
+        Err(_) => None,
+    }
+}
+
+/// The checked expression that was kept of a block.
+pub fn find_expression<'a>(
+    expressions: &[(u32, CheckedExpression<'a>)],
+    block: Block<'a>,
+) -> (u32, CheckedExpression<'a>)
+    requires order { Ascends offset_of expressions.now }
+    requires kept { Contains (all_located expressions.now) (location_of (block_of block)) }
+    ensures { located_of result ≡ location_of (block_of block.entry) }
+{
+    match expressions.binary_search_by_key(&block.offset, |expression| expression.0) {
+        Ok(place) => expressions[place],
+        Err(_) => unreachable!(),
+    }
+}

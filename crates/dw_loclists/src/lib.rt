@@ -1,0 +1,15 @@
+//! The location lists of a `.debug_loclists` section (DWARF 5, sections 2.6.2, 7.7.3 and 7.29).
+#![tactic(auto)]
+
+mod contents;
+mod entry;
+mod find;
+mod list;
+mod lists;
+mod locations;
+mod table;
+mod walk;
+
+pub use contents::LocationList;
+pub use lists::{CheckedLists, check_lists};
+pub use locations::LocationsAt;

@@ -1,0 +1,132 @@
+//! A checked section.
+
+ghost use Rattle.std.specs.Prelude.{◌≡◌, ◌<◌, ◌≤◌, ◌^◌, Contains, length, map, IfOk, IfErr, MatchOption};
+ghost use Rattle.dw_bytes.specs.Answers.{Answers};
+ghost use Rattle.dw_loclists.specs.Lists.{Loclist, Table, starts_of};
+ghost use Rattle.dw_loclists.specs.Locations.{locations_of};
+ghost use Rattle.dw_loclists.specs.Reading.{lists_fault, IsChecked, tables_in, lists_in, located_in};
+ghost use Rattle.dw_loclists.specs.Views.{start_of, all_located};
+
+use crate::contents::{Contents, LocationList};
+use crate::find::find_list;
+use crate::locations::LocationsAt;
+use crate::table::read_table;
+use crate::walk::ListWalk;
+use dw_bytes::{Cursor, Fault, Target};
+use dw_stack::CheckedExpression;
+use std::alloc::Global;
+use std::marker::Model;
+
+/// A `.debug_loclists` section that was checked: it is tables without a gap, each offset of a table's array is that of a list,
+/// and each expression is good as a location. Seen as its target and its bytes.
+#[derive(Drop)]
+pub struct CheckedLists<'a> {
+    target: Target,
+    section: &'a [u8],
+    contents: Contents<'a>,
+}
+
+impl<'a> Model for CheckedLists<'a> {
+    ghost use Rattle.dw_loclists.specs.Reading.{ListSection};
+    ghost use Rattle.dw_loclists.specs.Kept.{kept_of, IsKept};
+
+    ghost Value = { ListSection };
+
+    ghost view = { λ c. record { target = c.target; section = c.section.now } };
+
+    ghost invariant = { λ c. IsKept (record { target = c.target; section = c.section.now }) (kept_of c.contents) };
+}
+
+/// Checks a section of fewer than 2^32 bytes. A refusal is the first fault, from left to right.
+///
+/// Of each table are judged, in this order: its length (1, 3), that its body is there (1, at the body's first byte), its
+/// version (50), its sizes of an address (6) and of a segment selector (7), that its count of offsets and the offsets are
+/// there (1), each entry of its lists in turn, that the last list ends (54, at the table's end), and that each offset is that
+/// of a list's first byte (55). Of each entry: its code (51), its operands (1, 2), that no default came before it in its list
+/// (53, where it is one), that its range doesn't end before it begins (52), and its expression, as `dw_stack` judges it,
+/// with offsets of the section. `Memory` stands at 0.
+///
+/// One pass over the bytes. For n offsets of an array and m lists it takes time n log m besides.
+pub fn check_lists<'a>(
+    alloc: Global,
+    section: &'a [u8],
+    target: Target,
+) -> Result<CheckedLists<'a>, Fault>
+    requires { length section.now < 2 ^ 32 }
+    ensures answer { Answers (lists_fault target section.now) result }
+    ensures inside { IfErr result (λ fault. fault.at ≤ length section.now) }
+    ensures lists { IfOk result (λ lists. lists ≡ record { target = target; section = section.now }) }
+{
+    let mut contents = Contents::new(alloc);
+    let end = section.len() as u32;
+    let mut at = 0;
+    'tables: while at < end {
+        at = read_table(alloc, section, target, at, &mut contents)?;
+    }
+    Ok(CheckedLists {
+        target,
+        section,
+        contents,
+    })
+}
+
+impl<'a> CheckedLists<'a> {
+    /// The target that the section was read under.
+    pub fn target(&self) -> Target
+        ensures { result ≡ self.now.target }
+    {
+        self.target
+    }
+
+    /// The bytes of the section, which have no fault.
+    pub fn section(&self) -> &'a [u8]
+        ensures section { result.now ≡ self.now.section }
+        ensures checked { IsChecked self.now }
+    {
+        self.section
+    }
+
+    /// The offset of each table's first byte, in order.
+    pub fn tables(&self) -> &[u32]
+        ensures { result.now ≡ map (λ (t : Table). t.offset) (tables_in self.now) }
+    {
+        self.contents.tables.as_slice()
+    }
+
+    /// All lists, in order, whether an offset of an array names them or not.
+    pub fn lists(&self) -> &[LocationList]
+        ensures { map start_of result.now ≡ starts_of (lists_in self.now) }
+    {
+        self.contents.lists.as_slice()
+    }
+
+    /// All expressions, each with the offset of its first byte, in order. Every one is checked as a location.
+    pub fn expressions(&self) -> &[(u32, CheckedExpression<'a>)]
+        ensures { all_located result.now ≡ located_in self.now }
+    {
+        self.contents.expressions.as_slice()
+    }
+
+    /// The list whose first byte is at an offset of the section, if one's is: found by halving, without memory.
+    pub fn list(&self, offset: u32) -> Option<LocationList>
+        ensures { MatchOption result
+            (¬ Contains (starts_of (lists_in self.now)) offset)
+            (λ list. (start_of list ≡ offset) × Contains (starts_of (lists_in self.now)) offset) }
+    {
+        find_list(&self.contents.lists, u64::from(offset))
+    }
+
+    /// The expressions of one of these lists that hold at an address, in order: those of the bounded entries whose range has the
+    /// address, or where none has it the default's. The base is the unit's; no sum wraps. It takes no memory.
+    pub fn locations_at(&self, list: &LocationList, base: u64, address: u64) -> LocationsAt<'_, 'a>
+        requires { Contains (starts_of (lists_in self.now)) (start_of list.now) }
+        ensures { (l : Loclist) → Contains (lists_in self.now) l → l.offset ≡ start_of list.now → result ≡ locations_of l base address }
+    {
+        let walk = ListWalk {
+            cursor: Cursor::at(self.section, self.target, list.offset()),
+            base,
+            default: None,
+        };
+        LocationsAt::new(walk, address, &self.contents.expressions)
+    }
+}

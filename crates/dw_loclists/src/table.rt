@@ -1,0 +1,122 @@
+//! Reading and judging tables.
+
+ghost use Rattle.std.specs.Prelude.{◌≡◌, ◌⊎◌, ◌<◌, ◌≤◌, ◌+◌, ◌^◌, ℕ, List, length, map, IfErr, IfOk, Ok, Err, MatchResult};
+ghost use Rattle.dw_bytes.specs.Reading.{MovesForward, section_from};
+ghost use Rattle.dw_bytes.specs.Readers.{IsRefusedWithin, ParsesBy};
+ghost use Rattle.dw_bytes.specs.Answers.{memory};
+ghost use Rattle.dw_bytes.specs.Fields.{fields_at};
+ghost use Rattle.dw_bytes.specs.Sequence.{exactly_of};
+ghost use Rattle.dw_loclists.specs.Bounds.{Ascends};
+ghost use Rattle.dw_loclists.specs.Lists.{Loclist, Table, table_header};
+ghost use Rattle.dw_loclists.specs.Reading.{lists_at, list_offset_at, table_at};
+ghost use Rattle.dw_loclists.specs.Kept.{kept_of, with_lists, with_table};
+ghost use Rattle.dw_loclists.specs.Views.{start_of};
+
+use crate::contents::{Contents, LocationList};
+use crate::find::find_list;
+use crate::list::{MEMORY, read_list};
+use dw_bytes::{Body, Cursor, Fault, FaultKind, Format, Target};
+use std::alloc::Global;
+
+/// What is behind the length of a table, up to its array: how many offsets that has.
+fn read_header(cursor: &mut Cursor<'_>, target: Target) -> Result<u32, Fault>
+    ensures exact { ParsesBy (λ count. count) (fields_at (table_header target)) cursor.old result cursor.new }
+    ensures within { IsRefusedWithin cursor.old result }
+    ensures goes_on { MovesForward cursor.old cursor.new }
+{
+    let at = cursor.position();
+    if cursor.u16()? != 5 {
+        return Err(Fault {
+            kind: FaultKind::ListVersion,
+            at,
+        });
+    }
+    cursor.byte(target.address_size.bytes(), FaultKind::AddressSize)?;
+    cursor.byte(0, FaultKind::SegmentSize)?;
+    cursor.u32()
+}
+
+/// Reads lists up to the end of their table, and keeps them.
+fn read_lists<'a>(
+    alloc: Global,
+    cursor: &mut Cursor<'a>,
+    end: u32,
+    contents: &mut Contents<'a>,
+) -> Result<(), Fault>
+    requires { end ≡ cursor.old.position + length cursor.old.rest }
+    ensures exact { MatchResult result
+        (λ _. (lists : List Loclist) × (lists_at cursor.old ≡ Ok lists) × (kept_of contents.new ≡ with_lists (kept_of contents.old) lists))
+        (λ f. (f ≡ memory) ⊎ (lists_at cursor.old ≡ Err f)) }
+    ensures within { IsRefusedWithin cursor.old result }
+{
+    'lists: while cursor.position() < end {
+        let offset = cursor.position();
+        read_list(alloc, cursor, end, &mut contents.expressions)?;
+        if contents.lists.push(LocationList::new(offset)).is_err() {
+            return Err(MEMORY);
+        }
+    }
+    Ok(())
+}
+
+/// Reads the array of a table again, now that its lists are known: each offset has to be that of a list's first byte, counted
+/// from the array's.
+fn check_array(
+    cursor: &mut Cursor<'_>,
+    format: Format,
+    count: u32,
+    lists: &[LocationList],
+) -> Result<(), Fault>
+    requires { Ascends start_of lists.now }
+    ensures exact { MatchResult result
+        (λ _. (offsets : List ℕ) × (exactly_of (list_offset_at format cursor.old.position (map start_of lists.now)) count cursor.old ≡ Ok (offsets, cursor.new)))
+        (λ f. exactly_of (list_offset_at format cursor.old.position (map start_of lists.now)) count cursor.old ≡ Err f) }
+    ensures within { IsRefusedWithin cursor.old result }
+{
+    let array = u64::from(cursor.position());
+    let mut read = 0;
+    'offsets: while read < count {
+        let at = cursor.position();
+        let offset = cursor.offset(format)?;
+        if find_list(lists, array.saturating_add(offset)).is_none() {
+            return Err(Fault {
+                kind: FaultKind::BadOffsetEntry,
+                at,
+            });
+        }
+        read += 1;
+    }
+    Ok(())
+}
+
+/// Reads the table at an offset of a section, judges it and keeps what it has. Gives the offset behind it.
+#[tactic(auto, unfolding(crate::specs::Reading::table_at))]
+pub fn read_table<'a>(
+    alloc: Global,
+    section: &'a [u8],
+    target: Target,
+    at: u32,
+    contents: &mut Contents<'a>,
+) -> Result<u32, Fault>
+    requires inside { at < length section.now }
+    requires short { length section.now < 2 ^ 32 }
+    ensures exact { MatchResult result
+        (λ next. (t : Table) × (table_at (section_from target section.now at) ≡ Ok (t, section_from target section.now next)) × (kept_of contents.new ≡ with_table (kept_of contents.old) t))
+        (λ f. (f ≡ memory) ⊎ (table_at (section_from target section.now at) ≡ Err f)) }
+    ensures forward { IfOk result (λ next. at < next × next ≤ length section.now) }
+    ensures inside { IfErr result (λ fault. fault.at ≤ length section.now) }
+{
+    let body = Body::read(section, target, at)?;
+    let bytes = &section[..body.end as usize];
+    let mut cursor = Cursor::at(bytes, target, body.start);
+    let count = read_header(&mut cursor, target)?;
+    let mut array = Cursor::at(bytes, target, cursor.position());
+    cursor.skip_offsets(body.format, count)?;
+    let first = contents.lists.len();
+    read_lists(alloc, &mut cursor, body.end, contents)?;
+    check_array(&mut array, body.format, count, &contents.lists[first..])?;
+    if contents.tables.push(at).is_err() {
+        return Err(MEMORY);
+    }
+    Ok(body.end)
+}
