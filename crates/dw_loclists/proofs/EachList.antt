@@ -139,7 +139,7 @@ all-good : (target : Target) (has_default : Bool) (at : ℕ) (bytes : List ℕ) 
 all-good target has_default at bytes [] h = tt
 all-good target has_default at bytes (e ∷ es) (first, rest, parts, here, fine, going, others) = (fine.good, all-good target (has_default || is_default e) (at + length first) rest es others)
 
-count-cons : (e : Entry) (es : List Entry) → count_by is_default (e ∷ es) ≡ cond (is_default e) 1 0 + count_by is_default es
+pub count-cons : (e : Entry) (es : List Entry) → count_by is_default (e ∷ es) ≡ cond (is_default e) 1 0 + count_by is_default es
 count-cons e es = omega (arith, sum_by-append (λ x. cond (is_default x) 1 0) (e ∷ []) es)
 
 few-more : (has_default is : Bool) (rest : ℕ) → (has_default && is) ≡ false → rest ≤ most (has_default || is) → cond is 1 0 + rest ≤ most has_default

@@ -7,3 +7,4 @@ pub mod Order
 pub mod Checked
 pub mod Walking
 pub mod Located
+pub mod Standing

@@ -61,7 +61,7 @@ in-table target at bytes t l s among =
     s.parts ∙ (ap (λ (u : List ℕ). s.front ++ u) (sym (append_assoc s.header s.offsets s.lists)) ∙ (sym (append_assoc s.front (s.header ++ s.offsets) s.lists) ∙ ap (λ (u : List ℕ). before ++ u) (sym (no-more s.lists)))) in
     within target at (t.array + length s.offsets) before s.lists [] bytes l parts (omega (arith, s.array_is, length-append s.front (s.header ++ s.offsets), length-append s.header s.offsets)) (list-among target (t.array + length s.offsets) s.lists t.lists l s.lists_are among)
 
-among-tables : (target : Target) (at : ℕ) (bytes : List ℕ) (ts : List Table) (l : Loclist) → AreTables target at bytes ts → Contains (lists_of ts) l → StandsIn target at bytes l
+pub among-tables : (target : Target) (at : ℕ) (bytes : List ℕ) (ts : List Table) (l : Loclist) → AreTables target at bytes ts → Contains (lists_of ts) l → StandsIn target at bytes l
 among-tables target at bytes [] l are among = absurd (no-list l among)
 among-tables target at bytes (t ∷ ts) l (first, rest, parts, here, others) among = elim (Contains-append_cases t.lists (lists_of ts) l among) [
   | inl own ↦ within target at at [] first rest bytes l parts (omega arith) (in-table target at first t l here own)

@@ -76,3 +76,7 @@ AreTables target = Sequence (IsTable target)
 -- all lists of tables, in order
 abbrev pub lists_of : List Table → List Loclist
 lists_of tables = flat_map (λ (t : Table). t.lists) tables
+
+-- A section that is right: its bytes are the encodings of tables, without a gap.
+abbrev pub IsWellFormed : Target → List ℕ → Type 0
+IsWellFormed target section = (tables : List Table) × AreTables target 0 section tables

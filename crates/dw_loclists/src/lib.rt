@@ -4,6 +4,7 @@
 mod contents;
 mod entry;
 mod find;
+pub mod laws;
 mod list;
 mod lists;
 mod locations;
@@ -13,3 +14,6 @@ mod walk;
 pub use contents::LocationList;
 pub use lists::{CheckedLists, check_lists};
 pub use locations::LocationsAt;
+
+#[cfg(test)]
+mod tests;

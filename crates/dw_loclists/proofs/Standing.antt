@@ -1,0 +1,82 @@
+-- What the laws say of sections that are right, where no other file has it.
+use Rattle.std.proofs.Common.{◌≡◌, ℕ, zero, suc, ◌≤◌, ◌↔◌, cond, List, [], ◌∷◌, ◌++◌, length, Contains, Some, None, refl, sym, ap, subst, ◌∙◌, append_assoc, arith}
+use Rattle.std.specs.Prelude.{count_by}
+use Rattle.std.specs.List.{AllByRecursion}
+use Rattle.std.proofs.lemmas.List.{length-append}
+use Rattle.dw_bytes.specs.declared.target.Target.{Target}
+use Rattle.dw_bytes.specs.Operands.{Block}
+use Rattle.dw_bytes.specs.Reading.{ReadPosition, IsExact}
+use Rattle.dw_bytes.proofs.Readers.{one-encoding}
+use Rattle.dw_stack.specs.declared.state.Kind.TheVariants.{Location}
+use Rattle.dw_stack.specs.Expressions.{IsGoodExpression}
+use Rattle.dw_loclists.specs.Entries.{Entry, end_of_list, offset_pair, default_location, base_address, start_end, start_length, IsEntry, is_default, expression_in, IsGoodLocation}
+use Rattle.dw_loclists.specs.Lists.{Loclist, IsList, IsWellFormed}
+use Rattle.dw_loclists.specs.Locations.{LocatedExpression, base_after, held_by, bounded_at, default_of, defaults_in}
+use Rattle.dw_loclists.specs.Reading.{entry_at, list_at, lists_fault, ListSection, IsChecked, tables_in, lists_in, located_in}
+use Rattle.dw_loclists.specs.Bounds.{Ascends}
+use Rattle.dw_loclists.proofs.EachEntry.{entry-exact}
+use Rattle.dw_loclists.proofs.EachList.{list-found, list-only, count-cons}
+use Rattle.dw_loclists.proofs.EachTable.{sections-are-tables}
+use Rattle.dw_loclists.proofs.Checked.{checked-tables, tables-checked, expressions-ascend}
+use Rattle.dw_loclists.proofs.Located.{among-tables}
+use Rattle.dw_loclists.proofs.Search.{ascends-back}
+
+pub one-entry : (target : Target) (at : ℕ) (a b x y : List ℕ) (d e : Entry) → IsEntry target at a d → IsEntry target at b e → a ++ x ≡ b ++ y → (a ≡ b) × (d ≡ e)
+one-entry target = one-encoding target entry_at (IsEntry target) (entry-exact target)
+
+pub list-exact : (r : ReadPosition) → IsExact list_at (IsList r.target r.position) r
+list-exact r = record { found = λ l after is. list-found r.target r l after refl is; only = λ l after h. list-only r.target r l after refl h }
+
+pub well-formed : (target : Target) (section : List ℕ) → (lists_fault target section ≡ None) ↔ IsWellFormed target section
+well-formed target section =
+    let s : ListSection = record { target = target; section = section } in (
+      (λ checked. (tables_in s, checked-tables s checked)),
+      (λ (tables, are). tables-checked target section tables ((sections-are-tables target section tables).1 are)),
+    )
+
+pub located-ascend : (s : ListSection) → IsChecked s → Ascends (λ (x : LocatedExpression). x.offset) (located_in s)
+located-ascend s checked = ascends-back (λ (x : LocatedExpression). x.offset) (located_in s) (expressions-ascend s checked)
+
+good-among : (es : List Entry) (e : Entry) (b : Block) → AllByRecursion (λ x. IsGoodLocation (expression_in x)) es → Contains es e → expression_in e ≡ Some b → IsGoodExpression Location b.target b.bytes
+good-among [] e b all (k, lt, is) has = absurd (omega arith)
+good-among (x ∷ es) e b all (zero, lt, is) has = subst IsGoodLocation (ap expression_in is ∙ has) all.0
+good-among (x ∷ es) e b all (suc k, lt, is) has = good-among es e b all.1 (k, omega arith, is) has
+
+pub good-expressions : (s : ListSection) (l : Loclist) (e : Entry) (b : Block) → IsChecked s → Contains (lists_in s) l → Contains l.entries e → expression_in e ≡ Some b → IsGoodExpression Location b.target b.bytes
+good-expressions s l e b checked among e_in has = good-among l.entries e b (among-tables s.target 0 s.section (tables_in s) l (checked-tables s checked) among).list_is.expressions e_in has
+
+-- ---- bases
+
+base-more : (base : ℕ) (x : Entry) (es : List Entry) → base_after base (x ∷ es) ≡ base_after (base_after base (x ∷ [])) es
+base-more base end_of_list es = refl
+base-more base (offset_pair begin end e) es = refl
+base-more base (default_location e) es = refl
+base-more base (base_address other) es = refl
+base-more base (start_end begin end e) es = refl
+base-more base (start_length begin count e) es = refl
+
+pub held-by-base : (base address : ℕ) (before : List Entry) (e : Entry) (behind : List Entry) → bounded_at base address (before ++ e ∷ behind) ≡ bounded_at base address before ++ (held_by (base_after base before) address e ++ bounded_at (base_after base (before ++ e ∷ [])) address behind)
+held-by-base base address [] e behind = refl
+held-by-base base address (x ∷ before) e behind =
+    let next = base_after base (x ∷ []) in
+    ap (λ (l : List LocatedExpression). held_by base address x ++ l) (held-by-base next address before e behind)
+    ∙ (ap (λ (n : ℕ). held_by base address x ++ (bounded_at next address before ++ (held_by n address e ++ bounded_at (base_after next (before ++ e ∷ [])) address behind))) (sym (base-more base x before))
+    ∙ (ap (λ (n : ℕ). held_by base address x ++ (bounded_at next address before ++ (held_by (base_after base (x ∷ before)) address e ++ bounded_at n address behind))) (sym (base-more base x (before ++ e ∷ [])))
+    ∙ sym (append_assoc (held_by base address x) (bounded_at next address before) (held_by (base_after base (x ∷ before)) address e ++ bounded_at (base_after base (x ∷ (before ++ e ∷ []))) address behind))))
+
+-- ---- defaults
+
+default-count : (e : Entry) → length (default_of e) ≡ cond (is_default e) 1 0
+default-count end_of_list = refl
+default-count (offset_pair begin end x) = refl
+default-count (default_location x) = refl
+default-count (base_address other) = refl
+default-count (start_end begin end x) = refl
+default-count (start_length begin count x) = refl
+
+defaults-count : (es : List Entry) → length (defaults_in es) ≡ count_by is_default es
+defaults-count [] = refl
+defaults-count (e ∷ es) = omega (arith, length-append (default_of e) (defaults_in es), default-count e, defaults-count es, count-cons e es)
+
+pub one-default : (target : Target) (at : ℕ) (bytes : List ℕ) (l : Loclist) → IsList target at bytes l → length (defaults_in l.entries) ≤ 1
+one-default target at bytes l h = omega (arith, defaults-count l.entries, h.one_default)
