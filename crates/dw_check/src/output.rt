@@ -100,9 +100,8 @@ fn write_fde_and_rows<'a, S: Sink>(
         (fde_text frame.now (fde_of fde.now)) }
     ensures stops { S.has_stopped out.new.sink.now ≡ is_write result }
 {
-    let cie = frame.cie_of(fde);
+    let cie = frame.rows_into(fde, rows);
     write_fde(out, &cie, fde)?;
-    frame.rows_into(fde, rows);
     write_rows(out, rows, row)
 }
 

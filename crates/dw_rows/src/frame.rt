@@ -252,12 +252,18 @@ impl<'a> CheckedFrame<'a> {
         Rows::of(self, fde)
     }
 
-    /// The rows of one of the FDEs as `rows` gives them, in the place of others.
-    pub fn rows_into(&self, fde: &FrameDescriptionEntry<'a>, rows: &mut Rows<'a>)
+    /// The rows of one of the FDEs as `rows` gives them, in the place of others. The answer is the FDE's CIE, as `cie_of`.
+    pub fn rows_into(
+        &self,
+        fde: &FrameDescriptionEntry<'a>,
+        rows: &mut Rows<'a>,
+    ) -> CommonInformationEntry<'a>
         requires { Contains self.now.fdes (fde_of fde.now) }
-        ensures { rows.new ≡ rows_in self.now (fde_of fde.now) }
+        ensures rows { rows.new ≡ rows_in self.now (fde_of fde.now) }
+        ensures cie { cie_in self.now (fde_of fde.now) ≡ Some (cie_of result) }
+        ensures fde_program { fde_fault (cie_of result) (fde_of fde.now) ≡ None }
     {
-        rows.restart_in(self, fde);
+        rows.restart_in(self, fde)
     }
 
     /// The row of an address, or none where no FDE covers it. It takes no memory: the FDE is found by halving, and its
