@@ -6,7 +6,7 @@ ghost use Rattle.std.specs.Prelude.{◌<◌, ◌^◌, length, Some, None};
 use dw_bytes::{AddressSize, Order, Target};
 use dw_eval::{Context, Memory, Outcome, Registers, evaluate};
 use dw_ops::Expression;
-use dw_rows::{CheckedFrame, UnwindTableRow, check_frame};
+use dw_rows::{CheckedFrame, Rows, UnwindTableRow, check_frame};
 use dw_stack::{CheckedExpression, Kind, certify, check_expression};
 use std::alloc::Global;
 
@@ -76,6 +76,15 @@ pub extern "C" fn bench_rows(alloc: Global, section: &[u8]) -> u64 {
     sum
 }
 
+/// The ends of the rows that are to come, added up.
+fn sum_of(rows: &mut Rows<'_>, row: &mut UnwindTableRow) -> u64 {
+    let mut sum = 0u64;
+    'rows: while rows.next_into(row) {
+        sum = sum.wrapping_add(row.end_address());
+    }
+    sum
+}
+
 /// The check, and all rows in the place of one.
 #[unsafe(no_mangle)]
 pub extern "C" fn bench_rows_into(alloc: Global, section: &[u8]) -> u64 {
@@ -91,9 +100,7 @@ pub extern "C" fn bench_rows_into(alloc: Global, section: &[u8]) -> u64 {
     let mut sum = 0u64;
     for fde in fdes {
         frame.rows_into(fde, &mut rows);
-        while rows.next_into(&mut row) {
-            sum = sum.wrapping_add(row.end_address());
-        }
+        sum = sum.wrapping_add(sum_of(&mut rows, &mut row));
     }
     sum
 }
