@@ -91,16 +91,18 @@ pub extern "C" fn bench_rows_into(alloc: Global, section: &[u8]) -> u64 {
     let Some(frame) = checked(alloc, section) else {
         return 0;
     };
-    let fdes = frame.fdes();
-    if fdes.is_empty() {
-        return 0;
-    }
-    let mut rows = frame.rows(&fdes[0]);
     let mut row = UnwindTableRow::empty();
+    let mut place: Option<Rows<'_>> = None;
     let mut sum = 0u64;
-    for fde in fdes {
-        frame.rows_into(fde, &mut rows);
-        sum = sum.wrapping_add(sum_of(&mut rows, &mut row));
+    for fde in frame.fdes() {
+        if let Some(rows) = &mut place {
+            frame.rows_into(fde, rows);
+            sum = sum.wrapping_add(sum_of(rows, &mut row));
+        } else {
+            let mut rows = frame.rows(fde);
+            sum = sum.wrapping_add(sum_of(&mut rows, &mut row));
+            place = Some(rows);
+        }
     }
     sum
 }
