@@ -91,18 +91,15 @@ pub extern "C" fn bench_rows_into(alloc: Global, section: &[u8]) -> u64 {
     let Some(frame) = checked(alloc, section) else {
         return 0;
     };
+    let Some(first) = frame.fdes().first() else {
+        return 0;
+    };
+    let mut rows = frame.rows(first);
     let mut row = UnwindTableRow::empty();
-    let mut place: Option<Rows<'_>> = None;
     let mut sum = 0u64;
     for fde in frame.fdes() {
-        if let Some(rows) = &mut place {
-            frame.rows_into(fde, rows);
-            sum = sum.wrapping_add(sum_of(rows, &mut row));
-        } else {
-            let mut rows = frame.rows(fde);
-            sum = sum.wrapping_add(sum_of(&mut rows, &mut row));
-            place = Some(rows);
-        }
+        frame.rows_into(fde, &mut rows);
+        sum = sum.wrapping_add(sum_of(&mut rows, &mut row));
     }
     sum
 }
