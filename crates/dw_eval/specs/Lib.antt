@@ -7,7 +7,7 @@ pub mod StackChanges
 pub mod Handed
 pub mod Results
 pub mod Fits
-pub mod UnderWay
 pub mod Views
 pub mod Steps
+pub mod UnderWay
 pub mod BareOperations

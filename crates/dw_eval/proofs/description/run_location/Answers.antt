@@ -1,4 +1,4 @@
-use Rattle.std.proofs.Common.{◌≡◌, ℕ, ◌<◌, ◌≤◌, List, [], length, refl, sym, ap, subst, ◌∙◌, arith}
+use Rattle.std.proofs.Common.{◌≡◌, ℕ, ◌<◌, ◌≤◌, List, [], length, refl, sym, ap, subst, ◌∙◌, arith, rules}
 use Rattle.std.specs.Prelude.{◌==◌}
 use Rattle.dw_ops.specs.Views.{bytes_of}
 use Rattle.dw_stack.specs.declared.state.Kind.TheVariants.{Location}
@@ -49,18 +49,16 @@ run_on-requires-clause-under_way g c =
     let test = before c.loop-at.at (bytes_of c.args.expression.now) c.bytes.result.now c.bytes.ensures c.loop-at-test.true in
     (goes_behind e c.args.expression.now c.requires.can.depth c.requires.can.good c.requires.can.runs c.requires.can.target c.loop-at.steps c.loop-at.at c.loop-at.run [] c.loop-at.invariant test c.in-Ok.step c.step.new.self c.in-Ok.ensures c.in-Ends.piece c.in-Ends.to c.in-Ends.is).0
 
-pub returns-in-Err-clause-run : goal.returns-in-Err-clause-run
-returns-in-Err-clause-run g c =
+pub returns-in-Err : goal.returns-in-Err
+returns-in-Err g c =
     let e = world_in g.R.Registers.contents g.M.Memory.bytes c.args.environment.now in
     let test = before c.loop-at.at (bytes_of c.args.expression.now) c.bytes.result.now c.bytes.ensures c.loop-at-test.true in
     let ahead = ahead_here e Location c.args.expression.now c.requires.can.depth c.requires.can.good c.requires.can.runs c.requires.can.target [] refl c.loop-at.steps (configured c.loop-at.at c.loop-at.run []) c.loop-at.invariant test c.in-Err.ensures.operation c.in-Err.ensures.next c.in-Err.ensures.read in
-    failed e Location (bytes_of c.args.expression.now) c.requires.can.depth c.requires.can.good c.requires.can.runs c.args.expression.now.short [] refl c.loop-at.steps (configured c.loop-at.at c.loop-at.run []) c.in-Err.ensures.operation c.in-Err.ensures.next (error_of c.in-Err.why) (outcome_of c.unanswered.result) c.loop-at.invariant ahead c.in-Err.ensures.answered c.unanswered.ensures
-
-pub returns-in-Err-clause-steps : goal.returns-in-Err-clause-steps
-returns-in-Err-clause-steps g c =
-    let e = world_in g.R.Registers.contents g.M.Memory.bytes c.args.environment.now in
-    let test = before c.loop-at.at (bytes_of c.args.expression.now) c.bytes.result.now c.bytes.ensures c.loop-at-test.true in
-    one_more e Location (bytes_of c.args.expression.now) c.requires.can.depth c.requires.can.good c.requires.can.runs c.args.expression.now.short [] refl c.loop-at.steps (configured c.loop-at.at c.loop-at.run []) c.loop-at.invariant test
+    record {
+      run = failed e Location (bytes_of c.args.expression.now) c.requires.can.depth c.requires.can.good c.requires.can.runs c.args.expression.now.short [] refl c.loop-at.steps (configured c.loop-at.at c.loop-at.run []) c.in-Err.ensures.operation c.in-Err.ensures.next (error_of c.in-Err.why) (outcome_of c.unanswered.result) c.loop-at.invariant ahead c.in-Err.ensures.answered c.unanswered.ensures;
+      steps = one_more e Location (bytes_of c.args.expression.now) c.requires.can.depth c.requires.can.good c.requires.can.runs c.args.expression.now.short [] refl c.loop-at.steps (configured c.loop-at.at c.loop-at.run []) c.loop-at.invariant test;
+      fits = search rules;
+    }
 
 pub result-requires : goal.result-requires
 result-requires g c =
@@ -69,16 +67,13 @@ result-requires g c =
     let end = ends e Location (bytes_of c.args.expression.now) c.requires.can.depth c.requires.can.good c.requires.can.runs c.args.expression.now.short [] refl c.loop-at.steps (configured c.loop-at.at c.loop-at.run []) c.loop-at.invariant past in
     subst (λ (xs : List ℕ). GivesResult Location (length xs == 0) (configured 0 c.loop-at.run [])) (sym c.bytes.ensures) (same_end (length (bytes_of c.args.expression.now) == 0) c.loop-at.at c.loop-at.run [] end)
 
-pub returns-clause-run : goal.returns-clause-run
-returns-clause-run g c =
+pub returns : goal.returns
+returns g c =
     let e = world_in g.R.Registers.contents g.M.Memory.bytes c.args.environment.now in
     let past = after c.loop-at.at (bytes_of c.args.expression.now) c.bytes.result.now c.bytes.ensures c.loop-at-test.false in
     let gives = ap (λ (xs : List ℕ). result_of Location (length xs == 0) (configured 0 c.loop-at.run [])) c.bytes.ensures in
-    finished e Location (bytes_of c.args.expression.now) c.requires.can.depth c.requires.can.good c.requires.can.runs c.args.expression.now.short [] refl c.loop-at.steps (configured c.loop-at.at c.loop-at.run []) _ c.loop-at.invariant past (c.result.ensures ∙ gives)
-
-pub returns-clause-fits : goal.returns-clause-fits
-returns-clause-fits g c =
-    let e = world_in g.R.Registers.contents g.M.Memory.bytes c.args.environment.now in
-    let past = after c.loop-at.at (bytes_of c.args.expression.now) c.bytes.result.now c.bytes.ensures c.loop-at-test.false in
-    let gives = ap (λ (xs : List ℕ). result_of Location (length xs == 0) (configured 0 c.loop-at.run [])) c.bytes.ensures in
-    finished_fits e Location (bytes_of c.args.expression.now) c.requires.can.depth c.requires.can.good c.requires.can.runs c.args.expression.now.short [] refl c.loop-at.steps (configured c.loop-at.at c.loop-at.run []) _ c.loop-at.invariant past (c.result.ensures ∙ gives)
+    record {
+      run = finished e Location (bytes_of c.args.expression.now) c.requires.can.depth c.requires.can.good c.requires.can.runs c.args.expression.now.short [] refl c.loop-at.steps (configured c.loop-at.at c.loop-at.run []) _ c.loop-at.invariant past (c.result.ensures ∙ gives);
+      steps = search rules;
+      fits = finished_fits e Location (bytes_of c.args.expression.now) c.requires.can.depth c.requires.can.good c.requires.can.runs c.args.expression.now.short [] refl c.loop-at.steps (configured c.loop-at.at c.loop-at.run []) _ c.loop-at.invariant past (c.result.ensures ∙ gives);
+    }
