@@ -1,6 +1,6 @@
 //! The runs of location descriptions.
 
-ghost use Rattle.std.specs.Prelude.{◌≤◌, ◌<◌, ◌≡◌, ◌^◌, ◌∷◌, [], length};
+ghost use Rattle.std.specs.Prelude.{◌<◌, ◌∷◌, [], length};
 ghost use Rattle.dw_ops.specs.Views.{bytes_of};
 ghost use Rattle.dw_eval.specs.UnderWay.{CanRun, IsUnderWay, RunsTo};
 ghost use Rattle.dw_eval.specs.Steps.{configured};
