@@ -25,7 +25,7 @@ pub mod Handed
 pub mod StackChanges
 -- one step of the run of the code
 pub mod Steps
--- what lies behind the start of a run
+-- what may be run, and a run on its way
 pub mod UnderWay
 -- operations without operands, by their codes
 pub mod BareOperations

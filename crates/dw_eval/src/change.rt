@@ -1,9 +1,9 @@
 //! What an operation does to the stack.
 
-ghost use Rattle.std.specs.Prelude.{◌≡◌, ◌+◌, ◌-◌, ◌^◌, ◌<◌, ◌≤◌, ℕ, List, length, All, IfOk, IfErr, Ok};
+ghost use Rattle.std.specs.Prelude.{◌≡◌, ◌+◌, ◌-◌, ◌<◌, ◌≤◌, ℕ, List, length, IfOk, IfErr, Ok};
 ghost use Rattle.dw_ops.specs.Views.{operation_of};
 ghost use Rattle.dw_stack.specs.Effects.{effect_of};
-ghost use Rattle.dw_eval.specs.World.{width};
+ghost use Rattle.dw_eval.specs.Fits.{AllFit};
 ghost use Rattle.dw_eval.specs.StackChanges.{stack_after_operation, changed, changed_by, IsSized, taken_by, added_by};
 ghost use Rattle.dw_eval.specs.Handed.{world_in};
 
@@ -106,7 +106,7 @@ fn computed<R: Registers, M: Memory>(
     requires one { (effect_of (operation_of operation.now)).adds ≡ 1 }
     requires needs { (effect_of (operation_of operation.now)).needs ≤ length stack.now }
     requires sized { IsSized (operation_of operation.now) }
-    requires below { All (λ n. n < 2 ^ width (world_in R.contents M.bytes environment.now)) stack.now }
+    requires below { AllFit (world_in R.contents M.bytes environment.now) stack.now }
     ensures takes { IfOk result (λ change. taken_by change ≡ (effect_of (operation_of operation.now)).takes) }
     ensures adds { IfOk result (λ change. added_by change ≡ (effect_of (operation_of operation.now)).adds) }
     ensures acts { changed_by result stack.now ≡ stack_after_operation (world_in R.contents M.bytes environment.now) (operation_of operation.now) stack.now }
@@ -161,7 +161,7 @@ pub fn change_of<R: Registers, M: Memory>(
 ) -> Result<Change, EvaluationError>
     requires needs { (effect_of (operation_of operation.now)).needs ≤ length stack.now }
     requires sized { IsSized (operation_of operation.now) }
-    requires below { All (λ n. n < 2 ^ width (world_in R.contents M.bytes environment.now)) stack.now }
+    requires below { AllFit (world_in R.contents M.bytes environment.now) stack.now }
     ensures takes { IfOk result (λ change. taken_by change ≡ (effect_of (operation_of operation.now)).takes) }
     ensures adds { IfOk result (λ change. added_by change ≡ (effect_of (operation_of operation.now)).adds) }
     ensures acts { changed_by result stack.now ≡ stack_after_operation (world_in R.contents M.bytes environment.now) (operation_of operation.now) stack.now }

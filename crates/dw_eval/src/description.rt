@@ -1,14 +1,10 @@
 //! The runs of location descriptions.
 
-ghost use Rattle.std.specs.Prelude.{◌≤◌, ◌<◌, ◌≡◌, ◌^◌, ◌∷◌, [], ℕ, length};
-ghost use Rattle.dw_ops.specs.Views.{bytes_of, target_of};
-ghost use Rattle.dw_stack.specs.Expressions.{operations_in, IsGoodExpression, RunsWellWithin};
-ghost use Rattle.dw_eval.specs.World.{width};
-ghost use Rattle.dw_eval.specs.Results.{IsRun};
-ghost use Rattle.dw_eval.specs.Fits.{OutcomeFits};
-ghost use Rattle.dw_eval.specs.UnderWay.{IsUnderWay};
+ghost use Rattle.std.specs.Prelude.{◌<◌, ◌∷◌, [], length};
+ghost use Rattle.dw_ops.specs.Views.{bytes_of};
+ghost use Rattle.dw_eval.specs.UnderWay.{CanRun, IsUnderWay, RunsTo};
 ghost use Rattle.dw_eval.specs.Steps.{configured};
-ghost use Rattle.dw_eval.specs.Views.{outcome_of, piece_in};
+ghost use Rattle.dw_eval.specs.Views.{piece_in};
 ghost use Rattle.dw_eval.specs.Handed.{world_in};
 
 use crate::context::{Memory, Registers};
@@ -29,14 +25,10 @@ fn run_on<'a, R: Registers, M: Memory>(
     from: u32,
     before: u32,
 ) -> Evaluation<'a>
-    requires target { target_of expression.now ≡ environment.now.target }
-    requires good { IsGoodExpression Kind.Location environment.now.target (bytes_of expression.now) }
-    requires runs { (depth : ℕ) × RunsWellWithin Kind.Location environment.now.target (bytes_of expression.now) depth }
+    requires can { CanRun Kind.Location (world_in R.contents M.bytes environment.now) expression.now }
     requires some { 0 < length (bytes_of expression.now) }
     requires under_way { IsUnderWay (world_in R.contents M.bytes environment.now) (bytes_of expression.now) [] (configured from run.old (piece_in first ∷ [])) before }
-    ensures run { IsRun (world_in R.contents M.bytes environment.now) Kind.Location (operations_in environment.now.target (bytes_of expression.now)) (length (bytes_of expression.now)) (outcome_of result.outcome) result.steps }
-    ensures steps { result.steps ≤ length (operations_in environment.now.target (bytes_of expression.now)) }
-    ensures fits { OutcomeFits (2 ^ width (world_in R.contents M.bytes environment.now)) (length (bytes_of expression.now)) (outcome_of result.outcome) }
+    ensures { RunsTo Kind.Location (world_in R.contents M.bytes environment.now) expression.now result }
 {
     let end = expression.bytes().len() as u32;
     let mut pieces = ArrayVec::new();
@@ -74,12 +66,8 @@ pub fn run_location<'a, R: Registers, M: Memory>(
     expression: &Expression<'a>,
     environment: &Environment<'_, R, M>,
 ) -> Evaluation<'a>
-    requires target { target_of expression.now ≡ environment.now.target }
-    requires good { IsGoodExpression Kind.Location environment.now.target (bytes_of expression.now) }
-    requires runs { (depth : ℕ) × RunsWellWithin Kind.Location environment.now.target (bytes_of expression.now) depth }
-    ensures run { IsRun (world_in R.contents M.bytes environment.now) Kind.Location (operations_in environment.now.target (bytes_of expression.now)) (length (bytes_of expression.now)) (outcome_of result.outcome) result.steps }
-    ensures steps { result.steps ≤ length (operations_in environment.now.target (bytes_of expression.now)) }
-    ensures fits { OutcomeFits (2 ^ width (world_in R.contents M.bytes environment.now)) (length (bytes_of expression.now)) (outcome_of result.outcome) }
+    requires can { CanRun Kind.Location (world_in R.contents M.bytes environment.now) expression.now }
+    ensures { RunsTo Kind.Location (world_in R.contents M.bytes environment.now) expression.now result }
 {
     let end = expression.bytes().len() as u32;
     let mut run = Run::new();

@@ -9,7 +9,6 @@ use crate::execution::{execute, read};
 use crate::location::{Location, Piece, PieceSize};
 use crate::stack::Stack;
 use dw_ops::{Expression, Operation};
-use dw_stack::MAX_HEIGHT;
 
 /// Where a run stands, but for its offset and its pieces.
 #[derive(Drop)]
@@ -29,19 +28,19 @@ pub enum Step<'a> {
 }
 
 impl<'a> Run<'a> {
-    ghost use Rattle.std.specs.Prelude.{◌≡◌, ◌+◌, ◌-◌, ◌<◌, ◌≤◌, ◌^◌, [], length, All, None, Err, MatchResult};
+    ghost use Rattle.std.specs.Prelude.{◌≡◌, ◌<◌, ◌≤◌, [], length, None, Err, MatchResult};
     ghost use Rattle.std.specs.Option.{option_map};
     ghost use Rattle.dw_ops.specs.Views.{bytes_of, operation_of};
     ghost use Rattle.dw_stack.specs.declared.state.Kind.{Kind};
     ghost use Rattle.dw_stack.specs.Effects.{effect_of};
     ghost use Rattle.dw_stack.specs.Machine.{location_of, CanDo, GivesResult};
-    ghost use Rattle.dw_eval.specs.World.{width};
+    ghost use Rattle.dw_eval.specs.Fits.{AllFit};
     ghost use Rattle.dw_eval.specs.Values.{answer};
-    ghost use Rattle.dw_eval.specs.StackChanges.{IsSized, error_of};
+    ghost use Rattle.dw_eval.specs.StackChanges.{error_of};
     ghost use Rattle.dw_eval.specs.Handed.{world_in};
     ghost use Rattle.dw_eval.specs.Views.{location_description_of, extent_of_size, piece_in};
     ghost use Rattle.dw_eval.specs.Results.{result_of, single};
-    ghost use Rattle.dw_eval.specs.Steps.{configured, Applies, CanStepAt, FailsAt, GoesForward, MovesAt};
+    ghost use Rattle.dw_eval.specs.Steps.{configured, Applies, CanExecute, CanStepAt, FailsAt, MovesAt};
 
     /// A run with an empty stack.
     pub fn new() -> Self
@@ -94,12 +93,9 @@ impl<'a> Run<'a> {
         operation: &Operation<'a>,
         next: u32,
     ) -> Result<Step<'a>, EvaluationError>
-        requires needs { (effect_of (operation_of operation.now)).needs ≤ length self.old.stack }
-        requires can { CanDo (effect_of (operation_of operation.now)).role (length self.old.stack) (option_map location_description_of self.old.pending) }
-        requires room { length self.old.stack - (effect_of (operation_of operation.now)).takes + (effect_of (operation_of operation.now)).adds ≤ MAX_HEIGHT }
-        requires target { GoesForward (operation_of operation.now) self.old.stack next }
-        requires sized { IsSized (operation_of operation.now) }
-        requires below { All (λ n. n < 2 ^ width (world_in R.contents M.bytes environment.now)) self.old.stack }
+        requires can { CanExecute (operation_of operation.now) next self.old.stack }
+        requires alone { CanDo (effect_of (operation_of operation.now)).role (length self.old.stack) (option_map location_description_of self.old.pending) }
+        requires below { AllFit (world_in R.contents M.bytes environment.now) self.old.stack }
         ensures { MatchResult result (λ to. Applies (world_in R.contents M.bytes environment.now) (operation_of operation.now) next self.old to self.new) (λ why. answer (world_in R.contents M.bytes environment.now) (operation_of operation.now) self.old.stack ≡ Err (error_of why)) }
     {
         match piece_size(operation) {
@@ -124,7 +120,7 @@ impl<'a> Run<'a> {
     ) -> Result<Step<'a>, EvaluationError>
         requires inside { at < length (bytes_of expression.now) }
         requires can { CanStepAt expression.now at self.old }
-        requires below { All (λ n. n < 2 ^ width (world_in R.contents M.bytes environment.now)) self.old.stack }
+        requires below { AllFit (world_in R.contents M.bytes environment.now) self.old.stack }
         ensures { MatchResult result (λ to. MovesAt (world_in R.contents M.bytes environment.now) expression.now at self.old to self.new) (λ why. FailsAt (world_in R.contents M.bytes environment.now) expression.now at self.old.stack (error_of why)) }
     {
         let code = expression.bytes()[at as usize];
