@@ -1,6 +1,7 @@
 //! A checked section.
 
-ghost use Rattle.std.specs.Prelude.{◌≡◌, ◌+◌, ◌<◌, ◌≤◌, ◌^◌, None, Some, Contains, length, map, option_map, IfOk, IfErr, IfSome, IfNone};
+ghost use Rattle.std.specs.Prelude.{◌≡◌, ◌+◌, ◌<◌, ◌≤◌, ◌^◌, None, Some, Contains, length, map, option_map, IfOk, IfErr, IfSome, IfNone, find};
+ghost use Rattle.dw_rows.specs.UnwindRows.{has_address};
 ghost use Rattle.dw_frame.specs.Records.{Cie, Fde};
 ghost use Rattle.dw_frame.specs.Sections.{entries_of, top_of};
 ghost use Rattle.dw_frame.specs.Views.{cie_of, fde_of};
@@ -291,9 +292,29 @@ impl<'a> CheckedFrame<'a> {
         ensures none { IfNone result ((row_of self.now address ≡ None) × (row.new ≡ row.old)) }
     {
         let fde = self.fde_for_address(address)?;
-        let mut state = UnwindState::new();
-        let cie = self.begin_with_cie(&mut state, &fde);
-        write_row_at(&mut state, &cie, &fde, address, row);
+        let cie = self.write_row_of(&fde, address, row);
         Some((cie, fde))
+    }
+
+    /// Writes the row of an address that an FDE covers into the place of another, and answers the FDE's CIE. It stays a call:
+    /// room for a state is then made once, and only where an FDE is found.
+    #[inline(never)]
+    fn write_row_of(
+        &self,
+        fde: &FrameDescriptionEntry<'a>,
+        address: u64,
+        row: &mut UnwindTableRow,
+    ) -> CommonInformationEntry<'a>
+        requires among { Contains self.now.fdes (fde_of fde.now) }
+        requires low { fde.now.initial_location ≤ address }
+        requires high { address < fde.now.initial_location + fde.now.address_range }
+        ensures cie { cie_in self.now (fde_of fde.now) ≡ Some (cie_of result) }
+        ensures fde_program { fde_fault (cie_of result) (fde_of fde.now) ≡ None }
+        ensures row { find (has_address address) (rows_in self.now (fde_of fde.now)) ≡ Some row.new }
+    {
+        let mut state = UnwindState::new();
+        let cie = self.begin_with_cie(&mut state, fde);
+        write_row_at(&mut state, &cie, fde, address, row);
+        cie
     }
 }
