@@ -121,9 +121,9 @@ impl<'a> Entry<'a> {
     pub fn is_back_range(&self) -> bool
         ensures { result ≡ is_back_range (entry_of self.now) }
     {
-        match self {
-            Entry::OffsetPair { begin, end, .. } | Entry::StartEnd { begin, end, .. } => end
-                < begin,
+        match *self {
+            Entry::OffsetPair { begin, end, .. } => end < begin,
+            Entry::StartEnd { begin, end, .. } => end < begin,
             _ => false,
         }
     }
