@@ -104,6 +104,7 @@ impl<'a> Entry<'a> {
     ghost use Rattle.dw_loclists.specs.Views.{entry_of};
 
     /// Whether its list ends with it.
+    #[inline(always)]
     pub fn is_end(&self) -> bool
         ensures { result ≡ is_end (entry_of self.now) }
     {
@@ -111,6 +112,7 @@ impl<'a> Entry<'a> {
     }
 
     /// Whether it is a default.
+    #[inline(always)]
     pub fn is_default(&self) -> bool
         ensures { result ≡ is_default (entry_of self.now) }
     {
@@ -118,17 +120,19 @@ impl<'a> Entry<'a> {
     }
 
     /// Whether its range ends before it begins.
+    #[inline(always)]
     pub fn is_back_range(&self) -> bool
         ensures { result ≡ is_back_range (entry_of self.now) }
     {
-        match self {
-            Entry::OffsetPair { begin, end, .. } | Entry::StartEnd { begin, end, .. } => end
-                < begin,
+        match *self {
+            Entry::OffsetPair { begin, end, .. } => end < begin,
+            Entry::StartEnd { begin, end, .. } => end < begin,
             _ => false,
         }
     }
 
     /// Its expression, if it has one.
+    #[inline(always)]
     pub fn expression(&self) -> Option<Block<'a>>
         ensures { option_map block_of result ≡ expression_in (entry_of self.now) }
     {
@@ -142,6 +146,7 @@ impl<'a> Entry<'a> {
     }
 
     /// Whether it is bounded and holds at an address. An `OffsetPair` counts from the base.
+    #[inline(always)]
     pub fn holds(&self, base: u64, address: u64) -> bool
         ensures { result ≡ holds base address (entry_of self.now) }
     {
@@ -159,6 +164,7 @@ impl<'a> Entry<'a> {
 }
 
 /// Whether a sum, which doesn't wrap, is at most an address.
+#[inline(always)]
 fn is_reached(base: u64, offset: u64, address: u64) -> bool
     ensures { result ≡ nat_le (base + offset) address }
 {

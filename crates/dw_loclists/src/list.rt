@@ -24,6 +24,7 @@ pub const MEMORY: Fault = Fault {
 };
 
 /// Judges an expression as a location, and keeps it with its offset in the section.
+#[inline(always)]
 fn check_location<'a>(
     alloc: Global,
     block: Block<'a>,
@@ -50,6 +51,7 @@ fn check_location<'a>(
 }
 
 /// Judges an entry at an offset, behind a default of its list or not, and keeps its expression.
+#[inline(always)]
 fn check_entry<'a>(
     alloc: Global,
     entry: &Entry<'a>,
