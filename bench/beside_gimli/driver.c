@@ -1,4 +1,4 @@
-/* Times the exports of library/: the least of several runs. Each line is a name and nanoseconds.
+/* Times the exports of crates/dw_times: the least of several runs. Each line is a name and nanoseconds.
  *   driver SECTION ADDRESSES    a section, and addresses to look up, one in hex a line
  *   driver                      expressions */
 #include <stdint.h>

@@ -10,11 +10,9 @@ mkdir -p "$work" && work=$(cd "$work" && pwd)
 kit=$(dirname "$(rt doc)")
 
 # the libraries, as one static library that the driver calls
-if [ ! -d "$work/src" ]; then git clone -q "$checkout" "$work/src"; else (cd "$work/src" && git checkout -q crates.txt && git pull -q); fi
-mkdir -p "$work/src/crates/beside" && cp -r "$here/library/." "$work/src/crates/beside/"
-echo 'beside staticlib: dw_bytes dw_ops dw_frame dw_rows dw_stack dw_eval' >>"$work/src/crates.txt"
-(cd "$work/src/crates/beside" && rt lib) >"$work/lib.log" 2>&1 </dev/null || { tail -n 5 "$work/lib.log" >&2; exit 1; }
-gcc -O2 "$here/driver.c" "$work/src/crates/beside/out/libbeside.a" "$kit/c/liblibc_c.a" -o "$work/driver"
+if [ ! -d "$work/src" ]; then git clone -q "$checkout" "$work/src"; else git -C "$work/src" pull -q; fi
+(cd "$work/src/crates/dw_times" && rt lib) >"$work/lib.log" 2>&1 </dev/null || { tail -n 5 "$work/lib.log" >&2; exit 1; }
+gcc -O2 "$here/driver.c" "$work/src/crates/dw_times/out/libdw_times.a" "$kit/c/liblibc_c.a" -o "$work/driver"
 
 # gimli, from where Debian puts it
 gimli=$work/target/release/beside

@@ -1,4 +1,4 @@
-//! The libraries as `driver.c` times them: each export does one kind of work, and answers a number that all of it goes into.
+//! The libraries as `bench/beside_gimli/driver.c` times them: each export does one kind of work, and answers a number that all of it goes into.
 #![tactic(auto)]
 
 ghost use Rattle.std.specs.Prelude.{◌<◌, ◌^◌, length, Some, None};
