@@ -1,5 +1,5 @@
 -- The index: filtered and sorted.
-use Rattle.std.proofs.Common.{◌≡◌, ◌≢◌, ℕ, zero, suc, ◌+◌, ◌-◌, ◌<◌, ◌≤◌, List, [], ◌∷◌, length, get_or, take, map, ◌++◌, Contains, refl, sym, ap, subst, ◌∙◌, arith, inl, inr, ◌⊎◌, ◌==◌, Bool, true, false, nat_lt, ltb-true, lt-ltb, filter, if◌then◌else◌, Option, Some, None}
+use Rattle.std.proofs.Common.{◌≡◌, ◌≢◌, ℕ, zero, suc, ◌+◌, ◌-◌, ◌<◌, ◌≤◌, List, [], ◌∷◌, length, get_or, take, map, ◌++◌, Contains, refl, sym, ap, subst, ◌∙◌, arith, inl, inr, ◌⊎◌, ◌==◌, Bool, true, false, nat_lt, ltb-true, lt-ltb, leb, leb-true, leb-false, ◌*◌, filter, if◌then◌else◌, Option, Some, None}
 use Rattle.std.specs.Prelude.{All}
 use Rattle.std.specs.List.{AllByRecursion, swap}
 use Rattle.std.specs.List.Sorted.{IsPermutation, IsNonDecreasingBy}
@@ -9,7 +9,7 @@ use Rattle.std.proofs.lemmas.List.Elements.{All-append, All-filter, All-get_or, 
 use Rattle.std.proofs.lemmas.List.Sorted.{IsPermutation-keeps, IsPermutation-sym, Contains-permutation}
 use Rattle.std.proofs.lemmas.Bool.Decides.{nat_tests}
 use Rattle.dw_rows.specs.Section.{Covers, CoversOnce, IsCoverOf}
-use Rattle.dw_rows.specs.Overlap.{fde_offset, initial_of, IsIndexOf, IsOrdered, no_fde, fde_at, IsEntry, IsAddressIndex}
+use Rattle.dw_rows.specs.Overlap.{fde_offset, initial_of, IsIndexOf, IsOrdered, no_fde, fde_at, IsEntry, IsAddressIndex, IsStride}
 use Rattle.dw_rows.specs.declared.index.IndexEntry.{IndexEntry}
 use Rattle.dw_frame.specs.Views.{fde_of}
 use Rattle.dw_frame.specs.declared.entry.FrameDescriptionEntry.{FrameDescriptionEntry}
@@ -217,3 +217,40 @@ starts-above fdes entries place a all above k d le lt =
     let h = above k e le k_in in
     let at : get_or (map (fde_at fdes) entries) k d ≡ fde_at fdes (get_or entries k e) = get_or-map (fde_at fdes) entries k e d k_in in
     subst (λ (f : Fde). a < f.initial) (sym at) (omega (arith, h, b))
+
+-- ---- going on by quarters
+
+pub start-at : (entries : List IndexEntry) (i j : ℕ) (d e : IndexEntry) → i ≡ j → j < length entries → (get_or entries i d).start ≡ (get_or entries j e).start
+start-at entries i j d e same lt = ap (λ (n : ℕ). (get_or entries n d).start) same ∙ ap (λ (x : IndexEntry). x.start) (get_or_default entries j d e lt)
+
+-- a stride of so many quarters, by the entries on either side of it
+so-many : (entries : List IndexEntry) (low q a n m : ℕ) → n ≡ m → IsStride entries low q a (m * q) → IsStride entries low q a (n * q)
+so-many entries low q a n m same h = subst (λ (v : ℕ). IsStride entries low q a (v * q)) (sym same) h
+
+pub strides : (f : Bool → ℕ) → f true ≡ 1 → f false ≡ 0 → (entries : List IndexEntry) (low q a : ℕ) (e : IndexEntry) → IsNonDecreasingBy (λ (x : IndexEntry). x.start) entries → low + 3 * q < length entries → (x y z : Bool)
+    → leb (get_or entries (low + q) e).start a ≡ x → leb (get_or entries (low + 2 * q) e).start a ≡ y → leb (get_or entries (low + 3 * q) e).start a ≡ z
+    → (n m k : ℕ) → n ≡ f x → m ≡ f y → k ≡ f z → IsStride entries low q a ((n + m + k) * q)
+strides f one nil entries low q a e sorted inside true true true hx hy hz n m k nx my kz = so-many entries low q a (n + m + k) 3 (omega arith) (record {
+  bound = omega arith;
+  below = λ d some. let s = leb-true _ _ hz in omega (arith, s, start-at entries (low + 3 * q) (low + 3 * q) d e refl inside);
+  above = λ d few. absurd (omega arith);
+})
+strides f one nil entries low q a e sorted inside true true false hx hy hz n m k nx my kz = so-many entries low q a (n + m + k) 2 (omega arith) (record {
+  bound = omega arith;
+  below = λ d some. let s = leb-true _ _ hy in omega (arith, s, start-at entries (low + 2 * q) (low + 2 * q) d e refl (omega arith));
+  above = λ d few. let s = leb-false _ _ hz in omega (arith, s, start-at entries (low + 2 * q + q) (low + 3 * q) d e (omega arith) inside);
+})
+strides f one nil entries low q a e sorted inside true false false hx hy hz n m k nx my kz = so-many entries low q a (n + m + k) 1 (omega arith) (record {
+  bound = omega arith;
+  below = λ d some. let s = leb-true _ _ hx in omega (arith, s, start-at entries (low + 1 * q) (low + q) d e (omega arith) (omega arith));
+  above = λ d few. let s = leb-false _ _ hy in omega (arith, s, start-at entries (low + 1 * q + q) (low + 2 * q) d e (omega arith) (omega arith));
+})
+strides f one nil entries low q a e sorted inside false false false hx hy hz n m k nx my kz = so-many entries low q a (n + m + k) 0 (omega arith) (record {
+  bound = omega arith;
+  below = λ d some. absurd (omega arith);
+  above = λ d few. let s = leb-false _ _ hx in omega (arith, s, start-at entries (low + 0 * q + q) (low + q) d e (omega arith) (omega arith));
+})
+strides f one nil entries low q a e sorted inside false true z hx hy hz n m k nx my kz =
+    let s = leb-false _ _ hx in let t = leb-true _ _ hy in let up = sorted (low + q) (low + 2 * q) e (omega arith) (omega arith) in absurd (omega (arith, s, t, up))
+strides f one nil entries low q a e sorted inside x false true hx hy hz n m k nx my kz =
+    let s = leb-false _ _ hy in let t = leb-true _ _ hz in let up = sorted (low + 2 * q) (low + 3 * q) e (omega arith) inside in absurd (omega (arith, s, t, up))

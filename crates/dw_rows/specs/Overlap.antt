@@ -1,5 +1,5 @@
 -- FDEs in order of offset, and in order of address. No contract of a public call speaks of these.
-use Rattle.std.specs.Prelude.{◌≡◌, ℕ, ◌<◌, ◌≤◌, List, [], length, map, All, Contains, slice_index_or}
+use Rattle.std.specs.Prelude.{◌≡◌, ℕ, ◌+◌, ◌*◌, ◌<◌, ◌≤◌, List, [], length, map, All, Contains, slice_index_or}
 use Rattle.dw_bytes.specs.declared.target.Format.TheVariants.{Dwarf32}
 use Rattle.dw_bytes.specs.declared.target.Order.TheVariants.{Little}
 use Rattle.dw_bytes.specs.declared.target.AddressSize.TheVariants.{Four}
@@ -81,6 +81,18 @@ pub record IsEntry (fdes : List Fde) (e : IndexEntry) : Type 0 where
 pub record IsAddressIndex (fdes : List Fde) (entries : List IndexEntry) : Type 0 where
   pub each : All (IsEntry fdes) entries
   pub index_of : IsIndexOf fdes (map (fde_at fdes) entries)
+
+-- so far from an entry begins one at or below an address, if it isn't the entry itself, and one quarter further none does
+pub record IsStride (entries : List IndexEntry) (low quarter a stride : ℕ) : Type 0 where
+  pub bound : stride ≤ 3 * quarter
+  pub below : (d : IndexEntry) → 0 < stride → (slice_index_or entries (low + stride) d).start ≤ a
+  pub above : (d : IndexEntry) → stride < 3 * quarter → a < (slice_index_or entries (low + stride + quarter) d).start
+
+-- so many entries begin at or below an address, and no others
+pub record IsCountUpTo (entries : List IndexEntry) (a count : ℕ) : Type 0 where
+  pub bound : count ≤ length entries
+  pub below : (k : ℕ) (d : IndexEntry) → k < count → (slice_index_or entries k d).start ≤ a
+  pub above : (k : ℕ) (d : IndexEntry) → count ≤ k → k < length entries → a < (slice_index_or entries k d).start
 
 -- what a checked section keeps: its records, what its CIEs leave, and its FDEs in order of address
 pub record IsKept (s : Frame) (left : List KeptRules) (index : List IndexEntry) : Type 0 where

@@ -1,10 +1,12 @@
 //! FDEs in order of address.
 
-ghost use Rattle.std.specs.Prelude.{◌≡◌, ◌<◌, ◌≤◌, length, map, All, MatchBool, MatchOption, IfOk, filter, nat_lt, option_map};
+ghost use Rattle.std.specs.Prelude.{◌≡◌, ◌+◌, ◌*◌, ◌<◌, ◌≤◌, length, map, All, MatchBool, MatchOption, IfOk, filter, nat_lt, option_map};
 ghost use Rattle.dw_frame.specs.Views.{fde_of};
 ghost use Rattle.dw_rows.specs.Section.{CoversOnce, IsCoverOf};
-ghost use Rattle.dw_rows.specs.Overlap.{fde_offset, fde_at, IsEntry, IsAddressIndex, ClashWithin, ApartWithin, AreApart, IsFirstOverlap};
+ghost use Rattle.dw_rows.specs.Overlap.{fde_offset, fde_at, IsStride, IsCountUpTo, IsEntry, IsAddressIndex, ClashWithin, ApartWithin, AreApart, IsFirstOverlap};
 ghost use Rattle.dw_frame.specs.Bounds.{Ascends};
+ghost use Rattle.std.specs.List.Sorted.{IsNonDecreasingBy};
+ghost use Rattle.dw_rows.specs.declared.index.IndexEntry.{IndexEntry};
 
 use dw_frame::FrameDescriptionEntry;
 use std::alloc::{AllocError, Global};
@@ -92,7 +94,40 @@ pub fn first_overlap<'a>(
     Some(fdes[high])
 }
 
-/// The FDE that covers an address, by halving FDEs in order of address.
+/// How far to go on from an entry towards the last one that begins at or below an address: none, one, two or three quarters.
+/// It sums and doesn't branch: halving would wait for a wrong guess at every other step.
+#[inline(always)]
+fn stride(index: &[IndexEntry], low: usize, quarter: usize, address: u64) -> usize
+    requires sorted { IsNonDecreasingBy (λ (e : IndexEntry). e.start) index.now }
+    requires inside { low + 3 * quarter < length index.now }
+    ensures { IsStride index.now low quarter address result }
+{
+    let first = usize::from(index[low + quarter].start <= address);
+    let second = usize::from(index[low + 2 * quarter].start <= address);
+    let third = usize::from(index[low + 3 * quarter].start <= address);
+    (first + second + third) * quarter
+}
+
+/// How many entries begin at or below an address, in log n steps for n entries.
+fn count_up_to(index: &[IndexEntry], address: u64) -> usize
+    requires { IsNonDecreasingBy (λ (e : IndexEntry). e.start) index.now }
+    ensures { IsCountUpTo index.now address result }
+{
+    let mut low = 0;
+    let mut size = index.len();
+    while size >= 4 {
+        let quarter = size / 4;
+        low += stride(index, low, quarter, address);
+        size -= 3 * quarter;
+    }
+    while size > 0 && index[low].start <= address {
+        low += 1;
+        size -= 1;
+    }
+    low
+}
+
+/// The FDE that covers an address, found among FDEs in order of address.
 pub fn covering<'a>(
     fdes: &[FrameDescriptionEntry<'a>],
     index: &[IndexEntry],
@@ -102,7 +137,7 @@ pub fn covering<'a>(
     requires once { CoversOnce (map fde_of fdes.now) }
     ensures { IsCoverOf (map fde_of fdes.now) address (option_map fde_of result) }
 {
-    let after = index.partition_point(|entry| entry.start <= address);
+    let after = count_up_to(index, address);
     if after == 0 {
         return None;
     }
