@@ -8,7 +8,9 @@ ghost use Rattle.dw_loclists.specs.Reading.{lists_fault, IsChecked, tables_in, l
 ghost use Rattle.dw_loclists.specs.Views.{start_of, all_located};
 
 use crate::contents::{Contents, LocationList};
+use crate::count::count_expressions;
 use crate::find::find_list;
+use crate::list::MEMORY;
 use crate::locations::LocationsAt;
 use crate::table::read_table;
 use crate::walk::ListWalk;
@@ -57,7 +59,9 @@ pub fn check_lists<'a>(
     ensures inside { IfErr result (λ fault. fault.at ≤ length section.now) }
     ensures lists { IfOk result (λ lists. lists ≡ record { target = target; section = section.now }) }
 {
-    let mut contents = Contents::new(alloc);
+    let Ok(mut contents) = Contents::with_room(alloc, count_expressions(section, target)) else {
+        return Err(MEMORY);
+    };
     let end = section.len() as u32;
     let mut at = 0;
     'tables: while at < end {
