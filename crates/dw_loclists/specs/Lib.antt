@@ -6,6 +6,8 @@ pub mod Locations
 pub mod Reading
 -- What the types of the code stand for.
 pub mod Views
+-- Where things stand, and in what order.
 pub mod Bounds
+-- How a checked section is kept, and how a list is walked. No contract of a public call speaks of these.
 pub mod Kept
 pub mod Walks

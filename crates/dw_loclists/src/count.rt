@@ -29,7 +29,8 @@ fn count_in_lists(cursor: &mut Cursor<'_>, end: u32) -> u32
 fn count_in_table(section: &[u8], target: Target, at: u32) -> Option<(u32, u32)>
     requires inside { at < length section.now }
     requires short { length section.now < 2 ^ 32 }
-    ensures { IfSome result (λ found. (found.0 + at ≤ found.1) × (at < found.1) × (found.1 ≤ length section.now)) }
+    ensures { IfSome result (λ found.
+        (found.0 + at ≤ found.1) × (at < found.1) × (found.1 ≤ length section.now)) }
 {
     let body = Body::read(section, target, at).ok()?;
     let mut cursor = Cursor::at(&section[..body.end as usize], target, body.start);
