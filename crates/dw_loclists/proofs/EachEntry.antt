@@ -36,7 +36,8 @@ abbrev pub AllWithin : ℕ → ℕ → Option Block → Type 0
 AllWithin at end None = Unit {0}
 AllWithin at end (Some b) = StandsWithin at end b
 
-block-within : (target : Target) (start at : ℕ) (bytes : List ℕ) (b : Block) → start < at → IsBlock target at bytes b → StandsWithin start (at + length bytes) b
+block-within : (target : Target) (start at : ℕ) (bytes : List ℕ) (b : Block) → start < at → IsBlock target at bytes b
+    → StandsWithin start (at + length bytes) b
 block-within target start at bytes b lt h = record {
   behind = omega (arith, h.offset_is);
   ends = omega (arith, h.offset_is, ap length h.parts, length-append h.count b.bytes);
@@ -65,7 +66,9 @@ default-block start target at bytes e lt (vs, (first, rest, parts, is_block, end
     subst (λ x. AllWithin start (at + length bytes) (expression_in x)) (sym is)
     (record { behind = within.behind; ends = omega (arith, within.ends, ap length parts, length-append first rest, ap length ended) })
 
-third-block : (start : ℕ) (target : Target) (first second : Kind) (make : Operands (first ∷ second ∷ block ∷ []) → Entry) → ((vs : Operands (first ∷ second ∷ block ∷ [])) → expression_in (make vs) ≡ Some vs.1.1.0) → Holds start target (Some (line (first ∷ second ∷ block ∷ []) make))
+third-block : (start : ℕ) (target : Target) (first second : Kind) (make : Operands (first ∷ second ∷ block ∷ []) → Entry)
+    → ((vs : Operands (first ∷ second ∷ block ∷ [])) → expression_in (make vs) ≡ Some vs.1.1.0)
+    → Holds start target (Some (line (first ∷ second ∷ block ∷ []) make))
 unfolding Holds
 third-block start target first second make has at bytes e lt (vs, (a, ra, pa, ia, (b, rb, pb, ib, (c, rc, pc, ic, ended))), fit, is) =
     let within = block-within target start (at + length a + length b) c vs.1.1.0 (omega arith) ic in
@@ -87,7 +90,8 @@ all-lines start target code =
     (which (code == 0x08) (Holds start target) _ _ (third-block start target address unsigned (λ vs. start_length vs.0 vs.1.0 vs.1.1.0) (λ vs. refl))
     (unknown-block start target))))))
 
-pub entry-within : (target : Target) (at : ℕ) (bytes : List ℕ) (e : Entry) → IsEntry target at bytes e → AllWithin at (at + length bytes) (expression_in e)
+pub entry-within : (target : Target) (at : ℕ) (bytes : List ℕ) (e : Entry) → IsEntry target at bytes e
+    → AllWithin at (at + length bytes) (expression_in e)
 unfolding Holds
 entry-within target at bytes e (code, front, operands, parts, first, second) =
     let inside = all-lines at target code (at + length front) operands e (omega (arith, first.count)) second in
@@ -135,14 +139,16 @@ pub record IsFine (has_default : Bool) (e : Entry) : Type 0 where
   pub range : IsRange e
   pub good : IsGoodLocation (expression_in e)
 
-two-tests : (b c : Bool) (x y : Fault) (z : Option Fault) → cond b (Some x) (cond c (Some y) z) ≡ None → (b ≡ false) × (c ≡ false) × (z ≡ None)
+two-tests : (b c : Bool) (x y : Fault) (z : Option Fault) → cond b (Some x) (cond c (Some y) z) ≡ None
+    → (b ≡ false) × (c ≡ false) × (z ≡ None)
 two-tests true c x y z is = absurd (let never : some-fault x ≡ None = is in cc)
 two-tests false true x y z is = absurd (let never : some-fault y ≡ None = is in cc)
 two-tests false false x y z is = (refl, refl, is)
 
 pub fine-if-none : (has_default : Bool) (at : ℕ) (e : Entry) → entry_fault has_default at e ≡ None → IsFine has_default e
 fine-if-none has_default at e is =
-    let t = two-tests (has_default && is_default e) (is_back_range e) (record { kind = SecondDefault; at = at }) (record { kind = BackRange; at = at }) (location_fault (expression_in e)) is in
+    let t =
+    two-tests (has_default && is_default e) (is_back_range e) (record { kind = SecondDefault; at = at }) (record { kind = BackRange; at = at }) (location_fault (expression_in e)) is in
     record { only = t.0; range = is-range e t.1; good = location-good (expression_in e) t.2 }
 
 pub none-if-fine : (has_default : Bool) (at : ℕ) (e : Entry) → IsFine has_default e → entry_fault has_default at e ≡ None
@@ -153,7 +159,8 @@ unless-ok None x y is = (refl, cc)
 unless-ok (Some f) x y is = absurd (let never : Err f ≡ fine y = is in cc)
 
 -- an entry that was read and judged
-pub checked-found : (has_default : Bool) (r : ReadPosition) (e : Entry) (after : ReadPosition) → checked_entry_at has_default r ≡ Ok (e, after) → Next (IsEntry r.target r.position) r e after × IsFine has_default e
+pub checked-found : (has_default : Bool) (r : ReadPosition) (e : Entry) (after : ReadPosition)
+    → checked_entry_at has_default r ≡ Ok (e, after) → Next (IsEntry r.target r.position) r e after × IsFine has_default e
 unfolding checked_entry_at
 checked-found has_default r e after is =
     let a = bind-ok (entry_at r) (λ x. unless_fault (entry_fault has_default r.position x.0) x) (e, after) is in
@@ -161,20 +168,24 @@ checked-found has_default r e after is =
     let next = (entry-exact r.target r refl).found a.0.0 a.0.1 a.1 in
     subst (λ (p : Entry × ReadPosition). Next (IsEntry r.target r.position) r p.0 p.1 × IsFine has_default p.0) ok.1 (next, fine-if-none has_default r.position a.0.0 ok.0)
 
-pub checked-only : (has_default : Bool) (r : ReadPosition) (e : Entry) (after : ReadPosition) → Next (IsEntry r.target r.position) r e after → IsFine has_default e → checked_entry_at has_default r ≡ Ok (e, after)
+pub checked-only : (has_default : Bool) (r : ReadPosition) (e : Entry) (after : ReadPosition) → Next (IsEntry r.target r.position) r e after
+    → IsFine has_default e → checked_entry_at has_default r ≡ Ok (e, after)
 unfolding checked_entry_at
 checked-only has_default r e after next fine_is =
     let read = (entry-exact r.target r refl).only e after next in
-    let passed : unless_fault (entry_fault has_default r.position e) (e, after) ≡ fine (e, after) = ap (λ (f : Option Fault). unless_fault f (e, after)) (none-if-fine has_default r.position e fine_is) in
+    let passed : unless_fault (entry_fault has_default r.position e) (e, after) ≡ fine (e, after) =
+    ap (λ (f : Option Fault). unless_fault f (e, after)) (none-if-fine has_default r.position e fine_is) in
     ap (λ (x : Result (Entry × ReadPosition) Fault). x >>= λ y. unless_fault (entry_fault has_default r.position y.0) y) read ∙ passed
 
 -- an entry that was read, and what is wrong with it or not
-pub checked-none : (has_default : Bool) (r : ReadPosition) (e : Entry) (after : ReadPosition) → entry_at r ≡ Ok (e, after) → entry_fault has_default r.position e ≡ None → checked_entry_at has_default r ≡ Ok (e, after)
+pub checked-none : (has_default : Bool) (r : ReadPosition) (e : Entry) (after : ReadPosition) → entry_at r ≡ Ok (e, after)
+    → entry_fault has_default r.position e ≡ None → checked_entry_at has_default r ≡ Ok (e, after)
 unfolding checked_entry_at
 checked-none has_default r e after read is =
     ap (λ (x : Result (Entry × ReadPosition) Fault). x >>= λ y. unless_fault (entry_fault has_default r.position y.0) y) read ∙ ap (λ (f : Option Fault). unless_fault f (e, after)) is
 
-pub checked-fault : (has_default : Bool) (r : ReadPosition) (e : Entry) (after : ReadPosition) (f : Fault) → entry_at r ≡ Ok (e, after) → entry_fault has_default r.position e ≡ Some f → checked_entry_at has_default r ≡ Err f
+pub checked-fault : (has_default : Bool) (r : ReadPosition) (e : Entry) (after : ReadPosition) (f : Fault) → entry_at r ≡ Ok (e, after)
+    → entry_fault has_default r.position e ≡ Some f → checked_entry_at has_default r ≡ Err f
 unfolding checked_entry_at
 checked-fault has_default r e after f read is =
     ap (λ (x : Result (Entry × ReadPosition) Fault). x >>= λ y. unless_fault (entry_fault has_default r.position y.0) y) read ∙ ap (λ (g : Option Fault). unless_fault g (e, after)) is
@@ -184,7 +195,8 @@ unfolding checked_entry_at
 checked-refused has_default r f read = ap (λ (x : Result (Entry × ReadPosition) Fault). x >>= λ y. unless_fault (entry_fault has_default r.position y.0) y) read
 
 -- an offset in an entry that was read
-pub before-inside : (r : ReadPosition) (e : Entry) (after : ReadPosition) (n : ℕ) → entry_at r ≡ Ok (e, after) → IsBefore r.position e n → n ≤ r.position + length r.rest
+pub before-inside : (r : ReadPosition) (e : Entry) (after : ReadPosition) (n : ℕ) → entry_at r ≡ Ok (e, after) → IsBefore r.position e n
+    → n ≤ r.position + length r.rest
 before-inside r e after n is before =
     let next = (entry-exact r.target r refl).found e after is in
     let within = entry-within r.target r.position next.bytes e next.encoded in
