@@ -44,7 +44,8 @@ tables-are target section ts is = ap (λ (xs : Items). values_in xs) is ∙ valu
 -- at a fault
 pub tables-fault : (target : Target) (section : List ℕ) (ts : List Table) (items : Items) (f : Fault)
     → tables_of target section ≡ all-read ts ++ items → items ≡ Err f ∷ [] → lists_fault target section ≡ Some f
-tables-fault target section ts items f is bad = ap (λ (xs : Items). fault_in xs) is ∙ (fault-behind ts items ∙ ap (λ (xs : Items). fault_in xs) bad)
+tables-fault target section ts items f is bad = ap (λ (xs : Items). fault_in xs) is
+    ∙ (fault-behind ts items ∙ ap (λ (xs : Items). fault_in xs) bad)
 
 abbrev some : Fault → Option Fault
 some f = Some f
@@ -59,10 +60,12 @@ pub checked-tables : (s : ListSection) → IsChecked s → AreTables s.target 0 
 checked-tables s checked = (sections-are-tables s.target s.section (tables_in s)).0 (whole (tables_of s.target s.section) checked)
 
 pub lists-ascend : (s : ListSection) → IsChecked s → Ascends (λ n. n) (starts_of (lists_in s))
-lists-ascend s checked = rise-ascends 0 (0 + length s.section) (starts_of (lists_in s)) (tables-start s.target 0 s.section (tables_in s) (checked-tables s checked))
+lists-ascend s checked = rise-ascends 0 (0 + length s.section) (starts_of (lists_in s))
+    (tables-start s.target 0 s.section (tables_in s) (checked-tables s checked))
 
 pub expressions-ascend : (s : ListSection) → IsChecked s → Ascends (λ n. n) (offsets-of (located_in s))
-expressions-ascend s checked = rise-ascends (0 + 1) (0 + length s.section + 1) (offsets-of (located_in s)) (tables-rise s.target 0 s.section (tables_in s) (checked-tables s checked))
+expressions-ascend s checked = rise-ascends (0 + 1) (0 + length s.section + 1) (offsets-of (located_in s))
+    (tables-rise s.target 0 s.section (tables_in s) (checked-tables s checked))
 
 map-append-read : (ts : List Table) (t : Table) (items : Items) → all-read ts ++ (Ok t ∷ items) ≡ all-read (ts ++ t ∷ []) ++ items
 map-append-read [] t items = refl
@@ -74,4 +77,5 @@ pub one-more : (target : Target) (section : List ℕ) (at next : ℕ) (ts : List
     → table_at (section_from target section at) ≡ Ok (t, section_from target section next)
     → tables_of target section ≡ all-read (ts ++ t ∷ []) ++ tables_from target section next
 one-more target section at next ts t so_far is =
-    so_far ∙ (ap (λ (xs : Items). all-read ts ++ xs) (at-table target section at next t is) ∙ map-append-read ts t (tables_from target section next))
+    so_far ∙ (ap (λ (xs : Items). all-read ts ++ xs) (at-table target section at next t is)
+    ∙ map-append-read ts t (tables_from target section next))

@@ -28,14 +28,19 @@ use Rattle.dw_loclists.proofs.EachList.{AreEntries, list-found, list-only, entri
 
 entries-some : (target : Target) (d : Bool) (at : ℕ) (bytes : List ℕ) (es : List Entry) → AreEntries target d at bytes es → 0 < length bytes
 entries-some target d at bytes [] h = entry-some target at bytes end_of_list h
-entries-some target d at bytes (e ∷ es) (first, rest, parts, here, fine, going, others) = let some = entry-some target at first e here in omega (arith, some, ap length parts, length-append first rest)
+entries-some target d at bytes (e ∷ es) (first, rest, parts, here, fine, going, others) = let some =
+    entry-some target at first e here in omega (arith, some, ap length parts, length-append first rest)
 
 pub list-some : (target : Target) (at : ℕ) (bytes : List ℕ) (l : Loclist) → IsList target at bytes l → 0 < length bytes
 list-some target at bytes l h = entries-some target false at bytes l.entries (entries-in target at bytes l h)
 
 pub each-list : (target : Target) → ReadsEach target list_at (IsList target)
 each-list target = record {
-  exact = λ r same. record { found = λ l after is. list-found target r l after same is; only = λ l after h. list-only target r l after same h };
+  exact = λ r same. record {
+    found = λ l after is. list-found target r l after same is;
+    only =
+        λ l after h. list-only target r l after same h;
+  };
   some = list-some target;
 }
 
@@ -58,7 +63,8 @@ all-found : (items : Items) (ls : List Loclist) → all_of items ≡ Ok ls → i
 all-found [] ls is = ap (λ (xs : List Loclist). all-read xs) (same-whole [] ls is)
 all-found (Ok l ∷ items) ls is =
     let rest = bind-ok (all_of items) (λ xs. whole (l ∷ xs)) ls is in
-    ap (λ (xs : Items). Ok l ∷ xs) (all-found items rest.0 rest.1) ∙ ap (λ (xs : List Loclist). all-read xs) (same-whole (l ∷ rest.0) ls rest.2)
+    ap (λ (xs : Items). Ok l ∷ xs) (all-found items rest.0 rest.1)
+    ∙ ap (λ (xs : List Loclist). all-read xs) (same-whole (l ∷ rest.0) ls rest.2)
 all-found (Err f ∷ items) ls is = absurd (let never : Err f ≡ whole ls = is in cc)
 
 all-only : (ls : List Loclist) → all_of (all-read ls) ≡ Ok ls
@@ -68,12 +74,14 @@ all-only (l ∷ ls) = ap (put_list l) (all-only ls)
 pub lists-found : (target : Target) (r : ReadPosition) (ls : List Loclist) → r.target ≡ target → lists_at r ≡ Ok ls
     → Sequence (IsList target) r.position r.rest ls
 unfolding lists_at
-lists-found target r ls same is = (sequence-exact target list_at (IsList target) (each-list target) r ls same).0 (all-found (sequence_of list_at r) ls is)
+lists-found target r ls same is =
+    (sequence-exact target list_at (IsList target) (each-list target) r ls same).0 (all-found (sequence_of list_at r) ls is)
 
 pub lists-only : (target : Target) (r : ReadPosition) (ls : List Loclist) → r.target ≡ target
     → Sequence (IsList target) r.position r.rest ls → lists_at r ≡ Ok ls
 unfolding lists_at
-lists-only target r ls same are = ap (λ (items : Items). all_of items) ((sequence-exact target list_at (IsList target) (each-list target) r ls same).1 are) ∙ all-only ls
+lists-only target r ls same are =
+    ap (λ (items : Items). all_of items) ((sequence-exact target list_at (IsList target) (each-list target) r ls same).1 are) ∙ all-only ls
 
 -- list by list
 pub lists-end : (r : ReadPosition) → length r.rest ≡ 0 → lists_at r ≡ Ok []
@@ -150,12 +158,21 @@ list-offset-exact target format array lists r same = record {
       let ok = unjudged (is_among lists (array + o.0.0)) r.position o.0 (v, after) o.2 in
       let next = (offset-exact target format r same).found o.0.0 o.0.1 o.1 in
       subst (λ (p : ℕ × ReadPosition). Next (IsListOffset target format array lists r.position) r p.0 p.1) ok.1
-      (record { bytes = next.bytes; encoded = (next.encoded, start-found lists (array + o.0.0) ok.0); parts = next.parts; position = next.position; target = next.target });
+      (record {
+        bytes = next.bytes;
+        encoded = (next.encoded, start-found lists (array + o.0.0) ok.0);
+        parts = next.parts;
+        position =
+            next.position;
+        target = next.target;
+      });
   only = λ v after h.
       let read =
-      (offset-exact target format r same).only v after (record { bytes = h.bytes; encoded = h.encoded.0; parts = h.parts; position = h.position; target = h.target }) in
+      (offset-exact target format r same).only v after
+      (record { bytes = h.bytes; encoded = h.encoded.0; parts = h.parts; position = h.position; target = h.target }) in
       let start = start-only lists (array + v) h.encoded.1 in
-      ap (λ (x : Result (ℕ × ReadPosition) Fault). x >>= λ o. judged (unless (is_among lists (array + o.0)) BadOffsetEntry) r.position o) read
+      ap (λ (x : Result (ℕ × ReadPosition) Fault). x >>= λ o. judged (unless (is_among lists (array + o.0)) BadOffsetEntry) r.position o)
+      read
       ∙ ap (λ b. judged (unless b BadOffsetEntry) r.position (v, after)) start;
 }
 
@@ -163,7 +180,8 @@ list-offset-exact target format array lists r same = record {
 plain : (target : Target) (format : Format) (array : ℕ) (lists : List ℕ) (at : ℕ) (bytes os : List ℕ)
     → Sequence (IsListOffset target format array lists) at bytes os → Sequence (λ n. Offset target.order format) at bytes os
 plain target format array lists at bytes [] h = h
-plain target format array lists at bytes (o ∷ os) (first, rest, parts, here, others) = (first, rest, parts, here.0, plain target format array lists (at + length first) rest os others)
+plain target format array lists at bytes (o ∷ os) (first, rest, parts, here, others) =
+    (first, rest, parts, here.0, plain target format array lists (at + length first) rest os others)
 
 -- ---- a table
 
@@ -177,7 +195,8 @@ abbrev done : Table → ReadPosition → Result (Table × ReadPosition) Fault
 done t r = Ok (t, r)
 
 abbrev after-lists : ReadPosition → Frame → ℕ × ReadPosition → List Loclist → Result (Table × ReadPosition) Fault
-after-lists r f h ls = exactly_of (list_offset_at f.0.0 h.1.position (starts_of ls)) h.0 h.1 >>= λ named. done (table-of r.position f.0.0 h.1.position named.0 ls) f.1
+after-lists r f h ls = exactly_of (list_offset_at f.0.0 h.1.position (starts_of ls)) h.0 h.1 >>= λ named. done
+    (table-of r.position f.0.0 h.1.position named.0 ls) f.1
 
 abbrev after-array : ReadPosition → Frame → ℕ × ReadPosition → List ℕ × ReadPosition → Result (Table × ReadPosition) Fault
 after-array r f h os = lists_at os.1 >>= after-lists r f h
@@ -190,11 +209,14 @@ after-frame r f = fields_at (table_header r.target) f.0.1 >>= after-header r f
 
 array-exact : (target : Target) (format : Format) (count : ℕ)
     → ExactAt target (exactly_of (offset_at format) count) (Exactly (λ at. Offset target.order format) count)
-array-exact target format count = exactly-exact target (offset_at format) (λ at. Offset target.order format) (offset-exact target format) count
+array-exact target format count =
+    exactly-exact target (offset_at format) (λ at. Offset target.order format) (offset-exact target format) count
 
 named-exact : (target : Target) (format : Format) (array : ℕ) (lists : List ℕ) (count : ℕ)
     → ExactAt target (exactly_of (list_offset_at format array lists) count) (Exactly (IsListOffset target format array lists) count)
-named-exact target format array lists count = exactly-exact target (list_offset_at format array lists) (IsListOffset target format array lists) (list-offset-exact target format array lists) count
+named-exact target format array lists count =
+    exactly-exact target (list_offset_at format array lists) (IsListOffset target format array lists)
+    (list-offset-exact target format array lists) count
 
 -- both readings of the array end at one place
 same-array : (target : Target) (format : Format) (array : ℕ) (lists : List ℕ) (count : ℕ) (r a b : ReadPosition) (os ns : List ℕ)
@@ -203,12 +225,21 @@ same-array : (target : Target) (format : Format) (array : ℕ) (lists : List ℕ
 same-array target format array lists count r a b os ns same plain_is named_is =
     let h = (named-exact target format array lists count r same).found ns b named_is in
     let again =
-    (array-exact target format count r same).only ns b (record { bytes = h.bytes; encoded = (plain target format array lists r.position h.bytes ns h.encoded.0, h.encoded.1); parts = h.parts; position = h.position; target = h.target }) in
+    (array-exact target format count r same).only ns b
+    (record {
+      bytes = h.bytes;
+      encoded = (plain target format array lists r.position h.bytes ns h.encoded.0, h.encoded.1);
+      parts =
+          h.parts;
+      position = h.position;
+      target = h.target;
+    }) in
     ap (λ (p : List ℕ × ReadPosition). p.1) (ok-is {A = List ℕ} (os, a) (ns, b) (sym plain_is ∙ again))
 
 table-parts : (r after mid end : ReadPosition) (format : Format) (body : ReadPosition) (count : ℕ) (os : List ℕ) (ls : List Loclist)
     → IsFramed r format body after → fields_at (table_header r.target) body ≡ Ok (count, mid)
-    → exactly_of (list_offset_at format mid.position (starts_of ls)) count mid ≡ Ok (os, end) → lists_at end ≡ Ok ls → Next (IsTable r.target r.position) r (table-of r.position format mid.position os ls) after
+    → exactly_of (list_offset_at format mid.position (starts_of ls)) count mid ≡ Ok (os, end) → lists_at end ≡ Ok ls
+    → Next (IsTable r.target r.position) r (table-of r.position format mid.position os ls) after
 table-parts r after mid end format body count os ls frame header_is named_is lists_are =
     let header = (fields-exact r.target (table_header r.target) body frame.body_target).found count mid header_is in
     let mid_target : mid.target ≡ r.target = header.target ∙ frame.body_target in
@@ -226,7 +257,9 @@ table-parts r after mid end format body count os ls frame header_is named_is lis
         parts = ap (λ (t : List ℕ). frame.front ++ t) body_is;
         offset_is = refl;
         length_is = subst (λ (t : List ℕ). Length r.target.order frame.front (format, length t)) body_is frame.length_is;
-        header_is = subst (λ n. Encodes r.target (table_header r.target) (r.position + length frame.front) header.bytes n) (sym named.encoded.1) (subst (λ p. Encodes r.target (table_header r.target) p header.bytes count) frame.body_position header.encoded);
+        header_is = subst (λ n. Encodes r.target (table_header r.target) (r.position + length frame.front) header.bytes n)
+            (sym named.encoded.1) (subst (λ p. Encodes r.target (table_header r.target) p header.bytes count) frame.body_position
+            header.encoded);
         array_is = omega (arith, header.position, frame.body_position);
         offsets_are = named.encoded.0;
         lists_are = subst (λ p. Sequence (IsList r.target) p end.rest ls) named.position lists;
@@ -245,14 +278,17 @@ table-found r t after is =
     let os = bind-ok (exactly_of (offset_at f.0.0.0) h.0.0 h.0.1) (after-array r f.0 h.0) (t, after) h.2 in
     let ls = bind-ok (lists_at os.0.1) (after-lists r f.0 h.0) (t, after) os.2 in
     let ns =
-    bind-ok (exactly_of (list_offset_at f.0.0.0 h.0.1.position (starts_of ls.0)) h.0.0 h.0.1) (λ named. done (table-of r.position f.0.0.0 h.0.1.position named.0 ls.0) f.0.1) (t, after) ls.2 in
+    bind-ok (exactly_of (list_offset_at f.0.0.0 h.0.1.position (starts_of ls.0)) h.0.0 h.0.1)
+    (λ named. done (table-of r.position f.0.0.0 h.0.1.position named.0 ls.0) f.0.1) (t, after) ls.2 in
     let frame = framed-found r f.0.0.0 f.0.0.1 f.0.1 f.1 in
     let header = (fields-exact r.target (table_header r.target) f.0.0.1 frame.body_target).found h.0.0 h.0.1 h.1 in
     let end_is =
-    same-array r.target f.0.0.0 h.0.1.position (starts_of ls.0) h.0.0 h.0.1 os.0.1 ns.0.1 os.0.0 ns.0.0 (header.target ∙ frame.body_target) os.1 ns.1 in
+    same-array r.target f.0.0.0 h.0.1.position (starts_of ls.0) h.0.0 h.0.1 os.0.1 ns.0.1 os.0.0 ns.0.0 (header.target ∙ frame.body_target)
+    os.1 ns.1 in
     let lists : lists_at ns.0.1 ≡ whole ls.0 = subst (λ (p : ReadPosition). lists_at p ≡ whole ls.0) end_is ls.1 in
     let made = table-parts r f.0.1 h.0.1 ns.0.1 f.0.0.0 f.0.0.1 h.0.0 ns.0.0 ls.0 frame h.1 ns.1 lists in
-    subst (λ (p : Table × ReadPosition). Next (IsTable r.target r.position) r p.0 p.1) (ok-is {A = Table} (table-of r.position f.0.0.0 h.0.1.position ns.0.0 ls.0, f.0.1) (t, after) ns.2) made
+    subst (λ (p : Table × ReadPosition). Next (IsTable r.target r.position) r p.0 p.1)
+    (ok-is {A = Table} (table-of r.position f.0.0.0 h.0.1.position ns.0.0 ls.0, f.0.1) (t, after) ns.2) made
 
 pub table-only : (r : ReadPosition) (t : Table) (after : ReadPosition) → Next (IsTable r.target r.position) r t after
     → table_at r ≡ Ok (t, after)
@@ -270,28 +306,43 @@ table-only r t after next =
     let one = framed-only r t.format body after (record {
       front = s.front;
       length_is = s.length_is;
-      parts = next.parts ∙ ap (λ (u : List ℕ). u ++ after.rest) s.parts ∙ append_assoc s.front (s.header ++ (s.offsets ++ s.lists)) after.rest;
+      parts = next.parts ∙ ap (λ (u : List ℕ). u ++ after.rest) s.parts
+          ∙ append_assoc s.front (s.header ++ (s.offsets ++ s.lists)) after.rest;
       body_position = refl;
       body_target = refl;
       position = omega (arith, next.position, ap length s.parts, length-append s.front (s.header ++ (s.offsets ++ s.lists)));
       target = next.target;
     }) in
     let two =
-    (fields-exact r.target (table_header r.target) body refl).only count mid (record { bytes = s.header; encoded = s.header_is; parts = refl; position = refl; target = refl }) in
+    (fields-exact r.target (table_header r.target) body refl).only count mid
+    (record { bytes = s.header; encoded = s.header_is; parts = refl; position = refl; target = refl }) in
     let offsets : Sequence (IsListOffset r.target t.format mid.position (starts_of t.lists)) mid.position s.offsets t.offsets =
     subst (λ n. Sequence (IsListOffset r.target t.format n (starts_of t.lists)) n s.offsets t.offsets) array s.offsets_are in
     let three =
-    (array-exact r.target t.format count mid refl).only t.offsets end (record { bytes = s.offsets; encoded = (plain r.target t.format mid.position (starts_of t.lists) mid.position s.offsets t.offsets offsets, refl); parts = refl; position = refl; target = refl }) in
+    (array-exact r.target t.format count mid refl).only t.offsets end
+    (record {
+      bytes = s.offsets;
+      encoded =
+          (plain r.target t.format mid.position (starts_of t.lists) mid.position s.offsets t.offsets offsets, refl);
+      parts = refl;
+      position =
+          refl;
+      target = refl;
+    }) in
     let four =
-    lists-only r.target end t.lists refl (subst (λ n. Sequence (IsList r.target) (n + length s.offsets) s.lists t.lists) array s.lists_are) in
+    lists-only r.target end t.lists refl (subst (λ n. Sequence (IsList r.target) (n + length s.offsets) s.lists t.lists) array s.lists_are)
+    in
     let five =
-    (named-exact r.target t.format mid.position (starts_of t.lists) count mid refl).only t.offsets end (record { bytes = s.offsets; encoded = (offsets, refl); parts = refl; position = refl; target = refl }) in
+    (named-exact r.target t.format mid.position (starts_of t.lists) count mid refl).only t.offsets end
+    (record { bytes = s.offsets; encoded = (offsets, refl); parts = refl; position = refl; target = refl }) in
     ap (λ x. x >>= after-frame r) one
     ∙ (ap (λ x. x >>= after-header r ((t.format, body), after)) two
     ∙ (ap (λ x. x >>= after-array r ((t.format, body), after) (count, mid)) three
     ∙ (ap (λ x. x >>= after-lists r ((t.format, body), after) (count, mid)) four
-    ∙ (ap (λ (x : Result (List ℕ × ReadPosition) Fault). x >>= λ named. done (table-of r.position t.format mid.position named.0 t.lists) after) five
-    ∙ (ap (λ n. done (table-of n t.format mid.position t.offsets t.lists) after) (sym s.offset_is) ∙ ap (λ n. done (table-of t.offset t.format n t.offsets t.lists) after) (sym array))))))
+    ∙ (ap (λ (x : Result (List ℕ × ReadPosition) Fault). x >>= λ named. done (table-of r.position t.format mid.position named.0 t.lists)
+    after) five
+    ∙ (ap (λ n. done (table-of n t.format mid.position t.offsets t.lists) after) (sym s.offset_is)
+    ∙ ap (λ n. done (table-of t.offset t.format n t.offsets t.lists) after) (sym array))))))
 
 -- a length takes bytes
 pub some-length : (order : Order) (bytes : List ℕ) (format : Format) (v : ℕ) → Len order bytes format v → 0 < length bytes
@@ -317,7 +368,8 @@ tables-forward = forward table_at IsTable each-table
 pub sections-are-tables : (target : Target) (section : List ℕ) (tables : List Table)
     → (tables_of target section ≡ all-read tables) ↔ AreTables target 0 section tables
 unfolding tables_from
-sections-are-tables target section tables = sequence-exact target table_at (IsTable target) (each-table target) (section_from target section 0) tables refl
+sections-are-tables target section tables =
+    sequence-exact target table_at (IsTable target) (each-table target) (section_from target section 0) tables refl
 
 -- ---- the section from an offset on
 
@@ -334,7 +386,8 @@ pub at-table : (target : Target) (section : List ℕ) (at next : ℕ) (t : Table
     → table_at (section_from target section at) ≡ Ok (t, section_from target section next)
     → tables_from target section at ≡ Ok t ∷ tables_from target section next
 unfolding tables_from
-at-table target section at next t is = goes-on table_at tables-forward (section_from target section at) t (section_from target section next) is
+at-table target section at next t is =
+    goes-on table_at tables-forward (section_from target section at) t (section_from target section next) is
 
 -- ---- the lists of a table, list by list
 
@@ -356,7 +409,8 @@ list-begins r l after is = (list-found r.target r l after refl is).encoded.offse
 
 pub offset-refused : (format : Format) (array : ℕ) (starts : List ℕ) (r : ReadPosition) (f : Fault) → offset_at format r ≡ Err f
     → list_offset_at format array starts r ≡ Err f
-offset-refused format array starts r f is = ap (λ (x : Result (ℕ × ReadPosition) Fault). x >>= λ o. judged (unless (is_among starts (array + o.0)) BadOffsetEntry) r.position o) is
+offset-refused format array starts r f is =
+    ap (λ (x : Result (ℕ × ReadPosition) Fault). x >>= λ o. judged (unless (is_among starts (array + o.0)) BadOffsetEntry) r.position o) is
 
 pub offset-good : (format : Format) (array : ℕ) (starts : List ℕ) (r after : ReadPosition) (v : ℕ) → offset_at format r ≡ Ok (v, after)
     → Contains starts (array + v) → list_offset_at format array starts r ≡ Ok (v, after)
@@ -374,32 +428,41 @@ offset-bad format array starts r after v at here is never =
 
 -- ---- a table, field by field
 
-pub table-made : (r after mid end last : ReadPosition) (format : Format) (body : ReadPosition) (count : ℕ) (os ns : List ℕ) (ls : List Loclist)
+pub table-made : (r after mid end last : ReadPosition) (format : Format) (body : ReadPosition) (count : ℕ) (os ns : List ℕ)
+    (ls : List Loclist)
     → framed_at r ≡ Ok ((format, body), after) → fields_at (table_header r.target) body ≡ Ok (count, mid)
-    → exactly_of (offset_at format) count mid ≡ Ok (os, end) → lists_at end ≡ Ok ls → exactly_of (list_offset_at format mid.position (starts_of ls)) count mid ≡ Ok (ns, last) → table_at r ≡ Ok (table-of r.position format mid.position ns ls, after)
+    → exactly_of (offset_at format) count mid ≡ Ok (os, end) → lists_at end ≡ Ok ls
+    → exactly_of (list_offset_at format mid.position (starts_of ls)) count mid ≡ Ok (ns, last)
+    → table_at r ≡ Ok (table-of r.position format mid.position ns ls, after)
 unfolding table_at
 table-made r after mid end last format body count os ns ls one two three four five =
     ap (λ x. x >>= after-frame r) one
     ∙ (ap (λ x. x >>= after-header r ((format, body), after)) two
     ∙ (ap (λ x. x >>= after-array r ((format, body), after) (count, mid)) three
     ∙ (ap (λ x. x >>= after-lists r ((format, body), after) (count, mid)) four
-    ∙ ap (λ (x : Result (List ℕ × ReadPosition) Fault). x >>= λ named. done (table-of r.position format mid.position named.0 ls) after) five)))
+    ∙ ap (λ (x : Result (List ℕ × ReadPosition) Fault). x >>= λ named. done (table-of r.position format mid.position named.0 ls) after)
+    five)))
 
-pub table-unnamed : (r after mid end : ReadPosition) (format : Format) (body : ReadPosition) (count : ℕ) (os : List ℕ) (ls : List Loclist) (f : Fault)
+pub table-unnamed : (r after mid end : ReadPosition) (format : Format) (body : ReadPosition) (count : ℕ) (os : List ℕ) (ls : List Loclist)
+    (f : Fault)
     → framed_at r ≡ Ok ((format, body), after) → fields_at (table_header r.target) body ≡ Ok (count, mid)
-    → exactly_of (offset_at format) count mid ≡ Ok (os, end) → lists_at end ≡ Ok ls → exactly_of (list_offset_at format mid.position (starts_of ls)) count mid ≡ Err f → table_at r ≡ Err f
+    → exactly_of (offset_at format) count mid ≡ Ok (os, end) → lists_at end ≡ Ok ls
+    → exactly_of (list_offset_at format mid.position (starts_of ls)) count mid ≡ Err f → table_at r ≡ Err f
 unfolding table_at
 table-unnamed r after mid end format body count os ls f one two three four five =
     ap (λ x. x >>= after-frame r) one
     ∙ (ap (λ x. x >>= after-header r ((format, body), after)) two
     ∙ (ap (λ x. x >>= after-array r ((format, body), after) (count, mid)) three
     ∙ (ap (λ x. x >>= after-lists r ((format, body), after) (count, mid)) four
-    ∙ ap (λ (x : Result (List ℕ × ReadPosition) Fault). x >>= λ named. done (table-of r.position format mid.position named.0 ls) after) five)))
+    ∙ ap (λ (x : Result (List ℕ × ReadPosition) Fault). x >>= λ named. done (table-of r.position format mid.position named.0 ls) after)
+    five)))
 
 -- what is behind the header is the section from there on
 pub header-leaves : (target : Target) (section : List ℕ) (start count : ℕ) (mid : ReadPosition) → start ≤ length section
     → fields_at (table_header target) (section_from target section start) ≡ Ok (count, mid) → mid ≡ section_from target section mid.position
-header-leaves target section start count mid inside is = leaves-suffix target (fields_at (table_header target)) (Encodes target (table_header target)) (fields-exact target (table_header target)) section start count mid inside is
+header-leaves target section start count mid inside is =
+    leaves-suffix target (fields_at (table_header target)) (Encodes target (table_header target))
+    (fields-exact target (table_header target)) section start count mid inside is
 
 -- ---- the lists of a table among those that are kept
 

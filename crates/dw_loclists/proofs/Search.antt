@@ -43,12 +43,14 @@ searched-none {X} key xs up k i in_range parted =
 pub contains-map : {X Y : Type 0} (f : X → Y) (xs : List X) (x : X) → Contains xs x → Contains (map f xs) (f x)
 contains-map f [] x (k, lt, is) = absurd (omega arith)
 contains-map f (y ∷ xs) x (zero, lt, is) = (zero, omega arith, ap f is)
-contains-map f (y ∷ xs) x (suc k, lt, is) = let rest = contains-map f xs x (k, omega arith, is) in (suc rest.0, omega (arith, rest.1), rest.2)
+contains-map f (y ∷ xs) x (suc k, lt, is) = let rest =
+    contains-map f xs x (k, omega arith, is) in (suc rest.0, omega (arith, rest.1), rest.2)
 
 pub contained-map : {X Y : Type 0} (f : X → Y) (xs : List X) (y : Y) → Contains (map f xs) y → (x : X) × Contains xs x × (f x ≡ y)
 contained-map f [] y (k, lt, is) = absurd (omega arith)
 contained-map f (x ∷ xs) y (zero, lt, is) = (x, (zero, omega arith, refl), is)
-contained-map f (x ∷ xs) y (suc k, lt, is) = let rest = contained-map f xs y (k, omega arith, is) in (rest.0, (suc rest.1.0, omega (arith, rest.1.1), rest.1.2), rest.2)
+contained-map f (x ∷ xs) y (suc k, lt, is) = let rest =
+    contained-map f xs y (k, omega arith, is) in (rest.0, (suc rest.1.0, omega (arith, rest.1.1), rest.1.2), rest.2)
 
 -- some element, to be a default
 pub some-element : {X : Type 0} (xs : List X) (i : ℕ) → i < length xs → X
@@ -79,7 +81,8 @@ ascends-back f [] h = tt
 ascends-back f (x ∷ xs) h = (all-back f (f x) xs h.0, ascends-back f xs h.1)
 
 three-ways : (i j : ℕ) → (i < j) ⊎ ((i ≡ j) ⊎ (j < i))
-three-ways i j = elim (cases_lt i j) [ inl lt ↦ inl lt | inr le ↦ elim (cases_lt j i) [ inl lt ↦ inr (inr lt) | inr ge ↦ inr (inl (omega arith)) ] ]
+three-ways i j = elim (cases_lt i j)
+    [ inl lt ↦ inl lt | inr le ↦ elim (cases_lt j i) [ inl lt ↦ inr (inr lt) | inr ge ↦ inr (inl (omega arith)) ] ]
 
 -- two elements at one number are one
 pub ascending-same : {X : Type 0} (at : X → ℕ) (xs : List X) → Ascends at xs → (x y : X) → Contains xs x → Contains xs y → at x ≡ at y
@@ -87,10 +90,13 @@ pub ascending-same : {X : Type 0} (at : X → ℕ) (xs : List X) → Ascends at 
 ascending-same at xs up x y (i, i_in, i_is) (j, j_in, j_is) same =
     let y_is : get_or xs j x ≡ y = get_or_default xs j x y j_in ∙ j_is in
     elim (three-ways i j) [
-      | inl lt ↦ absurd (let h : at x < at y = subst (λ v. at x < at v) y_is (subst (λ v. at v < at (get_or xs j x)) i_is (ascending-at at xs up i j x lt j_in)) in omega arith)
+      | inl lt ↦ absurd (let h : at x < at y =
+          subst (λ v. at x < at v) y_is (subst (λ v. at v < at (get_or xs j x)) i_is (ascending-at at xs up i j x lt j_in)) in omega arith)
       | inr rest ↦ elim rest [
         | inl e ↦ sym i_is ∙ (ap (λ k. get_or xs k x) e ∙ y_is)
-        | inr lt ↦ absurd (let h : at y < at x = subst (λ v. at v < at x) y_is (subst (λ v. at (get_or xs j x) < at v) i_is (ascending-at at xs up j i x lt i_in)) in omega arith)
+        | inr lt ↦ absurd (let h : at y < at x =
+            subst (λ v. at v < at x) y_is (subst (λ v. at (get_or xs j x) < at v) i_is (ascending-at at xs up j i x lt i_in)) in omega
+            arith)
       ]
     ]
 

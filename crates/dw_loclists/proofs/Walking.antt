@@ -23,7 +23,8 @@ not-ok : (x : Found) (f : Fault) → x ≡ bad f → IsOk x → ⊥
 not-ok x f is ok = let h : IsOk (bad f) = subst (λ (y : Found). IsOk y) is ok in cc
 
 some-bytes : (d : Bool) (r : ReadPosition) → IsOk (entries_at d r) → 0 < length r.rest
-some-bytes d r ok = elim (cases_lt 0 (length r.rest)) [ inl lt ↦ lt | inr le ↦ absurd (not-ok (entries_at d r) (no_end r) (entries-end d r (omega arith)) ok) ]
+some-bytes d r ok = elim (cases_lt 0 (length r.rest))
+    [ inl lt ↦ lt | inr le ↦ absurd (not-ok (entries_at d r) (no_end r) (entries-end d r (omega arith)) ok) ]
 
 -- an entry is there
 pub always-read : (d : Bool) (r : ReadPosition) (f : Fault) → IsOk (entries_at d r) → entry_at r ≡ Err f → ⊥
@@ -33,7 +34,8 @@ always-read d r f ok is = not-ok (entries_at d r) f (entries-refused d r f (some
 no-fault : (d : Bool) (r : ReadPosition) (e : Entry) (mid : ReadPosition) → IsOk (entries_at d r) → entry_at r ≡ Ok (e, mid)
     → (x : Option Fault) → entry_fault d r.position e ≡ x → entry_fault d r.position e ≡ None
 no-fault d r e mid ok is None fault = fault
-no-fault d r e mid ok is (Some f) fault = absurd (not-ok (entries_at d r) f (entries-refused d r f (some-bytes d r ok) (checked-fault d r e mid f is fault)) ok)
+no-fault d r e mid ok is (Some f) fault =
+    absurd (not-ok (entries_at d r) f (entries-refused d r f (some-bytes d r ok) (checked-fault d r e mid f is fault)) ok)
 
 pub none-before : (d : Bool) (r : ReadPosition) (e : Entry) (mid : ReadPosition) → IsOk (entries_at d r) → entry_at r ≡ Ok (e, mid)
     → (d && is_default e) ≡ false
@@ -41,7 +43,8 @@ none-before d r e mid ok is = (fine-if-none d r.position e (no-fault d r e mid o
 
 pub step-ends : (d : Bool) (r : ReadPosition) (e : Entry) (mid : ReadPosition) → IsOk (entries_at d r) → entry_at r ≡ Ok (e, mid)
     → is_end e ≡ true → entries_in (entries_at d r) ≡ []
-step-ends d r e mid ok is end = ap entries_in (entries-last d r e mid (checked-none d r e mid is (no-fault d r e mid ok is (entry_fault d r.position e) refl)) end)
+step-ends d r e mid ok is end =
+    ap entries_in (entries-last d r e mid (checked-none d r e mid is (no-fault d r e mid ok is (entry_fault d r.position e) refl)) end)
 
 put-ok : (e : Entry) (x : Found) → IsOk (put_before e x) → IsOk x
 put-ok e (Ok es) ok = refl
@@ -59,7 +62,8 @@ pub step-goes : (d next : Bool) (r : ReadPosition) (e : Entry) (mid : ReadPositi
     → is_end e ≡ false → (d || is_default e) ≡ next → IsStep d next r e mid
 step-goes d next r e mid ok is going or =
     let more =
-    entries-more d r e mid (checked-none d r e mid is (no-fault d r e mid ok is (entry_fault d r.position e) refl)) going ∙ ap (λ b. put_before e (entries_at b mid)) or in
+    entries-more d r e mid (checked-none d r e mid is (no-fault d r e mid ok is (entry_fault d r.position e) refl)) going
+    ∙ ap (λ b. put_before e (entries_at b mid)) or in
     let ahead : IsOk (entries_at next mid) = put-ok e (entries_at next mid) (subst (λ (y : Found). IsOk y) more ok) in
     record { readable = ahead; entries = ap entries_in more ∙ put-in e (entries_at next mid) ahead }
 

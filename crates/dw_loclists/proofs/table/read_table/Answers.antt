@@ -28,11 +28,14 @@ check_array-requires c =
     let lists = c.in_ok-read_lists.ensures.exact in
     let first_is : c.len-first.result ≡ length c.args.contents.now.lists.items = grind (arith, common_steps) in
     let starts =
-    slice-starts c.deref.result.now c.args.contents.now.lists.items c.read_lists.new.contents.lists.items c.len-first.result (starts_of lists.0) c.deref.ensures.value first_is (ap (λ (k : Kept). k.lists) lists.2) in
+    slice-starts c.deref.result.now c.args.contents.now.lists.items c.read_lists.new.contents.lists.items c.len-first.result
+    (starts_of lists.0) c.deref.ensures.value first_is (ap (λ (k : Kept). k.lists) lists.2) in
     let here = c.skip_offsets.new.self in
     let are = lists-found here.target here lists.0 refl lists.1 in
     ascends-back start_of (take (length c.deref.result.now - c.len-first.result) (drop c.len-first.result c.deref.result.now))
-    (subst (Ascends (λ n. n)) (sym starts) (rise-ascends here.position (here.position + length here.rest) (starts_of lists.0) (starts-rise here.target here.position here.rest lists.0 are)))
+    (subst (Ascends (λ n. n)) (sym starts)
+    (rise-ascends here.position (here.position + length here.rest) (starts_of lists.0)
+    (starts-rise here.target here.position here.rest lists.0 are)))
 
 pub returns-in_err-check_array-clause-exact : goal.returns-in_err-check_array-clause-exact
 returns-in_err-check_array-clause-exact c =
@@ -46,7 +49,8 @@ returns-in_err-check_array-clause-exact c =
     let fault = c.in_err-check_array.field-0.0 in
     let first_is : c.len-first.result ≡ length c.args.contents.now.lists.items = grind (arith, common_steps) in
     let starts =
-    slice-starts c.deref.result.now c.args.contents.now.lists.items c.read_lists.new.contents.lists.items c.len-first.result (starts_of lists.0) c.deref.ensures.value first_is (ap (λ (k : Kept). k.lists) lists.2) in
+    slice-starts c.deref.result.now c.args.contents.now.lists.items c.read_lists.new.contents.lists.items c.len-first.result
+    (starts_of lists.0) c.deref.ensures.value first_is (ap (λ (k : Kept). k.lists) lists.2) in
     let cursor_is : c.at-cursor.result ≡ section_from target bytes body.start = grind (arith, common_steps) in
     let header : fields_at (table_header target) (section_from target bytes body.start) ≡ Ok (c.in_ok-count.count, mid) =
     ap (fields_at (table_header target)) (sym cursor_is) ∙ c.in_ok-count.ensures.exact in
@@ -58,9 +62,12 @@ returns-in_err-check_array-clause-exact c =
     let array_is : c.at-array.result ≡ mid = array_at ∙ sym mid_is in
     let named : exactly_of (list_offset_at body.format mid.position (starts_of lists.0)) c.in_ok-count.count mid ≡ Err fault =
     sym (ap (λ (r : ReadPosition). exactly_of (list_offset_at body.format r.position (starts_of lists.0)) c.in_ok-count.count r) array_is)
-    ∙ (sym (ap (λ (xs : List ℕ). exactly_of (list_offset_at body.format c.at-array.result.position xs) c.in_ok-count.count c.at-array.result) starts) ∙ c.in_err-check_array.ensures.exact) in
+    ∙ (sym (ap (λ (xs : List ℕ). exactly_of (list_offset_at body.format c.at-array.result.position xs) c.in_ok-count.count
+    c.at-array.result) starts) ∙ c.in_err-check_array.ensures.exact) in
     let stop : table_at (section_from target section c.args.at) ≡ Err fault =
-    table-unnamed (section_from target section c.args.at) (section_from target section body.end) mid c.skip_offsets.new.self body.format (section_from target bytes body.start) c.in_ok-count.count offsets.0 lists.0 fault c.in_ok-body.ensures.exact header offsets.1 lists.1 named in
+    table-unnamed (section_from target section c.args.at) (section_from target section body.end) mid c.skip_offsets.new.self body.format
+    (section_from target bytes body.start) c.in_ok-count.count offsets.0 lists.0 fault c.in_ok-body.ensures.exact header offsets.1
+    lists.1 named in
     grind (arith, common_steps, stop)
 
 pub returns-clause-exact : goal.returns-clause-exact
@@ -74,7 +81,8 @@ returns-clause-exact c =
     let offsets = c.in_ok-skip_offsets.ensures.exact in
     let first_is : c.len-first.result ≡ length c.args.contents.now.lists.items = grind (arith, common_steps) in
     let starts =
-    slice-starts c.deref.result.now c.args.contents.now.lists.items c.read_lists.new.contents.lists.items c.len-first.result (starts_of lists.0) c.deref.ensures.value first_is (ap (λ (k : Kept). k.lists) lists.2) in
+    slice-starts c.deref.result.now c.args.contents.now.lists.items c.read_lists.new.contents.lists.items c.len-first.result
+    (starts_of lists.0) c.deref.ensures.value first_is (ap (λ (k : Kept). k.lists) lists.2) in
     let cursor_is : c.at-cursor.result ≡ section_from target bytes body.start = grind (arith, common_steps) in
     let header : fields_at (table_header target) (section_from target bytes body.start) ≡ Ok (c.in_ok-count.count, mid) =
     ap (fields_at (table_header target)) (sym cursor_is) ∙ c.in_ok-count.ensures.exact in
@@ -85,11 +93,15 @@ returns-clause-exact c =
     let array_at : c.at-array.result ≡ section_from target bytes mid.position = grind (arith, common_steps) in
     let array_is : c.at-array.result ≡ mid = array_at ∙ sym mid_is in
     let offsets_are = c.in_ok-check_array.ensures.exact in
-    let named : exactly_of (list_offset_at body.format mid.position (starts_of lists.0)) c.in_ok-count.count mid ≡ Ok (offsets_are.0, c.check_array.new.cursor) =
+    let named : exactly_of (list_offset_at body.format mid.position (starts_of lists.0)) c.in_ok-count.count mid ≡ Ok
+    (offsets_are.0, c.check_array.new.cursor) =
     sym (ap (λ (r : ReadPosition). exactly_of (list_offset_at body.format r.position (starts_of lists.0)) c.in_ok-count.count r) array_is)
-    ∙ (sym (ap (λ (xs : List ℕ). exactly_of (list_offset_at body.format c.at-array.result.position xs) c.in_ok-count.count c.at-array.result) starts) ∙ offsets_are.1) in
+    ∙ (sym (ap (λ (xs : List ℕ). exactly_of (list_offset_at body.format c.at-array.result.position xs) c.in_ok-count.count
+    c.at-array.result) starts) ∙ offsets_are.1) in
     let made =
-    table-made (section_from target section c.args.at) (section_from target section body.end) mid c.skip_offsets.new.self c.check_array.new.cursor body.format (section_from target bytes body.start) c.in_ok-count.count offsets.0 offsets_are.0 lists.0 c.in_ok-body.ensures.exact header offsets.1 lists.1 named in
+    table-made (section_from target section c.args.at) (section_from target section body.end) mid c.skip_offsets.new.self
+    c.check_array.new.cursor body.format (section_from target bytes body.start) c.in_ok-count.count offsets.0 offsets_are.0 lists.0
+    c.in_ok-body.ensures.exact header offsets.1 lists.1 named in
     let tables : c.push.new.self.items ≡ c.read_lists.new.contents.tables.items ++ c.args.at ∷ [] = grind (arith, common_steps) in
     let t = table-of c.args.at body.format mid.position offsets_are.0 lists.0 in
     (t, made, behind-lists (kept_of c.args.contents.now) (kept_of c.read_lists.new.contents) t c.push.new.self.items lists.2 tables)

@@ -30,7 +30,8 @@ at-requires-clause-inside c =
 
 ascends-located : (xs : List (ℕ × CheckedExpression)) (ys : List LocatedExpression) → all_located xs ≡ ys → Ascends (λ n. n) (offsets-of ys)
     → Ascends offset_of xs
-ascends-located xs ys is up = ascends-back offset_of xs (subst (Ascends (λ n. n)) (sym (ap (λ (zs : List LocatedExpression). offsets-of zs) is) ∙ same xs) up)
+ascends-located xs ys is up = ascends-back offset_of xs
+    (subst (Ascends (λ n. n)) (sym (ap (λ (zs : List LocatedExpression). offsets-of zs) is) ∙ same xs) up)
   where
     same : (zs : List (ℕ × CheckedExpression)) → offsets-of (all_located zs) ≡ map offset_of zs
     same [] = refl
