@@ -29,18 +29,23 @@ no-fault [] = refl
 no-fault (t ∷ ts) = no-fault ts
 
 -- at the end of the section
-pub all-tables : (target : Target) (section : List ℕ) (at : ℕ) (ts : List Table) → tables_of target section ≡ all-read ts ++ tables_from target section at → length section ≤ at → tables_of target section ≡ all-read ts
+pub all-tables : (target : Target) (section : List ℕ) (at : ℕ) (ts : List Table)
+    → tables_of target section ≡ all-read ts ++ tables_from target section at → length section ≤ at → tables_of target section ≡ all-read ts
 all-tables target section at ts is h = is ∙ (ap (λ (xs : Items). all-read ts ++ xs) (at-end target section at h) ∙ nothing (all-read ts))
 
-pub tables-checked : (target : Target) (section : List ℕ) (ts : List Table) → tables_of target section ≡ all-read ts → lists_fault target section ≡ None
+pub tables-checked : (target : Target) (section : List ℕ) (ts : List Table) → tables_of target section ≡ all-read ts
+    → lists_fault target section ≡ None
 tables-checked target section ts is = ap (λ (xs : Items). fault_in xs) is ∙ no-fault ts
 
-pub tables-are : (target : Target) (section : List ℕ) (ts : List Table) → tables_of target section ≡ all-read ts → values_in (tables_of target section) ≡ ts
+pub tables-are : (target : Target) (section : List ℕ) (ts : List Table) → tables_of target section ≡ all-read ts
+    → values_in (tables_of target section) ≡ ts
 tables-are target section ts is = ap (λ (xs : Items). values_in xs) is ∙ values-all ts
 
 -- at a fault
-pub tables-fault : (target : Target) (section : List ℕ) (ts : List Table) (items : Items) (f : Fault) → tables_of target section ≡ all-read ts ++ items → items ≡ Err f ∷ [] → lists_fault target section ≡ Some f
-tables-fault target section ts items f is bad = ap (λ (xs : Items). fault_in xs) is ∙ (fault-behind ts items ∙ ap (λ (xs : Items). fault_in xs) bad)
+pub tables-fault : (target : Target) (section : List ℕ) (ts : List Table) (items : Items) (f : Fault)
+    → tables_of target section ≡ all-read ts ++ items → items ≡ Err f ∷ [] → lists_fault target section ≡ Some f
+tables-fault target section ts items f is bad = ap (λ (xs : Items). fault_in xs) is
+    ∙ (fault-behind ts items ∙ ap (λ (xs : Items). fault_in xs) bad)
 
 abbrev some : Fault → Option Fault
 some f = Some f
@@ -55,16 +60,22 @@ pub checked-tables : (s : ListSection) → IsChecked s → AreTables s.target 0 
 checked-tables s checked = (sections-are-tables s.target s.section (tables_in s)).0 (whole (tables_of s.target s.section) checked)
 
 pub lists-ascend : (s : ListSection) → IsChecked s → Ascends (λ n. n) (starts_of (lists_in s))
-lists-ascend s checked = rise-ascends 0 (0 + length s.section) (starts_of (lists_in s)) (tables-start s.target 0 s.section (tables_in s) (checked-tables s checked))
+lists-ascend s checked = rise-ascends 0 (0 + length s.section) (starts_of (lists_in s))
+    (tables-start s.target 0 s.section (tables_in s) (checked-tables s checked))
 
 pub expressions-ascend : (s : ListSection) → IsChecked s → Ascends (λ n. n) (offsets-of (located_in s))
-expressions-ascend s checked = rise-ascends (0 + 1) (0 + length s.section + 1) (offsets-of (located_in s)) (tables-rise s.target 0 s.section (tables_in s) (checked-tables s checked))
+expressions-ascend s checked = rise-ascends (0 + 1) (0 + length s.section + 1) (offsets-of (located_in s))
+    (tables-rise s.target 0 s.section (tables_in s) (checked-tables s checked))
 
 map-append-read : (ts : List Table) (t : Table) (items : Items) → all-read ts ++ (Ok t ∷ items) ≡ all-read (ts ++ t ∷ []) ++ items
 map-append-read [] t items = refl
 map-append-read (u ∷ ts) t items = ap (λ (xs : Items). Ok u ∷ xs) (map-append-read ts t items)
 
 -- one table more
-pub one-more : (target : Target) (section : List ℕ) (at next : ℕ) (ts : List Table) (t : Table) → tables_of target section ≡ all-read ts ++ tables_from target section at → table_at (section_from target section at) ≡ Ok (t, section_from target section next) → tables_of target section ≡ all-read (ts ++ t ∷ []) ++ tables_from target section next
+pub one-more : (target : Target) (section : List ℕ) (at next : ℕ) (ts : List Table) (t : Table)
+    → tables_of target section ≡ all-read ts ++ tables_from target section at
+    → table_at (section_from target section at) ≡ Ok (t, section_from target section next)
+    → tables_of target section ≡ all-read (ts ++ t ∷ []) ++ tables_from target section next
 one-more target section at next ts t so_far is =
-    so_far ∙ (ap (λ (xs : Items). all-read ts ++ xs) (at-table target section at next t is) ∙ map-append-read ts t (tables_from target section next))
+    so_far ∙ (ap (λ (xs : Items). all-read ts ++ xs) (at-table target section at next t is)
+    ∙ map-append-read ts t (tables_from target section next))

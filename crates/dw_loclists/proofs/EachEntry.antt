@@ -36,7 +36,8 @@ abbrev pub AllWithin : ℕ → ℕ → Option Block → Type 0
 AllWithin at end None = Unit {0}
 AllWithin at end (Some b) = StandsWithin at end b
 
-block-within : (target : Target) (start at : ℕ) (bytes : List ℕ) (b : Block) → start < at → IsBlock target at bytes b → StandsWithin start (at + length bytes) b
+block-within : (target : Target) (start at : ℕ) (bytes : List ℕ) (b : Block) → start < at → IsBlock target at bytes b
+    → StandsWithin start (at + length bytes) b
 block-within target start at bytes b lt h = record {
   behind = omega (arith, h.offset_is);
   ends = omega (arith, h.offset_is, ap length h.parts, length-append h.count b.bytes);
@@ -44,7 +45,8 @@ block-within target start at bytes b lt h = record {
 
 -- what holds of the operands of each line of the table
 Holds : ℕ → Target → Option (Line Entry) → Type 0
-Holds start target of = (at : ℕ) (bytes : List ℕ) (e : Entry) → start < at → AreOperands target of at bytes e → AllWithin start (at + length bytes) (expression_in e)
+Holds start target of = (at : ℕ) (bytes : List ℕ) (e : Entry) → start < at → AreOperands target of at bytes e
+    → AllWithin start (at + length bytes) (expression_in e)
 
 which : (b : Bool) (P : Option (Line Entry) → Type 0) (x y : Option (Line Entry)) → P x → P y → P (cond b x y)
 which true P x y h k = h
@@ -56,7 +58,8 @@ no-block start target at bytes e lt (vs, encoded, fit, is) = subst (λ x. AllWit
 
 base-block : (start : ℕ) (target : Target) → Holds start target (Some (one address base_address))
 unfolding Holds
-base-block start target at bytes e lt (vs, encoded, fit, is) = subst (λ x. AllWithin start (at + length bytes) (expression_in x)) (sym is) tt
+base-block start target at bytes e lt (vs, encoded, fit, is) =
+    subst (λ x. AllWithin start (at + length bytes) (expression_in x)) (sym is) tt
 
 default-block : (start : ℕ) (target : Target) → Holds start target (Some (one block default_location))
 unfolding Holds
@@ -65,13 +68,29 @@ default-block start target at bytes e lt (vs, (first, rest, parts, is_block, end
     subst (λ x. AllWithin start (at + length bytes) (expression_in x)) (sym is)
     (record { behind = within.behind; ends = omega (arith, within.ends, ap length parts, length-append first rest, ap length ended) })
 
-third-block : (start : ℕ) (target : Target) (first second : Kind) (make : Operands (first ∷ second ∷ block ∷ []) → Entry) → ((vs : Operands (first ∷ second ∷ block ∷ [])) → expression_in (make vs) ≡ Some vs.1.1.0) → Holds start target (Some (line (first ∷ second ∷ block ∷ []) make))
+third-block : (start : ℕ) (target : Target) (first second : Kind) (make : Operands (first ∷ second ∷ block ∷ []) → Entry)
+    → ((vs : Operands (first ∷ second ∷ block ∷ [])) → expression_in (make vs) ≡ Some vs.1.1.0)
+    → Holds start target (Some (line (first ∷ second ∷ block ∷ []) make))
 unfolding Holds
 third-block start target first second make has at bytes e lt (vs, (a, ra, pa, ia, (b, rb, pb, ib, (c, rc, pc, ic, ended))), fit, is) =
     let within = block-within target start (at + length a + length b) c vs.1.1.0 (omega arith) ic in
     subst (λ x. AllWithin start (at + length bytes) (expression_in x)) (sym is)
     (subst (AllWithin start (at + length bytes)) (sym (has vs))
-    (record { behind = within.behind; ends = omega (arith, within.ends, ap length pa, ap length pb, ap length pc, ap length ended, length-append a ra, length-append b rb, length-append c rc) }))
+    (record {
+      behind = within.behind;
+      ends =
+          omega (
+            arith,
+            within.ends,
+            ap length pa,
+            ap length pb,
+            ap length pc,
+            ap length ended,
+            length-append a ra,
+            length-append b rb,
+            length-append c rc,
+          );
+    }))
 
 unknown-block : (start : ℕ) (target : Target) → Holds start target None
 unfolding Holds
@@ -80,14 +99,18 @@ unknown-block start target at bytes e lt h = absurd h
 all-lines : (start : ℕ) (target : Target) (code : ℕ) → Holds start target (entry_line code)
 all-lines start target code =
     which (code == 0x00) (Holds start target) _ _ (no-block start target)
-    (which (code == 0x04) (Holds start target) _ _ (third-block start target unsigned unsigned (λ vs. offset_pair vs.0 vs.1.0 vs.1.1.0) (λ vs. refl))
+    (which (code == 0x04) (Holds start target) _ _
+    (third-block start target unsigned unsigned (λ vs. offset_pair vs.0 vs.1.0 vs.1.1.0) (λ vs. refl))
     (which (code == 0x05) (Holds start target) _ _ (default-block start target)
     (which (code == 0x06) (Holds start target) _ _ (base-block start target)
-    (which (code == 0x07) (Holds start target) _ _ (third-block start target address address (λ vs. start_end vs.0 vs.1.0 vs.1.1.0) (λ vs. refl))
-    (which (code == 0x08) (Holds start target) _ _ (third-block start target address unsigned (λ vs. start_length vs.0 vs.1.0 vs.1.1.0) (λ vs. refl))
+    (which (code == 0x07) (Holds start target) _ _
+    (third-block start target address address (λ vs. start_end vs.0 vs.1.0 vs.1.1.0) (λ vs. refl))
+    (which (code == 0x08) (Holds start target) _ _
+    (third-block start target address unsigned (λ vs. start_length vs.0 vs.1.0 vs.1.1.0) (λ vs. refl))
     (unknown-block start target))))))
 
-pub entry-within : (target : Target) (at : ℕ) (bytes : List ℕ) (e : Entry) → IsEntry target at bytes e → AllWithin at (at + length bytes) (expression_in e)
+pub entry-within : (target : Target) (at : ℕ) (bytes : List ℕ) (e : Entry) → IsEntry target at bytes e
+    → AllWithin at (at + length bytes) (expression_in e)
 unfolding Holds
 entry-within target at bytes e (code, front, operands, parts, first, second) =
     let inside = all-lines at target code (at + length front) operands e (omega (arith, first.count)) second in
@@ -135,14 +158,17 @@ pub record IsFine (has_default : Bool) (e : Entry) : Type 0 where
   pub range : IsRange e
   pub good : IsGoodLocation (expression_in e)
 
-two-tests : (b c : Bool) (x y : Fault) (z : Option Fault) → cond b (Some x) (cond c (Some y) z) ≡ None → (b ≡ false) × (c ≡ false) × (z ≡ None)
+two-tests : (b c : Bool) (x y : Fault) (z : Option Fault) → cond b (Some x) (cond c (Some y) z) ≡ None
+    → (b ≡ false) × (c ≡ false) × (z ≡ None)
 two-tests true c x y z is = absurd (let never : some-fault x ≡ None = is in cc)
 two-tests false true x y z is = absurd (let never : some-fault y ≡ None = is in cc)
 two-tests false false x y z is = (refl, refl, is)
 
 pub fine-if-none : (has_default : Bool) (at : ℕ) (e : Entry) → entry_fault has_default at e ≡ None → IsFine has_default e
 fine-if-none has_default at e is =
-    let t = two-tests (has_default && is_default e) (is_back_range e) (record { kind = SecondDefault; at = at }) (record { kind = BackRange; at = at }) (location_fault (expression_in e)) is in
+    let t =
+    two-tests (has_default && is_default e) (is_back_range e) (record { kind = SecondDefault; at = at })
+    (record { kind = BackRange; at = at }) (location_fault (expression_in e)) is in
     record { only = t.0; range = is-range e t.1; good = location-good (expression_in e) t.2 }
 
 pub none-if-fine : (has_default : Bool) (at : ℕ) (e : Entry) → IsFine has_default e → entry_fault has_default at e ≡ None
@@ -153,44 +179,55 @@ unless-ok None x y is = (refl, cc)
 unless-ok (Some f) x y is = absurd (let never : Err f ≡ fine y = is in cc)
 
 -- an entry that was read and judged
-pub checked-found : (has_default : Bool) (r : ReadPosition) (e : Entry) (after : ReadPosition) → checked_entry_at has_default r ≡ Ok (e, after) → Next (IsEntry r.target r.position) r e after × IsFine has_default e
+pub checked-found : (has_default : Bool) (r : ReadPosition) (e : Entry) (after : ReadPosition)
+    → checked_entry_at has_default r ≡ Ok (e, after) → Next (IsEntry r.target r.position) r e after × IsFine has_default e
 unfolding checked_entry_at
 checked-found has_default r e after is =
     let a = bind-ok (entry_at r) (λ x. unless_fault (entry_fault has_default r.position x.0) x) (e, after) is in
     let ok = unless-ok (entry_fault has_default r.position a.0.0) a.0 (e, after) a.2 in
     let next = (entry-exact r.target r refl).found a.0.0 a.0.1 a.1 in
-    subst (λ (p : Entry × ReadPosition). Next (IsEntry r.target r.position) r p.0 p.1 × IsFine has_default p.0) ok.1 (next, fine-if-none has_default r.position a.0.0 ok.0)
+    subst (λ (p : Entry × ReadPosition). Next (IsEntry r.target r.position) r p.0 p.1 × IsFine has_default p.0) ok.1
+    (next, fine-if-none has_default r.position a.0.0 ok.0)
 
-pub checked-only : (has_default : Bool) (r : ReadPosition) (e : Entry) (after : ReadPosition) → Next (IsEntry r.target r.position) r e after → IsFine has_default e → checked_entry_at has_default r ≡ Ok (e, after)
+pub checked-only : (has_default : Bool) (r : ReadPosition) (e : Entry) (after : ReadPosition) → Next (IsEntry r.target r.position) r e after
+    → IsFine has_default e → checked_entry_at has_default r ≡ Ok (e, after)
 unfolding checked_entry_at
 checked-only has_default r e after next fine_is =
     let read = (entry-exact r.target r refl).only e after next in
-    let passed : unless_fault (entry_fault has_default r.position e) (e, after) ≡ fine (e, after) = ap (λ (f : Option Fault). unless_fault f (e, after)) (none-if-fine has_default r.position e fine_is) in
+    let passed : unless_fault (entry_fault has_default r.position e) (e, after) ≡ fine (e, after) =
+    ap (λ (f : Option Fault). unless_fault f (e, after)) (none-if-fine has_default r.position e fine_is) in
     ap (λ (x : Result (Entry × ReadPosition) Fault). x >>= λ y. unless_fault (entry_fault has_default r.position y.0) y) read ∙ passed
 
 -- an entry that was read, and what is wrong with it or not
-pub checked-none : (has_default : Bool) (r : ReadPosition) (e : Entry) (after : ReadPosition) → entry_at r ≡ Ok (e, after) → entry_fault has_default r.position e ≡ None → checked_entry_at has_default r ≡ Ok (e, after)
+pub checked-none : (has_default : Bool) (r : ReadPosition) (e : Entry) (after : ReadPosition) → entry_at r ≡ Ok (e, after)
+    → entry_fault has_default r.position e ≡ None → checked_entry_at has_default r ≡ Ok (e, after)
 unfolding checked_entry_at
 checked-none has_default r e after read is =
-    ap (λ (x : Result (Entry × ReadPosition) Fault). x >>= λ y. unless_fault (entry_fault has_default r.position y.0) y) read ∙ ap (λ (f : Option Fault). unless_fault f (e, after)) is
+    ap (λ (x : Result (Entry × ReadPosition) Fault). x >>= λ y. unless_fault (entry_fault has_default r.position y.0) y) read
+    ∙ ap (λ (f : Option Fault). unless_fault f (e, after)) is
 
-pub checked-fault : (has_default : Bool) (r : ReadPosition) (e : Entry) (after : ReadPosition) (f : Fault) → entry_at r ≡ Ok (e, after) → entry_fault has_default r.position e ≡ Some f → checked_entry_at has_default r ≡ Err f
+pub checked-fault : (has_default : Bool) (r : ReadPosition) (e : Entry) (after : ReadPosition) (f : Fault) → entry_at r ≡ Ok (e, after)
+    → entry_fault has_default r.position e ≡ Some f → checked_entry_at has_default r ≡ Err f
 unfolding checked_entry_at
 checked-fault has_default r e after f read is =
-    ap (λ (x : Result (Entry × ReadPosition) Fault). x >>= λ y. unless_fault (entry_fault has_default r.position y.0) y) read ∙ ap (λ (g : Option Fault). unless_fault g (e, after)) is
+    ap (λ (x : Result (Entry × ReadPosition) Fault). x >>= λ y. unless_fault (entry_fault has_default r.position y.0) y) read
+    ∙ ap (λ (g : Option Fault). unless_fault g (e, after)) is
 
 pub checked-refused : (has_default : Bool) (r : ReadPosition) (f : Fault) → entry_at r ≡ Err f → checked_entry_at has_default r ≡ Err f
 unfolding checked_entry_at
-checked-refused has_default r f read = ap (λ (x : Result (Entry × ReadPosition) Fault). x >>= λ y. unless_fault (entry_fault has_default r.position y.0) y) read
+checked-refused has_default r f read =
+    ap (λ (x : Result (Entry × ReadPosition) Fault). x >>= λ y. unless_fault (entry_fault has_default r.position y.0) y) read
 
 -- an offset in an entry that was read
-pub before-inside : (r : ReadPosition) (e : Entry) (after : ReadPosition) (n : ℕ) → entry_at r ≡ Ok (e, after) → IsBefore r.position e n → n ≤ r.position + length r.rest
+pub before-inside : (r : ReadPosition) (e : Entry) (after : ReadPosition) (n : ℕ) → entry_at r ≡ Ok (e, after) → IsBefore r.position e n
+    → n ≤ r.position + length r.rest
 before-inside r e after n is before =
     let next = (entry-exact r.target r refl).found e after is in
     let within = entry-within r.target r.position next.bytes e next.encoded in
     elim before [
       | inl le ↦ omega arith
-      | inr up ↦ let last = up-to r.position (r.position + length next.bytes) n (expression_in e) within up in omega (arith, last, ap length next.parts, length-append next.bytes after.rest)
+      | inr up ↦ let last = up-to r.position (r.position + length next.bytes) n (expression_in e) within up in omega
+          (arith, last, ap length next.parts, length-append next.bytes after.rest)
     ]
   where
     up-to : (at end n : ℕ) (b : Option Block) → AllWithin at end b → IsUpTo n b → n ≤ end

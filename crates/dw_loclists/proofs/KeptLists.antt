@@ -23,18 +23,24 @@ starts-more : (ls : List Loclist) (l : Loclist) → starts_of (ls ++ l ∷ []) �
 starts-more ls l = map-append (λ (m : Loclist). m.offset) ls (l ∷ [])
 
 expressions-more : (ls : List Loclist) (l : Loclist) → expressions_in (ls ++ l ∷ []) ≡ expressions_in ls ++ expressions_of l.entries
-expressions-more ls l = flat_map-append (λ (m : Loclist). expressions_of m.entries) ls (l ∷ []) ∙ ap (λ (t : List LocatedExpression). expressions_in ls ++ t) (one-expressions l)
+expressions-more ls l = flat_map-append (λ (m : Loclist). expressions_of m.entries) ls (l ∷ [])
+    ∙ ap (λ (t : List LocatedExpression). expressions_in ls ++ t) (one-expressions l)
 
 -- one list more
-pub list-kept : (k old new : Kept) (ls : List Loclist) (l : Loclist) → old ≡ with_lists k ls → new ≡ kept-as old.tables (old.lists ++ l.offset ∷ []) (old.expressions ++ expressions_of l.entries) → new ≡ with_lists k (ls ++ l ∷ [])
+pub list-kept : (k old new : Kept) (ls : List Loclist) (l : Loclist) → old ≡ with_lists k ls
+    → new ≡ kept-as old.tables (old.lists ++ l.offset ∷ []) (old.expressions ++ expressions_of l.entries)
+    → new ≡ with_lists k (ls ++ l ∷ [])
 list-kept k old new ls l so_far more =
     more ∙ (ap (λ (o : Kept). kept-as o.tables (o.lists ++ l.offset ∷ []) (o.expressions ++ expressions_of l.entries)) so_far
-    ∙ same-kept k.tables ((k.lists ++ starts_of ls) ++ l.offset ∷ []) (k.lists ++ starts_of (ls ++ l ∷ [])) ((k.expressions ++ expressions_in ls) ++ expressions_of l.entries) (k.expressions ++ expressions_in (ls ++ l ∷ []))
+    ∙ same-kept k.tables ((k.lists ++ starts_of ls) ++ l.offset ∷ []) (k.lists ++ starts_of (ls ++ l ∷ []))
+    ((k.expressions ++ expressions_in ls) ++ expressions_of l.entries) (k.expressions ++ expressions_in (ls ++ l ∷ []))
     (append_assoc k.lists (starts_of ls) (l.offset ∷ []) ∙ ap (λ (t : List ℕ). k.lists ++ t) (sym (starts-more ls l)))
-    (append_assoc k.expressions (expressions_in ls) (expressions_of l.entries) ∙ ap (λ (t : List LocatedExpression). k.expressions ++ t) (sym (expressions-more ls l))))
+    (append_assoc k.expressions (expressions_in ls) (expressions_of l.entries)
+    ∙ ap (λ (t : List LocatedExpression). k.expressions ++ t) (sym (expressions-more ls l))))
 
 pub none-kept : (k : Kept) → k ≡ with_lists k []
-none-kept k = same-kept k.tables k.lists (k.lists ++ []) k.expressions (k.expressions ++ []) (sym (nothing k.lists)) (sym (nothing k.expressions))
+none-kept k = same-kept k.tables k.lists (k.lists ++ []) k.expressions (k.expressions ++ []) (sym (nothing k.lists))
+    (sym (nothing k.expressions))
 
 -- one table more
 abbrev kept-of : List ℕ → List ℕ → List LocatedExpression → Kept
@@ -45,11 +51,18 @@ lists-of-more ts t = flat_map-append (λ (u : Table). u.lists) ts (t ∷ []) ∙
 
 pub table-kept : (ts : List Table) (t : Table) → with_table (kept_from ts) t ≡ kept_from (ts ++ t ∷ [])
 table-kept ts t =
-    ap (λ (x : List ℕ). kept-of x (starts_of (lists_of ts) ++ starts_of t.lists) (expressions_in (lists_of ts) ++ expressions_in t.lists)) (sym (map-append (λ (u : Table). u.offset) ts (t ∷ [])))
-    ∙ (ap (λ (x : List ℕ). kept-of (map (λ (u : Table). u.offset) (ts ++ t ∷ [])) x (expressions_in (lists_of ts) ++ expressions_in t.lists)) (sym (map-append (λ (m : Loclist). m.offset) (lists_of ts) t.lists) ∙ ap starts_of (sym (lists-of-more ts t)))
-    ∙ ap (λ (x : List LocatedExpression). kept-of (map (λ (u : Table). u.offset) (ts ++ t ∷ [])) (starts_of (lists_of (ts ++ t ∷ []))) x) (sym (flat_map-append (λ (m : Loclist). expressions_of m.entries) (lists_of ts) t.lists) ∙ ap expressions_in (sym (lists-of-more ts t))))
+    ap (λ (x : List ℕ). kept-of x (starts_of (lists_of ts) ++ starts_of t.lists) (expressions_in (lists_of ts) ++ expressions_in t.lists))
+    (sym (map-append (λ (u : Table). u.offset) ts (t ∷ [])))
+    ∙ (ap (λ (x : List ℕ). kept-of (map (λ (u : Table). u.offset) (ts ++ t ∷ [])) x
+    (expressions_in (lists_of ts) ++ expressions_in t.lists))
+    (sym (map-append (λ (m : Loclist). m.offset) (lists_of ts) t.lists) ∙ ap starts_of (sym (lists-of-more ts t)))
+    ∙ ap (λ (x : List LocatedExpression). kept-of (map (λ (u : Table). u.offset) (ts ++ t ∷ [])) (starts_of (lists_of (ts ++ t ∷ []))) x)
+    (sym (flat_map-append (λ (m : Loclist). expressions_of m.entries) (lists_of ts) t.lists)
+    ∙ ap expressions_in (sym (lists-of-more ts t))))
 
 -- a table behind its lists
-pub behind-lists : (k new : Kept) (t : Table) (tables : List ℕ) → new ≡ with_lists k t.lists → tables ≡ new.tables ++ t.offset ∷ [] → kept-as tables new.lists new.expressions ≡ with_table k t
+pub behind-lists : (k new : Kept) (t : Table) (tables : List ℕ) → new ≡ with_lists k t.lists → tables ≡ new.tables ++ t.offset ∷ []
+    → kept-as tables new.lists new.expressions ≡ with_table k t
 behind-lists k new t tables lists table =
-    ap (λ (x : List ℕ). kept-as x new.lists new.expressions) table ∙ ap (λ (n : Kept). kept-as (n.tables ++ t.offset ∷ []) n.lists n.expressions) lists
+    ap (λ (x : List ℕ). kept-as x new.lists new.expressions) table
+    ∙ ap (λ (n : Kept). kept-as (n.tables ++ t.offset ∷ []) n.lists n.expressions) lists

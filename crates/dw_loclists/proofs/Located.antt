@@ -30,13 +30,15 @@ no-list : {X : Type 0} (x : X) → Contains [] x → ⊥
 no-list x (k, lt, is) = omega arith
 
 -- in more bytes
-within : (target : Target) (at other : ℕ) (before bytes behind whole : List ℕ) (l : Loclist) → whole ≡ before ++ (bytes ++ behind) → other ≡ at + length before → StandsIn target other bytes l → StandsIn target at whole l
+within : (target : Target) (at other : ℕ) (before bytes behind whole : List ℕ) (l : Loclist) → whole ≡ before ++ (bytes ++ behind)
+    → other ≡ at + length before → StandsIn target other bytes l → StandsIn target at whole l
 within target at other before bytes behind whole l parts at_is h = record {
   front = before ++ h.front;
   own = h.own;
   rest = h.rest ++ behind;
   parts = parts ∙ (ap (λ (t : List ℕ). before ++ (t ++ behind)) h.parts
-      ∙ (ap (λ (t : List ℕ). before ++ t) (append_assoc h.front (h.own ++ h.rest) behind ∙ ap (λ (t : List ℕ). h.front ++ t) (append_assoc h.own h.rest behind))
+      ∙ (ap (λ (t : List ℕ). before ++ t)
+      (append_assoc h.front (h.own ++ h.rest) behind ∙ ap (λ (t : List ℕ). h.front ++ t) (append_assoc h.own h.rest behind))
       ∙ sym (append_assoc before h.front (h.own ++ (h.rest ++ behind)))));
   offset_is = omega (arith, h.offset_is, at_is, length-append before h.front);
   list_is = h.list_is;
@@ -46,38 +48,61 @@ no-more : (xs : List ℕ) → xs ++ [] ≡ xs
 no-more [] = refl
 no-more (x ∷ xs) = ap (λ (t : List ℕ). x ∷ t) (no-more xs)
 
-list-among : (target : Target) (at : ℕ) (bytes : List ℕ) (ls : List Loclist) (l : Loclist) → Sequence (IsList target) at bytes ls → Contains ls l → StandsIn target at bytes l
+list-among : (target : Target) (at : ℕ) (bytes : List ℕ) (ls : List Loclist) (l : Loclist) → Sequence (IsList target) at bytes ls
+    → Contains ls l → StandsIn target at bytes l
 list-among target at bytes [] l are among = absurd (no-list l among)
 list-among target at bytes (m ∷ ls) l (first, rest, parts, here, others) (zero, lt, is) =
     subst (StandsIn target at bytes) is
-    (record { front = []; own = first; rest = rest; parts = parts; offset_is = omega (arith, here.offset_is); list_is = subst (λ n. IsList target n first m) (sym here.offset_is) here })
+    (record {
+      front = [];
+      own = first;
+      rest = rest;
+      parts = parts;
+      offset_is = omega (arith, here.offset_is);
+      list_is =
+          subst (λ n. IsList target n first m) (sym here.offset_is) here;
+    })
 list-among target at bytes (m ∷ ls) l (first, rest, parts, here, others) (suc k, lt, is) =
-    within target at (at + length first) first rest [] bytes l (parts ∙ ap (λ (t : List ℕ). first ++ t) (sym (no-more rest))) refl (list-among target (at + length first) rest ls l others (k, omega arith, is))
+    within target at (at + length first) first rest [] bytes l (parts ∙ ap (λ (t : List ℕ). first ++ t) (sym (no-more rest))) refl
+    (list-among target (at + length first) rest ls l others (k, omega arith, is))
 
-in-table : (target : Target) (at : ℕ) (bytes : List ℕ) (t : Table) (l : Loclist) → IsTable target at bytes t → Contains t.lists l → StandsIn target at bytes l
+in-table : (target : Target) (at : ℕ) (bytes : List ℕ) (t : Table) (l : Loclist) → IsTable target at bytes t → Contains t.lists l
+    → StandsIn target at bytes l
 in-table target at bytes t l s among =
     let before = s.front ++ (s.header ++ s.offsets) in
     let parts : bytes ≡ before ++ (s.lists ++ []) =
-    s.parts ∙ (ap (λ (u : List ℕ). s.front ++ u) (sym (append_assoc s.header s.offsets s.lists)) ∙ (sym (append_assoc s.front (s.header ++ s.offsets) s.lists) ∙ ap (λ (u : List ℕ). before ++ u) (sym (no-more s.lists)))) in
-    within target at (t.array + length s.offsets) before s.lists [] bytes l parts (omega (arith, s.array_is, length-append s.front (s.header ++ s.offsets), length-append s.header s.offsets)) (list-among target (t.array + length s.offsets) s.lists t.lists l s.lists_are among)
+    s.parts ∙ (ap (λ (u : List ℕ). s.front ++ u) (sym (append_assoc s.header s.offsets s.lists))
+    ∙ (sym (append_assoc s.front (s.header ++ s.offsets) s.lists) ∙ ap (λ (u : List ℕ). before ++ u) (sym (no-more s.lists)))) in
+    within target at (t.array + length s.offsets) before s.lists [] bytes l parts
+    (omega (arith, s.array_is, length-append s.front (s.header ++ s.offsets), length-append s.header s.offsets))
+    (list-among target (t.array + length s.offsets) s.lists t.lists l s.lists_are among)
 
-pub among-tables : (target : Target) (at : ℕ) (bytes : List ℕ) (ts : List Table) (l : Loclist) → AreTables target at bytes ts → Contains (lists_of ts) l → StandsIn target at bytes l
+pub among-tables : (target : Target) (at : ℕ) (bytes : List ℕ) (ts : List Table) (l : Loclist) → AreTables target at bytes ts
+    → Contains (lists_of ts) l → StandsIn target at bytes l
 among-tables target at bytes [] l are among = absurd (no-list l among)
-among-tables target at bytes (t ∷ ts) l (first, rest, parts, here, others) among = elim (Contains-append_cases t.lists (lists_of ts) l among) [
-  | inl own ↦ within target at at [] first rest bytes l parts (omega arith) (in-table target at first t l here own)
-  | inr behind ↦ within target at (at + length first) first rest [] bytes l (parts ∙ ap (λ (u : List ℕ). first ++ u) (sym (no-more rest))) refl (among-tables target (at + length first) rest ts l others behind)
-]
+among-tables target at bytes (t ∷ ts) l (first, rest, parts, here, others) among =
+    elim (Contains-append_cases t.lists (lists_of ts) l among) [
+      | inl own ↦ within target at at [] first rest bytes l parts (omega arith) (in-table target at first t l here own)
+      | inr behind ↦ within target at (at + length first) first rest [] bytes l (parts ∙ ap (λ (u : List ℕ). first ++ u) (sym (no-more rest)))
+          refl (among-tables target (at + length first) rest ts l others behind)
+    ]
 
 behind-of : ListSection → Loclist → List ℕ → List ℕ → ReadPosition
 behind-of s l own rest = record { target = s.target; position = l.offset + length own; rest = rest }
 
 -- a list is read at its offset
-pub list-read : (s : ListSection) (l : Loclist) → IsChecked s → Contains (lists_in s) l → (after : ReadPosition) × (entries_at false (section_from s.target s.section l.offset) ≡ Ok (l.entries, after))
+pub list-read : (s : ListSection) (l : Loclist) → IsChecked s → Contains (lists_in s) l
+    → (after : ReadPosition) × (entries_at false (section_from s.target s.section l.offset) ≡ Ok (l.entries, after))
 list-read s l checked among =
     let h = among-tables s.target 0 s.section (tables_in s) l (checked-tables s checked) among in
     let after : ReadPosition = record { target = s.target; position = l.offset + length h.own; rest = h.rest } in
-    let parts : drop l.offset s.section ≡ h.own ++ h.rest = ap (λ n. drop n s.section) (let at : l.offset ≡ length h.front = omega (arith, h.offset_is) in at) ∙ (ap (drop (length h.front)) h.parts ∙ drop-append_seam h.front (h.own ++ h.rest)) in
-    (after, entries-read s.target (section_from s.target s.section l.offset) l after refl (record { bytes = h.own; encoded = h.list_is; parts = parts; position = refl; target = refl }))
+    let parts : drop l.offset s.section ≡ h.own ++ h.rest =
+    ap (λ n. drop n s.section) (let at : l.offset ≡ length h.front = omega (arith, h.offset_is) in at)
+    ∙ (ap (drop (length h.front)) h.parts ∙ drop-append_seam h.front (h.own ++ h.rest)) in (
+      after,
+      entries-read s.target (section_from s.target s.section l.offset) l after refl
+          (record { bytes = h.own; encoded = h.list_is; parts = parts; position = refl; target = refl }),
+    )
 
 pub inside-section : (s : ListSection) (l : Loclist) → IsChecked s → Contains (lists_in s) l → l.offset ≤ length s.section
 inside-section s l checked among =
@@ -85,12 +110,16 @@ inside-section s l checked among =
     omega (arith, h.offset_is, ap length h.parts, length-append h.front (h.own ++ h.rest))
 
 -- one list begins at an offset
-pub one-list : (s : ListSection) (l m : Loclist) → IsChecked s → Contains (lists_in s) l → Contains (lists_in s) m → l.offset ≡ m.offset → l ≡ m
-one-list s l m checked l_in m_in same = ascending-same (λ (x : Loclist). x.offset) (lists_in s) (ascends-back (λ (x : Loclist). x.offset) (lists_in s) (lists-ascend s checked)) l m l_in m_in same
+pub one-list : (s : ListSection) (l m : Loclist) → IsChecked s → Contains (lists_in s) l → Contains (lists_in s) m → l.offset ≡ m.offset
+    → l ≡ m
+one-list s l m checked l_in m_in same =
+    ascending-same (λ (x : Loclist). x.offset) (lists_in s) (ascends-back (λ (x : Loclist). x.offset) (lists_in s) (lists-ascend s checked))
+    l m l_in m_in same
 
 -- ---- what expressions are among
 
-held-among : (base address : ℕ) (e : Entry) (x : LocatedExpression) → Contains (held_by base address e) x → Contains (expressions_of (e ∷ [])) x
+held-among : (base address : ℕ) (e : Entry) (x : LocatedExpression) → Contains (held_by base address e) x
+    → Contains (expressions_of (e ∷ [])) x
 held-among base address e x among = chosen (holds base address e) among
   where
     chosen : (b : Bool) → Contains (cond b (expressions_of (e ∷ [])) []) x → Contains (expressions_of (e ∷ [])) x
@@ -104,18 +133,23 @@ default-among e x among = chosen (is_default e) among
     chosen true h = h
     chosen false h = absurd (no-list x h)
 
-in-front : (e : Entry) (es : List Entry) (x : LocatedExpression) → Contains (expressions_of (e ∷ [])) x → Contains (expressions_of (e ∷ es)) x
-in-front e es x h = subst (λ (xs : List LocatedExpression). Contains xs x) (sym (entries-front e es)) (Contains-append_left (expressions_of (e ∷ [])) (expressions_of es) x h)
+in-front : (e : Entry) (es : List Entry) (x : LocatedExpression) → Contains (expressions_of (e ∷ [])) x
+    → Contains (expressions_of (e ∷ es)) x
+in-front e es x h = subst (λ (xs : List LocatedExpression). Contains xs x) (sym (entries-front e es))
+    (Contains-append_left (expressions_of (e ∷ [])) (expressions_of es) x h)
 
 in-behind : (e : Entry) (es : List Entry) (x : LocatedExpression) → Contains (expressions_of es) x → Contains (expressions_of (e ∷ es)) x
-in-behind e es x h = subst (λ (xs : List LocatedExpression). Contains xs x) (sym (entries-front e es)) (Contains-append_right (expressions_of (e ∷ [])) (expressions_of es) x h)
+in-behind e es x h = subst (λ (xs : List LocatedExpression). Contains xs x) (sym (entries-front e es))
+    (Contains-append_right (expressions_of (e ∷ [])) (expressions_of es) x h)
 
-bounded-among : (base address : ℕ) (es : List Entry) (x : LocatedExpression) → Contains (bounded_at base address es) x → Contains (expressions_of es) x
+bounded-among : (base address : ℕ) (es : List Entry) (x : LocatedExpression) → Contains (bounded_at base address es) x
+    → Contains (expressions_of es) x
 bounded-among base address [] x among = absurd (no-list x among)
-bounded-among base address (e ∷ es) x among = elim (Contains-append_cases (held_by base address e) (bounded_at (base_after base (e ∷ [])) address es) x among) [
-  | inl own ↦ in-front e es x (held-among base address e x own)
-  | inr behind ↦ in-behind e es x (bounded-among (base_after base (e ∷ [])) address es x behind)
-]
+bounded-among base address (e ∷ es) x among =
+    elim (Contains-append_cases (held_by base address e) (bounded_at (base_after base (e ∷ [])) address es) x among) [
+      | inl own ↦ in-front e es x (held-among base address e x own)
+      | inr behind ↦ in-behind e es x (bounded-among (base_after base (e ∷ [])) address es x behind)
+    ]
 
 defaults-among : (es : List Entry) (x : LocatedExpression) → Contains (defaults_in es) x → Contains (expressions_of es) x
 defaults-among [] x among = absurd (no-list x among)
@@ -124,14 +158,20 @@ defaults-among (e ∷ es) x among = elim (Contains-append_cases (default_of e) (
   | inr behind ↦ in-behind e es x (defaults-among es x behind)
 ]
 
-of-lists : (ls : List Loclist) (l : Loclist) (x : LocatedExpression) → Contains ls l → Contains (expressions_of l.entries) x → Contains (expressions_in ls) x
+of-lists : (ls : List Loclist) (l : Loclist) (x : LocatedExpression) → Contains ls l → Contains (expressions_of l.entries) x
+    → Contains (expressions_in ls) x
 of-lists [] l x among h = absurd (no-list l among)
-of-lists (m ∷ ls) l x (zero, lt, is) h = Contains-append_left (expressions_of m.entries) (expressions_in ls) x (subst (λ (y : Loclist). Contains (expressions_of y.entries) x) (sym is) h)
-of-lists (m ∷ ls) l x (suc k, lt, is) h = Contains-append_right (expressions_of m.entries) (expressions_in ls) x (of-lists ls l x (k, omega arith, is) h)
+of-lists (m ∷ ls) l x (zero, lt, is) h =
+    Contains-append_left (expressions_of m.entries) (expressions_in ls) x
+    (subst (λ (y : Loclist). Contains (expressions_of y.entries) x) (sym is) h)
+of-lists (m ∷ ls) l x (suc k, lt, is) h =
+    Contains-append_right (expressions_of m.entries) (expressions_in ls) x (of-lists ls l x (k, omega arith, is) h)
 
 -- all that a list can give is an expression of the section
-pub given-among : (s : ListSection) (l : Loclist) (base address : ℕ) (x : LocatedExpression) → Contains (lists_in s) l → Contains (bounded_at base address l.entries ++ defaults_in l.entries) x → Contains (located_in s) x
-given-among s l base address x l_in among = of-lists (lists_in s) l x l_in (from (Contains-append_cases (bounded_at base address l.entries) (defaults_in l.entries) x among))
+pub given-among : (s : ListSection) (l : Loclist) (base address : ℕ) (x : LocatedExpression) → Contains (lists_in s) l
+    → Contains (bounded_at base address l.entries ++ defaults_in l.entries) x → Contains (located_in s) x
+given-among s l base address x l_in among =
+    of-lists (lists_in s) l x l_in (from (Contains-append_cases (bounded_at base address l.entries) (defaults_in l.entries) x among))
   where
     from : (Contains (bounded_at base address l.entries) x ⊎ Contains (defaults_in l.entries) x) → Contains (expressions_of l.entries) x
     from (inl h) = bounded-among base address l.entries x h

@@ -12,7 +12,8 @@ use Rattle.std.proofs.lemmas.List.Elements.{All-from_recursion, Contains-get_or}
 use Rattle.dw_loclists.specs.Bounds.{Ascends, RiseWithin}
 
 -- an earlier place has the lower number
-ascending-at : {X : Type 0} (at : X → ℕ) (xs : List X) → Ascends at xs → (i j : ℕ) (d : X) → i < j → j < length xs → at (get_or xs i d) < at (get_or xs j d)
+ascending-at : {X : Type 0} (at : X → ℕ) (xs : List X) → Ascends at xs → (i j : ℕ) (d : X) → i < j → j < length xs
+    → at (get_or xs i d) < at (get_or xs j d)
 ascending-at at [] up i j d lt in_range = absurd (omega arith)
 ascending-at at (x ∷ xs) up zero zero d lt in_range = absurd (omega arith)
 ascending-at at (x ∷ xs) up zero (suc j) d lt in_range = All-from_recursion (λ y. at x < at y) xs up.0 j d (omega arith)
@@ -22,10 +23,12 @@ ascending-at at (x ∷ xs) up (suc i) (suc j) d lt in_range = ascending-at at xs
 index-rises : (a b k : ℕ) → a ≤ b → ordering_index (nat_cmp a k) ≤ ordering_index (nat_cmp b k)
 index-rises a b k le = grind (arith, nat_tests)
 
-pub searched-found : {X : Type 0} (key : X → ℕ) (xs : List X) (k : ℕ) (d : X) (i : ℕ) → i < length xs → IsBinarySearchResult (λ y. nat_cmp (key y) k) xs (Ok i) → Contains xs (get_or xs i d) × (key (get_or xs i d) ≡ k)
+pub searched-found : {X : Type 0} (key : X → ℕ) (xs : List X) (k : ℕ) (d : X) (i : ℕ) → i < length xs
+    → IsBinarySearchResult (λ y. nat_cmp (key y) k) xs (Ok i) → Contains xs (get_or xs i d) × (key (get_or xs i d) ≡ k)
 searched-found key xs k d i in_range found = (Contains-get_or xs i d in_range, ranked _ k _ (sym (found d)))
 
-pub searched-none : {X : Type 0} (key : X → ℕ) (xs : List X) → Ascends key xs → (k : ℕ) (i : ℕ) → i ≤ length xs → IsBinarySearchResult (λ y. nat_cmp (key y) k) xs (Err i) → (x : X) → Contains xs x → key x ≢ k
+pub searched-none : {X : Type 0} (key : X → ℕ) (xs : List X) → Ascends key xs → (k : ℕ) (i : ℕ) → i ≤ length xs
+    → IsBinarySearchResult (λ y. nat_cmp (key y) k) xs (Err i) → (x : X) → Contains xs x → key x ≢ k
 searched-none {X} key xs up k i in_range parted =
     let not_above : (i j : ℕ) (e : X) → i ≤ j → j < length xs → key (get_or xs i e) ≤ key (get_or xs j e) =
     λ i j e le lt. grind (arith, ascending-at key xs up i j e, λ (same : i ≡ j). ap (λ n. key (get_or xs n e)) same) in
@@ -40,12 +43,14 @@ searched-none {X} key xs up k i in_range parted =
 pub contains-map : {X Y : Type 0} (f : X → Y) (xs : List X) (x : X) → Contains xs x → Contains (map f xs) (f x)
 contains-map f [] x (k, lt, is) = absurd (omega arith)
 contains-map f (y ∷ xs) x (zero, lt, is) = (zero, omega arith, ap f is)
-contains-map f (y ∷ xs) x (suc k, lt, is) = let rest = contains-map f xs x (k, omega arith, is) in (suc rest.0, omega (arith, rest.1), rest.2)
+contains-map f (y ∷ xs) x (suc k, lt, is) = let rest =
+    contains-map f xs x (k, omega arith, is) in (suc rest.0, omega (arith, rest.1), rest.2)
 
 pub contained-map : {X Y : Type 0} (f : X → Y) (xs : List X) (y : Y) → Contains (map f xs) y → (x : X) × Contains xs x × (f x ≡ y)
 contained-map f [] y (k, lt, is) = absurd (omega arith)
 contained-map f (x ∷ xs) y (zero, lt, is) = (x, (zero, omega arith, refl), is)
-contained-map f (x ∷ xs) y (suc k, lt, is) = let rest = contained-map f xs y (k, omega arith, is) in (rest.0, (suc rest.1.0, omega (arith, rest.1.1), rest.1.2), rest.2)
+contained-map f (x ∷ xs) y (suc k, lt, is) = let rest =
+    contained-map f xs y (k, omega arith, is) in (rest.0, (suc rest.1.0, omega (arith, rest.1.1), rest.1.2), rest.2)
 
 -- some element, to be a default
 pub some-element : {X : Type 0} (xs : List X) (i : ℕ) → i < length xs → X
@@ -76,17 +81,22 @@ ascends-back f [] h = tt
 ascends-back f (x ∷ xs) h = (all-back f (f x) xs h.0, ascends-back f xs h.1)
 
 three-ways : (i j : ℕ) → (i < j) ⊎ ((i ≡ j) ⊎ (j < i))
-three-ways i j = elim (cases_lt i j) [ inl lt ↦ inl lt | inr le ↦ elim (cases_lt j i) [ inl lt ↦ inr (inr lt) | inr ge ↦ inr (inl (omega arith)) ] ]
+three-ways i j = elim (cases_lt i j)
+    [ inl lt ↦ inl lt | inr le ↦ elim (cases_lt j i) [ inl lt ↦ inr (inr lt) | inr ge ↦ inr (inl (omega arith)) ] ]
 
 -- two elements at one number are one
-pub ascending-same : {X : Type 0} (at : X → ℕ) (xs : List X) → Ascends at xs → (x y : X) → Contains xs x → Contains xs y → at x ≡ at y → x ≡ y
+pub ascending-same : {X : Type 0} (at : X → ℕ) (xs : List X) → Ascends at xs → (x y : X) → Contains xs x → Contains xs y → at x ≡ at y
+    → x ≡ y
 ascending-same at xs up x y (i, i_in, i_is) (j, j_in, j_is) same =
     let y_is : get_or xs j x ≡ y = get_or_default xs j x y j_in ∙ j_is in
     elim (three-ways i j) [
-      | inl lt ↦ absurd (let h : at x < at y = subst (λ v. at x < at v) y_is (subst (λ v. at v < at (get_or xs j x)) i_is (ascending-at at xs up i j x lt j_in)) in omega arith)
+      | inl lt ↦ absurd (let h : at x < at y =
+          subst (λ v. at x < at v) y_is (subst (λ v. at v < at (get_or xs j x)) i_is (ascending-at at xs up i j x lt j_in)) in omega arith)
       | inr rest ↦ elim rest [
         | inl e ↦ sym i_is ∙ (ap (λ k. get_or xs k x) e ∙ y_is)
-        | inr lt ↦ absurd (let h : at y < at x = subst (λ v. at v < at x) y_is (subst (λ v. at (get_or xs j x) < at v) i_is (ascending-at at xs up j i x lt i_in)) in omega arith)
+        | inr lt ↦ absurd (let h : at y < at x =
+            subst (λ v. at v < at x) y_is (subst (λ v. at (get_or xs j x) < at v) i_is (ascending-at at xs up j i x lt i_in)) in omega
+            arith)
       ]
     ]
 

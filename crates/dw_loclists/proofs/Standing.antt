@@ -21,11 +21,16 @@ use Rattle.dw_loclists.proofs.Checked.{checked-tables, tables-checked, expressio
 use Rattle.dw_loclists.proofs.Located.{among-tables}
 use Rattle.dw_loclists.proofs.Search.{ascends-back}
 
-pub one-entry : (target : Target) (at : ℕ) (a b x y : List ℕ) (d e : Entry) → IsEntry target at a d → IsEntry target at b e → a ++ x ≡ b ++ y → (a ≡ b) × (d ≡ e)
+pub one-entry : (target : Target) (at : ℕ) (a b x y : List ℕ) (d e : Entry) → IsEntry target at a d → IsEntry target at b e
+    → a ++ x ≡ b ++ y → (a ≡ b) × (d ≡ e)
 one-entry target = one-encoding target entry_at (IsEntry target) (entry-exact target)
 
 pub list-exact : (r : ReadPosition) → IsExact list_at (IsList r.target r.position) r
-list-exact r = record { found = λ l after is. list-found r.target r l after refl is; only = λ l after h. list-only r.target r l after refl h }
+list-exact r = record {
+  found = λ l after is. list-found r.target r l after refl is;
+  only =
+      λ l after h. list-only r.target r l after refl h;
+}
 
 pub well-formed : (target : Target) (section : List ℕ) → (lists_fault target section ≡ None) ↔ IsWellFormed target section
 well-formed target section =
@@ -37,13 +42,17 @@ well-formed target section =
 pub located-ascend : (s : ListSection) → IsChecked s → Ascends (λ (x : LocatedExpression). x.offset) (located_in s)
 located-ascend s checked = ascends-back (λ (x : LocatedExpression). x.offset) (located_in s) (expressions-ascend s checked)
 
-good-among : (es : List Entry) (e : Entry) (b : Block) → AllByRecursion (λ x. IsGoodLocation (expression_in x)) es → Contains es e → expression_in e ≡ Some b → IsGoodExpression Location b.target b.bytes
+good-among : (es : List Entry) (e : Entry) (b : Block) → AllByRecursion (λ x. IsGoodLocation (expression_in x)) es → Contains es e
+    → expression_in e ≡ Some b → IsGoodExpression Location b.target b.bytes
 good-among [] e b all (k, lt, is) has = absurd (omega arith)
 good-among (x ∷ es) e b all (zero, lt, is) has = subst IsGoodLocation (ap expression_in is ∙ has) all.0
 good-among (x ∷ es) e b all (suc k, lt, is) has = good-among es e b all.1 (k, omega arith, is) has
 
-pub good-expressions : (s : ListSection) (l : Loclist) (e : Entry) (b : Block) → IsChecked s → Contains (lists_in s) l → Contains l.entries e → expression_in e ≡ Some b → IsGoodExpression Location b.target b.bytes
-good-expressions s l e b checked among e_in has = good-among l.entries e b (among-tables s.target 0 s.section (tables_in s) l (checked-tables s checked) among).list_is.expressions e_in has
+pub good-expressions : (s : ListSection) (l : Loclist) (e : Entry) (b : Block) → IsChecked s → Contains (lists_in s) l
+    → Contains l.entries e → expression_in e ≡ Some b → IsGoodExpression Location b.target b.bytes
+good-expressions s l e b checked among e_in has =
+    good-among l.entries e b (among-tables s.target 0 s.section (tables_in s) l (checked-tables s checked) among).list_is.expressions e_in
+    has
 
 -- ---- bases
 
@@ -55,14 +64,21 @@ base-more base (base_address other) es = refl
 base-more base (start_end begin end e) es = refl
 base-more base (start_length begin count e) es = refl
 
-pub held-by-base : (base address : ℕ) (before : List Entry) (e : Entry) (behind : List Entry) → bounded_at base address (before ++ e ∷ behind) ≡ bounded_at base address before ++ (held_by (base_after base before) address e ++ bounded_at (base_after base (before ++ e ∷ [])) address behind)
+pub held-by-base : (base address : ℕ) (before : List Entry) (e : Entry) (behind : List Entry)
+    → bounded_at base address (before ++ e ∷ behind) ≡ bounded_at base address before ++
+    (held_by (base_after base before) address e ++ bounded_at (base_after base (before ++ e ∷ [])) address behind)
 held-by-base base address [] e behind = refl
 held-by-base base address (x ∷ before) e behind =
     let next = base_after base (x ∷ []) in
     ap (λ (l : List LocatedExpression). held_by base address x ++ l) (held-by-base next address before e behind)
-    ∙ (ap (λ (n : ℕ). held_by base address x ++ (bounded_at next address before ++ (held_by n address e ++ bounded_at (base_after next (before ++ e ∷ [])) address behind))) (sym (base-more base x before))
-    ∙ (ap (λ (n : ℕ). held_by base address x ++ (bounded_at next address before ++ (held_by (base_after base (x ∷ before)) address e ++ bounded_at n address behind))) (sym (base-more base x (before ++ e ∷ [])))
-    ∙ sym (append_assoc (held_by base address x) (bounded_at next address before) (held_by (base_after base (x ∷ before)) address e ++ bounded_at (base_after base (x ∷ (before ++ e ∷ []))) address behind))))
+    ∙ (ap (λ (n : ℕ). held_by base address x ++
+    (bounded_at next address before ++ (held_by n address e ++ bounded_at (base_after next (before ++ e ∷ [])) address behind)))
+    (sym (base-more base x before))
+    ∙ (ap (λ (n : ℕ). held_by base address x ++
+    (bounded_at next address before ++ (held_by (base_after base (x ∷ before)) address e ++ bounded_at n address behind)))
+    (sym (base-more base x (before ++ e ∷ [])))
+    ∙ sym (append_assoc (held_by base address x) (bounded_at next address before)
+    (held_by (base_after base (x ∷ before)) address e ++ bounded_at (base_after base (x ∷ (before ++ e ∷ []))) address behind))))
 
 -- ---- defaults
 

@@ -23,22 +23,28 @@ not-ok : (x : Found) (f : Fault) → x ≡ bad f → IsOk x → ⊥
 not-ok x f is ok = let h : IsOk (bad f) = subst (λ (y : Found). IsOk y) is ok in cc
 
 some-bytes : (d : Bool) (r : ReadPosition) → IsOk (entries_at d r) → 0 < length r.rest
-some-bytes d r ok = elim (cases_lt 0 (length r.rest)) [ inl lt ↦ lt | inr le ↦ absurd (not-ok (entries_at d r) (no_end r) (entries-end d r (omega arith)) ok) ]
+some-bytes d r ok = elim (cases_lt 0 (length r.rest))
+    [ inl lt ↦ lt | inr le ↦ absurd (not-ok (entries_at d r) (no_end r) (entries-end d r (omega arith)) ok) ]
 
 -- an entry is there
 pub always-read : (d : Bool) (r : ReadPosition) (f : Fault) → IsOk (entries_at d r) → entry_at r ≡ Err f → ⊥
 always-read d r f ok is = not-ok (entries_at d r) f (entries-refused d r f (some-bytes d r ok) (checked-refused d r f is)) ok
 
 -- and it has no fault
-no-fault : (d : Bool) (r : ReadPosition) (e : Entry) (mid : ReadPosition) → IsOk (entries_at d r) → entry_at r ≡ Ok (e, mid) → (x : Option Fault) → entry_fault d r.position e ≡ x → entry_fault d r.position e ≡ None
+no-fault : (d : Bool) (r : ReadPosition) (e : Entry) (mid : ReadPosition) → IsOk (entries_at d r) → entry_at r ≡ Ok (e, mid)
+    → (x : Option Fault) → entry_fault d r.position e ≡ x → entry_fault d r.position e ≡ None
 no-fault d r e mid ok is None fault = fault
-no-fault d r e mid ok is (Some f) fault = absurd (not-ok (entries_at d r) f (entries-refused d r f (some-bytes d r ok) (checked-fault d r e mid f is fault)) ok)
+no-fault d r e mid ok is (Some f) fault =
+    absurd (not-ok (entries_at d r) f (entries-refused d r f (some-bytes d r ok) (checked-fault d r e mid f is fault)) ok)
 
-pub none-before : (d : Bool) (r : ReadPosition) (e : Entry) (mid : ReadPosition) → IsOk (entries_at d r) → entry_at r ≡ Ok (e, mid) → (d && is_default e) ≡ false
+pub none-before : (d : Bool) (r : ReadPosition) (e : Entry) (mid : ReadPosition) → IsOk (entries_at d r) → entry_at r ≡ Ok (e, mid)
+    → (d && is_default e) ≡ false
 none-before d r e mid ok is = (fine-if-none d r.position e (no-fault d r e mid ok is (entry_fault d r.position e) refl)).only
 
-pub step-ends : (d : Bool) (r : ReadPosition) (e : Entry) (mid : ReadPosition) → IsOk (entries_at d r) → entry_at r ≡ Ok (e, mid) → is_end e ≡ true → entries_in (entries_at d r) ≡ []
-step-ends d r e mid ok is end = ap entries_in (entries-last d r e mid (checked-none d r e mid is (no-fault d r e mid ok is (entry_fault d r.position e) refl)) end)
+pub step-ends : (d : Bool) (r : ReadPosition) (e : Entry) (mid : ReadPosition) → IsOk (entries_at d r) → entry_at r ≡ Ok (e, mid)
+    → is_end e ≡ true → entries_in (entries_at d r) ≡ []
+step-ends d r e mid ok is end =
+    ap entries_in (entries-last d r e mid (checked-none d r e mid is (no-fault d r e mid ok is (entry_fault d r.position e) refl)) end)
 
 put-ok : (e : Entry) (x : Found) → IsOk (put_before e x) → IsOk x
 put-ok e (Ok es) ok = refl
@@ -52,9 +58,12 @@ pub record IsStep (d next : Bool) (r : ReadPosition) (e : Entry) (mid : ReadPosi
   pub readable : IsOk (entries_at next mid)
   pub entries : entries_in (entries_at d r) ≡ e ∷ entries_in (entries_at next mid)
 
-pub step-goes : (d next : Bool) (r : ReadPosition) (e : Entry) (mid : ReadPosition) → IsOk (entries_at d r) → entry_at r ≡ Ok (e, mid) → is_end e ≡ false → (d || is_default e) ≡ next → IsStep d next r e mid
+pub step-goes : (d next : Bool) (r : ReadPosition) (e : Entry) (mid : ReadPosition) → IsOk (entries_at d r) → entry_at r ≡ Ok (e, mid)
+    → is_end e ≡ false → (d || is_default e) ≡ next → IsStep d next r e mid
 step-goes d next r e mid ok is going or =
-    let more = entries-more d r e mid (checked-none d r e mid is (no-fault d r e mid ok is (entry_fault d r.position e) refl)) going ∙ ap (λ b. put_before e (entries_at b mid)) or in
+    let more =
+    entries-more d r e mid (checked-none d r e mid is (no-fault d r e mid ok is (entry_fault d r.position e) refl)) going
+    ∙ ap (λ b. put_before e (entries_at b mid)) or in
     let ahead : IsOk (entries_at next mid) = put-ok e (entries_at next mid) (subst (λ (y : Found). IsOk y) more ok) in
     record { readable = ahead; entries = ap entries_in more ∙ put-in e (entries_at next mid) ahead }
 
@@ -68,14 +77,16 @@ or-true false = refl
 
 -- ---- what a step does to what is ahead
 
-pub held-step : (base address : ℕ) (xs : List Entry) (e : Entry) (es : List Entry) → xs ≡ e ∷ es → bounded_at base address xs ≡ held_by base address e ++ bounded_at (base_after base (e ∷ [])) address es
+pub held-step : (base address : ℕ) (xs : List Entry) (e : Entry) (es : List Entry) → xs ≡ e ∷ es
+    → bounded_at base address xs ≡ held_by base address e ++ bounded_at (base_after base (e ∷ [])) address es
 held-step base address xs e es is = ap (bounded_at base address) is
 
 pub defaults-step : (xs : List Entry) (e : Entry) (es : List Entry) → xs ≡ e ∷ es → defaults_in xs ≡ default_of e ++ defaults_in es
 defaults-step xs e es is = ap defaults_in is
 
 -- a default that comes is the first
-pub first-default : (old : Option declared.Block) (b : declared.Block) (es : List Entry) → (is_some old && true) ≡ false → default_located old ++ (location_of (block_of b) ∷ defaults_in es) ≡ default_located (Some b) ++ defaults_in es
+pub first-default : (old : Option declared.Block) (b : declared.Block) (es : List Entry) → (is_some old && true) ≡ false
+    → default_located old ++ (location_of (block_of b) ∷ defaults_in es) ≡ default_located (Some b) ++ defaults_in es
 first-default None b es first = refl
 first-default (Some c) b es first = absurd cc
 
@@ -98,7 +109,8 @@ abbrev located-in : Option Block → List LocatedExpression
 located-in None = []
 located-in (Some b) = location_of b ∷ []
 
-pub holds-some : (base address : ℕ) (e : Entry) → holds base address e ≡ true → (b : Block) × (expression_in e ≡ Some b) × (held_by base address e ≡ location_of b ∷ [])
+pub holds-some : (base address : ℕ) (e : Entry) → holds base address e ≡ true
+    → (b : Block) × (expression_in e ≡ Some b) × (held_by base address e ≡ location_of b ∷ [])
 holds-some base address end_of_list h = absurd cc
 holds-some base address (offset_pair begin end x) h = (x, refl, ap (λ b. cond b (location_of x ∷ []) []) h)
 holds-some base address (default_location x) h = absurd cc

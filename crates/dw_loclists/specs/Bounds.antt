@@ -1,4 +1,4 @@
--- Where things stand in their section. No contract of a public call speaks of these.
+-- Where things stand in their section, and in what order.
 use Rattle.std.specs.Prelude.{◌≤◌, ◌<◌, ◌+◌, ◌⊎◌, ℕ, List, [], ◌∷◌, length, Option, Some, None}
 use Rattle.std.specs.List.{AllByRecursion}
 use Rattle.dw_bytes.specs.Operands.{Block}

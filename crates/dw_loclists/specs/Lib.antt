@@ -13,10 +13,10 @@ pub mod Reading
 -- ---- What the code's own values stand for, and what its calls answer.
 -- entries, lists and kept expressions of the code
 pub mod Views
+-- where things stand, and in what order
+pub mod Bounds
 
 -- ---- Behind the contracts: no contract of a public call speaks of these.
--- where things stand in their section
-pub mod Bounds
 -- what is kept of a section
 pub mod Kept
 -- how a list is walked for an address

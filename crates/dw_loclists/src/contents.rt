@@ -3,7 +3,7 @@
 ghost use Rattle.std.specs.Prelude.{◌<◌, ◌^◌};
 
 use dw_stack::CheckedExpression;
-use std::alloc::Global;
+use std::alloc::{AllocError, Global};
 
 /// A location list of a section (DWARF 5, section 7.7.3), named by where it begins.
 #[derive(Clone, Copy, Debug, PartialEq, Eq)]
@@ -41,17 +41,17 @@ pub struct Contents<'a> {
 }
 
 impl<'a> Contents<'a> {
-    ghost use Rattle.std.specs.Prelude.{◌≡◌, []};
+    ghost use Rattle.std.specs.Prelude.{◌≡◌, IfOk};
     ghost use Rattle.dw_loclists.specs.Kept.{kept_of, nothing_kept};
 
-    /// Of no table yet.
-    pub fn new(alloc: Global) -> Self
-        ensures { kept_of result ≡ nothing_kept }
+    /// Of no table yet, with room for so many expressions.
+    pub fn with_room(alloc: Global, expressions: u32) -> Result<Self, AllocError>
+        ensures { IfOk result (λ contents. kept_of contents ≡ nothing_kept) }
     {
-        Contents {
+        Ok(Contents {
             tables: Vec::new(alloc),
             lists: Vec::new(alloc),
-            expressions: Vec::new(alloc),
-        }
+            expressions: Vec::with_capacity(alloc, expressions as usize)?,
+        })
     }
 }

@@ -15,7 +15,8 @@ ghost use Rattle.dw_loclists.specs.Bounds.{Ascends};
 
 /// No encoding of an entry begins another, and bytes encode one entry.
 pub fn one_entry()
-    ensures { (target : Target) (at : ℕ) (a b x y : List ℕ) (d e : Entry) → IsEntry target at a d → IsEntry target at b e → a ++ x ≡ b ++ y → (a ≡ b) × (d ≡ e) }
+    ensures { (target : Target) (at : ℕ) (a b x y : List ℕ) (d e : Entry) →
+        IsEntry target at a d → IsEntry target at b e → a ++ x ≡ b ++ y → (a ≡ b) × (d ≡ e) }
 {}
 
 /// What is read is what is encoded, and what is encoded is read. Of lists and tables this has what is asked of them besides:
@@ -30,35 +31,53 @@ pub fn reads_are_exact()
 /// A section is read without a fault exactly where its bytes are the encodings of tables without a gap, and then it gives
 /// these.
 pub fn sections_are_tables()
-    ensures { (target : Target) (section : List ℕ) (tables : List Table) → (tables_of target section ≡ map Ok tables) ↔ AreTables target 0 section tables }
+    ensures { (target : Target) (section : List ℕ) (tables : List Table) →
+        (tables_of target section ≡ map Ok tables) ↔ AreTables target 0 section tables }
 {}
 
 /// A section has no fault exactly where it is well formed.
 pub fn sections_without_fault_are_well_formed()
-    ensures { (target : Target) (section : List ℕ) → (lists_fault target section ≡ None) ↔ IsWellFormed target section }
+    ensures { (target : Target) (section : List ℕ) →
+        (lists_fault target section ≡ None) ↔ IsWellFormed target section }
 {}
 
 /// What a section gives from an offset on: the table there and then what is behind it, or the fault there alone, or nothing at
 /// its end.
 pub fn tables_come_in_order()
-    ensures table { (target : Target) (section : List ℕ) (at next : ℕ) (t : Table) → table_at (section_from target section at) ≡ Ok (t, section_from target section next) → tables_from target section at ≡ Ok t ∷ tables_from target section next }
-    ensures fault { (target : Target) (section : List ℕ) (at : ℕ) (fault : Fault) → at < length section → table_at (section_from target section at) ≡ Err fault → tables_from target section at ≡ Err fault ∷ [] }
-    ensures nothing { (target : Target) (section : List ℕ) (at : ℕ) → length section ≤ at → tables_from target section at ≡ [] }
+    ensures table { (target : Target) (section : List ℕ) (at next : ℕ) (t : Table) →
+        table_at (section_from target section at) ≡ Ok (t, section_from target section next) →
+        tables_from target section at ≡ Ok t ∷ tables_from target section next }
+    ensures fault { (target : Target) (section : List ℕ) (at : ℕ) (fault : Fault) →
+        at < length section → table_at (section_from target section at) ≡ Err fault →
+        tables_from target section at ≡ Err fault ∷ [] }
+    ensures nothing { (target : Target) (section : List ℕ) (at : ℕ) →
+        length section ≤ at → tables_from target section at ≡ [] }
 {}
 
 /// What a section that is accepted holds: its tables are what its bytes encode, its lists and its expressions come in order of
 /// their offsets, one list begins at an offset, and each expression is good as a location.
 pub fn checked_sections()
-    ensures tables { (s : ListSection) → IsChecked s → AreTables s.target 0 s.section (tables_in s) }
-    ensures lists_ascend { (s : ListSection) → IsChecked s → Ascends (λ (n : ℕ). n) (starts_of (lists_in s)) }
-    ensures expressions_ascend { (s : ListSection) → IsChecked s → Ascends (λ (x : LocatedExpression). x.offset) (located_in s) }
-    ensures one_list { (s : ListSection) (l m : Loclist) → IsChecked s → Contains (lists_in s) l → Contains (lists_in s) m → l.offset ≡ m.offset → l ≡ m }
-    ensures good { (s : ListSection) (l : Loclist) (e : Entry) (b : Block) → IsChecked s → Contains (lists_in s) l → Contains l.entries e → expression_in e ≡ Some b → IsGoodExpression Location b.target b.bytes }
+    ensures tables { (s : ListSection) →
+        IsChecked s → AreTables s.target 0 s.section (tables_in s) }
+    ensures lists_ascend { (s : ListSection) →
+        IsChecked s → Ascends (λ (n : ℕ). n) (starts_of (lists_in s)) }
+    ensures expressions_ascend { (s : ListSection) →
+        IsChecked s → Ascends (λ (x : LocatedExpression). x.offset) (located_in s) }
+    ensures one_list { (s : ListSection) (l m : Loclist) →
+        IsChecked s → Contains (lists_in s) l → Contains (lists_in s) m →
+        l.offset ≡ m.offset → l ≡ m }
+    ensures good { (s : ListSection) (l : Loclist) (e : Entry) (b : Block) →
+        IsChecked s → Contains (lists_in s) l → Contains l.entries e →
+        expression_in e ≡ Some b → IsGoodExpression Location b.target b.bytes }
 {}
 
 /// An entry of a list counts from the base of the last base_address before it, or else from the unit's; and a list has one
 /// default at most.
 pub fn entries_hold_by_the_base_before_them()
-    ensures held { (base address : ℕ) (before : List Entry) (e : Entry) (behind : List Entry) → bounded_at base address (before ++ e ∷ behind) ≡ bounded_at base address before ++ (held_by (base_after base before) address e ++ bounded_at (base_after base (before ++ e ∷ [])) address behind) }
-    ensures one_default { (target : Target) (at : ℕ) (bytes : List ℕ) (l : Loclist) → IsList target at bytes l → length (defaults_in l.entries) ≤ 1 }
+    ensures held { (base address : ℕ) (before : List Entry) (e : Entry) (behind : List Entry) →
+        bounded_at base address (before ++ e ∷ behind) ≡ bounded_at base address before
+        ++ (held_by (base_after base before) address e
+        ++ bounded_at (base_after base (before ++ e ∷ [])) address behind) }
+    ensures one_default { (target : Target) (at : ℕ) (bytes : List ℕ) (l : Loclist) →
+        IsList target at bytes l → length (defaults_in l.entries) ≤ 1 }
 {}

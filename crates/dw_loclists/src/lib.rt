@@ -2,6 +2,7 @@
 #![tactic(auto)]
 
 mod contents;
+mod count;
 mod entry;
 mod find;
 pub mod laws;

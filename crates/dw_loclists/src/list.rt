@@ -31,8 +31,10 @@ fn check_location<'a>(
     expressions: &mut Vec<(u32, CheckedExpression<'a>)>,
 ) -> Result<(), Fault>
     ensures answer { Answers (location_fault (Some (block_of block.entry))) result }
-    ensures kept { OnOk result (all_located expressions.new.items ≡ all_located expressions.old.items ++ location_of (block_of block.entry) ∷ []) }
-    ensures inside { IfErr result (λ fault. fault.at ≤ block.entry.offset + length block.entry.bytes.now) }
+    ensures kept { OnOk result (all_located expressions.new.items
+        ≡ all_located expressions.old.items ++ location_of (block_of block.entry) ∷ []) }
+    ensures inside { IfErr result (λ fault.
+        fault.at ≤ block.entry.offset + length block.entry.bytes.now) }
 {
     let expression = Expression::new(block.bytes, block.target);
     match check_expression(alloc, expression, Kind::Location) {
@@ -60,7 +62,8 @@ fn check_entry<'a>(
     expressions: &mut Vec<(u32, CheckedExpression<'a>)>,
 ) -> Result<(), Fault>
     ensures answer { Answers (entry_fault has_default at (entry_of entry.now)) result }
-    ensures kept { OnOk result (all_located expressions.new.items ≡ all_located expressions.old.items ++ expressions_of (entry_of entry.now ∷ [])) }
+    ensures kept { OnOk result (all_located expressions.new.items
+        ≡ all_located expressions.old.items ++ expressions_of (entry_of entry.now ∷ [])) }
     ensures inside { IfErr result (λ fault. IsBefore at (entry_of entry.now) fault.at) }
 {
     if has_default && entry.is_default() {
@@ -91,7 +94,9 @@ pub fn read_list<'a>(
 ) -> Result<(), Fault>
     requires { end ≡ cursor.old.position + length cursor.old.rest }
     ensures exact { MatchResult result
-        (λ _. (l : Loclist) × (list_at cursor.old ≡ Ok (l, cursor.new)) × (all_located expressions.new.items ≡ all_located expressions.old.items ++ expressions_of l.entries))
+        (λ _. (l : Loclist) × (list_at cursor.old ≡ Ok (l, cursor.new)) ×
+        (all_located expressions.new.items
+        ≡ all_located expressions.old.items ++ expressions_of l.entries))
         (λ f. (f ≡ memory) ⊎ (list_at cursor.old ≡ Err f)) }
     ensures within { IsRefusedWithin cursor.old result }
     ensures goes_on { MovesForward cursor.old cursor.new }

@@ -8,7 +8,9 @@ ghost use Rattle.dw_loclists.specs.Reading.{lists_fault, IsChecked, tables_in, l
 ghost use Rattle.dw_loclists.specs.Views.{start_of, all_located};
 
 use crate::contents::{Contents, LocationList};
+use crate::count::count_expressions;
 use crate::find::find_list;
+use crate::list::MEMORY;
 use crate::locations::LocationsAt;
 use crate::table::read_table;
 use crate::walk::ListWalk;
@@ -34,7 +36,8 @@ impl<'a> Model for CheckedLists<'a> {
 
     ghost view = { λ c. record { target = c.target; section = c.section.now } };
 
-    ghost invariant = { λ c. IsKept (record { target = c.target; section = c.section.now }) (kept_of c.contents) };
+    ghost invariant = { λ c.
+        IsKept (record { target = c.target; section = c.section.now }) (kept_of c.contents) };
 }
 
 /// Checks a section of fewer than 2^32 bytes. A refusal is the first fault, from left to right.
@@ -55,9 +58,12 @@ pub fn check_lists<'a>(
     requires { length section.now < 2 ^ 32 }
     ensures answer { Answers (lists_fault target section.now) result }
     ensures inside { IfErr result (λ fault. fault.at ≤ length section.now) }
-    ensures lists { IfOk result (λ lists. lists ≡ record { target = target; section = section.now }) }
+    ensures lists { IfOk result (λ lists.
+        lists ≡ record { target = target; section = section.now }) }
 {
-    let mut contents = Contents::new(alloc);
+    let Ok(mut contents) = Contents::with_room(alloc, count_expressions(section, target)) else {
+        return Err(MEMORY);
+    };
     let end = section.len() as u32;
     let mut at = 0;
     'tables: while at < end {
@@ -111,7 +117,8 @@ impl<'a> CheckedLists<'a> {
     pub fn list(&self, offset: u32) -> Option<LocationList>
         ensures { MatchOption result
             (¬ Contains (starts_of (lists_in self.now)) offset)
-            (λ list. (start_of list ≡ offset) × Contains (starts_of (lists_in self.now)) offset) }
+            (λ list. (start_of list ≡ offset)
+            × Contains (starts_of (lists_in self.now)) offset) }
     {
         find_list(&self.contents.lists, u64::from(offset))
     }
@@ -120,7 +127,8 @@ impl<'a> CheckedLists<'a> {
     /// address, or where none has it the default's. The base is the unit's; no sum wraps. It takes no memory.
     pub fn locations_at(&self, list: &LocationList, base: u64, address: u64) -> LocationsAt<'_, 'a>
         requires { Contains (starts_of (lists_in self.now)) (start_of list.now) }
-        ensures { (l : Loclist) → Contains (lists_in self.now) l → l.offset ≡ start_of list.now → result ≡ locations_of l base address }
+        ensures { (l : Loclist) → Contains (lists_in self.now) l →
+            l.offset ≡ start_of list.now → result ≡ locations_of l base address }
     {
         let walk = ListWalk {
             cursor: Cursor::at(self.section, self.target, list.offset()),

@@ -19,7 +19,7 @@ use dw_bytes::{Body, Cursor, Fault, FaultKind, Format, Target};
 use std::alloc::Global;
 
 /// What is behind the length of a table, up to its array: how many offsets that has.
-fn read_header(cursor: &mut Cursor<'_>, target: Target) -> Result<u32, Fault>
+pub fn read_header(cursor: &mut Cursor<'_>, target: Target) -> Result<u32, Fault>
     ensures exact { ParsesBy (λ count. count) (fields_at (table_header target)) cursor.old result cursor.new }
     ensures within { IsRefusedWithin cursor.old result }
     ensures goes_on { MovesForward cursor.old cursor.new }
@@ -45,7 +45,8 @@ fn read_lists<'a>(
 ) -> Result<(), Fault>
     requires { end ≡ cursor.old.position + length cursor.old.rest }
     ensures exact { MatchResult result
-        (λ _. (lists : List Loclist) × (lists_at cursor.old ≡ Ok lists) × (kept_of contents.new ≡ with_lists (kept_of contents.old) lists))
+        (λ _. (lists : List Loclist) × (lists_at cursor.old ≡ Ok lists) ×
+        (kept_of contents.new ≡ with_lists (kept_of contents.old) lists))
         (λ f. (f ≡ memory) ⊎ (lists_at cursor.old ≡ Err f)) }
     ensures within { IsRefusedWithin cursor.old result }
 {
@@ -69,8 +70,12 @@ fn check_array(
 ) -> Result<(), Fault>
     requires { Ascends start_of lists.now }
     ensures exact { MatchResult result
-        (λ _. (offsets : List ℕ) × (exactly_of (list_offset_at format cursor.old.position (map start_of lists.now)) count cursor.old ≡ Ok (offsets, cursor.new)))
-        (λ f. exactly_of (list_offset_at format cursor.old.position (map start_of lists.now)) count cursor.old ≡ Err f) }
+        (λ _. (offsets : List ℕ) ×
+        (exactly_of (list_offset_at format cursor.old.position (map start_of lists.now))
+        count cursor.old ≡ Ok (offsets, cursor.new)))
+        (λ f.
+        exactly_of (list_offset_at format cursor.old.position (map start_of lists.now))
+        count cursor.old ≡ Err f) }
     ensures within { IsRefusedWithin cursor.old result }
 {
     let array = u64::from(cursor.position());
@@ -101,7 +106,10 @@ pub fn read_table<'a>(
     requires inside { at < length section.now }
     requires short { length section.now < 2 ^ 32 }
     ensures exact { MatchResult result
-        (λ next. (t : Table) × (table_at (section_from target section.now at) ≡ Ok (t, section_from target section.now next)) × (kept_of contents.new ≡ with_table (kept_of contents.old) t))
+        (λ next. (t : Table) ×
+        (table_at (section_from target section.now at)
+        ≡ Ok (t, section_from target section.now next)) ×
+        (kept_of contents.new ≡ with_table (kept_of contents.old) t))
         (λ f. (f ≡ memory) ⊎ (table_at (section_from target section.now at) ≡ Err f)) }
     ensures forward { IfOk result (λ next. at < next × next ≤ length section.now) }
     ensures inside { IfErr result (λ fault. fault.at ≤ length section.now) }

@@ -22,8 +22,12 @@ impl<'a> ListWalk<'a> {
     pub fn next_held(&mut self, address: u64) -> Option<Block<'a>>
         requires { IsReadable self.old }
         ensures { MatchOption result
-            ((held_ahead address self.old ≡ []) × (default_ahead self.old ≡ default_located self.new.default))
-            (λ b. (held_ahead address self.old ≡ location_of (block_of b) ∷ held_ahead address self.new) × (default_ahead self.new ≡ default_ahead self.old) × IsReadable self.new) }
+            ((held_ahead address self.old ≡ []) ×
+            (default_ahead self.old ≡ default_located self.new.default))
+            (λ b.
+            (held_ahead address self.old
+            ≡ location_of (block_of b) ∷ held_ahead address self.new) ×
+            (default_ahead self.new ≡ default_ahead self.old) × IsReadable self.new) }
     {
         'entries: loop {
             let entry = match Entry::read(&mut self.cursor) {

@@ -16,7 +16,9 @@ returns c =
     let here : get_or xs place x ≡ x = sym c.index-expressions-place.is in
     let found = searched-found offset_of xs c.args.block.offset x place facts.bound by_key in
     let kept = contained-map located_of xs (location_of (block_of c.args.block)) c.requires.kept in
-    let same = ascending-same offset_of xs c.requires.order x kept.0 (place, facts.bound, here) kept.1 (ap offset_of (sym here) ∙ (found.1 ∙ sym (ap (λ (e : LocatedExpression). e.offset) kept.2))) in
+    let same =
+    ascending-same offset_of xs c.requires.order x kept.0 (place, facts.bound, here) kept.1
+    (ap offset_of (sym here) ∙ (found.1 ∙ sym (ap (λ (e : LocatedExpression). e.offset) kept.2))) in
     ap located_of same ∙ kept.2
 
 pub unreachable-requires : goal.unreachable-requires

@@ -4,4 +4,11 @@ use Rattle.dw_loclists.proofs.Located.{one-list}
 use Rattle.dw_loclists.proofs.laws.checked_sections.Goals as goal
 
 pub returns : goal.returns
-returns c = record { tables = checked-tables; lists_ascend = lists-ascend; expressions_ascend = located-ascend; one_list = one-list; good = good-expressions }
+returns c = record {
+  tables = checked-tables;
+  lists_ascend = lists-ascend;
+  expressions_ascend = located-ascend;
+  one_list = one-list;
+  good =
+      good-expressions;
+}

@@ -5,4 +5,9 @@ use Rattle.dw_loclists.proofs.Standing.{list-exact}
 use Rattle.dw_loclists.proofs.laws.reads_are_exact.Goals as goal
 
 pub returns : goal.returns
-returns c = record { entries = λ r. entry-exact r.target r refl; lists = list-exact; tables = λ r. record { found = table-found r; only = table-only r } }
+returns c = record {
+  entries = λ r. entry-exact r.target r refl;
+  lists = list-exact;
+  tables =
+      λ r. record { found = table-found r; only = table-only r };
+}

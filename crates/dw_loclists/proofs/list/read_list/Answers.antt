@@ -21,8 +21,12 @@ returns-in_err-entry-clause-exact c =
     let here = c.entries.cursor in
     let before = c.entries.invariant in
     let fault = c.in_err-entry.field-0.0 in
-    let bad = entries-refused c.entries.has_default here fault (omega (arith, c.entries-test.true, c.position.ensures, before.goes.same_end, c.requires)) (checked-refused c.entries.has_default here fault c.in_err-entry.ensures.exact) in
-    let stop : list_at c.args.cursor.now ≡ Err fault = list-stops c.args.cursor.now here c.entries.has_default before.so_far.0 fault before.so_far.1 bad in
+    let bad =
+    entries-refused c.entries.has_default here fault
+    (omega (arith, c.entries-test.true, c.position.ensures, before.goes.same_end, c.requires))
+    (checked-refused c.entries.has_default here fault c.in_err-entry.ensures.exact) in
+    let stop : list_at c.args.cursor.now ≡ Err fault =
+    list-stops c.args.cursor.now here c.entries.has_default before.so_far.0 fault before.so_far.1 bad in
     grind (arith, common_steps, stop)
 
 pub returns-in_err-check_entry-clause-exact : goal.returns-in_err-check_entry-clause-exact
@@ -35,8 +39,11 @@ returns-in_err-check_entry-clause-exact c =
     let stop : (fault ≡ memory) ⊎ (list_at c.args.cursor.now ≡ Err fault) = elim c.in_err-check_entry.ensures.answer [
       | inl e ↦ inl e
       | inr e ↦
-          let here_is : entry_fault c.entries.has_default here.position entry ≡ Some fault = subst (λ at. entry_fault c.entries.has_default at entry ≡ Some fault) c.position-at.ensures e in
-          let bad = entries-refused c.entries.has_default here fault some (checked-fault c.entries.has_default here entry c.read.new.cursor fault c.in_ok-entry.ensures.exact here_is) in
+          let here_is : entry_fault c.entries.has_default here.position entry ≡ Some fault =
+          subst (λ at. entry_fault c.entries.has_default at entry ≡ Some fault) c.position-at.ensures e in
+          let bad =
+          entries-refused c.entries.has_default here fault some
+          (checked-fault c.entries.has_default here entry c.read.new.cursor fault c.in_ok-entry.ensures.exact here_is) in
           inr (list-stops c.args.cursor.now here c.entries.has_default before.so_far.0 fault before.so_far.1 bad)
     ] in
     grind (arith, common_steps, stop)
@@ -46,8 +53,11 @@ returns-in_err-check_entry-clause-within c =
     let here = c.entries.cursor in
     let fault = c.in_err-check_entry.field-0.0 in
     let entry = entry_of c.in_ok-entry.entry in
-    let before : IsBefore here.position entry fault.at = subst (λ at. IsBefore at entry fault.at) c.position-at.ensures c.in_err-check_entry.ensures.inside in
-    let inside : fault.at ≤ c.args.cursor.now.position + length c.args.cursor.now.rest = omega (arith, before-inside here entry c.read.new.cursor fault.at c.in_ok-entry.ensures.exact before, c.entries.invariant.goes.same_end) in
+    let before : IsBefore here.position entry fault.at =
+    subst (λ at. IsBefore at entry fault.at) c.position-at.ensures c.in_err-check_entry.ensures.inside in
+    let inside : fault.at ≤ c.args.cursor.now.position + length c.args.cursor.now.rest =
+    omega (arith, before-inside here entry c.read.new.cursor fault.at c.in_ok-entry.ensures.exact before, c.entries.invariant.goes.same_end)
+    in
     grind (arith, common_steps, inside)
 
 pub returns-then-is_end-clause-exact : goal.returns-then-is_end-clause-exact
@@ -56,9 +66,12 @@ returns-then-is_end-clause-exact c =
     let before = c.entries.invariant in
     let es = before.so_far.0 in
     let entry = entry_of c.in_ok-entry.entry in
-    let fine : entry_fault c.entries.has_default here.position entry ≡ None = subst (λ at. entry_fault c.entries.has_default at entry ≡ None) c.position-at.ensures c.in_ok-check_entry.ensures.answer in
+    let fine : entry_fault c.entries.has_default here.position entry ≡ None =
+    subst (λ at. entry_fault c.entries.has_default at entry ≡ None) c.position-at.ensures c.in_ok-check_entry.ensures.answer in
     let last : is_end entry ≡ true = sym c.is_end.ensures ∙ c.if-is_end.true in
-    let read = entries-last c.entries.has_default here entry c.read.new.cursor (checked-none c.entries.has_default here entry c.read.new.cursor c.in_ok-entry.ensures.exact fine) last in (
+    let read =
+    entries-last c.entries.has_default here entry c.read.new.cursor
+    (checked-none c.entries.has_default here entry c.read.new.cursor c.in_ok-entry.ensures.exact fine) last in (
       listed c.args.cursor.now.position es,
       list-ends c.args.cursor.now here c.read.new.cursor c.entries.has_default es before.so_far.1 read,
       c.in_ok-check_entry.ensures.kept ∙ (end-nothing entry (all_located c.entries.expressions.items) last ∙ before.so_far.2),
@@ -69,8 +82,11 @@ returns-clause-exact c =
     let here = c.entries.cursor in
     let before = c.entries.invariant in
     let at_end : here.position ≡ c.args.end = omega (arith, c.entries-test.false, c.position.ensures, before.goes.same_end, c.requires) in
-    let ended : entries_at c.entries.has_default here ≡ no-list (record { kind = NoEnd; at = c.args.end }) = entries-end c.entries.has_default here (omega (arith, at_end, before.goes.same_end, c.requires)) ∙ ap (λ (n : ℕ). no-list (record { kind = NoEnd; at = n })) at_end in
-    inr (list-stops c.args.cursor.now here c.entries.has_default before.so_far.0 (record { kind = NoEnd; at = c.args.end }) before.so_far.1 ended)
+    let ended : entries_at c.entries.has_default here ≡ no-list (record { kind = NoEnd; at = c.args.end }) =
+    entries-end c.entries.has_default here (omega (arith, at_end, before.goes.same_end, c.requires))
+    ∙ ap (λ (n : ℕ). no-list (record { kind = NoEnd; at = n })) at_end in
+    inr (list-stops c.args.cursor.now here c.entries.has_default before.so_far.0 (record { kind = NoEnd; at = c.args.end }) before.so_far.1
+    ended)
 
 pub entries-preserved-then-has_default : goal.entries-preserved-then-has_default
 entries-preserved-then-has_default c =
@@ -78,18 +94,26 @@ entries-preserved-then-has_default c =
     let before = c.entries.invariant in
     let es = before.so_far.0 in
     let entry = entry_of c.in_ok-entry.entry in
-    let fine : entry_fault c.entries.has_default here.position entry ≡ None = subst (λ at. entry_fault c.entries.has_default at entry ≡ None) c.position-at.ensures c.in_ok-check_entry.ensures.answer in
+    let fine : entry_fault c.entries.has_default here.position entry ≡ None =
+    subst (λ at. entry_fault c.entries.has_default at entry ≡ None) c.position-at.ensures c.in_ok-check_entry.ensures.answer in
     let going : is_end entry ≡ false = sym c.is_end.ensures ∙ c.if-is_end.false in
     let read = checked-none c.entries.has_default here entry c.read.new.cursor c.in_ok-entry.ensures.exact fine in
-    let or : (c.entries.has_default || is_default entry) ≡ c.entries.has_default = ap (λ b. b || is_default entry) c.if-has_default.true ∙ sym c.if-has_default.true in
+    let or : (c.entries.has_default || is_default entry) ≡ c.entries.has_default =
+    ap (λ b. b || is_default entry) c.if-has_default.true ∙ sym c.if-has_default.true in
     let goes = c.in_ok-entry.ensures.goes_on in
     record {
       so_far = (
         es ++ entry ∷ [],
-        next-entry c.args.cursor.now here c.read.new.cursor c.entries.has_default c.entries.has_default es entry before.so_far.1 read going or,
-        more-kept (all_located c.args.expressions.now.items) (all_located c.entries.expressions.items) (all_located c.check_entry.new.expressions.items) es entry before.so_far.2 c.in_ok-check_entry.ensures.kept,
+        next-entry c.args.cursor.now here c.read.new.cursor c.entries.has_default c.entries.has_default es entry before.so_far.1 read going
+            or,
+        more-kept (all_located c.args.expressions.now.items) (all_located c.entries.expressions.items)
+            (all_located c.check_entry.new.expressions.items) es entry before.so_far.2 c.in_ok-check_entry.ensures.kept,
       );
-      goes = record { forward = omega (arith, before.goes.forward, goes.forward); same_end = goes.same_end ∙ before.goes.same_end; same_target = goes.same_target ∙ before.goes.same_target };
+      goes = record {
+        forward = omega (arith, before.goes.forward, goes.forward);
+        same_end = goes.same_end ∙ before.goes.same_end;
+        same_target = goes.same_target ∙ before.goes.same_target;
+      };
     }
 
 pub entries-preserved : goal.entries-preserved
@@ -98,16 +122,24 @@ entries-preserved c =
     let before = c.entries.invariant in
     let es = before.so_far.0 in
     let entry = entry_of c.in_ok-entry.entry in
-    let fine : entry_fault c.entries.has_default here.position entry ≡ None = subst (λ at. entry_fault c.entries.has_default at entry ≡ None) c.position-at.ensures c.in_ok-check_entry.ensures.answer in
+    let fine : entry_fault c.entries.has_default here.position entry ≡ None =
+    subst (λ at. entry_fault c.entries.has_default at entry ≡ None) c.position-at.ensures c.in_ok-check_entry.ensures.answer in
     let going : is_end entry ≡ false = sym c.is_end.ensures ∙ c.if-is_end.false in
     let read = checked-none c.entries.has_default here entry c.read.new.cursor c.in_ok-entry.ensures.exact fine in
-    let or : (c.entries.has_default || is_default entry) ≡ c.is_default-has_default.result = ap (λ b. b || is_default entry) c.if-has_default.false ∙ sym c.is_default-has_default.ensures in
+    let or : (c.entries.has_default || is_default entry) ≡ c.is_default-has_default.result =
+    ap (λ b. b || is_default entry) c.if-has_default.false ∙ sym c.is_default-has_default.ensures in
     let goes = c.in_ok-entry.ensures.goes_on in
     record {
       so_far = (
         es ++ entry ∷ [],
-        next-entry c.args.cursor.now here c.read.new.cursor c.entries.has_default c.is_default-has_default.result es entry before.so_far.1 read going or,
-        more-kept (all_located c.args.expressions.now.items) (all_located c.entries.expressions.items) (all_located c.check_entry.new.expressions.items) es entry before.so_far.2 c.in_ok-check_entry.ensures.kept,
+        next-entry c.args.cursor.now here c.read.new.cursor c.entries.has_default c.is_default-has_default.result es entry before.so_far.1
+            read going or,
+        more-kept (all_located c.args.expressions.now.items) (all_located c.entries.expressions.items)
+            (all_located c.check_entry.new.expressions.items) es entry before.so_far.2 c.in_ok-check_entry.ensures.kept,
       );
-      goes = record { forward = omega (arith, before.goes.forward, goes.forward); same_end = goes.same_end ∙ before.goes.same_end; same_target = goes.same_target ∙ before.goes.same_target };
+      goes = record {
+        forward = omega (arith, before.goes.forward, goes.forward);
+        same_end = goes.same_end ∙ before.goes.same_end;
+        same_target = goes.same_target ∙ before.goes.same_target;
+      };
     }

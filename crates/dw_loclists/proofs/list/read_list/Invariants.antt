@@ -9,7 +9,8 @@ use Rattle.dw_loclists.proofs.list.read_list.Given as goal
 
 abbrev pub invariant-entries : goal.invariant-entries
 invariant-entries l = record {
-  so_far : (es : List Entry) × (entries_at false l.fn.cursor ≡ put_all es (entries_at l.has_default l.cursor)) × (all_located l.expressions.items ≡ all_located l.fn.expressions.items ++ expressions_of es);
+  so_far : (es : List Entry) × (entries_at false l.fn.cursor ≡ put_all es (entries_at l.has_default l.cursor)) ×
+      (all_located l.expressions.items ≡ all_located l.fn.expressions.items ++ expressions_of es);
   goes : MovesForward l.fn.cursor l.cursor;
 }
 

@@ -17,7 +17,8 @@ returns-in_err-at-clause-answer c =
     let fault = c.in_err-at.field-0.0 in
     let stop : (fault ≡ memory) ⊎ (lists_fault target section ≡ Some fault) = elim c.in_err-at.ensures.exact [
       | inl e ↦ inl e
-      | inr e ↦ inr (tables-fault target section before.so_far.0 (tables_from target section c.tables.at) fault before.so_far.1 (at-fault target section c.tables.at fault (omega arith) e))
+      | inr e ↦ inr (tables-fault target section before.so_far.0 (tables_from target section c.tables.at) fault before.so_far.1
+          (at-fault target section c.tables.at fault (omega arith) e))
     ] in
     grind (arith, common_steps, stop)
 
@@ -52,4 +53,5 @@ invariant_of-result c =
 pub returns-clause-answer : goal.returns-clause-answer
 returns-clause-answer c =
     let before = c.tables.invariant in
-    tables-checked c.args.target c.args.section.now before.so_far.0 (all-tables c.args.target c.args.section.now c.tables.at before.so_far.0 before.so_far.1 (omega arith))
+    tables-checked c.args.target c.args.section.now before.so_far.0
+    (all-tables c.args.target c.args.section.now c.tables.at before.so_far.0 before.so_far.1 (omega arith))

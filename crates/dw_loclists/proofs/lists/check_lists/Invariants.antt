@@ -7,7 +7,8 @@ use Rattle.dw_loclists.proofs.lists.check_lists.Given as goal
 
 abbrev pub invariant-tables : goal.invariant-tables
 invariant-tables l = record {
-  so_far : (tables : List Table) × (tables_of l.fn.target l.section ≡ all-read tables ++ tables_from l.fn.target l.section l.at) × (kept_of l.contents ≡ kept_from tables);
+  so_far : (tables : List Table) × (tables_of l.fn.target l.section ≡ all-read tables ++ tables_from l.fn.target l.section l.at) ×
+      (kept_of l.contents ≡ kept_from tables);
   inside : l.at ≤ length l.section;
 }
 

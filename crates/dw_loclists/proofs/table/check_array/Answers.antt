@@ -18,16 +18,20 @@ returns-in_err-offset-clause-exact c =
     let before = c.offsets.invariant in
     let fault = c.in_err-offset.field-0.0 in
     let stop : exactly_of (list_offset_at c.args.format array starts) c.args.count c.args.cursor.now ≡ Err fault =
-    exactly-stops (list_offset_at c.args.format array starts) c.offsets.read c.args.count c.args.cursor.now c.offsets.cursor before.some.0 fault (omega arith) before.some.1 (offset-refused c.args.format array starts c.offsets.cursor fault c.in_err-offset.ensures.exact.0) in
+    exactly-stops (list_offset_at c.args.format array starts) c.offsets.read c.args.count c.args.cursor.now c.offsets.cursor before.some.0
+    fault (omega arith) before.some.1 (offset-refused c.args.format array starts c.offsets.cursor fault c.in_err-offset.ensures.exact.0)
+    in
     grind (arith, common_steps, stop)
 
-never-long : (lists : List LocationList) (sum found : ℕ) → found ≡ min sum 18446744073709551615 → (Contains (map start_of lists) found → ⊥) → Contains (map start_of lists) sum → ⊥
+never-long : (lists : List LocationList) (sum found : ℕ) → found ≡ min sum 18446744073709551615 → (Contains (map start_of lists) found → ⊥)
+    → Contains (map start_of lists) sum → ⊥
 never-long lists sum found is never among =
     let l = contained-map start_of lists sum among in
     let short : start_of l.0 < 2 ^ 32 = l.0.short in
     never (subst (Contains (map start_of lists)) (omega (arith, short, l.2, is)) among)
 
-always-short : (lists : List LocationList) (sum found : ℕ) → found ≡ min sum 18446744073709551615 → Contains (map start_of lists) found → Contains (map start_of lists) sum
+always-short : (lists : List LocationList) (sum found : ℕ) → found ≡ min sum 18446744073709551615 → Contains (map start_of lists) found
+    → Contains (map start_of lists) sum
 always-short lists sum found is among =
     let l = contained-map start_of lists found among in
     let short : start_of l.0 < 2 ^ 32 = l.0.short in
@@ -40,11 +44,15 @@ returns-then-is_none-clause-exact c =
     let before = c.offsets.invariant in
     let fault : Fault = record { kind = BadOffsetEntry; at = c.position-at.result } in
     let sum = array + c.in_ok-offset.offset in
-    let sum_is : c.saturating_add.result ≡ min sum 18446744073709551615 = c.saturating_add.ensures ∙ ap (λ n. min (n + c.in_ok-offset.offset) 18446744073709551615) (c.from-array.ensures ∙ c.position.ensures) in
+    let sum_is : c.saturating_add.result ≡ min sum 18446744073709551615 =
+    c.saturating_add.ensures ∙ ap (λ n. min (n + c.in_ok-offset.offset) 18446744073709551615) (c.from-array.ensures ∙ c.position.ensures) in
     let none : Contains starts c.saturating_add.result → ⊥ = grind (arith, common_steps) in
     let never : Contains starts sum → ⊥ = never-long c.args.lists.now sum c.saturating_add.result sum_is none in
-    let bad : list_offset_at c.args.format array starts c.offsets.cursor ≡ Err fault = offset-bad c.args.format array starts c.offsets.cursor c.offset.new.self c.in_ok-offset.offset c.position-at.result (sym c.position-at.ensures) c.in_ok-offset.ensures.exact never in
-    exactly-stops (list_offset_at c.args.format array starts) c.offsets.read c.args.count c.args.cursor.now c.offsets.cursor before.some.0 fault (omega arith) before.some.1 bad
+    let bad : list_offset_at c.args.format array starts c.offsets.cursor ≡ Err fault =
+    offset-bad c.args.format array starts c.offsets.cursor c.offset.new.self c.in_ok-offset.offset c.position-at.result
+    (sym c.position-at.ensures) c.in_ok-offset.ensures.exact never in
+    exactly-stops (list_offset_at c.args.format array starts) c.offsets.read c.args.count c.args.cursor.now c.offsets.cursor before.some.0
+    fault (omega arith) before.some.1 bad
 
 pub offsets-preserved : goal.offsets-preserved
 offsets-preserved c =
@@ -53,11 +61,23 @@ offsets-preserved c =
     let before = c.offsets.invariant in
     let step = c.in_ok-offset.ensures in
     let sum = array + c.in_ok-offset.offset in
-    let sum_is : c.saturating_add.result ≡ min sum 18446744073709551615 = c.saturating_add.ensures ∙ ap (λ n. min (n + c.in_ok-offset.offset) 18446744073709551615) (c.from-array.ensures ∙ c.position.ensures) in
+    let sum_is : c.saturating_add.result ≡ min sum 18446744073709551615 =
+    c.saturating_add.ensures ∙ ap (λ n. min (n + c.in_ok-offset.offset) 18446744073709551615) (c.from-array.ensures ∙ c.position.ensures) in
     let found : Contains starts c.saturating_add.result = grind (arith, common_steps) in
     let among : Contains starts sum = always-short c.args.lists.now sum c.saturating_add.result sum_is found in
     record {
       within = omega arith;
-      some = (before.some.0 ++ c.in_ok-offset.offset ∷ [], rw add-one (exactly-more (list_offset_at c.args.format array starts) c.offsets.read c.args.cursor.now c.offsets.cursor c.offset.new.self before.some.0 c.in_ok-offset.offset before.some.1 (offset-good c.args.format array starts c.offsets.cursor c.offset.new.self c.in_ok-offset.offset step.exact among)));
-      goes = record { forward = omega (arith, before.goes.forward, step.goes_on.forward); same_end = step.goes_on.same_end ∙ before.goes.same_end; same_target = step.goes_on.same_target ∙ before.goes.same_target };
+      some = (
+        before.some.0 ++ c.in_ok-offset.offset ∷ [],
+        rw add-one
+            (exactly-more (list_offset_at c.args.format array starts) c.offsets.read c.args.cursor.now c.offsets.cursor c.offset.new.self
+            before.some.0 c.in_ok-offset.offset before.some.1
+            (offset-good c.args.format array starts c.offsets.cursor c.offset.new.self c.in_ok-offset.offset step.exact among)),
+      );
+      goes = record {
+        forward = omega (arith, before.goes.forward, step.goes_on.forward);
+        same_end = step.goes_on.same_end
+            ∙ before.goes.same_end;
+        same_target = step.goes_on.same_target ∙ before.goes.same_target;
+      };
     }

@@ -8,7 +8,8 @@ use Rattle.dw_loclists.proofs.table.check_array.Given as goal
 abbrev pub invariant-offsets : goal.invariant-offsets
 invariant-offsets l = record {
   within : l.read ≤ l.count;
-  some : (offsets : List ℕ) × (exactly_of (list_offset_at l.format l.fn.cursor.position (map start_of l.lists)) l.read l.fn.cursor ≡ Ok (offsets, l.cursor));
+  some : (offsets : List ℕ) × (exactly_of (list_offset_at l.format l.fn.cursor.position (map start_of l.lists)) l.read l.fn.cursor ≡ Ok
+      (offsets, l.cursor));
   goes : MovesForward l.fn.cursor l.cursor;
 }
 

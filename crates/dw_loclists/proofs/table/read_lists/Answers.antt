@@ -35,21 +35,33 @@ lists-preserved c =
     let old = c.lists.contents in
     let items : c.push.new.self.items ≡ old.lists.items ++ c.new.result ∷ [] = grind (arith, common_steps) in
     let starts : map start_of c.push.new.self.items ≡ map start_of old.lists.items ++ l.offset ∷ [] =
-    ap (λ (xs : List LocationList). map start_of xs) items ∙ (map-append start_of old.lists.items (c.new.result ∷ []) ∙ ap (λ n. map start_of old.lists.items ++ n ∷ []) (c.new.ensures ∙ (c.position-offset.ensures ∙ sym (list-begins here l c.read_list.new.cursor read)))) in
+    ap (λ (xs : List LocationList). map start_of xs) items
+    ∙ (map-append start_of old.lists.items (c.new.result ∷ [])
+    ∙ ap (λ n. map start_of old.lists.items ++ n ∷ [])
+    (c.new.ensures ∙ (c.position-offset.ensures ∙ sym (list-begins here l c.read_list.new.cursor read)))) in
     record {
       so_far = (
         ls ++ l ∷ [],
         next-list c.args.cursor.now here c.read_list.new.cursor ls l before.so_far.1 read,
-        list-kept (kept_of c.args.contents.now) (kept_of old) (kept-as old.tables.items (map start_of c.push.new.self.items) (all_located c.read_list.new.expressions.items)) ls l before.so_far.2
-            (same-kept old.tables.items (map start_of c.push.new.self.items) (map start_of old.lists.items ++ l.offset ∷ []) (all_located c.read_list.new.expressions.items) (all_located old.expressions.items ++ expressions_of l.entries) starts c.in_ok-read_list.ensures.exact.2),
+        list-kept (kept_of c.args.contents.now) (kept_of old)
+            (kept-as old.tables.items (map start_of c.push.new.self.items) (all_located c.read_list.new.expressions.items)) ls l
+            before.so_far.2
+            (same-kept old.tables.items (map start_of c.push.new.self.items) (map start_of old.lists.items ++ l.offset ∷ [])
+            (all_located c.read_list.new.expressions.items) (all_located old.expressions.items ++ expressions_of l.entries) starts
+            c.in_ok-read_list.ensures.exact.2),
       );
-      goes = record { forward = omega (arith, before.goes.forward, goes.forward); same_end = goes.same_end ∙ before.goes.same_end; same_target = goes.same_target ∙ before.goes.same_target };
+      goes = record {
+        forward = omega (arith, before.goes.forward, goes.forward);
+        same_end = goes.same_end ∙ before.goes.same_end;
+        same_target = goes.same_target ∙ before.goes.same_target;
+      };
     }
 
 pub returns-clause-exact : goal.returns-clause-exact
 returns-clause-exact c =
     let before = c.lists.invariant in (
       before.so_far.0,
-      last-list c.args.cursor.now c.lists.cursor before.so_far.0 before.so_far.1 (omega (arith, c.lists-test.false, c.position.ensures, before.goes.same_end, c.requires)),
+      last-list c.args.cursor.now c.lists.cursor before.so_far.0 before.so_far.1
+          (omega (arith, c.lists-test.false, c.position.ensures, before.goes.same_end, c.requires)),
       before.so_far.2,
     )

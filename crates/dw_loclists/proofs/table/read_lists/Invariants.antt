@@ -8,7 +8,8 @@ use Rattle.dw_loclists.proofs.table.read_lists.Given as goal
 
 abbrev pub invariant-lists : goal.invariant-lists
 invariant-lists l = record {
-  so_far : (lists : List Loclist) × (lists_at l.fn.cursor ≡ put_lists lists (lists_at l.cursor)) × (kept_of l.contents ≡ with_lists (kept_of l.fn.contents) lists);
+  so_far : (lists : List Loclist) × (lists_at l.fn.cursor ≡ put_lists lists (lists_at l.cursor)) ×
+      (kept_of l.contents ≡ with_lists (kept_of l.fn.contents) lists);
   goes : MovesForward l.fn.cursor l.cursor;
 }
 

@@ -13,12 +13,17 @@ use Rattle.dw_loclists.proofs.lists.CheckedLists.list.Goals as goal
 pub find_list-requires : goal.find_list-requires
 find_list-requires c =
     let s : ListSection = record { target = c.self.inside.target; section = c.self.inside.section.now } in
-    let starts : map start_of c.deref.result.now ≡ starts_of (lists_in s) = ap (λ (xs : List LocationList). map start_of xs) c.deref.ensures.value ∙ ap (λ (k : Kept). k.lists) c.self.invariant.kept in
+    let starts : map start_of c.deref.result.now ≡ starts_of (lists_in s) =
+    ap (λ (xs : List LocationList). map start_of xs) c.deref.ensures.value ∙ ap (λ (k : Kept). k.lists) c.self.invariant.kept in
     ascends-back start_of c.deref.result.now (subst (Ascends (λ n. n)) (sym starts) (lists-ascend s c.self.invariant.checked))
 
 pub returns : goal.returns
 returns c =
     let s : ListSection = record { target = c.self.inside.target; section = c.self.inside.section.now } in
-    let starts : map start_of c.deref.result.now ≡ starts_of (lists_in c.args.self.now) = ap (λ (xs : List LocationList). map start_of xs) c.deref.ensures.value ∙ (ap (λ (k : Kept). k.lists) c.self.invariant.kept ∙ ap (λ (t : ListSection). starts_of (lists_in t)) c.self.view_is) in
-    subst (λ (n : ℕ). MatchOption c.find_list.result (¬ Contains (starts_of (lists_in c.args.self.now)) n) (λ list. (start_of list ≡ n) × Contains (starts_of (lists_in c.args.self.now)) n)) c.from.ensures
-    (subst (λ (xs : List ℕ). MatchOption c.find_list.result (¬ Contains xs c.from.result) (λ list. (start_of list ≡ c.from.result) × Contains xs c.from.result)) starts c.find_list.ensures)
+    let starts : map start_of c.deref.result.now ≡ starts_of (lists_in c.args.self.now) =
+    ap (λ (xs : List LocationList). map start_of xs) c.deref.ensures.value
+    ∙ (ap (λ (k : Kept). k.lists) c.self.invariant.kept ∙ ap (λ (t : ListSection). starts_of (lists_in t)) c.self.view_is) in
+    subst (λ (n : ℕ). MatchOption c.find_list.result (¬ Contains (starts_of (lists_in c.args.self.now)) n)
+    (λ list. (start_of list ≡ n) × Contains (starts_of (lists_in c.args.self.now)) n)) c.from.ensures
+    (subst (λ (xs : List ℕ). MatchOption c.find_list.result (¬ Contains xs c.from.result)
+    (λ list. (start_of list ≡ c.from.result) × Contains xs c.from.result)) starts c.find_list.ensures)

@@ -23,12 +23,15 @@ begins l = l.offset
 pub at-requires-clause-inside : goal.at-requires-clause-inside
 at-requires-clause-inside c =
     let s : ListSection = record { target = c.self.inside.target; section = c.self.inside.section.now } in
-    let among : Contains (starts_of (lists_in s)) (start_of c.args.list.now) = subst (λ (t : ListSection). Contains (starts_of (lists_in t)) (start_of c.args.list.now)) (sym c.self.view_is) c.requires in
+    let among : Contains (starts_of (lists_in s)) (start_of c.args.list.now) =
+    subst (λ (t : ListSection). Contains (starts_of (lists_in t)) (start_of c.args.list.now)) (sym c.self.view_is) c.requires in
     let l = contained-map begins (lists_in s) (start_of c.args.list.now) among in
     omega (arith, inside-section s l.0 c.self.invariant.checked l.1, l.2, c.offset.ensures)
 
-ascends-located : (xs : List (ℕ × CheckedExpression)) (ys : List LocatedExpression) → all_located xs ≡ ys → Ascends (λ n. n) (offsets-of ys) → Ascends offset_of xs
-ascends-located xs ys is up = ascends-back offset_of xs (subst (Ascends (λ n. n)) (sym (ap (λ (zs : List LocatedExpression). offsets-of zs) is) ∙ same xs) up)
+ascends-located : (xs : List (ℕ × CheckedExpression)) (ys : List LocatedExpression) → all_located xs ≡ ys → Ascends (λ n. n) (offsets-of ys)
+    → Ascends offset_of xs
+ascends-located xs ys is up = ascends-back offset_of xs
+    (subst (Ascends (λ n. n)) (sym (ap (λ (zs : List LocatedExpression). offsets-of zs) is) ∙ same xs) up)
   where
     same : (zs : List (ℕ × CheckedExpression)) → offsets-of (all_located zs) ≡ map offset_of zs
     same [] = refl
@@ -38,17 +41,21 @@ pub new-requires : goal.new-requires
 new-requires c =
     let s : ListSection = record { target = c.self.inside.target; section = c.self.inside.section.now } in
     let checked = c.self.invariant.checked in
-    let among : Contains (starts_of (lists_in s)) (start_of c.args.list.now) = subst (λ (t : ListSection). Contains (starts_of (lists_in t)) (start_of c.args.list.now)) (sym c.self.view_is) c.requires in
+    let among : Contains (starts_of (lists_in s)) (start_of c.args.list.now) =
+    subst (λ (t : ListSection). Contains (starts_of (lists_in t)) (start_of c.args.list.now)) (sym c.self.view_is) c.requires in
     let l = contained-map begins (lists_in s) (start_of c.args.list.now) among in
     let read = list-read s l.0 checked l.1 in
-    let here : c.at.result ≡ section_from s.target s.section l.0.offset = c.at.ensures ∙ ap (λ n. section_from s.target s.section n) (c.offset.ensures ∙ sym l.2) in
+    let here : c.at.result ≡ section_from s.target s.section l.0.offset =
+    c.at.ensures ∙ ap (λ n. section_from s.target s.section n) (c.offset.ensures ∙ sym l.2) in
     let ahead : entries_at false c.at.result ≡ Ok (l.0.entries, read.0) = ap (entries_at false) here ∙ read.1 in
-    let kept : all_located c.deref.result.now ≡ located_in s = ap all_located c.deref.ensures.value ∙ ap (λ (k : Kept). k.expressions) c.self.invariant.kept in
+    let kept : all_located c.deref.result.now ≡ located_in s =
+    ap all_located c.deref.ensures.value ∙ ap (λ (k : Kept). k.expressions) c.self.invariant.kept in
     record {
       readable = λ going. subst (λ (r : Result (List Entry × ReadPosition) Fault). IsOk r) (sym ahead) refl;
       order = ascends-located c.deref.result.now (located_in s) kept (expressions-ascend s checked);
       among = λ going x h.
-          let given : Contains (bounded_at c.args.base c.args.address l.0.entries ++ defaults_in l.0.entries) x = subst (λ (es : List Entry). Contains (bounded_at c.args.base c.args.address es ++ defaults_in es) x) (ap entries_in ahead) h in
+          let given : Contains (bounded_at c.args.base c.args.address l.0.entries ++ defaults_in l.0.entries) x =
+          subst (λ (es : List Entry). Contains (bounded_at c.args.base c.args.address es ++ defaults_in es) x) (ap entries_in ahead) h in
           subst (λ (xs : List LocatedExpression). Contains xs x) (sym kept) (given-among s l.0 c.args.base c.args.address x l.1 given);
     }
 
@@ -57,6 +64,8 @@ returns c = λ m m_in m_at.
     let s : ListSection = record { target = c.self.inside.target; section = c.self.inside.section.now } in
     let in_s : Contains (lists_in s) m = subst (λ (t : ListSection). Contains (lists_in t) m) (sym c.self.view_is) m_in in
     let read = list-read s m c.self.invariant.checked in_s in
-    let here : c.at.result ≡ section_from s.target s.section m.offset = c.at.ensures ∙ ap (λ n. section_from s.target s.section n) (c.offset.ensures ∙ sym m_at) in
-    let ahead : entries_in (entries_at false c.at.result) ≡ m.entries = ap (λ (r : ReadPosition). entries_in (entries_at false r)) here ∙ ap entries_in read.1 in
+    let here : c.at.result ≡ section_from s.target s.section m.offset =
+    c.at.ensures ∙ ap (λ n. section_from s.target s.section n) (c.offset.ensures ∙ sym m_at) in
+    let ahead : entries_in (entries_at false c.at.result) ≡ m.entries =
+    ap (λ (r : ReadPosition). entries_in (entries_at false r)) here ∙ ap entries_in read.1 in
     c.new.ensures ∙ ap (λ (es : List Entry). or_else_all (bounded_at c.args.base c.args.address es) (defaults_in es)) ahead
