@@ -25,7 +25,6 @@ pub mod Evaluations
 pub mod Statuses
 -- what a run writes, and how it ends
 pub mod Runs
-
 -- ---- What the code's own values stand for, and what its calls answer.
 -- why a run stops
 pub mod Stops

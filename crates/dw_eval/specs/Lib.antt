@@ -13,11 +13,9 @@ pub mod Meaning
 pub mod Results
 -- which numbers are below 2^w
 pub mod Fits
-
 -- ---- What the code's own values stand for, and what its calls answer.
 -- locations, pieces and outcomes of the code
 pub mod Views
-
 -- ---- Behind the contracts: no contract of a public call speaks of these.
 -- what the environment of the code answers
 pub mod Handed

@@ -60,7 +60,8 @@ fn pushed<R: Registers, M: Memory>(
     requires one { (effect_of (operation_of operation.now)).adds ≡ 1 }
     ensures takes { IfOk result (λ change. taken_by change ≡ 0) }
     ensures adds { IfOk result (λ change. added_by change ≡ 1) }
-    ensures acts { (s : List ℕ) → changed_by result s ≡ stack_after_operation (world_in R.contents M.bytes environment.now) (operation_of operation.now) s }
+    ensures acts { (s : List ℕ) → changed_by result s ≡ stack_after_operation
+        (world_in R.contents M.bytes environment.now) (operation_of operation.now) s }
 {
     let width = environment.width();
     match *operation {
@@ -102,14 +103,18 @@ fn computed<R: Registers, M: Memory>(
     operation: &Operation<'_>,
     stack: &Stack,
 ) -> Result<Change, EvaluationError>
-    requires all { (effect_of (operation_of operation.now)).takes ≡ (effect_of (operation_of operation.now)).needs }
+    requires all { (effect_of (operation_of operation.now)).takes ≡
+        (effect_of (operation_of operation.now)).needs }
     requires one { (effect_of (operation_of operation.now)).adds ≡ 1 }
     requires needs { (effect_of (operation_of operation.now)).needs ≤ length stack.now }
     requires sized { IsSized (operation_of operation.now) }
     requires below { AllFit (world_in R.contents M.bytes environment.now) stack.now }
-    ensures takes { IfOk result (λ change. taken_by change ≡ (effect_of (operation_of operation.now)).takes) }
-    ensures adds { IfOk result (λ change. added_by change ≡ (effect_of (operation_of operation.now)).adds) }
-    ensures acts { changed_by result stack.now ≡ stack_after_operation (world_in R.contents M.bytes environment.now) (operation_of operation.now) stack.now }
+    ensures takes { IfOk result (λ change. taken_by change ≡
+        (effect_of (operation_of operation.now)).takes) }
+    ensures adds { IfOk result (λ change. added_by change ≡
+        (effect_of (operation_of operation.now)).adds) }
+    ensures acts { changed_by result stack.now ≡ stack_after_operation
+        (world_in R.contents M.bytes environment.now) (operation_of operation.now) stack.now }
 {
     let width = environment.width();
     match *operation {
@@ -162,9 +167,12 @@ pub fn change_of<R: Registers, M: Memory>(
     requires needs { (effect_of (operation_of operation.now)).needs ≤ length stack.now }
     requires sized { IsSized (operation_of operation.now) }
     requires below { AllFit (world_in R.contents M.bytes environment.now) stack.now }
-    ensures takes { IfOk result (λ change. taken_by change ≡ (effect_of (operation_of operation.now)).takes) }
-    ensures adds { IfOk result (λ change. added_by change ≡ (effect_of (operation_of operation.now)).adds) }
-    ensures acts { changed_by result stack.now ≡ stack_after_operation (world_in R.contents M.bytes environment.now) (operation_of operation.now) stack.now }
+    ensures takes { IfOk result (λ change. taken_by change ≡
+        (effect_of (operation_of operation.now)).takes) }
+    ensures adds { IfOk result (λ change. added_by change ≡
+        (effect_of (operation_of operation.now)).adds) }
+    ensures acts { changed_by result stack.now ≡ stack_after_operation
+        (world_in R.contents M.bytes environment.now) (operation_of operation.now) stack.now }
 {
     match *operation {
         Operation::Dup => put(0, stack.entry(0)),

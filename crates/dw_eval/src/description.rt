@@ -25,10 +25,13 @@ fn run_on<'a, R: Registers, M: Memory>(
     from: u32,
     before: u32,
 ) -> Evaluation<'a>
-    requires can { CanRun Kind.Location (world_in R.contents M.bytes environment.now) expression.now }
+    requires can { CanRun Kind.Location
+        (world_in R.contents M.bytes environment.now) expression.now }
     requires some { 0 < length (bytes_of expression.now) }
-    requires under_way { IsUnderWay (world_in R.contents M.bytes environment.now) (bytes_of expression.now) [] (configured from run.old (piece_in first ∷ [])) before }
-    ensures { RunsTo Kind.Location (world_in R.contents M.bytes environment.now) expression.now result }
+    requires under_way { IsUnderWay (world_in R.contents M.bytes environment.now)
+        (bytes_of expression.now) [] (configured from run.old (piece_in first ∷ [])) before }
+    ensures { RunsTo Kind.Location
+        (world_in R.contents M.bytes environment.now) expression.now result }
 {
     let end = expression.bytes().len() as u32;
     let mut pieces = ArrayVec::new();
@@ -66,8 +69,10 @@ pub fn run_location<'a, R: Registers, M: Memory>(
     expression: &Expression<'a>,
     environment: &Environment<'_, R, M>,
 ) -> Evaluation<'a>
-    requires can { CanRun Kind.Location (world_in R.contents M.bytes environment.now) expression.now }
-    ensures { RunsTo Kind.Location (world_in R.contents M.bytes environment.now) expression.now result }
+    requires can { CanRun Kind.Location
+        (world_in R.contents M.bytes environment.now) expression.now }
+    ensures { RunsTo Kind.Location
+        (world_in R.contents M.bytes environment.now) expression.now result }
 {
     let end = expression.bytes().len() as u32;
     let mut run = Run::new();

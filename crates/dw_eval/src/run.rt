@@ -57,7 +57,8 @@ impl<'a> Run<'a> {
     #[inline(always)]
     fn location(&self) -> Location<'a>
         requires { self.now.pending ≡ None → length self.now.stack ≤ 1 }
-        ensures { location_description_of result ≡ location_of self.now.stack (option_map location_description_of self.now.pending) }
+        ensures { location_description_of result ≡ location_of self.now.stack
+            (option_map location_description_of self.now.pending) }
     {
         match self.pending {
             Some(location) => location,
@@ -77,7 +78,12 @@ impl<'a> Run<'a> {
         requires { self.old.pending ≡ None → length self.old.stack ≤ 1 }
         ensures stack { self.new.stack ≡ [] }
         ensures pending { self.new.pending ≡ None }
-        ensures piece { piece_in result ≡ record { location = location_of self.old.stack (option_map location_description_of self.old.pending); size = extent_of_size size } }
+        ensures piece { piece_in result
+            ≡ record {
+              location = location_of self.old.stack
+                  (option_map location_description_of self.old.pending);
+              size = extent_of_size size;
+            } }
     {
         let location = self.location();
         self.pending = None;
@@ -94,9 +100,14 @@ impl<'a> Run<'a> {
         next: u32,
     ) -> Result<Step<'a>, EvaluationError>
         requires can { CanExecute (operation_of operation.now) next self.old.stack }
-        requires alone { CanDo (effect_of (operation_of operation.now)).role (length self.old.stack) (option_map location_description_of self.old.pending) }
+        requires alone { CanDo (effect_of (operation_of operation.now)).role (length self.old.stack)
+            (option_map location_description_of self.old.pending) }
         requires below { AllFit (world_in R.contents M.bytes environment.now) self.old.stack }
-        ensures { MatchResult result (λ to. Applies (world_in R.contents M.bytes environment.now) (operation_of operation.now) next self.old to self.new) (λ why. answer (world_in R.contents M.bytes environment.now) (operation_of operation.now) self.old.stack ≡ Err (error_of why)) }
+        ensures { MatchResult result
+            (λ to. Applies (world_in R.contents M.bytes environment.now)
+            (operation_of operation.now) next self.old to self.new)
+            (λ why. answer (world_in R.contents M.bytes environment.now)
+            (operation_of operation.now) self.old.stack ≡ Err (error_of why)) }
     {
         match piece_size(operation) {
             Some(size) => Ok(Step::Ends(self.end_piece(size), next)),
@@ -121,7 +132,12 @@ impl<'a> Run<'a> {
         requires inside { at < length (bytes_of expression.now) }
         requires can { CanStepAt expression.now at self.old }
         requires below { AllFit (world_in R.contents M.bytes environment.now) self.old.stack }
-        ensures { MatchResult result (λ to. MovesAt (world_in R.contents M.bytes environment.now) expression.now at self.old to self.new) (λ why. FailsAt (world_in R.contents M.bytes environment.now) expression.now at self.old.stack (error_of why)) }
+        ensures { MatchResult result
+            (λ to. MovesAt
+            (world_in R.contents M.bytes environment.now) expression.now at self.old to self.new)
+            (λ why. FailsAt
+            (world_in R.contents M.bytes environment.now) expression.now at self.old.stack
+            (error_of why)) }
     {
         let code = expression.bytes()[at as usize];
         if execute_bare(environment, code, &mut self.stack)? {
@@ -134,7 +150,8 @@ impl<'a> Run<'a> {
     /// Where the object is at the end of a location without pieces, with or without operations.
     pub fn result(&self, is_empty: bool) -> Location<'a>
         requires { GivesResult Kind.Location is_empty (configured 0 self.now []) }
-        ensures { single (location_description_of result) ≡ result_of Kind.Location is_empty (configured 0 self.now []) }
+        ensures { single (location_description_of result) ≡ result_of Kind.Location is_empty
+            (configured 0 self.now []) }
     {
         match self.pending {
             _ if is_empty => Location::Empty,

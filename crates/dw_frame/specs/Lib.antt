@@ -9,7 +9,6 @@ pub mod Codes
 pub mod Sections
 -- where records and instructions stand
 pub mod Bounds
-
 -- ---- What the code's own values stand for, and what its calls answer.
 -- headers of the code
 pub mod Headers

@@ -17,15 +17,12 @@ pub mod Section
 pub mod WellFormed
 -- the one row of an address (6.4.1)
 pub mod ExactRows
-
 -- ---- The first fault, as a function of the bytes. Laws tie it to what is to be believed.
 -- the first fault of a program
 pub mod Judgement
-
 -- ---- What the code's own values stand for, and what its calls answer.
 -- rules and rows of the code
 pub mod Views
-
 -- ---- Behind the contracts: no contract of a public call speaks of these.
 -- the rules of a row, as they are kept
 pub mod RuleSet

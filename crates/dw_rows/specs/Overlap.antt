@@ -54,7 +54,8 @@ ApartWithin fdes last = (f g : Fde) → Contains fdes f → Contains fdes g → 
 -- FDEs that cover an address each, in order of address, none of them twice
 pub record IsOrdered (index : List Fde) : Type 0 where
   pub some : (f : Fde) → Contains index f → 0 < f.range
-  pub distinct : (i j : ℕ) (d : Fde) → i < length index → j < length index → (slice_index_or index i d).offset ≡ (slice_index_or index j d).offset → i ≡ j
+  pub distinct : (i j : ℕ) (d : Fde) → i < length index → j < length index
+      → (slice_index_or index i d).offset ≡ (slice_index_or index j d).offset → i ≡ j
   pub sorted : IsNonDecreasingBy initial_of index
 
 -- the FDEs that cover an address, in order of address
@@ -67,7 +68,15 @@ pub record IsIndexOf (fdes index : List Fde) : Type 0 where
 
 -- an FDE that is nowhere, as that of a place past the end, which no entry has
 abbrev pub no_fde : Fde
-no_fde = record { offset = 0; format = Dwarf32; cie_pointer = 0; pointer_offset = 0; initial = 0; range = 0; program = record { target = record { order = Little; address_size = Four }; position = 0; rest = [] } }
+no_fde = record {
+  offset = 0;
+  format = Dwarf32;
+  cie_pointer = 0;
+  pointer_offset = 0;
+  initial = 0;
+  range = 0;
+  program = record { target = record { order = Little; address_size = Four }; position = 0; rest = [] };
+}
 
 -- the FDE of an entry
 abbrev pub fde_at : List Fde → IndexEntry → Fde

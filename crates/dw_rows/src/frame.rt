@@ -47,9 +47,20 @@ impl<'a> Model for CheckedFrame<'a> {
 
     ghost Value = { Frame };
 
-    ghost view = { λ c. record { target = c.target; section = c.section.now; cies = map cie_of c.cies.items; fdes = map fde_of c.fdes.items } };
+    ghost view = { λ c. record {
+      target = c.target;
+      section = c.section.now;
+      cies = map cie_of c.cies.items;
+      fdes = map fde_of c.fdes.items;
+    } };
 
-    ghost invariant = { λ c. IsKept (record { target = c.target; section = c.section.now; cies = map cie_of c.cies.items; fdes = map fde_of c.fdes.items }) c.initial c.index.items };
+    ghost invariant = { λ c. IsKept
+        (record {
+          target = c.target;
+          section = c.section.now;
+          cies = map cie_of c.cies.items;
+          fdes = map fde_of c.fdes.items;
+        }) c.initial c.index.items };
 }
 
 /// An FDE of a compiler has as many bytes or more: room for so many is asked for at once, so that the list of them need
@@ -70,8 +81,10 @@ fn records_of<'a>(
 >
     requires { length section.now < 2 ^ 32 }
     ensures read { Answers (fault_in (entries_of target section.now)) result }
-    ensures cies { IfOk result (λ records. map cie_of records.0.items ≡ (frame_of target section.now).cies) }
-    ensures fdes { IfOk result (λ records. map fde_of records.1.items ≡ (frame_of target section.now).fdes) }
+    ensures cies { IfOk result (λ records. map cie_of records.0.items ≡
+        (frame_of target section.now).cies) }
+    ensures fdes { IfOk result (λ records. map fde_of records.1.items ≡
+        (frame_of target section.now).fdes) }
 {
     let mut cies = Vec::new(alloc);
     let Ok(mut fdes) = Vec::with_capacity(alloc, section.len() / USUAL_FDE) else {
@@ -98,7 +111,8 @@ fn records_of<'a>(
 fn check_overlap(fdes: &[FrameDescriptionEntry<'_>], index: &[IndexEntry]) -> Result<(), Fault>
     requires fdes { Ascends fde_offset (map fde_of fdes.now) }
     requires index { IsAddressIndex (map fde_of fdes.now) index.now }
-    ensures { Judges (first_fault (overlap_fault (map fde_of fdes.now)) (map fde_of fdes.now)) result }
+    ensures { Judges (first_fault (overlap_fault (map fde_of fdes.now))
+        (map fde_of fdes.now)) result }
 {
     match first_overlap(fdes, index) {
         Some(fde) => Err(Fault {
@@ -200,7 +214,8 @@ impl<'a> CheckedFrame<'a> {
     /// All FDEs, in the order of the section. Their addresses are addresses of the target.
     pub fn fdes(&self) -> &[FrameDescriptionEntry<'a>]
         ensures fdes { map fde_of result.now ≡ self.now.fdes }
-        ensures fit { (f : Fde) → Contains self.now.fdes f → f.initial + f.range ≤ top_of self.now.target }
+        ensures fit { (f : Fde) → Contains self.now.fdes f
+            → f.initial + f.range ≤ top_of self.now.target }
     {
         self.fdes.as_slice()
     }
@@ -208,7 +223,8 @@ impl<'a> CheckedFrame<'a> {
     /// The FDE that covers an address: the only one that does, found by halving.
     pub fn fde_for_address(&self, address: u64) -> Option<FrameDescriptionEntry<'a>>
         ensures only { IsCoverOf self.now.fdes address (option_map fde_of result) }
-        ensures fit { IfSome result (λ fde. fde.initial_location + fde.address_range ≤ top_of self.now.target) }
+        ensures fit { IfSome result (λ fde. fde.initial_location + fde.address_range
+            ≤ top_of self.now.target) }
     {
         covering(&self.fdes, &self.index, address)
     }
@@ -271,7 +287,8 @@ impl<'a> CheckedFrame<'a> {
     /// program is run up to that row, behind what was kept of its CIE's.
     pub fn row_for_address(&self, address: u64) -> Option<UnwindTableRow>
         ensures row { result ≡ row_of self.now address }
-        ensures fit { IfSome result (λ row. (row.start ≤ top_of self.now.target) × (row.end ≤ top_of self.now.target)) }
+        ensures fit { IfSome result (λ row. (row.start ≤ top_of self.now.target)
+            × (row.end ≤ top_of self.now.target)) }
     {
         let mut row = UnwindTableRow::empty();
         self.row_for_address_into(address, &mut row)?;
@@ -285,10 +302,13 @@ impl<'a> CheckedFrame<'a> {
         address: u64,
         row: &mut UnwindTableRow,
     ) -> Option<(CommonInformationEntry<'a>, FrameDescriptionEntry<'a>)>
-        ensures only { IsCoverOf self.now.fdes address (option_map (λ found. fde_of found.1) result) }
-        ensures cie { IfSome result (λ found. cie_in self.now (fde_of found.1) ≡ Some (cie_of found.0)) }
+        ensures only { IsCoverOf self.now.fdes address
+            (option_map (λ found. fde_of found.1) result) }
+        ensures cie { IfSome result (λ found. cie_in self.now (fde_of found.1) ≡ Some
+            (cie_of found.0)) }
         ensures row { IfSome result (λ _. row_of self.now address ≡ Some row.new) }
-        ensures fit { IfSome result (λ _. (row.new.start ≤ top_of self.now.target) × (row.new.end ≤ top_of self.now.target)) }
+        ensures fit { IfSome result (λ _. (row.new.start ≤ top_of self.now.target)
+            × (row.new.end ≤ top_of self.now.target)) }
         ensures none { IfNone result ((row_of self.now address ≡ None) × (row.new ≡ row.old)) }
     {
         let fde = self.fde_for_address(address)?;
@@ -310,7 +330,8 @@ impl<'a> CheckedFrame<'a> {
         requires high { address < fde.now.initial_location + fde.now.address_range }
         ensures cie { cie_in self.now (fde_of fde.now) ≡ Some (cie_of result) }
         ensures fde_program { fde_fault (cie_of result) (fde_of fde.now) ≡ None }
-        ensures row { find (has_address address) (rows_in self.now (fde_of fde.now)) ≡ Some row.new }
+        ensures row { find (has_address address) (rows_in self.now (fde_of fde.now))
+            ≡ Some row.new }
     {
         let mut state = UnwindState::new();
         let cie = self.begin_with_cie(&mut state, fde);

@@ -24,7 +24,8 @@ fn covering_some(
     fdes: &[FrameDescriptionEntry<'_>],
 ) -> Result<Vec<IndexEntry>, AllocError>
     ensures entries { IfOk result (λ index. All (IsEntry (map fde_of fdes.now)) index.items) }
-    ensures fdes { IfOk result (λ index. map (fde_at (map fde_of fdes.now)) index.items ≡ filter (λ f. nat_lt 0 f.range) (map fde_of fdes.now)) }
+    ensures fdes { IfOk result (λ index. map (fde_at (map fde_of fdes.now)) index.items ≡ filter
+        (λ f. nat_lt 0 f.range) (map fde_of fdes.now)) }
 {
     let mut index = Vec::with_capacity(alloc, fdes.len())?;
     for (place, fde) in fdes.iter().enumerate() {
@@ -52,7 +53,8 @@ pub fn index_of(
 /// Whether two of the FDEs up to an offset share an address. One pass over FDEs in order of address.
 fn overlaps(fdes: &[FrameDescriptionEntry<'_>], index: &[IndexEntry], last: u32) -> bool
     requires { IsAddressIndex (map fde_of fdes.now) index.now }
-    ensures { MatchBool result (ClashWithin (map (fde_at (map fde_of fdes.now)) index.now) last) (ApartWithin (map (fde_at (map fde_of fdes.now)) index.now) last) }
+    ensures { MatchBool result (ClashWithin (map (fde_at (map fde_of fdes.now)) index.now) last)
+        (ApartWithin (map (fde_at (map fde_of fdes.now)) index.now) last) }
 {
     let mut end = 0;
     for entry in index {
@@ -75,7 +77,8 @@ pub fn first_overlap<'a>(
 ) -> Option<FrameDescriptionEntry<'a>>
     requires fdes { Ascends fde_offset (map fde_of fdes.now) }
     requires index { IsAddressIndex (map fde_of fdes.now) index.now }
-    ensures { MatchOption result (AreApart (map fde_of fdes.now)) (λ g. IsFirstOverlap (map fde_of fdes.now) (fde_of g)) }
+    ensures { MatchOption result (AreApart (map fde_of fdes.now))
+        (λ g. IsFirstOverlap (map fde_of fdes.now) (fde_of g)) }
 {
     let mut high = fdes.len();
     if high == 0 || !overlaps(fdes, index, fdes[high - 1].offset) {

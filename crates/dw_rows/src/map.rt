@@ -168,8 +168,10 @@ impl RegisterRuleMap {
     #[inline(always)]
     pub fn set(&mut self, number: u16, rule: RegisterRule) -> Result<(), FaultKind>
         ensures { MatchResult result
-            (λ _. (self.new ≡ rule_list (changed_at (rule_in self.old) number (rule_of rule))) × (length self.new ≤ MAX_RULES))
-            (λ kind. (kind ≡ FaultKind.TooManyRules) × (MAX_RULES < rule_count (changed_at (rule_in self.old) number (rule_of rule)))) }
+            (λ _. (self.new ≡ rule_list (changed_at (rule_in self.old) number (rule_of rule)))
+            × (length self.new ≤ MAX_RULES))
+            (λ kind. (kind ≡ FaultKind.TooManyRules)
+            × (MAX_RULES < rule_count (changed_at (rule_in self.old) number (rule_of rule)))) }
     {
         if put_rule(&mut self.entries, number, rule) {
             Ok(())
@@ -220,7 +222,8 @@ fn place_of(entries: &[RuleEntry], register: u16) -> usize
 fn clear_rule(table: &mut ArrayVec<RuleEntry, MAX_RULES>, register: u16)
     requires { IsTable 0 (entries_of table.old.items) }
     ensures table { IsTable 0 (entries_of table.new.items) }
-    ensures rules { entries_of table.new.items ≡ rule_list (changed_at (rule_in (entries_of table.old.items)) register Rule.default) }
+    ensures rules { entries_of table.new.items ≡ rule_list
+        (changed_at (rule_in (entries_of table.old.items)) register Rule.default) }
 {
     let place = place_of(table.as_slice(), register);
     if place < table.len() && table.as_slice()[place].register == register {
@@ -233,9 +236,13 @@ fn clear_rule(table: &mut ArrayVec<RuleEntry, MAX_RULES>, register: u16)
 fn put_rule(table: &mut ArrayVec<RuleEntry, MAX_RULES>, register: u16, rule: RegisterRule) -> bool
     requires { IsTable 0 (entries_of table.old.items) }
     ensures table { IsTable 0 (entries_of table.new.items) }
-    ensures rules { OnTrue result (entries_of table.new.items ≡ rule_list (changed_at (rule_in (entries_of table.old.items)) register (rule_of rule))) }
+    ensures rules { OnTrue result
+        (entries_of table.new.items ≡ rule_list
+        (changed_at (rule_in (entries_of table.old.items)) register (rule_of rule))) }
     ensures few { length (entries_of table.new.items) ≤ MAX_RULES }
-    ensures full { OnFalse result (MAX_RULES < rule_count (changed_at (rule_in (entries_of table.old.items)) register (rule_of rule))) }
+    ensures full { OnFalse result
+        (MAX_RULES < rule_count (changed_at (rule_in (entries_of table.old.items)) register
+        (rule_of rule))) }
 {
     clear_rule(table, register);
     let full = table.is_full();

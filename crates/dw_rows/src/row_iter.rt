@@ -36,7 +36,13 @@ impl<'a> Model for Rows<'a> {
 
     ghost view = { λ r. drop r.given (rows_of (cie_of r.cie) (fde_of r.fde)) };
 
-    ghost invariant = { λ r. IsReady (cie_of r.cie) (fde_of r.fde) (record { cie = cie_of r.cie; end = r.fde.initial_location + r.fde.address_range; context = r.context; instructions = r.instructions }) r.given };
+    ghost invariant = { λ r. IsReady (cie_of r.cie) (fde_of r.fde)
+        (record {
+          cie = cie_of r.cie;
+          end = r.fde.initial_location + r.fde.address_range;
+          context = r.context;
+          instructions = r.instructions;
+        }) r.given };
 }
 
 impl<'a> Rows<'a> {

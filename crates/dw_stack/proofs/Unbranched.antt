@@ -46,7 +46,13 @@ module _ (kind : Kind) (ops : List Placed) (len : ℕ) (laid : IsLaidOut ops len
   straight_start : Straight kind ops len 0 (start_of kind) (start_of kind).height 0
   straight_start =
       let first : List InState = Known (start_of kind) ∷ replicate (length ops) Unreached in
-      record { states = []; in_states = first; walked = walked_start kind ops len laid None first (wide (length ops)) refl others; here = refl; beyond = others }
+      record {
+        states = [];
+        in_states = first;
+        walked = walked_start kind ops len laid None first (wide (length ops)) refl others;
+        here = refl;
+        beyond = others;
+      }
     where
       wide : (n : ℕ) → length (Known (start_of kind) ∷ replicate n Unreached) ≡ n + 1
       wide n = let long = length-replicate n Unreached in omega (arith, long)
@@ -55,13 +61,17 @@ module _ (kind : Kind) (ops : List Placed) (len : ℕ) (laid : IsLaidOut ops len
       others zero above le = absurd (omega arith)
       others (suc j) above le = get_or-replicate (length ops) j Unreached Unreached (omega arith)
 
-  straight_step : (i : ℕ) (x : Placed) (state : StackState) (depth pieces height : ℕ) → i < length ops → slice_get ops i ≡ Some x → (effect_of x.1).jump ≡ None → Suits kind (effect_of x.1) pieces state height → Straight kind ops len i state depth pieces → Straight kind ops len (i + 1) (state_after (effect_of x.1) state) (max (max depth state.height) height) (pieces + cond (is_piece (effect_of x.1).role) 1 0)
+  straight_step : (i : ℕ) (x : Placed) (state : StackState) (depth pieces height : ℕ) → i < length ops → slice_get ops i ≡ Some x
+      → (effect_of x.1).jump ≡ None → Suits kind (effect_of x.1) pieces state height → Straight kind ops len i state depth pieces
+      → Straight kind ops len (i + 1) (state_after (effect_of x.1) state) (max (max depth state.height) height)
+      (pieces + cond (is_piece (effect_of x.1).role) 1 0)
   straight_step i x state depth pieces height lt stands none suits s = record {
     states = s.states ++ at_offset (place ops len i) state ∷ [];
     in_states = new;
     walked = walked_step kind ops len laid None i s.states s.in_states new depth pieces done lt s.walked stepped;
     here = get_or-set_same s.in_states (i + 1) (Known next) Unreached (omega (arith, s.walked.wide));
-    beyond = λ j above le. get_or-set_other s.in_states (i + 1) j (Known next) Unreached (λ (same : j ≡ i + 1). omega (arith, above, same)) ∙ s.beyond j (omega (arith, above)) le;
+    beyond = λ j above le. get_or-set_other s.in_states (i + 1) j (Known next) Unreached (λ (same : j ≡ i + 1). omega (arith, above, same))
+        ∙ s.beyond j (omega (arith, above)) le;
   }
     where
       e : StackEffect
@@ -103,7 +113,15 @@ module _ (kind : Kind) (ops : List Placed) (len : ℕ) (laid : IsLaidOut ops len
       }
 
       stepped : Stepped kind ops len None i pieces s.in_states done new
-      stepped = record { out = out; one = s.here; given_is = tt; judged = judged; height = refl; piece = refl; passes = record { mid = new; next = receives; target = refl } }
+      stepped = record {
+        out = out;
+        one = s.here;
+        given_is = tt;
+        judged = judged;
+        height = refl;
+        piece = refl;
+        passes = record { mid = new; next = receives; target = refl };
+      }
 
 -- so much of an expression was read, and judged as if all of it could be read
 pub record JudgedSoFar (kind : Kind) (e : Expression) (at count : ℕ) (state : StackState) (depth pieces : ℕ) : Type 0 where
@@ -114,7 +132,8 @@ pub record JudgedSoFar (kind : Kind) (e : Expression) (at count : ℕ) (state : 
   pub fault : reading_fault (target_of e) (bytes_of e) ≡ fault_in (operations_of (reading_from e at))
   pub few : count ≤ at
   pub few_pieces : pieces ≤ count
-  pub straight : IsLaidOut (operations_in (target_of e) (bytes_of e)) (length (bytes_of e)) → Straight kind (operations_in (target_of e) (bytes_of e)) (length (bytes_of e)) count state depth pieces
+  pub straight : IsLaidOut (operations_in (target_of e) (bytes_of e)) (length (bytes_of e))
+      → Straight kind (operations_in (target_of e) (bytes_of e)) (length (bytes_of e)) count state depth pieces
 
 pub begun : (kind : Kind) (e : Expression) (state : StackState) → state ≡ start_of kind → JudgedSoFar kind e 0 0 state state.height 0
 begun kind e state is = subst (λ (s : StackState). JudgedSoFar kind e 0 0 s s.height 0) (sym is) (record {
@@ -133,7 +152,11 @@ one_more : (b : Bool) (pieces count : ℕ) → pieces ≤ count → pieces + con
 one_more true pieces count le = omega (arith, le)
 one_more false pieces count le = omega (arith, le)
 
-pub further : (kind : Kind) (e : Expression) (at count : ℕ) (state : StackState) (depth pieces : ℕ) (op : Operation) (next height : ℕ) → JudgedSoFar kind e at count state depth pieces → operation_at (reading_from e at) ≡ Ok (op, reading_from e next) → at < next → next ≤ length (bytes_of e) → (effect_of op).jump ≡ None → Suits kind (effect_of op) pieces state height → JudgedSoFar kind e next (count + 1) (state_after (effect_of op) state) (max (max depth state.height) height) (pieces + cond (is_piece (effect_of op).role) 1 0)
+pub further : (kind : Kind) (e : Expression) (at count : ℕ) (state : StackState) (depth pieces : ℕ) (op : Operation) (next height : ℕ)
+    → JudgedSoFar kind e at count state depth pieces → operation_at (reading_from e at) ≡ Ok (op, reading_from e next) → at < next
+    → next ≤ length (bytes_of e) → (effect_of op).jump ≡ None → Suits kind (effect_of op) pieces state height
+    → JudgedSoFar kind e next (count + 1) (state_after (effect_of op) state) (max (max depth state.height) height)
+    (pieces + cond (is_piece (effect_of op).role) 1 0)
 further kind e at count state depth pieces op next height j read forward within none suits = record {
   within = within;
   before = j.before ++ (at, op) ∷ [];
@@ -142,7 +165,8 @@ further kind e at count state depth pieces op next height j read forward within 
   fault = j.fault ∙ ap fault_in step;
   few = omega (arith, forward, j.few);
   few_pieces = one_more (is_piece (effect_of op).role) pieces count j.few_pieces;
-  straight = λ laid. straight_step kind ops (length (bytes_of e)) laid count (at, op) state depth pieces height lt stands none suits (j.straight laid);
+  straight = λ laid. straight_step kind ops (length (bytes_of e)) laid count (at, op) state depth pieces height lt stands none suits
+      (j.straight laid);
 }
   where
     ops : List Placed
@@ -158,17 +182,21 @@ further kind e at count state depth pieces op next height j read forward within 
     parts = ap (λ l. j.before ++ values_in l) (sym step) ∙ j.parts
 
     stands : slice_get ops count ≡ Some (at, op)
-    stands = ap (slice_get ops) (sym j.count_is) ∙ (ap (λ (xs : List Placed). slice_get xs (length j.before)) (sym parts) ∙ at_seam j.before left (at, op))
+    stands = ap (slice_get ops) (sym j.count_is)
+        ∙ (ap (λ (xs : List Placed). slice_get xs (length j.before)) (sym parts) ∙ at_seam j.before left (at, op))
 
     lt : count < length ops
     lt = slice_get_within ops count (at, op) stands
 
 -- all was read, and the end gives a result
-pub judged : (kind : Kind) (e : Expression) (at count : ℕ) (state : StackState) (depth pieces : ℕ) → JudgedSoFar kind e at count state depth pieces → length (bytes_of e) ≤ at → HasResult kind (count == 0) state → IsChecked (record { kind = kind; target = target_of e; bytes = bytes_of e; depth = depth; count = count })
+pub judged : (kind : Kind) (e : Expression) (at count : ℕ) (state : StackState) (depth pieces : ℕ)
+    → JudgedSoFar kind e at count state depth pieces → length (bytes_of e) ≤ at → HasResult kind (count == 0) state
+    → IsChecked (record { kind = kind; target = target_of e; bytes = bytes_of e; depth = depth; count = count })
 judged kind e at count state depth pieces j past result = record {
   good = record {
     encoded = encoded_of (target_of e) (bytes_of e) fine;
-    good = end_good kind ops (length (bytes_of e)) laid None count all s.states s.in_states depth pieces s.walked state last (subst (λ (n : ℕ). HasResult kind (n == 0) state) all result);
+    good = end_good kind ops (length (bytes_of e)) laid None count all s.states s.in_states depth pieces s.walked state last
+        (subst (λ (n : ℕ). HasResult kind (n == 0) state) all result);
   };
   depth = end_depth kind ops (length (bytes_of e)) laid None count all s.states s.in_states depth pieces s.walked;
   count = all;

@@ -11,17 +11,14 @@ pub mod Machine
 pub mod Expressions
 -- what certificates and checked expressions are
 pub mod Certificates
-
 -- ---- The first fault, as a function of the bytes. Laws tie it to what is to be believed.
 -- what each judgement refuses, and their order
 pub mod Faults
 -- the first fault from the bytes
 pub mod FirstFault
-
 -- ---- What the code's own values stand for, and what its calls answer.
 -- lists of states
 pub mod Views
-
 -- ---- Behind the contracts: no contract of a public call speaks of these.
 -- one operation at one state
 pub mod Judge

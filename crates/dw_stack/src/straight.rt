@@ -36,9 +36,12 @@ fn judge_straight(
     state: StackState,
 ) -> Option<Left>
     ensures straight { IfSome result (λ _. (effect_of (operation_of operation.now)).jump ≡ None) }
-    ensures suits { IfSome result (λ left. Suits kind (effect_of (operation_of operation.now)) pieces state left.height) }
-    ensures state { IfSome result (λ left. left.state ≡ state_after (effect_of (operation_of operation.now)) state) }
-    ensures piece { IfSome result (λ left. left.piece ≡ is_piece (effect_of (operation_of operation.now)).role) }
+    ensures suits { IfSome result
+        (λ left. Suits kind (effect_of (operation_of operation.now)) pieces state left.height) }
+    ensures state { IfSome result
+        (λ left. left.state ≡ state_after (effect_of (operation_of operation.now)) state) }
+    ensures piece { IfSome result
+        (λ left. left.piece ≡ is_piece (effect_of (operation_of operation.now)).role) }
 {
     let effect = effect(operation);
     match (effect.jump, suits(kind, &effect, pieces, state)) {
@@ -56,7 +59,8 @@ fn judge_straight(
 /// no list of operations or states is made.
 pub fn check_straight<'a>(expression: Expression<'a>, kind: Kind) -> Option<CheckedExpression<'a>>
     ensures checked { IfSome result (λ c. IsChecked (checked_of c)) }
-    ensures same { IfSome result (λ c. IsOf kind (target_of expression.entry) (bytes_of expression.entry) (checked_of c)) }
+    ensures same { IfSome result (λ c. IsOf kind (target_of expression.entry)
+        (bytes_of expression.entry) (checked_of c)) }
 {
     let end = expression.bytes().len() as u32;
     let mut state = start(kind);

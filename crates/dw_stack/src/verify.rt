@@ -38,10 +38,14 @@ fn check<'a>(
     given: Option<&[State]>,
 ) -> Result<Certificate<'a>, Fault>
     ensures checked { IfOk result (λ c. IsChecked (checked_in c)) }
-    ensures same { IfOk result (λ c. IsOf kind (target_of expression.entry) (bytes_of expression.entry) (checked_in c)) }
-    ensures states { IfOk result (λ c. AreStatesOf kind (target_of expression.entry) (bytes_of expression.entry) (states_in c)) }
-    ensures known { OnOk result (Knows kind (target_of expression.entry) (bytes_of expression.entry) (given_of given.entry)) }
-    ensures fault { IfErr result (λ f. (f ≡ memory) ⊎ IsFaultOf kind (target_of expression.entry) (bytes_of expression.entry) (given_of given.entry) f) }
+    ensures same { IfOk result (λ c. IsOf kind (target_of expression.entry)
+        (bytes_of expression.entry) (checked_in c)) }
+    ensures states { IfOk result (λ c. AreStatesOf kind (target_of expression.entry)
+        (bytes_of expression.entry) (states_in c)) }
+    ensures known { OnOk result (Knows kind (target_of expression.entry) (bytes_of expression.entry)
+        (given_of given.entry)) }
+    ensures fault { IfErr result (λ f. (f ≡ memory) ⊎ IsFaultOf kind (target_of expression.entry)
+        (bytes_of expression.entry) (given_of given.entry) f) }
     ensures inside { IfErr result (λ f. f.at ≤ length (bytes_of expression.entry)) }
 {
     let operations = operations(alloc, &expression)?;
@@ -76,9 +80,12 @@ pub fn certify<'a>(
     kind: Kind,
 ) -> Result<Certificate<'a>, Fault>
     ensures checked { IfOk result (λ c. IsChecked (checked_in c)) }
-    ensures same { IfOk result (λ c. IsOf kind (target_of expression.entry) (bytes_of expression.entry) (checked_in c)) }
-    ensures states { IfOk result (λ c. AreStatesOf kind (target_of expression.entry) (bytes_of expression.entry) (states_in c)) }
-    ensures answer { Answers (expression_fault kind (target_of expression.entry) (bytes_of expression.entry)) result }
+    ensures same { IfOk result (λ c. IsOf kind (target_of expression.entry)
+        (bytes_of expression.entry) (checked_in c)) }
+    ensures states { IfOk result (λ c. AreStatesOf kind (target_of expression.entry)
+        (bytes_of expression.entry) (states_in c)) }
+    ensures answer { Answers (expression_fault kind (target_of expression.entry)
+        (bytes_of expression.entry)) result }
     ensures inside { IfErr result (λ f. f.at ≤ length (bytes_of expression.entry)) }
 {
     check(alloc, expression, kind, None)
@@ -92,8 +99,10 @@ pub fn check_expression<'a>(
     kind: Kind,
 ) -> Result<CheckedExpression<'a>, Fault>
     ensures checked { IfOk result (λ c. IsChecked (checked_of c)) }
-    ensures same { IfOk result (λ c. IsOf kind (target_of expression.entry) (bytes_of expression.entry) (checked_of c)) }
-    ensures answer { Answers (expression_fault kind (target_of expression.entry) (bytes_of expression.entry)) result }
+    ensures same { IfOk result (λ c. IsOf kind (target_of expression.entry)
+        (bytes_of expression.entry) (checked_of c)) }
+    ensures answer { Answers (expression_fault kind (target_of expression.entry)
+        (bytes_of expression.entry)) result }
     ensures inside { IfErr result (λ f. f.at ≤ length (bytes_of expression.entry)) }
 {
     if let Some(checked) = check_straight(expression, kind) {
@@ -117,9 +126,12 @@ pub fn recheck<'a>(
     states: &[State],
 ) -> Result<CheckedExpression<'a>, CertFault>
     ensures checked { IfOk result (λ c. IsChecked (checked_of c)) }
-    ensures same { IfOk result (λ c. IsOf kind (target_of expression.entry) (bytes_of expression.entry) (checked_of c)) }
-    ensures states { OnOk result (AreStatesOf kind (target_of expression.entry) (bytes_of expression.entry) states.now) }
-    ensures fault { IfErr result (λ f. (f ≡ memory) ⊎ IsFaultOf kind (target_of expression.entry) (bytes_of expression.entry) (Some states.now) f) }
+    ensures same { IfOk result (λ c. IsOf kind (target_of expression.entry)
+        (bytes_of expression.entry) (checked_of c)) }
+    ensures states { OnOk result (AreStatesOf kind (target_of expression.entry)
+        (bytes_of expression.entry) states.now) }
+    ensures fault { IfErr result (λ f. (f ≡ memory) ⊎ IsFaultOf kind (target_of expression.entry)
+        (bytes_of expression.entry) (Some states.now) f) }
     ensures inside { IfErr result (λ f. f.at ≤ length (bytes_of expression.entry)) }
 {
     let certificate = check(alloc, expression, kind, Some(states))?;

@@ -136,6 +136,14 @@ some_size n is = elim is [
 pub zeros_read : (order : Order) (a n : ℕ) → IsSize n → Some 0 ≡ number_at (λ _. Some 0) order a n
 unfolding bytes_from
 zeros_read Little a n is =
-    elim is [ inl one ↦ rw one refl | inr more ↦ elim more [ inl two ↦ rw two refl | inr most ↦ elim most [ inl four ↦ rw four refl | inr eight ↦ rw eight refl ] ] ]
+    elim is [
+      | inl one ↦ rw one refl
+      | inr more ↦ elim more
+          [ inl two ↦ rw two refl | inr most ↦ elim most [ inl four ↦ rw four refl | inr eight ↦ rw eight refl ] ]
+    ]
 zeros_read Big a n is =
-    elim is [ inl one ↦ rw one refl | inr more ↦ elim more [ inl two ↦ rw two refl | inr most ↦ elim most [ inl four ↦ rw four refl | inr eight ↦ rw eight refl ] ] ]
+    elim is [
+      | inl one ↦ rw one refl
+      | inr more ↦ elim more
+          [ inl two ↦ rw two refl | inr most ↦ elim most [ inl four ↦ rw four refl | inr eight ↦ rw eight refl ] ]
+    ]

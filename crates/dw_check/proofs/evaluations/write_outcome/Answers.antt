@@ -19,5 +19,6 @@ returns-clause-written g c = λ gs given.
     let steps = c.evaluate-evaluation.result.steps in
     let size = c.requires.size in
     let shown = evaluates checked
-    (known_state_of c.args.state.now) gs outcome steps c.depth.result c.requires.short c.requires.good given c.evaluate-evaluation.ensures.run c.depth.ensures.depth in
+    (known_state_of c.args.state.now) gs outcome steps c.depth.result c.requires.short c.requires.good given
+    c.evaluate-evaluation.ensures.run c.depth.ensures.depth in
     (evaluation_text checked.target.address_size outcome steps c.depth.result, shown, rw (← size) c.write_evaluation.ensures.written)

@@ -6,7 +6,8 @@ use Rattle.dw_eval.specs.UnderWay.{IsUnderWay}
 use Rattle.dw_eval.proofs.description.run_location.Given as goal
 
 abbrev pub invariant-loop-at : goal.invariant-loop-at
-invariant-loop-at g l = IsUnderWay (world_in g.R.Registers.contents g.M.Memory.bytes l.environment) (bytes_of l.expression) [] (configured l.at l.run []) l.steps
+invariant-loop-at g l = IsUnderWay (world_in g.R.Registers.contents g.M.Memory.bytes l.environment) (bytes_of l.expression) []
+    (configured l.at l.run []) l.steps
 
 abbrev pub decreases-loop-at : goal.decreases-loop-at
 decreases-loop-at g l = l.end - l.at

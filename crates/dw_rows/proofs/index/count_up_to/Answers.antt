@@ -12,11 +12,13 @@ loop-size-preserved c =
     record {
       bound = omega (arith, i.bound, s.bound);
       below = λ k d lt. elim (cases_lt 0 c.stride-low.result) [
-        | inl some ↦ let up = c.requires k (c.loop-size.low + c.stride-low.result) d (omega arith) (omega (arith, i.bound, s.bound)) in omega (arith, up, s.below d some)
+        | inl some ↦ let up = c.requires k (c.loop-size.low + c.stride-low.result) d (omega arith) (omega (arith, i.bound, s.bound)) in
+            omega (arith, up, s.below d some)
         | inr none ↦ i.below k d (omega arith)
       ];
       above = λ k d le lt. elim (cases_lt c.stride-low.result (3 * q)) [
-        | inl few ↦ let up = c.requires (c.loop-size.low + c.stride-low.result + q) k d (omega (arith, s.bound)) lt in omega (arith, up, s.above d few)
+        | inl few ↦ let up = c.requires (c.loop-size.low + c.stride-low.result + q) k d (omega (arith, s.bound)) lt in
+            omega (arith, up, s.above d few)
         | inr all ↦ i.above k d (omega (arith, s.bound)) lt
       ];
     }

@@ -15,10 +15,12 @@ returns-then-after-eq0 c =
     let index = c.args.index.now in
     let is = c.requires.index in
     let above = starts-above fdes index c.count_up_to-after.result c.args.address is.each c.count_up_to-after.ensures.above in
-    cover-indexed fdes (map (fde_at fdes) index) is.index_of c.args.address None (none-covered (map (fde_at fdes) index) c.args.address (λ k d lt. above k d (omega arith) lt))
+    cover-indexed fdes (map (fde_at fdes) index) is.index_of c.args.address None
+    (none-covered (map (fde_at fdes) index) c.args.address (λ k d lt. above k d (omega arith) lt))
 
 pub bounds-fdes-index : goal.bounds-fdes-index
-bounds-fdes-index c = entry-within c.args.fdes.now c.args.index.now (c.count_up_to-after.result - 1) _ c.requires.index.each (omega (arith, c.count_up_to-after.ensures.bound))
+bounds-fdes-index c = entry-within c.args.fdes.now c.args.index.now (c.count_up_to-after.result - 1) _ c.requires.index.each
+    (omega (arith, c.count_up_to-after.ensures.bound))
 
 pub overflow_sub-address : goal.overflow_sub-address
 overflow_sub-address c =
@@ -26,7 +28,11 @@ overflow_sub-address c =
     let place = c.count_up_to-after.result - 1 in
     let place_in : place < length index = omega (arith, c.count_up_to-after.ensures.bound) in
     let low = c.count_up_to-after.ensures.below place (record { start = 0; place = 0 }) (omega arith) in
-    omega (arith, low, entry-start c.args.fdes.now index place _ c.index-fdes-index.result c.requires.index.each place_in c.index-fdes-index.is)
+    omega (
+      arith,
+      low,
+      entry-start c.args.fdes.now index place _ c.index-fdes-index.result c.requires.index.each place_in c.index-fdes-index.is,
+    )
 
 pub returns-then-address-fde : goal.returns-then-address-fde
 returns-then-address-fde c =
@@ -41,7 +47,8 @@ returns-then-address-fde c =
     let placed = entry-placed c.args.fdes.now index place _ x is.each place_in c.index-fdes-index.is in
     let x_in : Contains (map (fde_at fdes) index) (fde_of x) = (place, omega arith, placed) in
     let once : CoversOnce (map (fde_at fdes) index) = once-indexed fdes (map (fde_at fdes) index) is.index_of c.requires.once in
-    cover-indexed fdes (map (fde_at fdes) index) is.index_of c.args.address (Some (fde_of x)) (x_in, (low, omega arith), λ g g_in covered. once c.args.address g (fde_of x) g_in x_in covered (low, omega arith))
+    cover-indexed fdes (map (fde_at fdes) index) is.index_of c.args.address (Some (fde_of x))
+    (x_in, (low, omega arith), λ g g_in covered. once c.args.address g (fde_of x) g_in x_in covered (low, omega arith))
 
 pub returns : goal.returns
 returns c =
@@ -57,4 +64,5 @@ returns c =
     let placed = entry-placed c.args.fdes.now index (after - 1) _ x is.each place_in c.index-fdes-index.is in
     let once : CoversOnce (map (fde_at fdes) index) = once-indexed fdes (map (fde_at fdes) index) is.index_of c.requires.once in
     cover-indexed fdes (map (fde_at fdes) index) is.index_of c.args.address None
-    (not-covered (map (fde_at fdes) index) is.index_of.ordered after c.args.address (fde_of x) once (omega arith) (omega (arith, c.count_up_to-after.ensures.bound)) placed low above (omega arith))
+    (not-covered (map (fde_at fdes) index) is.index_of.ordered after c.args.address (fde_of x) once (omega arith)
+    (omega (arith, c.count_up_to-after.ensures.bound)) placed low above (omega arith))

@@ -17,9 +17,14 @@ loop-place-preserved c =
     let x = c.index-fdes-place.result in
     elim c.if-fde-gt0.branch [
       | then-fde-gt0+in_ok-push w ↦
-          let k = entries-more fdes place x c.loop-place.index.items c.loop-place-test.true (sym c.index-fdes-place.is) w.if-fde-gt0.true i.entries i.fdes in
+          let k = entries-more fdes place x c.loop-place.index.items c.loop-place-test.true
+          (sym c.index-fdes-place.is) w.if-fde-gt0.true i.entries i.fdes in
           rw (w.index-is, w.in_ok-push.ensures.items) (record { entries = k.0; fdes = k.1 })
-      | else-fde-gt0 w ↦ rw w.index-is (record { entries = i.entries; fdes = i.fdes ∙ entries-same fdes place x c.loop-place-test.true (sym c.index-fdes-place.is) w.if-fde-gt0.false })
+      | else-fde-gt0 w ↦ rw w.index-is (record {
+        entries = i.entries;
+        fdes = i.fdes ∙ entries-same fdes place x c.loop-place-test.true
+            (sym c.index-fdes-place.is) w.if-fde-gt0.false;
+      })
     ]
 
 pub returns : goal.returns
@@ -27,4 +32,8 @@ returns c =
     let fs = map fde_of c.args.fdes.now in
     let long = length-map c.args.fdes.now fde_of in
     let all : take c.loop-place.place fs ≡ fs = take_all c.loop-place.place fs (omega (arith, c.loop-place-test.false)) in
-    record { entries = c.loop-place.invariant.entries; fdes = c.loop-place.invariant.fdes ∙ ap (λ (l : List Fde). filter is_some_fde l) all }
+    record {
+      entries = c.loop-place.invariant.entries;
+      fdes = c.loop-place.invariant.fdes
+          ∙ ap (λ (l : List Fde). filter is_some_fde l) all;
+    }

@@ -13,11 +13,14 @@ returns c =
     let fdes = map fde_of c.args.fdes.now in
     let entries = c.sort_unstable_by_key.new.self.items in
     let moved = c.sort_unstable_by_key.ensures.permutation in
-    let sorted : IsNonDecreasingBy (λ (e : IndexEntry). e.start) entries = IsNonDecreasingBy-from_sort_by_key (λ (e : IndexEntry). e.start) _ c.sort_unstable_by_key.ensures.sorted (λ a r q k. search rules) in
+    let sorted : IsNonDecreasingBy (λ (e : IndexEntry). e.start) entries =
+    IsNonDecreasingBy-from_sort_by_key (λ (e : IndexEntry). e.start) _ c.sort_unstable_by_key.ensures.sorted
+    (λ a r q k. search rules) in
     let each = All-permutation (IsEntry fdes) _ entries moved c.in_ok-index.ensures.entries in
     record {
       each = each;
       index_of = indexed fdes (map (fde_at fdes) entries) c.requires
-          (subst (λ (xs : List Fde). IsPermutation xs (map (fde_at fdes) entries)) c.in_ok-index.ensures.fdes (IsPermutation-map (fde_at fdes) _ entries moved))
+          (subst (λ (xs : List Fde). IsPermutation xs (map (fde_at fdes) entries)) c.in_ok-index.ensures.fdes
+          (IsPermutation-map (fde_at fdes) _ entries moved))
           (sorted-entries fdes entries each sorted);
     }

@@ -17,17 +17,26 @@ pub returns-then-fde-end : goal.returns-then-fde-end
 returns-then-fde-end c =
     let view = fde_at (map fde_of c.args.fdes.now) in
     let long = length-map c.args.index.now view in
-    let placed = entry-placed c.args.fdes.now c.args.index.now c.loop-entry.entry-index _ c.index-fdes-entry.result c.requires.each c.loop-entry-test.true c.index-fdes-entry.is in
-    clash-at (map view c.args.index.now) c.args.last c.loop-entry.entry-index c.loop-entry.end (fde_of c.index-fdes-entry.result) c.requires.index_of.ordered c.loop-entry.invariant (omega arith) placed (omega arith) (omega arith)
+    let placed =
+    entry-placed c.args.fdes.now c.args.index.now c.loop-entry.entry-index _ c.index-fdes-entry.result c.requires.each
+    c.loop-entry-test.true c.index-fdes-entry.is in
+    clash-at (map view c.args.index.now) c.args.last c.loop-entry.entry-index c.loop-entry.end
+    (fde_of c.index-fdes-entry.result) c.requires.index_of.ordered c.loop-entry.invariant (omega arith) placed (omega arith)
+    (omega arith)
 
 pub loop-entry-preserved : goal.loop-entry-preserved
 loop-entry-preserved c =
     let view = fde_at (map fde_of c.args.fdes.now) in
     let long = length-map c.args.index.now view in
-    let placed = entry-placed c.args.fdes.now c.args.index.now c.loop-entry.entry-index _ c.index-fdes-entry.result c.requires.each c.loop-entry-test.true c.index-fdes-entry.is in
+    let placed =
+    entry-placed c.args.fdes.now c.args.index.now c.loop-entry.entry-index _ c.index-fdes-entry.result c.requires.each
+    c.loop-entry-test.true c.index-fdes-entry.is in
     elim c.if-fde-last.branch [
-      | then-fde-last+else-fde-end w ↦ rw w.end-is (swept-more (map view c.args.index.now) c.args.last c.loop-entry.entry-index c.loop-entry.end (fde_of c.index-fdes-entry.result) c.loop-entry.invariant (omega arith) placed (omega arith) (omega arith))
-      | else-fde-last w ↦ rw w.end-is (swept-skip (map view c.args.index.now) c.args.last c.loop-entry.entry-index c.loop-entry.end (fde_of c.index-fdes-entry.result) c.loop-entry.invariant (omega arith) placed (omega arith))
+      | then-fde-last+else-fde-end w ↦ rw w.end-is
+          (swept-more (map view c.args.index.now) c.args.last c.loop-entry.entry-index c.loop-entry.end
+          (fde_of c.index-fdes-entry.result) c.loop-entry.invariant (omega arith) placed (omega arith) (omega arith))
+      | else-fde-last w ↦ rw w.end-is (swept-skip (map view c.args.index.now) c.args.last c.loop-entry.entry-index c.loop-entry.end
+          (fde_of c.index-fdes-entry.result) c.loop-entry.invariant (omega arith) placed (omega arith))
     ]
 
 pub returns : goal.returns

@@ -13,8 +13,15 @@ returns-then-full c =
     let mid = entries_of c.clear_rule.new.table.items in
     let full : length c.clear_rule.new.table.items ≡ MAX_RULES = grind (arith, common_steps) in
     let clears : Clears old c.args.register mid = record { table = c.clear_rule.ensures.table; rules = c.clear_rule.ensures.rules } in
-    let more = full-count old mid c.args.register (rule_of c.args.rule) (omega arith) (rule_of-some c.args.rule c.in_default.not-Default) clears in
-    record { table = c.clear_rule.ensures.table; rules = tt; few = omega (arith, c.is_full-full.ensures.fits, length-entries_of c.clear_rule.new.table.items); full = omega (arith, more, length-entries_of c.clear_rule.new.table.items) }
+    let more = full-count old mid c.args.register (rule_of c.args.rule) (omega arith)
+    (rule_of-some c.args.rule c.in_default.not-Default) clears in
+    record {
+      table = c.clear_rule.ensures.table;
+      rules = tt;
+      few = omega (arith, c.is_full-full.ensures.fits, length-entries_of c.clear_rule.new.table.items);
+      full =
+          omega (arith, more, length-entries_of c.clear_rule.new.table.items);
+    }
 
 pub returns : goal.returns
 returns c =
@@ -22,6 +29,15 @@ returns c =
     let mid = entries_of c.clear_rule.new.table.items in
     let place : c.place_of-place.result ≡ place_in c.args.register mid = cc in
     let clears : Clears old c.args.register mid = record { table = c.clear_rule.ensures.table; rules = c.clear_rule.ensures.rules } in
-    let new : entries_of c.insert.new.self.items ≡ inserted c.args.register (rule_of c.args.rule) mid = rw (c.insert.ensures.items, place) (insert-place c.clear_rule.new.table.items c.args.register (rule_of c.args.rule) c.entry.result c.entry.ensures) in
-    let k = puts-inserted old mid (entries_of c.insert.new.self.items) c.args.register (rule_of c.args.rule) (omega arith) (rule_of-some c.args.rule c.in_default.not-Default) clears new in
-    record { table = k.table; rules = k.rules; few = let room : length c.clear_rule.new.table.items < MAX_RULES = grind (arith, common_steps) in omega (arith, c.insert.ensures.len, length-entries_of c.insert.new.self.items); full = tt }
+    let new : entries_of c.insert.new.self.items ≡ inserted c.args.register (rule_of c.args.rule) mid =
+    rw (c.insert.ensures.items, place) (insert-place c.clear_rule.new.table.items c.args.register
+    (rule_of c.args.rule) c.entry.result c.entry.ensures) in
+    let k = puts-inserted old mid (entries_of c.insert.new.self.items) c.args.register (rule_of c.args.rule) (omega arith)
+    (rule_of-some c.args.rule c.in_default.not-Default) clears new in
+    record {
+      table = k.table;
+      rules = k.rules;
+      few = let room : length c.clear_rule.new.table.items < MAX_RULES = grind
+          (arith, common_steps) in omega (arith, c.insert.ensures.len, length-entries_of c.insert.new.self.items);
+      full = tt;
+    }

@@ -22,4 +22,5 @@ returns-clause-exact c =
     ) in
     let mid_inside : mid.position ≤ length section = omega (arith, whole, c.in_ok-format.ensures.goes_on.same_end) in
     rw (c.position-start.ensures, c.position-end.ensures)
-    (framed-window c.args.target section c.args.at c.in_ok-format.format c.in_ok-format.length mid c.in_ok-take.field-0.now c.take.new.self (omega arith) first c.in_ok-take.ensures.exact mid_inside)
+    (framed-window c.args.target section c.args.at c.in_ok-format.format c.in_ok-format.length mid c.in_ok-take.field-0.now c.take.new.self
+    (omega arith) first c.in_ok-take.ensures.exact mid_inside)

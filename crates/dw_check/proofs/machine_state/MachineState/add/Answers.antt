@@ -11,7 +11,8 @@ returns-in_ok-add_first-in-Register c =
     let old = known_state_of c.args.self.now in
     rw c.in-Register.is (given_more old (record old { registers = get nat_cmp c.add_first.new.map })
     (register c.in-Register.number c.in-Register.content) (record {
-      registers = added c.args.self.now.registers c.add_first.new.map c.in-Register.number c.in-Register.content c.in_ok-add_first-in-Register.ensures;
+      registers = added c.args.self.now.registers c.add_first.new.map c.in-Register.number c.in-Register.content
+          c.in_ok-add_first-in-Register.ensures;
       memory = λ a. sym (or_none (old.memory a));
       cfa = sym (or_none old.cfa);
       frame_base = sym (or_none old.frame_base);

@@ -14,7 +14,8 @@ pub write_row_of-cie-requires-clause-high : goal.write_row_of-cie-requires-claus
 write_row_of-cie-requires-clause-high c = c.in_ok-fde.ensures.only.1.1
 
 pub returns-clause-row : goal.returns-clause-row
-returns-clause-row c = row-found c.args.self.now c.args.address (fde_of c.in_ok-fde.fde) c.write_row_of-cie.new.row c.in_ok-fde.ensures.only c.write_row_of-cie.ensures.row
+returns-clause-row c = row-found c.args.self.now c.args.address
+    (fde_of c.in_ok-fde.fde) c.write_row_of-cie.new.row c.in_ok-fde.ensures.only c.write_row_of-cie.ensures.row
 
 -- a row that is found among rows up to an address has no addresses above it
 pub returns-clause-fit : goal.returns-clause-fit
@@ -23,7 +24,8 @@ returns-clause-fit c =
     let fde = fde_of c.in_ok-fde.fde in
     let found : find (has_address c.args.address) (rows_of cie fde) ≡ Some c.write_row_of-cie.new.row =
     ap (λ o. find (has_address c.args.address) (rows_behind o fde)) (sym c.write_row_of-cie.ensures.cie) ∙ c.write_row_of-cie.ensures.row in
-    let by = found-by (has_address c.args.address) fde.initial (fde.initial + fde.range) _ _ (cover-rows cie fde c.write_row_of-cie.ensures.fde_program) found in
+    let by = found-by (has_address c.args.address) fde.initial (fde.initial + fde.range) _ _
+    (cover-rows cie fde c.write_row_of-cie.ensures.fde_program) found in
     (omega (arith, by.0, c.in_ok-fde.ensures.fit), omega (arith, by.1, c.in_ok-fde.ensures.fit))
 
 pub returns-in_err-fde-clause-none : goal.returns-in_err-fde-clause-none
