@@ -222,7 +222,8 @@ fn place_of(entries: &[RuleEntry], register: u16) -> usize
 fn clear_rule(table: &mut ArrayVec<RuleEntry, MAX_RULES>, register: u16)
     requires { IsTable 0 (entries_of table.old.items) }
     ensures table { IsTable 0 (entries_of table.new.items) }
-    ensures rules { entries_of table.new.items ≡ rule_list (changed_at (rule_in (entries_of table.old.items)) register Rule.default) }
+    ensures rules { entries_of table.new.items ≡ rule_list
+        (changed_at (rule_in (entries_of table.old.items)) register Rule.default) }
     ensures few { length (entries_of table.new.items) ≤ MAX_RULES }
 {
     let place = place_of(table.as_slice(), register);

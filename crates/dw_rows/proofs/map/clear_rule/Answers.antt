@@ -8,8 +8,13 @@ use Rattle.dw_rows.proofs.map.clear_rule.Goals.{else-place-len-via-then-place-le
 pub returns-then-as_slice-place : goal.returns-then-as_slice-place
 returns-then-as_slice-place c =
     let place : c.place_of-place.result ≡ place_in c.args.register (entries_of c.args.table.now.items) = cc in
-    let k = clears-removed c.args.table.now.items _ c.remove.new.self.items c.args.register _ _ c.as_slice-then-place-len.ensures.value place (omega arith) c.if-as_slice-place.true c.remove.ensures.items c.requires in
-    record { table = k.table; rules = k.rules; few = omega (arith, c.len.ensures.value, c.len.ensures.fits, c.remove.ensures.len, length-entries_of c.remove.new.self.items) }
+    let k = clears-removed c.args.table.now.items _ c.remove.new.self.items c.args.register _ _ c.as_slice-then-place-len.ensures.value
+    place (omega arith) c.if-as_slice-place.true c.remove.ensures.items c.requires in
+    record {
+      table = k.table;
+      rules = k.rules;
+      few = omega (arith, c.len.ensures.value, c.len.ensures.fits, c.remove.ensures.len, length-entries_of c.remove.new.self.items);
+    }
 
 pub returns-else-place-len-clause-rules : goal.returns-else-place-len-clause-rules
 returns-else-place-len-clause-rules c =
