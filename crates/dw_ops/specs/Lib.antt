@@ -3,7 +3,6 @@
 pub mod Operations
 -- which bytes encode which operation (7.7.1), and their reading
 pub mod Opcodes
-
 -- ---- What the code's own values stand for, and what its calls answer.
 -- operations and expressions of the code
 pub mod Views

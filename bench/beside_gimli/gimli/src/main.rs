@@ -74,10 +74,10 @@ fn index(frame: &DebugFrame<Bytes<'_>>) -> Vec<(u64, u64, usize)> {
 }
 
 /// The row of an address, by the index.
-fn look_up(
-    frame: &DebugFrame<Bytes<'_>>,
+fn look_up<'a>(
+    frame: &DebugFrame<Bytes<'a>>,
     index: &[(u64, u64, usize)],
-    context: &mut UnwindContext<Bytes<'_>>,
+    context: &mut UnwindContext<Bytes<'a>>,
     address: u64,
 ) -> u64 {
     let bases = BaseAddresses::default();
