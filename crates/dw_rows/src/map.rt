@@ -1,6 +1,6 @@
 //! The rules of a row, by register.
 
-ghost use Rattle.std.specs.Prelude.{◌≡◌, ◌≢◌, ℕ, ◌+◌, ◌<◌, ◌≤◌, [], List, length, slice_get, slice_set, MatchResult};
+ghost use Rattle.std.specs.Prelude.{◌≡◌, ◌≢◌, ℕ, ◌+◌, ◌<◌, ◌≤◌, [], List, length, slice_get, MatchResult};
 ghost use Rattle.arrayvec.specs.ArrayVec.{array_vec_len};
 ghost use Rattle.dw_bytes.specs.declared.fault.FaultKind.{FaultKind};
 ghost use Rattle.std.specs.Bool.{OnTrue, OnFalse};
@@ -224,22 +224,11 @@ fn clear_rule(table: &mut ArrayVec<RuleEntry, MAX_RULES>, register: u16)
     ensures table { IsTable 0 (entries_of table.new.items) }
     ensures rules { entries_of table.new.items ≡ rule_list
         (changed_at (rule_in (entries_of table.old.items)) register Rule.default) }
-    ensures few { length (entries_of table.new.items) ≤ MAX_RULES }
 {
     let place = place_of(table.as_slice(), register);
     if place < table.len() && table.as_slice()[place].register == register {
         table.remove(place);
     }
-}
-
-/// Puts an entry in the place of another.
-#[inline(always)]
-fn overwrite(table: &mut ArrayVec<RuleEntry, MAX_RULES>, place: usize, entry: RuleEntry)
-    requires { place < length table.old.items }
-    ensures items { table.new.items ≡ slice_set table.old.items place entry }
-    ensures few { length table.new.items ≤ MAX_RULES }
-{
-    table.as_mut_slice()[place] = entry;
 }
 
 /// Gives the register the rule. Only where there is no room for it, it answers `false`.
@@ -255,18 +244,15 @@ fn put_rule(table: &mut ArrayVec<RuleEntry, MAX_RULES>, register: u16, rule: Reg
         (MAX_RULES < rule_count (changed_at (rule_in (entries_of table.old.items)) register
         (rule_of rule))) }
 {
+    clear_rule(table, register);
+    let full = table.is_full();
     if let RegisterRule::Default = rule {
-        clear_rule(table, register);
         return true;
     }
-    let place = place_of(table.as_slice(), register);
-    if place < table.len() && table.as_slice()[place].register == register {
-        overwrite(table, place, entry(register, rule));
-        return true;
-    }
-    if table.is_full() {
+    if full {
         return false;
     }
+    let place = place_of(table.as_slice(), register);
     table.insert(place, entry(register, rule));
     true
 }
