@@ -8,7 +8,7 @@ ghost use Rattle.dw_loclists.specs.Reading.{lists_fault, IsChecked, tables_in, l
 ghost use Rattle.dw_loclists.specs.Views.{start_of, all_located};
 
 use crate::contents::{Contents, LocationList};
-use crate::count::count_expressions;
+use crate::count::count;
 use crate::find::find_list;
 use crate::list::MEMORY;
 use crate::locations::LocationsAt;
@@ -61,7 +61,7 @@ pub fn check_lists<'a>(
     ensures lists { IfOk result (λ lists.
         lists ≡ record { target = target; section = section.now }) }
 {
-    let Ok(mut contents) = Contents::with_room(alloc, count_expressions(section, target)) else {
+    let Ok(mut contents) = Contents::with_room(alloc, count(section, target)) else {
         return Err(MEMORY);
     };
     let end = section.len() as u32;
