@@ -26,34 +26,42 @@ AlwaysStays from read = (r : ReadPosition) → from ≤ r.position → Stays fro
 
 -- ---- the combinations
 
-moved : {B : Type 0} (from : ℕ) (r mid : ReadPosition) (y : Result (B × ReadPosition) Fault) → r.position ≤ mid.position → end-of mid ≡ end-of r → Stays from mid y → Stays from r y
+moved : {B : Type 0} (from : ℕ) (r mid : ReadPosition) (y : Result (B × ReadPosition) Fault) → r.position ≤ mid.position
+    → end-of mid ≡ end-of r → Stays from mid y → Stays from r y
 moved from r mid (Ok y) on same k = (omega (arith, k.0), omega (arith, k.1))
 moved from r mid (Err fault) on same k = (k.0, omega (arith, k.1))
 
-pub bind-stays : {A B : Type 0} (from : ℕ) (r : ReadPosition) (x : Result (A × ReadPosition) Fault) (second : A → ReadPosition → Result (B × ReadPosition) Fault) → from ≤ r.position → Stays from r x → ((a : A) → AlwaysStays from (second a)) → Stays from r (x >>= λ a. second a.0 a.1)
+pub bind-stays : {A B : Type 0} (from : ℕ) (r : ReadPosition) (x : Result (A × ReadPosition) Fault)
+    (second : A → ReadPosition → Result (B × ReadPosition) Fault) → from ≤ r.position → Stays from r x
+    → ((a : A) → AlwaysStays from (second a)) → Stays from r (x >>= λ a. second a.0 a.1)
 bind-stays from r (Ok a) second h one two = moved from r a.1 (second a.0 a.1) one.0 one.1 (two a.0 a.1 (omega (arith, one.0)))
 bind-stays from r (Err fault) second h one two = one
 
 pub made-stays : {A : Type 0} (from : ℕ) (a : A) → AlwaysStays {X = A} from (λ r. Ok (a, r))
 made-stays from a r h = (omega arith, refl)
 
-located : {A : Type 0} (from at : ℕ) (r : ReadPosition) (x : Result (A × ReadPosition) Fault) → Stays from r x → Stays {X = ℕ × A} from r (x >>= λ a. Ok ((at, a.0), a.1))
+located : {A : Type 0} (from at : ℕ) (r : ReadPosition) (x : Result (A × ReadPosition) Fault) → Stays from r x
+    → Stays {X = ℕ × A} from r (x >>= λ a. Ok ((at, a.0), a.1))
 located from at r (Ok a) h = h
 located from at r (Err fault) h = h
 
-pub located-stays : {A : Type 0} (read : ReadPosition → Result (A × ReadPosition) Fault) (r : ReadPosition) → Stays r.position r (read r) → Stays r.position r (located_read read r)
+pub located-stays : {A : Type 0} (read : ReadPosition → Result (A × ReadPosition) Fault) (r : ReadPosition) → Stays r.position r (read r)
+    → Stays r.position r (located_read read r)
 located-stays read r h = located r.position r.position r (read r) h
 
 -- ---- the fields
 
-field-stays : {X : Type 0} (from : ℕ) (read : ReadPosition → Result (X × ReadPosition) Fault) (IsEncoding : List ℕ → X → Type 0) (r : ReadPosition) → IsExact read IsEncoding r → (x : Result (X × ReadPosition) Fault) → read r ≡ x → IsRefusedAt r x → from ≤ r.position → Stays from r x
+field-stays : {X : Type 0} (from : ℕ) (read : ReadPosition → Result (X × ReadPosition) Fault) (IsEncoding : List ℕ → X → Type 0)
+    (r : ReadPosition) → IsExact read IsEncoding r → (x : Result (X × ReadPosition) Fault) → read r ≡ x → IsRefusedAt r x
+    → from ≤ r.position → Stays from r x
 field-stays from read IsEncoding r exact (Ok x) is refused h =
     let next = exact.found x.0 x.1 is in
     (omega (arith, next.position), omega (arith, next.position, ap length next.parts, length-append next.bytes x.1.rest))
 field-stays from read IsEncoding r exact (Err fault) is refused h = (omega (arith, refused), omega (arith, refused))
 
 pub fixed-stays : (from n : ℕ) → AlwaysStays from (fixed_at n)
-fixed-stays from n r h = field-stays from (fixed_at n) (Fixed r.target.order n) r (fixed_exact n r) (fixed_at n r) refl (fixed_refused n r) h
+fixed-stays from n r h = field-stays from (fixed_at n) (Fixed r.target.order n) r (fixed_exact n r) (fixed_at n r) refl
+    (fixed_refused n r) h
 
 pub address-stays : (from : ℕ) → AlwaysStays from address_at
 address-stays from r h = fixed-stays from (bytes_of_address r.target.address_size) r h
@@ -62,7 +70,8 @@ pub offset-stays : (from : ℕ) (format : Format) → AlwaysStays from (offset_a
 offset-stays from format r h = fixed-stays from (bytes_of_offset format) r h
 
 pub length-stays : (from : ℕ) → AlwaysStays from initial_length_at
-length-stays from r h = field-stays from initial_length_at (Length r.target.order) r (initial_length_exact r) (initial_length_at r) refl (initial_length_refused r) h
+length-stays from r h = field-stays from initial_length_at (Length r.target.order) r (initial_length_exact r) (initial_length_at r) refl
+    (initial_length_refused r) h
 
 pub uleb-stays : (from : ℕ) → AlwaysStays from uleb_at
 uleb-stays from r h = field-stays from uleb_at Uleb r (uleb_exact r) (uleb_at r) refl (uleb_refused r) h
@@ -83,7 +92,8 @@ take-stays from n r h = field-stays from (take_at n) (Bytes n) r (take_exact n r
 
 -- ---- things one after the other
 
-tested : {X : Type 0} (b : Bool) (items : List (Result X Fault)) (P : Result X Fault → Type 0) → AllByRecursion P items → AllByRecursion P (cond b items [])
+tested : {X : Type 0} (b : Bool) (items : List (Result X Fault)) (P : Result X Fault → Type 0) → AllByRecursion P items
+    → AllByRecursion P (cond b items [])
 tested true items P h = h
 tested false items P h = tt
 
@@ -101,9 +111,11 @@ all-along : {X : Type 0} (read : ReadPosition → Result (X × ReadPosition) Fau
     → ((r : ReadPosition) (fault : Fault) → On r → read r ≡ Err fault → P (Err fault))
     → (n : ℕ) (r : ReadPosition) → On r → AllByRecursion P (at_most_of read n r)
 all-along read On P good bad zero r on = tt
-all-along {X} read On P good bad (suc n) r on = tested (ltb 0 (length r.rest)) (and_then (read r) (at_most_of read n)) P (step read On P good bad (at_most_of read n) (all-along read On P good bad n) r (read r) refl on)
+all-along {X} read On P good bad (suc n) r on = tested (ltb 0 (length r.rest)) (and_then (read r) (at_most_of read n)) P
+    (step read On P good bad (at_most_of read n) (all-along read On P good bad n) r (read r) refl on)
 
-pub each-along : {X : Type 0} (read : ReadPosition → Result (X × ReadPosition) Fault) (On : ReadPosition → Type 0) (P : Result X Fault → Type 0)
+pub each-along : {X : Type 0} (read : ReadPosition → Result (X × ReadPosition) Fault) (On : ReadPosition → Type 0)
+    (P : Result X Fault → Type 0)
     → ((r : ReadPosition) (x : X) (after : ReadPosition) → On r → read r ≡ Ok (x, after) → P (Ok x) × On after)
     → ((r : ReadPosition) (fault : Fault) → On r → read r ≡ Err fault → P (Err fault))
     → (r : ReadPosition) (item : Result X Fault) → On r → Contains (sequence_of read r) item → P item

@@ -15,12 +15,14 @@ abbrev block-behind : Target → ℕ → ReadPosition → Result (Block × ReadP
 block-behind target n s = take_at n s >>= λ b. Ok (block-of s.position target b.0, b.1)
 
 block-stays : (from : ℕ) (target : Target) (n : ℕ) → AlwaysStays from (block-behind target n)
-block-stays from target n s h = bind-stays from s (take_at n s) (λ b t. Ok (block-of s.position target b, t)) h (take-stays from n s h) (λ b. made-stays from (block-of s.position target b))
+block-stays from target n s h = bind-stays from s (take_at n s) (λ b t. Ok (block-of s.position target b, t)) h (take-stays from n s h)
+    (λ b. made-stays from (block-of s.position target b))
 
 pub operand-stays : (from : ℕ) (kind : Kind) → AlwaysStays from (operand_at kind)
 operand-stays from address = address-stays from
 operand-stays from (fixed n) = fixed-stays from n
-operand-stays from (signed_fixed w) = λ r h. bind-stays from r (fixed_at (byte_len w) r) (λ n s. Ok (cast_signed w n, s)) h (fixed-stays from (byte_len w) r h) (λ n. made-stays from (cast_signed w n))
+operand-stays from (signed_fixed w) = λ r h. bind-stays from r (fixed_at (byte_len w) r) (λ n s. Ok (cast_signed w n, s)) h
+    (fixed-stays from (byte_len w) r h) (λ n. made-stays from (cast_signed w n))
 operand-stays from unsigned = uleb-stays from
 operand-stays from signed = sleb-stays from
 operand-stays from register_number = uleb-stays from
@@ -32,7 +34,8 @@ values-stay : (from : ℕ) (kinds : List Kind) → AlwaysStays from (values_at k
 values-stay from [] = λ r h. (omega arith, refl)
 values-stay from (kind ∷ kinds) = λ r h.
     bind-stays from r (operand_at kind r) (λ v s. values_at kinds s >>= λ vs. Ok ((v, vs.0), vs.1)) h (operand-stays from kind r h)
-    (λ v s k. bind-stays from s (values_at kinds s) (λ vs t. Ok ((v, vs), t)) k (values-stay from kinds s k) (λ vs. made-stays {A = Operands (kind ∷ kinds)} from (v, vs)))
+    (λ v s k. bind-stays from s (values_at kinds s) (λ vs t. Ok ((v, vs), t)) k (values-stay from kinds s k)
+    (λ vs. made-stays {A = Operands (kind ∷ kinds)} from (v, vs)))
 
 -- ---- ranges, which are refused at the code
 
@@ -44,17 +47,20 @@ bind-at : {A B : Type 0} (at : ℕ) (x : Result A Fault) (f : A → Result B Fau
 bind-at at (Ok a) f h k = k a
 bind-at at (Err fault) f h k = h
 
-range-at : {A : Type 0} (at : ℕ) (b : Bool) (a : A) (kind : FaultKind) → IsAt {A = A} at (cond b (Ok a) (Err (record { kind = kind; at = at })))
+range-at : {A : Type 0} (at : ℕ) (b : Bool) (a : A) (kind : FaultKind)
+    → IsAt {A = A} at (cond b (Ok a) (Err (record { kind = kind; at = at })))
 range-at at true a kind = tt
 range-at at false a kind = refl
 
 ranges-at : (target : Target) (at : ℕ) (kinds : List Kind) (vs : Operands kinds) → IsAt at (in_ranges target at kinds vs)
 ranges-at target at [] vs = tt
 ranges-at target at (kind ∷ kinds) vs =
-    bind-at at (in_range target at kind vs.0) (λ v. in_ranges target at kinds vs.1 >>= λ others. Ok (v, others)) (range-at at (fits target kind vs.0) vs.0 (range_fault kind))
+    bind-at at (in_range target at kind vs.0) (λ v. in_ranges target at kinds vs.1 >>= λ others. Ok (v, others))
+    (range-at at (fits target kind vs.0) vs.0 (range_fault kind))
     (λ v. bind-at at (in_ranges target at kinds vs.1) (λ others. Ok (v, others)) (ranges-at target at kinds vs.1) (λ others. tt))
 
-judged-stays : {A : Type 0} (at : ℕ) (r : ReadPosition) (x : Result A Fault) → at ≤ r.position → IsAt at x → Stays {X = A} at r (x >>= λ a. Ok (a, r))
+judged-stays : {A : Type 0} (at : ℕ) (r : ReadPosition) (x : Result A Fault) → at ≤ r.position → IsAt at x
+    → Stays {X = A} at r (x >>= λ a. Ok (a, r))
 judged-stays at r (Ok a) h k = (omega arith, refl)
 judged-stays at r (Err fault) h k = (omega (arith, k), omega (arith, k))
 
@@ -65,7 +71,10 @@ given-stays at kinds r h =
 
 operands-stay : {I : Type 0} (unknown : FaultKind) (at : ℕ) (of : Option (Line I)) → AlwaysStays at (operands_at unknown at of)
 operands-stay unknown at None r h = (omega arith, omega arith)
-operands-stay unknown at (Some (line kinds make)) r h = bind-stays at r (given_at at kinds r) (λ vs s. Ok (make vs, s)) h (given-stays at kinds r h) (λ vs. made-stays at (make vs))
+operands-stay unknown at (Some (line kinds make)) r h = bind-stays at r (given_at at kinds r) (λ vs s. Ok (make vs, s)) h
+    (given-stays at kinds r h) (λ vs. made-stays at (make vs))
 
-pub coded-stays : {I : Type 0} (table : ℕ → Option (Line I)) (unknown : FaultKind) (r : ReadPosition) → Stays r.position r (coded_at table unknown r)
-coded-stays table unknown r = bind-stays r.position r (fixed_at 1 r) (λ code. operands_at unknown r.position (table code)) (omega arith) (fixed-stays r.position 1 r (omega arith)) (λ code. operands-stay unknown r.position (table code))
+pub coded-stays : {I : Type 0} (table : ℕ → Option (Line I)) (unknown : FaultKind) (r : ReadPosition)
+    → Stays r.position r (coded_at table unknown r)
+coded-stays table unknown r = bind-stays r.position r (fixed_at 1 r) (λ code. operands_at unknown r.position (table code)) (omega arith)
+    (fixed-stays r.position 1 r (omega arith)) (λ code. operands-stay unknown r.position (table code))

@@ -16,7 +16,8 @@ abbrev pub finish : {A : Type 0} → A → ReadPosition → Result (A × ReadPos
 finish a r = Ok (a, r)
 
 -- what was read, as what the reader answers
-pub given : {A : Type 0} (IsEncoding : List ℕ → A → Type 0) (r : ReadPosition) (a b : A) (x y : ReadPosition) → finish a x ≡ finish b y → Next IsEncoding r a x → Next IsEncoding r b y
+pub given : {A : Type 0} (IsEncoding : List ℕ → A → Type 0) (r : ReadPosition) (a b : A) (x y : ReadPosition) → finish a x ≡ finish b y
+    → Next IsEncoding r a x → Next IsEncoding r b y
 given {A} IsEncoding r a b x y is h = subst (λ (p : A × ReadPosition). Next IsEncoding r p.0 p.1) (ok-is (a, x) (b, y) is) h
 
 -- ---- an operand
@@ -26,9 +27,11 @@ signed-own w r = record {
   found = λ v after is.
       let n = bind-ok (fixed_at (byte_len w) r) (λ n. finish (cast_signed w n.0) n.1) (v, after) is in
       let h = (fixed_exact (byte_len w) r).found n.0.0 n.0.1 n.1 in
-      given (SignedFixed r.target w) r (cast_signed w n.0.0) v n.0.1 after n.2 (record { bytes = h.bytes; encoded = (n.0.0, h.encoded, refl); parts = h.parts; position = h.position; target = h.target });
+      given (SignedFixed r.target w) r (cast_signed w n.0.0) v n.0.1 after n.2
+      (record { bytes = h.bytes; encoded = (n.0.0, h.encoded, refl); parts = h.parts; position = h.position; target = h.target });
   only = λ v after h.
-      let is = (fixed_exact (byte_len w) r).only h.encoded.0 after (record { bytes = h.bytes; encoded = h.encoded.1; parts = h.parts; position = h.position; target = h.target }) in
+      let is = (fixed_exact (byte_len w) r).only h.encoded.0 after
+      (record { bytes = h.bytes; encoded = h.encoded.1; parts = h.parts; position = h.position; target = h.target }) in
       rw is (ap (λ (z : ℤ). finish z after) (sym h.encoded.2));
 }
 
@@ -48,7 +51,14 @@ block-own r = record {
       let long : n.0.0 ≡ length b.0.0 = sym (ap length k.encoded.value ∙ k.encoded.count) in
       given (IsBlock r.target r.position) r (block-of n.0.1.position r.target b.0.0) v b.0.1 after b.2 (record {
         bytes = h.bytes ++ k.bytes;
-        encoded = record { count = h.bytes; count_is = subst (Uleb h.bytes) long h.encoded; parts = ap (λ (t : List ℕ). h.bytes ++ t) (sym k.encoded.value); offset_is = h.position; target_is = refl };
+        encoded = record {
+          count = h.bytes;
+          count_is = subst (Uleb h.bytes) long h.encoded;
+          parts = ap (λ (t : List ℕ). h.bytes ++ t)
+              (sym k.encoded.value);
+          offset_is = h.position;
+          target_is = refl;
+        };
         parts = h.parts ∙ ap (λ (t : List ℕ). h.bytes ++ t) k.parts ∙ sym (append_assoc h.bytes k.bytes b.0.1.rest);
         position = omega (arith, h.position, k.position, length-append h.bytes k.bytes);
         target = k.target ∙ h.target;
@@ -56,15 +66,31 @@ block-own r = record {
   only = λ v after h.
       let s = h.encoded in
       let mid : ReadPosition = record { target = r.target; position = r.position + length s.count; rest = v.bytes ++ after.rest } in
-      let one = (uleb_exact r).only (length v.bytes) mid (record { bytes = s.count; encoded = s.count_is; parts = h.parts ∙ ap (λ (t : List ℕ). t ++ after.rest) s.parts ∙ append_assoc s.count v.bytes after.rest; position = refl; target = refl }) in
-      let two = (take_exact (length v.bytes) mid).only v.bytes after (record { bytes = v.bytes; encoded = record { count = refl; value = refl }; parts = refl; position = omega (arith, h.position, ap length s.parts, length-append s.count v.bytes); target = h.target }) in
+      let one = (uleb_exact r).only (length v.bytes) mid
+      (record {
+        bytes = s.count;
+        encoded = s.count_is;
+        parts = h.parts ∙ ap (λ (t : List ℕ). t ++ after.rest) s.parts
+            ∙ append_assoc s.count v.bytes after.rest;
+        position = refl;
+        target = refl;
+      }) in
+      let two = (take_exact (length v.bytes) mid).only v.bytes after
+      (record {
+        bytes = v.bytes;
+        encoded = record { count = refl; value = refl };
+        parts = refl;
+        position = omega (arith, h.position, ap length s.parts, length-append s.count v.bytes);
+        target = h.target;
+      }) in
       rw (one, two) (ap (λ (b : Block). finish b after) (same-block v (r.position + length s.count) r.target s.offset_is s.target_is));
 }
 
 pub operand-exact : (target : Target) (kind : Kind) → ExactAt target (operand_at kind) (IsOperand target kind)
 operand-exact target address = address-exact target
 operand-exact target (fixed n) = fixed-exact target n
-operand-exact target (signed_fixed w) = λ r same. subst (λ (t : Target). IsExact (signed_fixed_at w) (SignedFixed t w) r) same (signed-own w r)
+operand-exact target (signed_fixed w) = λ r same. subst (λ (t : Target). IsExact (signed_fixed_at w) (SignedFixed t w) r) same
+    (signed-own w r)
 operand-exact target unsigned = uleb-exact target
 operand-exact target signed = sleb-exact target
 operand-exact target register_number = uleb-exact target
@@ -76,7 +102,8 @@ operand-exact target block = λ r same. subst (λ (t : Target). IsExact block_at
 
 values-exact : (target : Target) (kinds : List Kind) → ExactAt target (values_at kinds) (AreEncoded target kinds)
 values-exact target [] r same = record {
-  found = λ vs after is. given (AreEncoded target [] r.position) r tt vs r after is (record { bytes = []; encoded = refl; parts = refl; position = omega arith; target = refl });
+  found = λ vs after is. given (AreEncoded target [] r.position) r tt vs r after is
+      (record { bytes = []; encoded = refl; parts = refl; position = omega arith; target = refl });
   only = λ vs after h.
       let rest : after.rest ≡ r.rest = ap (λ (t : List ℕ). t ++ after.rest) (sym h.encoded) ∙ sym h.parts in
       let position : after.position ≡ r.position = omega (arith, h.position, ap length h.encoded) in
@@ -98,8 +125,23 @@ values-exact target (kind ∷ kinds) r same = record {
   only = λ vs after h.
       let s = h.encoded in
       let mid : ReadPosition = record { target = r.target; position = r.position + length s.0; rest = s.1 ++ after.rest } in
-      let one = (operand-exact target kind r same).only vs.0 mid (record { bytes = s.0; encoded = s.3; parts = h.parts ∙ ap (λ (t : List ℕ). t ++ after.rest) s.2 ∙ append_assoc s.0 s.1 after.rest; position = refl; target = refl }) in
-      let others = (values-exact target kinds mid same).only vs.1 after (record { bytes = s.1; encoded = s.4; parts = refl; position = omega (arith, h.position, ap length s.2, length-append s.0 s.1); target = h.target }) in
+      let one = (operand-exact target kind r same).only vs.0 mid
+      (record {
+        bytes = s.0;
+        encoded = s.3;
+        parts = h.parts ∙ ap (λ (t : List ℕ). t ++ after.rest) s.2
+            ∙ append_assoc s.0 s.1 after.rest;
+        position = refl;
+        target = refl;
+      }) in
+      let others = (values-exact target kinds mid same).only vs.1 after
+      (record {
+        bytes = s.1;
+        encoded = s.4;
+        parts = refl;
+        position = omega (arith, h.position, ap length s.2, length-append s.0 s.1);
+        target = h.target;
+      }) in
       rw (one, others) refl;
 }
 
@@ -115,7 +157,8 @@ ranged false fault v w is = absurd cc
 abbrev judged : (kinds : List Kind) → Result (Operands kinds) Fault → Operands kinds → Type 0
 judged kinds result vs = result ≡ Ok vs
 
-in-ranges : (target : Target) (at : ℕ) (kinds : List Kind) (vs ws : Operands kinds) → judged kinds (in_ranges target at kinds vs) ws → Fit target kinds vs × (vs ≡ ws)
+in-ranges : (target : Target) (at : ℕ) (kinds : List Kind) (vs ws : Operands kinds) → judged kinds (in_ranges target at kinds vs) ws
+    → Fit target kinds vs × (vs ≡ ws)
 in-ranges target at [] vs ws is = (tt, refl)
 in-ranges target at (kind ∷ kinds) vs ws is =
     let v = bind-ok (in_range target at kind vs.0) (λ v. in_ranges target at kinds vs.1 >>= λ others. Ok (v, others)) ws is in
@@ -125,7 +168,8 @@ in-ranges target at (kind ∷ kinds) vs ws is =
     let all : (v.0, others.0) ≡ ws = let both : fine (v.0, others.0) ≡ fine ws = others.2 in cc in
     ((first.0, rest.0), ap (λ (x : Operand kind). (x, vs.1)) first.1 ∙ (ap (λ (x : Operands kinds). (v.0, x)) rest.1 ∙ all))
 
-ranges-fit : (target : Target) (at : ℕ) (kinds : List Kind) (vs : Operands kinds) → Fit target kinds vs → judged kinds (in_ranges target at kinds vs) vs
+ranges-fit : (target : Target) (at : ℕ) (kinds : List Kind) (vs : Operands kinds) → Fit target kinds vs
+    → judged kinds (in_ranges target at kinds vs) vs
 ranges-fit target at [] vs fit = refl
 ranges-fit target at (kind ∷ kinds) vs fit =
     let first : in_range target at kind vs.0 ≡ Ok vs.0 = rw fit.0 refl in
@@ -134,7 +178,8 @@ ranges-fit target at (kind ∷ kinds) vs fit =
 
 -- ---- lines and codes
 
-line-own : {I : Type 0} (unknown : FaultKind) (at : ℕ) (kinds : List Kind) (make : Operands kinds → I) (r : ReadPosition) → IsExact (operands_at unknown at (Some (line kinds make))) (AreOperands r.target (Some (line kinds make)) r.position) r
+line-own : {I : Type 0} (unknown : FaultKind) (at : ℕ) (kinds : List Kind) (make : Operands kinds → I) (r : ReadPosition)
+    → IsExact (operands_at unknown at (Some (line kinds make))) (AreOperands r.target (Some (line kinds make)) r.position) r
 line-own {I} unknown at kinds make r = record {
   found = λ i after is.
       let g = bind-ok (given_at at kinds r) (λ vs. finish (make vs.0) vs.1) (i, after) is in
@@ -147,19 +192,29 @@ line-own {I} unknown at kinds make r = record {
       let left : v.0.1 ≡ g.0.1 = ap (λ (p : Operands kinds × ReadPosition). p.1) same in
       given (AreOperands r.target (Some (line kinds make)) r.position) r (make g.0.0) i g.0.1 after g.2
       (subst (λ (x : ReadPosition). Next (AreOperands r.target (Some (line kinds make)) r.position) r (make g.0.0) x) left
-      (record { bytes = h.bytes; encoded = (v.0.0, h.encoded, fit.0, ap make (sym made)); parts = h.parts; position = h.position; target = h.target }));
+      (record {
+        bytes = h.bytes;
+        encoded = (v.0.0, h.encoded, fit.0, ap make (sym made));
+        parts = h.parts;
+        position = h.position;
+        target = h.target;
+      }));
   only = λ i after h.
-      let read = (values-exact r.target kinds r refl).only h.encoded.0 after (record { bytes = h.bytes; encoded = h.encoded.1; parts = h.parts; position = h.position; target = h.target }) in
+      let read = (values-exact r.target kinds r refl).only h.encoded.0 after
+      (record { bytes = h.bytes; encoded = h.encoded.1; parts = h.parts; position = h.position; target = h.target }) in
       let fit = ranges-fit r.target at kinds h.encoded.0 h.encoded.2 in
       rw (read, fit) (ap (λ (x : I). finish x after) (sym h.encoded.3));
 }
 
-operands-exact : {I : Type 0} (target : Target) (unknown : FaultKind) (at : ℕ) (of : Option (Line I)) → ExactAt target (operands_at unknown at of) (AreOperands target of)
+operands-exact : {I : Type 0} (target : Target) (unknown : FaultKind) (at : ℕ) (of : Option (Line I))
+    → ExactAt target (operands_at unknown at of) (AreOperands target of)
 operands-exact target unknown at None = λ r same. record { found = λ v after e. absurd cc; only = λ v after h. absurd h.encoded }
 operands-exact target unknown at (Some (line kinds make)) = λ r same.
-    subst (λ (t : Target). IsExact (operands_at unknown at (Some (line kinds make))) (AreOperands t (Some (line kinds make)) r.position) r) same (line-own unknown at kinds make r)
+    subst (λ (t : Target). IsExact (operands_at unknown at (Some (line kinds make)))
+    (AreOperands t (Some (line kinds make)) r.position) r) same (line-own unknown at kinds make r)
 
-pub coded-exact : {I : Type 0} (target : Target) (table : ℕ → Option (Line I)) (unknown : FaultKind) → ExactAt target (coded_at table unknown) (Coded table target)
+pub coded-exact : {I : Type 0} (target : Target) (table : ℕ → Option (Line I)) (unknown : FaultKind)
+    → ExactAt target (coded_at table unknown) (Coded table target)
 coded-exact target table unknown r same = record {
   found = λ i after is.
       let code = bind-ok (fixed_at 1 r) (λ code. operands_at unknown r.position (table code.0) code.1) (i, after) is in
@@ -167,7 +222,14 @@ coded-exact target table unknown r same = record {
       let k = (operands-exact target unknown r.position (table code.0.0) code.0.1 (h.target ∙ same)).found i after code.2 in
       record {
         bytes = h.bytes ++ k.bytes;
-        encoded = (code.0.0, h.bytes, k.bytes, refl, h.encoded, subst (λ at. AreOperands target (table code.0.0) at k.bytes i) h.position k.encoded);
+        encoded = (
+          code.0.0,
+          h.bytes,
+          k.bytes,
+          refl,
+          h.encoded,
+          subst (λ at. AreOperands target (table code.0.0) at k.bytes i) h.position k.encoded,
+        );
         parts = h.parts ∙ ap (λ (t : List ℕ). h.bytes ++ t) k.parts ∙ sym (append_assoc h.bytes k.bytes after.rest);
         position = omega (arith, h.position, k.position, length-append h.bytes k.bytes);
         target = k.target ∙ h.target;
@@ -175,11 +237,28 @@ coded-exact target table unknown r same = record {
   only = λ i after h.
       let s = h.encoded in
       let mid : ReadPosition = record { target = r.target; position = r.position + length s.1; rest = s.2 ++ after.rest } in
-      let one = (fixed-exact target 1 r same).only s.0 mid (record { bytes = s.1; encoded = s.4; parts = h.parts ∙ ap (λ (t : List ℕ). t ++ after.rest) s.3 ∙ append_assoc s.1 s.2 after.rest; position = refl; target = refl }) in
-      let others = (operands-exact target unknown r.position (table s.0) mid same).only i after (record { bytes = s.2; encoded = s.5; parts = refl; position = omega (arith, h.position, ap length s.3, length-append s.1 s.2); target = h.target }) in
+      let one = (fixed-exact target 1 r same).only s.0 mid
+      (record {
+        bytes = s.1;
+        encoded = s.4;
+        parts = h.parts ∙ ap (λ (t : List ℕ). t ++ after.rest) s.3
+            ∙ append_assoc s.1 s.2 after.rest;
+        position = refl;
+        target = refl;
+      }) in
+      let others = (operands-exact target unknown r.position (table s.0) mid same).only i after
+      (record {
+        bytes = s.2;
+        encoded = s.5;
+        parts = refl;
+        position = omega (arith, h.position, ap length s.3, length-append s.1 s.2);
+        target = h.target;
+      }) in
       ap (λ x. x >>= λ (code : ℕ × ReadPosition). operands_at unknown r.position (table code.0) code.1) one ∙ others;
 }
 
 -- what is coded has a byte at least
-pub coded-some : {I : Type 0} (target : Target) (table : ℕ → Option (Line I)) (at : ℕ) (bytes : List ℕ) (i : I) → Coded table target at bytes i → 0 < length bytes
-coded-some target table at bytes i (code, front, operands, parts, first, second) = omega (arith, first.count, ap length parts, length-append front operands)
+pub coded-some : {I : Type 0} (target : Target) (table : ℕ → Option (Line I)) (at : ℕ) (bytes : List ℕ) (i : I)
+    → Coded table target at bytes i → 0 < length bytes
+coded-some target table at bytes i (code, front, operands, parts, first, second) =
+    omega (arith, first.count, ap length parts, length-append front operands)

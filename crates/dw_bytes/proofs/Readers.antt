@@ -32,7 +32,8 @@ abbrev pub reading-of : Target → ℕ → List ℕ → ReadPosition
 reading-of target position rest = record { target = target; position = position; rest = rest }
 
 pub same-reading : (a b : ReadPosition) → a.target ≡ b.target → a.position ≡ b.position → a.rest ≡ b.rest → a ≡ b
-same-reading a b t p x = ap (λ v. reading-of v a.position a.rest) t ∙ (ap (λ v. reading-of b.target v a.rest) p ∙ ap (λ v. reading-of b.target b.position v) x)
+same-reading a b t p x = ap (λ v. reading-of v a.position a.rest) t
+    ∙ (ap (λ v. reading-of b.target v a.rest) p ∙ ap (λ v. reading-of b.target b.position v) x)
 
 -- ---- the fields
 
@@ -65,34 +66,43 @@ length-exact target r same = subst (λ (t : Target). IsExact initial_length_at (
 
 -- ---- no encoding begins another
 
-at-start : {X : Type 0} (IsEncoding : List ℕ → X → Type 0) (target : Target) (at : ℕ) (bytes a x : List ℕ) (v : X) → bytes ≡ a ++ x → IsEncoding a v → Next IsEncoding (reading-of target at bytes) v (reading-of target (at + length a) x)
+at-start : {X : Type 0} (IsEncoding : List ℕ → X → Type 0) (target : Target) (at : ℕ) (bytes a x : List ℕ) (v : X) → bytes ≡ a ++ x
+    → IsEncoding a v → Next IsEncoding (reading-of target at bytes) v (reading-of target (at + length a) x)
 at-start IsEncoding target at bytes a x v e h = record { bytes = a; encoded = h; parts = e; position = refl; target = refl }
 
-pub one-encoding : {X : Type 0} (target : Target) (read : ReadPosition → Result (X × ReadPosition) Fault) (IsEncoding : ℕ → List ℕ → X → Type 0) → ExactAt target read IsEncoding
+pub one-encoding : {X : Type 0} (target : Target) (read : ReadPosition → Result (X × ReadPosition) Fault) (IsEncoding : ℕ → List ℕ → X
+    → Type 0) → ExactAt target read IsEncoding
     → (at : ℕ) (a b x y : List ℕ) (m n : X) → IsEncoding at a m → IsEncoding at b n → a ++ x ≡ b ++ y → (a ≡ b) × (m ≡ n)
 one-encoding {X} target read IsEncoding exact at a b x y m n p q e =
     let r = reading-of target at (a ++ x) in
     let first = (exact r refl).only m (reading-of target (at + length a) x) (at-start (IsEncoding at) target at (a ++ x) a x m refl p) in
     let second = (exact r refl).only n (reading-of target (at + length b) y) (at-start (IsEncoding at) target at (a ++ x) b y n e q) in
-    let both : (m, reading-of target (at + length a) x) ≡ (n, reading-of target (at + length b) y) = ok-is (m, reading-of target (at + length a) x) (n, reading-of target (at + length b) y) (sym first ∙ second) in
+    let both : (m, reading-of target (at + length a) x) ≡ (n, reading-of target (at + length b) y) =
+    ok-is (m, reading-of target (at + length a) x) (n, reading-of target (at + length b) y) (sym first ∙ second) in
     let behind : at + length a ≡ at + length b = ap (λ (w : X × ReadPosition). w.1.position) both in
     let len : length a ≡ length b = omega (arith, behind) in
     (sym (take_at a x (length a) refl) ∙ ap (take (length a)) e ∙ take_at b y (length a) (sym len), ap (λ (w : X × ReadPosition). w.0) both)
 
 -- ---- what is left of a section
 
-suffix : (section bytes rest : List ℕ) (at : ℕ) → at ≤ length section → drop at section ≡ bytes ++ rest → rest ≡ drop (at + length bytes) section
+suffix : (section bytes rest : List ℕ) (at : ℕ) → at ≤ length section → drop at section ≡ bytes ++ rest
+    → rest ≡ drop (at + length bytes) section
 suffix section bytes rest at inside parts =
     let front : length (take at section) ≡ at = omega (arith, length-take at section) in
-    let whole : take at section ++ (bytes ++ rest) ≡ section = ap (λ (t : List ℕ). take at section ++ t) (sym parts) ∙ take-append-drop at section in
+    let whole : take at section ++ (bytes ++ rest) ≡ section = ap (λ (t : List ℕ). take at section ++ t) (sym parts)
+    ∙ take-append-drop at section in
     sym (drop-append_seam bytes rest)
     ∙ (sym (drop-append-add (take at section) (bytes ++ rest) (length bytes))
     ∙ (ap (λ n. drop (n + length bytes) (take at section ++ (bytes ++ rest))) front ∙ ap (drop (at + length bytes)) whole))
 
 -- A reader that is exact leaves what the section has from where it ends.
-pub leaves-suffix : {X : Type 0} (target : Target) (read : ReadPosition → Result (X × ReadPosition) Fault) (IsEncoding : ℕ → List ℕ → X → Type 0) → ExactAt target read IsEncoding
-    → (section : List ℕ) (at : ℕ) (v : X) (after : ReadPosition) → at ≤ length section → read (reading-of target at (drop at section)) ≡ Ok (v, after) → after ≡ reading-of target after.position (drop after.position section)
+pub leaves-suffix : {X : Type 0} (target : Target) (read : ReadPosition → Result (X × ReadPosition) Fault) (IsEncoding : ℕ → List ℕ → X
+    → Type 0) → ExactAt target read IsEncoding
+    → (section : List ℕ) (at : ℕ) (v : X) (after : ReadPosition) → at ≤ length section
+    → read (reading-of target at (drop at section)) ≡ Ok (v, after)
+    → after ≡ reading-of target after.position (drop after.position section)
 leaves-suffix target read IsEncoding exact section at v after inside e =
     let next = (exact (reading-of target at (drop at section)) refl).found v after e in
     let rest : after.rest ≡ drop (at + length next.bytes) section = suffix section next.bytes after.rest at inside next.parts in
-    same-reading after (reading-of target after.position (drop after.position section)) next.target refl (rest ∙ ap (λ n. drop n section) (sym next.position))
+    same-reading after (reading-of target after.position (drop after.position section)) next.target refl
+    (rest ∙ ap (λ n. drop n section) (sym next.position))

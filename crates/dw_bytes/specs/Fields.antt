@@ -27,7 +27,8 @@ byte fault value next = field (fixed 1) (λ v. unless (v == value) fault) (λ v.
 
 abbrev pub Encodes : {B : Type 0} → Target → Fields B → ℕ → List ℕ → B → Type 0
 Encodes target (made b) at bytes v = (bytes ≡ []) × (v ≡ b)
-Encodes target (field kind fault next) at bytes v = (x : Operand kind) × (first : List ℕ) × (rest : List ℕ) × (bytes ≡ first ++ rest) × IsOperand target kind at first x × (fault x ≡ None) × Encodes target (next x) (at + length first) rest v
+Encodes target (field kind fault next) at bytes v = (x : Operand kind) × (first : List ℕ) × (rest : List ℕ) × (bytes ≡ first ++ rest)
+    × IsOperand target kind at first x × (fault x ≡ None) × Encodes target (next x) (at + length first) rest v
 
 -- ---- reading them: each field is judged as soon as it is read, and refused at its first byte
 

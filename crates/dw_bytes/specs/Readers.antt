@@ -4,7 +4,8 @@ use Rattle.dw_bytes.specs.declared.fault.Fault.{Fault}
 use Rattle.dw_bytes.specs.Reading.{ReadPosition}
 
 -- A call that answers with result and leaves new read as read says. A refusal may leave what is left anywhere.
-abbrev pub ParsesBy : {X Y : Type 0} → (X → Y) → (ReadPosition → Result (Y × ReadPosition) Fault) → ReadPosition → Result X Fault → ReadPosition → Type 0
+abbrev pub ParsesBy : {X Y : Type 0} → (X → Y) → (ReadPosition → Result (Y × ReadPosition) Fault) → ReadPosition → Result X Fault
+    → ReadPosition → Type 0
 ParsesBy view read old (Ok v) new = read old ≡ Ok (view v, new)
 ParsesBy view read old (Err fault) new = read old ≡ Err fault
 
@@ -14,6 +15,7 @@ IsRefusedWithin r (Ok x) = Unit {0}
 IsRefusedWithin r (Err fault) = fault.at ≤ r.position + length r.rest
 
 -- A call that answers with a value and the offset behind it read as read says from an offset on.
-abbrev pub ReadsFrom : {X Y : Type 0} → (X → Y) → (ReadPosition → Result (Y × ReadPosition) Fault) → (ℕ → ReadPosition) → ℕ → Result (X × ℕ) Fault → Type 0
+abbrev pub ReadsFrom : {X Y : Type 0} → (X → Y) → (ReadPosition → Result (Y × ReadPosition) Fault) → (ℕ → ReadPosition) → ℕ
+    → Result (X × ℕ) Fault → Type 0
 ReadsFrom view read from at (Ok found) = read (from at) ≡ Ok (view found.0, from found.1)
 ReadsFrom view read from at (Err fault) = read (from at) ≡ Err fault

@@ -6,13 +6,15 @@ use Rattle.dw_bytes.specs.Reading.{ReadPosition, ◌>>=◌}
 -- The bytes are the encodings of the things, without a gap, from an offset on. What encodes a thing may depend on its offset.
 abbrev pub Sequence : {X : Type 0} → (ℕ → List ℕ → X → Type 0) → ℕ → List ℕ → List X → Type 0
 Sequence IsEncoding at bytes [] = bytes ≡ []
-Sequence IsEncoding at bytes (x ∷ xs) = (first rest : List ℕ) × (bytes ≡ first ++ rest) × IsEncoding at first x × Sequence IsEncoding (at + length first) rest xs
+Sequence IsEncoding at bytes (x ∷ xs) = (first rest : List ℕ) × (bytes ≡ first ++ rest) × IsEncoding at first x
+    × Sequence IsEncoding (at + length first) rest xs
 
 -- a thing and its offset
 abbrev pub Located : {X : Type 0} → (ℕ → List ℕ → X → Type 0) → ℕ → List ℕ → ℕ × X → Type 0
 Located IsEncoding at bytes item = (item.0 ≡ at) × IsEncoding at bytes item.1
 
-abbrev pub located_read : {X : Type 0} → (ReadPosition → Result (X × ReadPosition) Fault) → ReadPosition → Result ((ℕ × X) × ReadPosition) Fault
+abbrev pub located_read : {X : Type 0} → (ReadPosition → Result (X × ReadPosition) Fault) → ReadPosition
+    → Result ((ℕ × X) × ReadPosition) Fault
 located_read read r = read r >>= λ x. Ok ((r.position, x.0), x.1)
 
 -- what was read, and then the others; nothing comes after a fault
@@ -33,6 +35,7 @@ sequence_of read r = at_most_of read (length r.rest) r
 abbrev pub Exactly : {X : Type 0} → (ℕ → List ℕ → X → Type 0) → ℕ → ℕ → List ℕ → List X → Type 0
 Exactly IsEncoding count at bytes xs = Sequence IsEncoding at bytes xs × (length xs ≡ count)
 
-abbrev pub exactly_of : {X : Type 0} → (ReadPosition → Result (X × ReadPosition) Fault) → ℕ → ReadPosition → Result (List X × ReadPosition) Fault
+abbrev pub exactly_of : {X : Type 0} → (ReadPosition → Result (X × ReadPosition) Fault) → ℕ → ReadPosition
+    → Result (List X × ReadPosition) Fault
 exactly_of read zero r = Ok ([], r)
 exactly_of read (suc count) r = read r >>= λ x. exactly_of read count x.1 >>= λ xs. Ok (x.0 ∷ xs.0, xs.1)

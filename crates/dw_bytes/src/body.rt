@@ -26,8 +26,14 @@ impl Body {
     pub fn read(section: &[u8], target: Target, at: u32) -> Result<Self, Fault>
         requires inside { at ≤ length section.now }
         requires short { length section.now < 2 ^ 32 }
-        ensures exact { MatchResult result (λ b. framed_at (section_from target section.now at) ≡ Ok ((b.format, window target section.now b.start b.end), section_from target section.now b.end)) (λ fault. framed_at (section_from target section.now at) ≡ Err fault) }
-        ensures ordered { IfOk result (λ b. at < b.start × b.start ≤ b.end × b.end ≤ length section.now) }
+        ensures exact { MatchResult result
+            (λ b. framed_at (section_from target section.now at) ≡ Ok (
+              (b.format, window target section.now b.start b.end),
+              section_from target section.now b.end,
+            ))
+            (λ fault. framed_at (section_from target section.now at) ≡ Err fault) }
+        ensures ordered { IfOk result
+            (λ b. at < b.start × b.start ≤ b.end × b.end ≤ length section.now) }
         ensures inside { IfErr result (λ fault. fault.at ≤ length section.now) }
     {
         let mut cursor = Cursor::at(section, target, at);

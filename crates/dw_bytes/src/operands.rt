@@ -59,7 +59,8 @@ fn size_of_read(size: u8, at: u32, target: Target) -> Result<u8, Fault>
 #[inline(always)]
 pub fn register(cursor: &mut Cursor<'_>, at: u32) -> Result<u16, Fault>
     requires { at ≤ cursor.old.position }
-    ensures exact { ReadsBy one_value (given_at at (register_number ∷ [])) cursor.old result cursor.new }
+    ensures exact { ReadsBy one_value
+        (given_at at (register_number ∷ [])) cursor.old result cursor.new }
     ensures within { IsRefusedWithin cursor.old result }
     ensures goes_on { MovesForward cursor.old cursor.new }
 {
@@ -72,7 +73,8 @@ pub fn register(cursor: &mut Cursor<'_>, at: u32) -> Result<u16, Fault>
 /// Two registers.
 pub fn two_registers(cursor: &mut Cursor<'_>, at: u32) -> Result<(u16, u16), Fault>
     requires { at ≤ cursor.old.position }
-    ensures exact { ReadsBy two_values (given_at at (register_number ∷ register_number ∷ [])) cursor.old result cursor.new }
+    ensures exact { ReadsBy two_values
+        (given_at at (register_number ∷ register_number ∷ [])) cursor.old result cursor.new }
     ensures within { IsRefusedWithin cursor.old result }
     ensures goes_on { MovesForward cursor.old cursor.new }
 {
@@ -92,7 +94,8 @@ pub fn two_registers(cursor: &mut Cursor<'_>, at: u32) -> Result<(u16, u16), Fau
 #[inline(always)]
 pub fn register_and_unsigned(cursor: &mut Cursor<'_>, at: u32) -> Result<(u16, u64), Fault>
     requires { at ≤ cursor.old.position }
-    ensures exact { ReadsBy two_values (given_at at (register_number ∷ unsigned ∷ [])) cursor.old result cursor.new }
+    ensures exact { ReadsBy two_values
+        (given_at at (register_number ∷ unsigned ∷ [])) cursor.old result cursor.new }
     ensures within { IsRefusedWithin cursor.old result }
     ensures goes_on { MovesForward cursor.old cursor.new }
 {
@@ -107,7 +110,8 @@ pub fn register_and_unsigned(cursor: &mut Cursor<'_>, at: u32) -> Result<(u16, u
 /// A register and a signed number.
 pub fn register_and_signed(cursor: &mut Cursor<'_>, at: u32) -> Result<(u16, i64), Fault>
     requires { at ≤ cursor.old.position }
-    ensures exact { ReadsBy two_values (given_at at (register_number ∷ signed ∷ [])) cursor.old result cursor.new }
+    ensures exact { ReadsBy two_values
+        (given_at at (register_number ∷ signed ∷ [])) cursor.old result cursor.new }
     ensures within { IsRefusedWithin cursor.old result }
     ensures goes_on { MovesForward cursor.old cursor.new }
 {
@@ -122,7 +126,8 @@ pub fn register_and_signed(cursor: &mut Cursor<'_>, at: u32) -> Result<(u16, i64
 /// A register and a block.
 pub fn register_and_block<'a>(cursor: &mut Cursor<'a>, at: u32) -> Result<(u16, Block<'a>), Fault>
     requires { at ≤ cursor.old.position }
-    ensures exact { ReadsBy (λ v. two_values (v.0, block_of v.1)) (given_at at (register_number ∷ block ∷ [])) cursor.old result cursor.new }
+    ensures exact { ReadsBy (λ v. two_values (v.0, block_of v.1))
+        (given_at at (register_number ∷ block ∷ [])) cursor.old result cursor.new }
     ensures within { IsRefusedWithin cursor.old result }
     ensures goes_on { MovesForward cursor.old cursor.new }
 {
@@ -136,7 +141,8 @@ pub fn register_and_block<'a>(cursor: &mut Cursor<'a>, at: u32) -> Result<(u16, 
 
 /// A block, which has the count of its bytes as unsigned LEB128 before it.
 pub fn block<'a>(cursor: &mut Cursor<'a>, at: u32) -> Result<Block<'a>, Fault>
-    ensures exact { ReadsBy (λ v. one_value (block_of v)) (given_at at (block ∷ [])) cursor.old result cursor.new }
+    ensures exact { ReadsBy (λ v. one_value (block_of v))
+        (given_at at (block ∷ [])) cursor.old result cursor.new }
     ensures within { IsRefusedWithin cursor.old result }
     ensures goes_on { MovesForward cursor.old cursor.new }
 {
@@ -170,7 +176,8 @@ pub fn piece_size(cursor: &mut Cursor<'_>, at: u32) -> Result<u32, Fault>
 /// The size of a piece and an offset.
 pub fn two_piece_sizes(cursor: &mut Cursor<'_>, at: u32) -> Result<(u32, u32), Fault>
     requires { at ≤ cursor.old.position }
-    ensures exact { ReadsBy two_values (given_at at (piece_size ∷ piece_size ∷ [])) cursor.old result cursor.new }
+    ensures exact { ReadsBy two_values
+        (given_at at (piece_size ∷ piece_size ∷ [])) cursor.old result cursor.new }
     ensures within { IsRefusedWithin cursor.old result }
     ensures goes_on { MovesForward cursor.old cursor.new }
 {

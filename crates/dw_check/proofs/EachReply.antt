@@ -10,23 +10,29 @@ use Rattle.dw_stack.specs.FirstFault.{expression_fault}
 use Rattle.dw_stack.proofs.Existing.{each_has_a_depth}
 use Rattle.dw_stack.proofs.Named.{good_if_none}
 use Rattle.dw_eval.proofs.Determined.{each_evaluation}
-use Rattle.dw_check.specs.Asked.{Asked}
-use Rattle.dw_check.specs.StateFile.{Given}
+use Rattle.dw_check.specs.Requests.{Asked}
+use Rattle.dw_check.specs.StateFile.{StateFact}
 use Rattle.dw_check.specs.Outcomes.{evaluation_text}
 use Rattle.dw_check.specs.Evaluations.{world_of}
 use Rattle.dw_check.specs.Runs.{Reply, text, refusal, not_hex, bad_line, frame_reply, IsOutcome, OfSection, OfState, IsRowsReply, IsEvalReply, IsReplyTo, IsReply}
-use Rattle.dw_check.specs.Files.{section_bytes, state_given}
+use Rattle.dw_check.specs.Files.{section_bytes, state_facts}
 use Rattle.std.specs.Prelude.{slice_get}
 use Rattle.dw_check.specs.declared.stop.Section.TheVariants.{Expression}
-use Rattle.dw_check.specs.declared.asked.Task.{Task}
-use Rattle.dw_check.specs.declared.asked.Task.TheVariants.{Rows, Row, Eval}
+use Rattle.dw_check.specs.declared.requests.Task.{Task}
+use Rattle.dw_check.specs.declared.requests.Task.TheVariants.{Rows, Row, Eval}
 use Rattle.dw_check.proofs.Evaluated.{refused_short, refused_long}
 
-module _ (kind : Kind) (target : Target) (bytes : List ℕ) (gs : List Given) where
+module _ (kind : Kind) (target : Target) (bytes : List ℕ) (gs : List StateFact) where
   good_outcome : length bytes < 2 ^ 32 → IsGoodExpression kind target bytes → (r : Reply) × IsOutcome kind target bytes gs r
   good_outcome short good =
       let deep = each_has_a_depth kind target bytes good in
-      let c : Checked = record { kind = kind; target = target; bytes = bytes; depth = deep.0; count = length (operations_in target bytes) } in
+      let c : Checked = record {
+        kind = kind;
+        target = target;
+        bytes = bytes;
+        depth = deep.0;
+        count = length (operations_in target bytes);
+      } in
       let run = each_evaluation c (world_of target gs) (record { good = good; depth = deep.1; count = refl }) in (
         text (evaluation_text target.address_size run.0 run.1 deep.0),
         record {
@@ -38,33 +44,42 @@ module _ (kind : Kind) (target : Target) (bytes : List ℕ) (gs : List Given) wh
         },
       )
 
-  by_fault : (f : Option Fault) → expression_fault kind target bytes ≡ f → length bytes < 2 ^ 32 → (r : Reply) × IsOutcome kind target bytes gs r
+  by_fault : (f : Option Fault) → expression_fault kind target bytes ≡ f → length bytes < 2 ^ 32
+      → (r : Reply) × IsOutcome kind target bytes gs r
   by_fault None e short = good_outcome short (good_if_none kind target bytes e)
   by_fault (Some f) e short = (refusal Expression f, refused_short kind target bytes gs f short e)
 
   by_length : (b : Bool) → nat_lt (length bytes) (2 ^ 32) ≡ b → (r : Reply) × IsOutcome kind target bytes gs r
   by_length true e = by_fault (expression_fault kind target bytes) refl (grind (arith, nat_tests, e))
-  by_length false e = (refusal Expression (record { kind = SectionTooLong; at = 0 }), refused_long kind target bytes gs (grind (arith, nat_tests, e)))
+  by_length false e = (
+    refusal Expression (record { kind = SectionTooLong; at = 0 }),
+    refused_long kind target bytes gs (grind (arith, nat_tests, e)),
+  )
 
   pub each_outcome : (r : Reply) × IsOutcome kind target bytes gs r
   each_outcome = by_length (nat_lt (length bytes) (2 ^ 32)) refl
 
-each_of_section : (place : ℕ) (found : Option (List ℕ)) (Is : List ℕ → Reply → Type 0) → ((bytes : List ℕ) → (r : Reply) × Is bytes r) → (r : Reply) × OfSection place found Is r
+each_of_section : (place : ℕ) (found : Option (List ℕ)) (Is : List ℕ → Reply → Type 0) → ((bytes : List ℕ) → (r : Reply) × Is bytes r)
+    → (r : Reply) × OfSection place found Is r
 each_of_section place None Is each = (not_hex place, refl)
 each_of_section place (Some bytes) Is each = each bytes
 
-each_of_state : (given : Result (List Given) ℕ) (Is : List Given → Reply → Type 0) → ((gs : List Given) → (r : Reply) × Is gs r) → (r : Reply) × OfState given Is r
+each_of_state : (given : Result (List StateFact) ℕ) (Is : List StateFact → Reply → Type 0) → ((gs : List StateFact) → (r : Reply) × Is gs r)
+    → (r : Reply) × OfState given Is r
 each_of_state (Err n) Is each = (bad_line n, refl)
 each_of_state (Ok gs) Is each = each gs
 
-each_rows : (address : Option ℕ) (target : Target) (hex : Bool) (files : List (List ℕ)) → (r : Reply) × IsRowsReply address target hex files r
+each_rows : (address : Option ℕ) (target : Target) (hex : Bool) (files : List (List ℕ))
+    → (r : Reply) × IsRowsReply address target hex files r
 each_rows address target hex files =
-    each_of_section 0 (section_bytes hex (slice_get files 0)) (λ section r. r ≡ frame_reply address target section) (λ section. (frame_reply address target section, refl))
+    each_of_section 0 (section_bytes hex (slice_get files 0)) (λ section r. r ≡ frame_reply address target section)
+    (λ section. (frame_reply address target section, refl))
 
 each_eval : (kind : Kind) (target : Target) (hex : Bool) (files : List (List ℕ)) → (r : Reply) × IsEvalReply kind target hex files r
 each_eval kind target hex files =
-    each_of_section 0 (section_bytes hex (slice_get files 0)) (λ bytes. OfState (state_given target (slice_get files 1)) (IsOutcome kind target bytes))
-    (λ bytes. each_of_state (state_given target (slice_get files 1)) (IsOutcome kind target bytes) (each_outcome kind target bytes))
+    each_of_section 0 (section_bytes hex (slice_get files 0))
+    (λ bytes. OfState (state_facts target (slice_get files 1)) (IsOutcome kind target bytes))
+    (λ bytes. each_of_state (state_facts target (slice_get files 1)) (IsOutcome kind target bytes) (each_outcome kind target bytes))
 
 each_to : (task : Task) (target : Target) (hex : Bool) (files : List (List ℕ)) → (r : Reply) × IsReplyTo task target hex files r
 each_to Rows target hex files = each_rows None target hex files

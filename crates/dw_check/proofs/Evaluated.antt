@@ -17,7 +17,7 @@ use Rattle.dw_eval.specs.Results.{Outcome, IsEvaluation}
 use Rattle.dw_check.specs.Text.{digits_of}
 use Rattle.dw_check.specs.Outcomes.{evaluation_text}
 use Rattle.dw_check.specs.Evaluations.{world_of, Evaluates}
-use Rattle.dw_check.specs.StateFile.{Given, Known, IsGivenBy, first_that, content_in, byte_in}
+use Rattle.dw_check.specs.StateFile.{StateFact, KnownState, IsGivenBy, first_that, content_in, byte_in}
 use Rattle.dw_check.specs.Runs.{refusal, IsOutcome}
 use Rattle.dw_check.specs.declared.stop.Section.TheVariants.{Expression}
 
@@ -26,20 +26,29 @@ same_bound Four = refl
 same_bound Eight = refl
 
 -- what is good is the checked expression of it
-pub good_checked : (kind : Kind) (target : Target) (bytes : List ℕ) (c : Checked) → IsOf kind target bytes c → IsGoodExpression kind target bytes → IsGoodExpression c.kind c.target c.bytes
+pub good_checked : (kind : Kind) (target : Target) (bytes : List ℕ) (c : Checked) → IsOf kind target bytes c
+    → IsGoodExpression kind target bytes → IsGoodExpression c.kind c.target c.bytes
 good_checked kind target bytes c same good = rw (same.kind_is, same.target_is, same.bytes_are) good
 
 -- what is known is what was given
-abbrev pub known_world : Target → Known → World
-known_world target k = record { target = target; registers = k.registers; memory = k.memory; cfa = k.cfa; frame_base = k.frame_base; object = k.object }
+abbrev pub known_world : Target → KnownState → World
+known_world target k = record {
+  target = target;
+  registers = k.registers;
+  memory = k.memory;
+  cfa = k.cfa;
+  frame_base = k.frame_base;
+  object = k.object;
+}
 
-same_world : (target : Target) (k : Known) (gs : List Given) → IsGivenBy k gs → known_world target k ≡ world_of target gs
+same_world : (target : Target) (k : KnownState) (gs : List StateFact) → IsGivenBy k gs → known_world target k ≡ world_of target gs
 same_world target k gs is =
     let registers : k.registers ≡ (λ n. first_that (content_in n) gs) = fun_ext is.registers in
     let memory : k.memory ≡ (λ a. first_that (byte_in a) gs) = fun_ext is.memory in
     rw (registers, memory, is.cfa, is.frame_base, is.object) refl
 
-pub evaluates : (c : Checked) (known : Known) (gs : List Given) (outcome : Outcome) (steps depth : ℕ) → length c.bytes < 2 ^ 32 → IsGoodExpression c.kind c.target c.bytes → IsGivenBy known gs
+pub evaluates : (c : Checked) (known : KnownState) (gs : List StateFact) (outcome : Outcome) (steps depth : ℕ) → length c.bytes < 2 ^ 32
+    → IsGoodExpression c.kind c.target c.bytes → IsGivenBy known gs
     → IsEvaluation c (known_world c.target known) outcome steps → IsDepthOf c.kind c.target c.bytes depth
     → Evaluates c.kind c.target c.bytes gs (evaluation_text c.target.address_size outcome steps depth)
 evaluates c known gs outcome steps depth short good given run deepest = record {
@@ -55,16 +64,21 @@ evaluates c known gs outcome steps depth short good given run deepest = record {
   text = refl;
 }
 
-pub refused_short : (kind : Kind) (target : Target) (bytes : List ℕ) (gs : List Given) (fault : Fault) → length bytes < 2 ^ 32 → expression_fault kind target bytes ≡ Some fault → IsOutcome kind target bytes gs (refusal Expression fault)
+pub refused_short : (kind : Kind) (target : Target) (bytes : List ℕ) (gs : List StateFact) (fault : Fault) → length bytes < 2 ^ 32
+    → expression_fault kind target bytes ≡ Some fault → IsOutcome kind target bytes gs (refusal Expression fault)
 refused_short kind target bytes gs fault h e = (refl, short_fault bytes _ _ h ∙ e)
 
-pub refused_long : (kind : Kind) (target : Target) (bytes : List ℕ) (gs : List Given) → 2 ^ 32 ≤ length bytes → IsOutcome kind target bytes gs (refusal Expression (record { kind = SectionTooLong; at = 0 }))
+pub refused_long : (kind : Kind) (target : Target) (bytes : List ℕ) (gs : List StateFact) → 2 ^ 32 ≤ length bytes
+    → IsOutcome kind target bytes gs (refusal Expression (record { kind = SectionTooLong; at = 0 }))
 refused_long kind target bytes gs h = (refl, long_fault bytes _ _ h)
 
 -- what holds for the checked expression holds for what was handed in
-pub written_same : (kind : Kind) (target : Target) (bytes : List ℕ) (c : Checked) (gs : List Given) (W : List ℕ → Type 0) → IsOf kind target bytes c → ((t : List ℕ) × Evaluates c.kind c.target c.bytes gs t × W t) → (t : List ℕ) × Evaluates kind target bytes gs t × W t
+pub written_same : (kind : Kind) (target : Target) (bytes : List ℕ) (c : Checked) (gs : List StateFact) (W : List ℕ → Type 0)
+    → IsOf kind target bytes c → ((t : List ℕ) × Evaluates c.kind c.target c.bytes gs t × W t)
+    → (t : List ℕ) × Evaluates kind target bytes gs t × W t
 written_same kind target bytes c gs W same h = (
   h.0,
-  subst (λ k. Evaluates k target bytes gs h.0) same.kind_is (subst (λ t. Evaluates c.kind t bytes gs h.0) same.target_is (subst (λ b. Evaluates c.kind c.target b gs h.0) same.bytes_are h.1)),
+  subst (λ k. Evaluates k target bytes gs h.0) same.kind_is
+      (subst (λ t. Evaluates c.kind t bytes gs h.0) same.target_is (subst (λ b. Evaluates c.kind c.target b gs h.0) same.bytes_are h.1)),
   h.2,
 )

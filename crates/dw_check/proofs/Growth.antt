@@ -4,7 +4,7 @@ use Rattle.std.proofs.Common.{◌-◌, arith, length-drop}
 use Rattle.std.proofs.lemmas.List.{append-nil, take-append-drop, take_all}
 use Rattle.std.proofs.Math.Seq.{take-add}
 use Rattle.std.specs.Io.KnownBytes.{Appends, Keeps}
-use Rattle.dw_check.specs.Taken.{AppendsFront}
+use Rattle.dw_check.specs.SinkBytes.{AppendsFront}
 
 pub appends_nothing : (a : Option (List ℕ)) → Appends a a []
 appends_nothing None = tt

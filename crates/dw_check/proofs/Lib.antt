@@ -2,11 +2,11 @@ pub mod Assembled
 pub mod EachReply
 pub mod Evaluated
 pub mod Growth
-pub mod Known
+pub mod KnownState
 pub mod Lengths
 pub mod OneReply
 pub mod Padded
-pub mod Parsed
+pub mod Digits
 pub mod Replies
 pub mod Sent
 pub mod Sections

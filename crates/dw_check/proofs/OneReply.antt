@@ -9,17 +9,18 @@ use Rattle.dw_stack.specs.FirstFault.{expression_fault}
 use Rattle.dw_stack.proofs.Unique.{one_depth}
 use Rattle.dw_stack.proofs.Named.{none_if_good}
 use Rattle.dw_eval.proofs.Determined.{one_evaluation}
-use Rattle.dw_check.specs.Asked.{Asked}
-use Rattle.dw_check.specs.StateFile.{Given}
+use Rattle.dw_check.specs.Requests.{Asked}
+use Rattle.dw_check.specs.StateFile.{StateFact}
 use Rattle.dw_check.specs.Outcomes.{evaluation_text}
 use Rattle.dw_check.specs.Evaluations.{world_of, Evaluates}
 use Rattle.dw_check.specs.Runs.{Reply, text, refusal, not_hex, bad_line, frame_reply, expression_refusal, IsOutcome, OfSection, OfState, IsRowsReply, IsEvalReply, IsReplyTo, IsReply}
-use Rattle.dw_check.specs.Files.{section_bytes, state_given}
+use Rattle.dw_check.specs.Files.{section_bytes, state_facts}
 use Rattle.std.specs.Prelude.{slice_get, Bool}
-use Rattle.dw_check.specs.declared.asked.Task.{Task}
-use Rattle.dw_check.specs.declared.asked.Task.TheVariants.{Rows, Row, Eval}
+use Rattle.dw_check.specs.declared.requests.Task.{Task}
+use Rattle.dw_check.specs.declared.requests.Task.TheVariants.{Rows, Row, Eval}
 
-same_text : (kind : Kind) (target : Target) (bytes : List ℕ) (gs : List Given) (a b : List ℕ) → Evaluates kind target bytes gs a → Evaluates kind target bytes gs b → a ≡ b
+same_text : (kind : Kind) (target : Target) (bytes : List ℕ) (gs : List StateFact) (a b : List ℕ) → Evaluates kind target bytes gs a
+    → Evaluates kind target bytes gs b → a ≡ b
 same_text kind target bytes gs a b h k =
     let c : Checked = record { kind = kind; target = target; bytes = bytes; depth = h.depth; count = 0 } in
     let runs = one_evaluation c (world_of target gs) h.outcome k.outcome h.steps k.steps h.comes.good h.comes.run k.comes.run in
@@ -30,14 +31,16 @@ same_text kind target bytes gs a b h k =
     ∙ ap (λ d. evaluation_text target.address_size k.outcome k.steps d) deep
     ∙ sym k.text
 
-not_both : (kind : Kind) (target : Target) (bytes : List ℕ) (gs : List Given) (a : List ℕ) (f : Fault) → Evaluates kind target bytes gs a → expression_refusal kind target bytes ≡ Some f → ⊥
+not_both : (kind : Kind) (target : Target) (bytes : List ℕ) (gs : List StateFact) (a : List ℕ) (f : Fault)
+    → Evaluates kind target bytes gs a → expression_refusal kind target bytes ≡ Some f → ⊥
 not_both kind target bytes gs a f h e =
     let none : expression_fault kind target bytes ≡ None = none_if_good kind target bytes h.comes.good in
     let short : expression_refusal kind target bytes ≡ None = rw (lt-ltb (length bytes) (2 ^ 32) h.comes.short) none in
     let both : None ≡ Some f = sym short ∙ e in
     cc
 
-one_outcome : (kind : Kind) (target : Target) (bytes : List ℕ) (gs : List Given) (r s : Reply) → IsOutcome kind target bytes gs r → IsOutcome kind target bytes gs s → r ≡ s
+one_outcome : (kind : Kind) (target : Target) (bytes : List ℕ) (gs : List StateFact) (r s : Reply) → IsOutcome kind target bytes gs r
+    → IsOutcome kind target bytes gs s → r ≡ s
 one_outcome kind target bytes gs (text a) (text b) h k = ap text (same_text kind target bytes gs a b h k)
 one_outcome kind target bytes gs (text a) (refusal p f) h k = absurd (not_both kind target bytes gs a f h k.1)
 one_outcome kind target bytes gs (refusal p f) (text a) h k = absurd (not_both kind target bytes gs a f k h.1)
@@ -52,26 +55,33 @@ one_outcome kind target bytes gs (text a) (bad_line n) h k = absurd k
 one_outcome kind target bytes gs (refusal p f) (not_hex n) h k = absurd k
 one_outcome kind target bytes gs (refusal p f) (bad_line n) h k = absurd k
 
-one_of_section : (place : ℕ) (found : Option (List ℕ)) (Is : List ℕ → Reply → Type 0) → ((bytes : List ℕ) (r s : Reply) → Is bytes r → Is bytes s → r ≡ s)
+one_of_section : (place : ℕ) (found : Option (List ℕ)) (Is : List ℕ → Reply → Type 0)
+    → ((bytes : List ℕ) (r s : Reply) → Is bytes r → Is bytes s → r ≡ s)
     → (r s : Reply) → OfSection place found Is r → OfSection place found Is s → r ≡ s
 one_of_section place None Is one r s h k = h ∙ sym k
 one_of_section place (Some bytes) Is one r s h k = one bytes r s h k
 
-one_of_state : (given : Result (List Given) ℕ) (Is : List Given → Reply → Type 0) → ((gs : List Given) (r s : Reply) → Is gs r → Is gs s → r ≡ s)
+one_of_state : (given : Result (List StateFact) ℕ) (Is : List StateFact → Reply → Type 0)
+    → ((gs : List StateFact) (r s : Reply) → Is gs r → Is gs s → r ≡ s)
     → (r s : Reply) → OfState given Is r → OfState given Is s → r ≡ s
 one_of_state (Err n) Is one r s h k = h ∙ sym k
 one_of_state (Ok gs) Is one r s h k = one gs r s h k
 
-one_rows : (address : Option ℕ) (target : Target) (hex : Bool) (files : List (List ℕ)) (r s : Reply) → IsRowsReply address target hex files r → IsRowsReply address target hex files s → r ≡ s
+one_rows : (address : Option ℕ) (target : Target) (hex : Bool) (files : List (List ℕ)) (r s : Reply)
+    → IsRowsReply address target hex files r → IsRowsReply address target hex files s → r ≡ s
 one_rows address target hex files r s h k =
-    one_of_section 0 (section_bytes hex (slice_get files 0)) (λ section r. r ≡ frame_reply address target section) (λ section r s h k. h ∙ sym k) r s h k
+    one_of_section 0 (section_bytes hex (slice_get files 0)) (λ section r. r ≡ frame_reply address target section)
+    (λ section r s h k. h ∙ sym k) r s h k
 
-one_eval : (kind : Kind) (target : Target) (hex : Bool) (files : List (List ℕ)) (r s : Reply) → IsEvalReply kind target hex files r → IsEvalReply kind target hex files s → r ≡ s
+one_eval : (kind : Kind) (target : Target) (hex : Bool) (files : List (List ℕ)) (r s : Reply) → IsEvalReply kind target hex files r
+    → IsEvalReply kind target hex files s → r ≡ s
 one_eval kind target hex files r s h k =
-    one_of_section 0 (section_bytes hex (slice_get files 0)) (λ bytes. OfState (state_given target (slice_get files 1)) (IsOutcome kind target bytes))
-    (λ bytes. one_of_state (state_given target (slice_get files 1)) (IsOutcome kind target bytes) (one_outcome kind target bytes)) r s h k
+    one_of_section 0 (section_bytes hex (slice_get files 0))
+    (λ bytes. OfState (state_facts target (slice_get files 1)) (IsOutcome kind target bytes))
+    (λ bytes. one_of_state (state_facts target (slice_get files 1)) (IsOutcome kind target bytes) (one_outcome kind target bytes)) r s h k
 
-one_to : (task : Task) (target : Target) (hex : Bool) (files : List (List ℕ)) (r s : Reply) → IsReplyTo task target hex files r → IsReplyTo task target hex files s → r ≡ s
+one_to : (task : Task) (target : Target) (hex : Bool) (files : List (List ℕ)) (r s : Reply) → IsReplyTo task target hex files r
+    → IsReplyTo task target hex files s → r ≡ s
 one_to Rows target hex files r s h k = one_rows None target hex files r s h k
 one_to (Row a) target hex files r s h k = one_rows (Some a) target hex files r s h k
 one_to (Eval kind) target hex files r s h k = one_eval kind target hex files r s h k

@@ -46,7 +46,9 @@ last_behind j k n acc none = (
   j,
   hex_step j n acc ∙ ap (λ (q : ℕ). hex_digits j q ++ (digit (n % 16) ∷ acc)) none
       ∙ ap (λ (l : List ℕ). l ++ (digit (n % 16) ∷ acc)) (hex_zero j)
-      ∙ ap (λ (l : List ℕ). replicate j 48 ++ l) (sym (chosen_first (n / 16) (digit_glyph false (n % 16) ∷ acc) (digits_onto k 16 false (n / 16) (digit_glyph false (n % 16) ∷ acc)) none)),
+      ∙ ap (λ (l : List ℕ). replicate j 48 ++ l)
+      (sym (chosen_first (n / 16) (digit_glyph false (n % 16) ∷ acc)
+      (digits_onto k 16 false (n / 16) (digit_glyph false (n % 16) ∷ acc)) none)),
 )
 
 padded_onto : (j k n : ℕ) (acc : List ℕ) → n < 16 ^ suc j → suc j ≤ k → Behind j k n acc
@@ -59,7 +61,9 @@ padded_onto (suc j) (suc k) n acc h l = elim (zero_or_more (n / 16)) [
       let rest = padded_onto j k (n / 16) (digit (n % 16) ∷ acc) smaller (omega arith) in (
         rest.0,
         hex_step (suc j) n acc ∙ rest.1
-            ∙ ap (λ (l : List ℕ). replicate rest.0 48 ++ l) (sym (chosen_second (n / 16) (digit_glyph false (n % 16) ∷ acc) (digits_onto k 16 false (n / 16) (digit_glyph false (n % 16) ∷ acc)) more)),
+            ∙ ap (λ (l : List ℕ). replicate rest.0 48 ++ l)
+            (sym (chosen_second (n / 16) (digit_glyph false (n % 16) ∷ acc)
+            (digits_onto k 16 false (n / 16) (digit_glyph false (n % 16) ∷ acc)) more)),
       )
 ]
 
@@ -76,6 +80,7 @@ hex_padded j n l small =
     let found = padded_onto j 64 n [] small (omega arith) in
     let ds = digits_onto 64 16 false n [] in
     let e : hex_digits (suc j) n ≡ replicate found.0 48 ++ ds = sym (append-nil (hex_digits (suc j) n)) ∙ found.1 in
-    let lengths : suc j ≡ found.0 + length ds = sym (length-hex (suc j) n) ∙ ap length e ∙ length-append (replicate found.0 48) ds ∙ ap (λ (m : ℕ). m + length ds) (length-replicate found.0 48) in
+    let lengths : suc j ≡ found.0 + length ds = sym (length-hex (suc j) n) ∙ ap length e ∙ length-append (replicate found.0 48) ds
+    ∙ ap (λ (m : ℕ). m + length ds) (length-replicate found.0 48) in
     let gap : suc j - length ds ≡ found.0 = omega arith in
     padded_is (suc j) ds ∙ ap (λ (m : ℕ). replicate m 48 ++ ds) gap ∙ sym e

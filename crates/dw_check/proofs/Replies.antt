@@ -4,10 +4,10 @@ use Rattle.std.specs.Prelude.{Option, Some, Result, Ok, Err}
 use Rattle.std.specs.Result.{IsErr, IsErrAnd}
 use Rattle.std.specs.Io.KnownBytes.{Appends}
 use Rattle.dw_bytes.specs.declared.fault.Fault.{Fault}
-use Rattle.dw_check.specs.StateFile.{Given}
+use Rattle.dw_check.specs.StateFile.{StateFact}
 use Rattle.dw_check.specs.Stops.{ended_by, IsBadState, IsRefusal}
-use Rattle.dw_check.specs.Taken.{AppendsFront}
-use Rattle.dw_check.specs.Written.{Writes, WritesWhole}
+use Rattle.dw_check.specs.SinkBytes.{AppendsFront}
+use Rattle.dw_check.specs.WriteResults.{Writes, WritesWhole}
 use Rattle.dw_check.specs.Runs.{Reply, text, refusal, bad_line, accepted_text, OfSection, OfState, Goes}
 use Rattle.dw_check.specs.declared.stop.Section.{Section}
 use Rattle.dw_check.specs.declared.stop.ReportFault.{ReportFault}
@@ -22,17 +22,20 @@ front_none old new all h = ([], all, refl, h)
 
 -- ---- the bytes of a section
 
-pub goes_section : (count place : ℕ) (found : Option (List ℕ)) (bytes : List ℕ) (Is : List ℕ → Reply → Type 0) (old new : Option (List ℕ)) (r : Result (Unit {0}) Stop)
+pub goes_section : (count place : ℕ) (found : Option (List ℕ)) (bytes : List ℕ) (Is : List ℕ → Reply → Type 0) (old new : Option (List ℕ))
+    (r : Result (Unit {0}) Stop)
     → found ≡ Some bytes → Goes count (Is bytes) old new r → Goes count (OfSection place found Is) old new r
 goes_section count place found bytes Is old new r e h = subst (λ o. Goes count (OfSection place o Is) old new r) (sym e) h
 
 -- ---- the state
 
-pub goes_state : (count : ℕ) (given : Result (List Given) ℕ) (gs : List Given) (Is : List Given → Reply → Type 0) (old new : Option (List ℕ)) (r : Result (Unit {0}) Stop)
+pub goes_state : (count : ℕ) (given : Result (List StateFact) ℕ) (gs : List StateFact) (Is : List StateFact → Reply → Type 0)
+    (old new : Option (List ℕ)) (r : Result (Unit {0}) Stop)
     → given ≡ Ok gs → Goes count (Is gs) old new r → Goes count (OfState given Is) old new r
 goes_state count given gs Is old new r e h = subst (λ g. Goes count (OfState g Is) old new r) (sym e) h
 
-pub goes_bad_state : (count : ℕ) (given : Result (List Given) ℕ) (Is : List Given → Reply → Type 0) (a : Option (List ℕ)) (stop : Stop)
+pub goes_bad_state : (count : ℕ) (given : Result (List StateFact) ℕ) (Is : List StateFact → Reply → Type 0) (a : Option (List ℕ))
+    (stop : Stop)
     → IsBadState given stop → Goes count (OfState given Is) a a (Err stop)
 goes_bad_state count given Is a (StateLine n) h = (subst (λ g. OfState g Is (bad_line n)) (sym h) refl, appends_nothing a)
 goes_bad_state count given Is a Memory h = λ reply is. front_none a a (accepted_text reply) (appends_nothing a)
@@ -56,7 +59,8 @@ goes_refusal count section first Is a Output is h = absurd h
 pub goes_text : (count : ℕ) (Is : Reply → Type 0) (bytes : List ℕ) (old new : Option (List ℕ)) (r : Result (Unit {0}) ReportFault)
     → Is (text bytes) → ((reply : Reply) → Is reply → reply ≡ text bytes) → Writes old new r bytes → Goes count Is old new (ended_by r)
 goes_text count Is bytes old new (Ok _) is only h = (bytes, is, h)
-goes_text count Is bytes old new (Err faults.Memory) is only h = λ reply i. subst (λ x. AppendsFront old new (accepted_text x)) (sym (only reply i)) h
+goes_text count Is bytes old new (Err faults.Memory) is only h =
+    λ reply i. subst (λ x. AppendsFront old new (accepted_text x)) (sym (only reply i)) h
 goes_text count Is bytes old new (Err faults.Write) is only h = (text bytes, is, h)
 
 -- a text that is handed over whole, or a beginning of it
@@ -67,6 +71,7 @@ goes_whole count Is bytes old new (Err faults.Memory) is h = λ reply i. front_n
 goes_whole count Is bytes old new (Err faults.Write) is h = (text bytes, is, h)
 
 -- what a `?` hands on
-pub handed_on : (P : Result (Unit {0}) Stop → Type 0) (r : Result (Unit {0}) Stop) (e : Stop) → IsErr r × IsErrAnd r (λ x. x ≡ e) → P (Err e) → P r
+pub handed_on : (P : Result (Unit {0}) Stop → Type 0) (r : Result (Unit {0}) Stop) (e : Stop) → IsErr r × IsErrAnd r (λ x. x ≡ e)
+    → P (Err e) → P r
 handed_on P (Ok _) e h p = let f = h.0 in cc
 handed_on P (Err x) e h p = subst (λ y. P (Err y)) (sym h.1) p

@@ -6,7 +6,7 @@ use Rattle.std.proofs.Math.Seq.{get_or-append_seam}
 use Rattle.std.proofs.lemmas.List.{append_assoc, append-nil, drop_all}
 use Rattle.std.proofs.lemmas.Grind.{flat_map-append}
 use Rattle.std.specs.Io.KnownBytes.{Appends}
-use Rattle.dw_check.specs.Taken.{AppendsFront}
+use Rattle.dw_check.specs.SinkBytes.{AppendsFront}
 use Rattle.dw_check.proofs.Growth.{appends_nothing, appends_more, front_wider, front_more}
 
 -- The texts of those that came are written, and the rest is to come.
@@ -39,7 +39,8 @@ sent_front f all left rest x a b c e s part =
     (front_wider a c (flat_map f s.came ++ f x) (flat_map f rest) (front_more a b c (flat_map f s.came) (f x) s.text part))
 
 -- all of them
-pub sent_all : {X : Type 0} (f : X → List ℕ) (all left : List X) (a b : Option (List ℕ)) → left ≡ [] → Sent f all left a b → Appends a b (flat_map f all)
+pub sent_all : {X : Type 0} (f : X → List ℕ) (all left : List X) (a b : Option (List ℕ)) → left ≡ [] → Sent f all left a b
+    → Appends a b (flat_map f all)
 sent_all f all left a b e s =
     let whole : s.came ≡ all = sym (append-nil s.came) ∙ ap (λ l. s.came ++ l) (sym e) ∙ s.whole in
     subst (λ l. Appends a b (flat_map f l)) whole s.text
@@ -49,7 +50,8 @@ pub sent_place : {X : Type 0} (f : X → List ℕ) (all left rest : List X) (x :
     → Sent f all left a b → Contains all x
 sent_place f all left rest x a b e s =
     let cut : s.came ++ x ∷ rest ≡ all = ap (λ l. s.came ++ l) (sym e) ∙ s.whole in
-    let here : Contains (s.came ++ x ∷ rest) x = (length s.came, omega (arith, length-append s.came (x ∷ rest)), get_or-append_seam s.came x rest x) in
+    let here : Contains (s.came ++ x ∷ rest) x =
+    (length s.came, omega (arith, length-append s.came (x ∷ rest)), get_or-append_seam s.came x rest x) in
     subst (λ l. Contains l x) cut here
 
 -- what holds of each holds of one that stands there

@@ -36,4 +36,5 @@ cover_fits size from to (row ∷ rows) h k =
 pub good_rows_fit : (target : Target) (size : AddressSize) (cie : Cie) (fde : Fde) → size ≡ target.address_size → fde_fault cie fde ≡ None
     → fde.initial + fde.range ≤ top_of target → All (λ row. Fits size row) (rows_of cie fde)
 good_rows_fit target size cie fde z none h =
-    (cover_fits size fde.initial (fde.initial + fde.range) (rows_of cie fde) (cover-rows cie fde none) (below_top target size (fde.initial + fde.range) z h)).1
+    (cover_fits size fde.initial (fde.initial + fde.range) (rows_of cie fde) (cover-rows cie fde none)
+    (below_top target size (fde.initial + fde.range) z h)).1

@@ -9,15 +9,16 @@ use Rattle.dw_frame.specs.Records.{Cie, Fde}
 use Rattle.dw_rows.specs.Rules.{Row}
 use Rattle.dw_rows.specs.Section.{Frame, cie_in, rows_in, rows_behind, row_of}
 use Rattle.dw_rows.specs.UnwindRows.{rows_of}
-use Rattle.dw_check.specs.Taken.{AppendsFront}
+use Rattle.dw_check.specs.SinkBytes.{AppendsFront}
 use Rattle.dw_check.specs.Text.{fde_line, row_line, lines_of, fde_text, found_text, lookup_text}
-use Rattle.dw_check.specs.Written.{Writes, WritesWhole}
+use Rattle.dw_check.specs.WriteResults.{Writes, WritesWhole}
 use Rattle.dw_check.specs.declared.stop.ReportFault.{ReportFault}
 use Rattle.dw_check.specs.declared.stop.ReportFault.TheVariants.{Memory, Write}
 use Rattle.dw_check.proofs.Growth.{appends_more, front_more, front_wider}
 
 -- all of one, and then what the second call wrote
-pub writes_then : (a b c : Option (List ℕ)) (r : Result (Unit {0}) ReportFault) (x y : List ℕ) → Appends a b x → Writes b c r y → Writes a c r (x ++ y)
+pub writes_then : (a b c : Option (List ℕ)) (r : Result (Unit {0}) ReportFault) (x y : List ℕ) → Appends a b x → Writes b c r y
+    → Writes a c r (x ++ y)
 writes_then a b c (Ok _) x y h k = appends_more a b c x y h k
 writes_then a b c (Err _) x y h k = front_more a b c x y h k
 
@@ -33,12 +34,14 @@ writes_whole a b (Err Memory) x h = ([], x, refl, h)
 writes_whole a b (Err Write) x h = h
 
 -- the line of an FDE, and then what is written of its rows
-pub fde_then : (frame : Frame) (size : AddressSize) (cie : Cie) (fde : Fde) (rows : List Row) (a b c : Option (List ℕ)) (r : Result (Unit {0}) ReportFault)
+pub fde_then : (frame : Frame) (size : AddressSize) (cie : Cie) (fde : Fde) (rows : List Row) (a b c : Option (List ℕ))
+    (r : Result (Unit {0}) ReportFault)
     → size ≡ frame.target.address_size → cie_in frame fde ≡ Some cie → rows ≡ rows_of cie fde
     → Appends a b (fde_line size cie fde) → Writes b c r (flat_map (row_line size) rows) → Writes a c r (fde_text frame fde)
 unfolding fde_text
 fde_then frame size cie fde rows a b c r z e d h k =
-    let both : Writes a c r (lines_of size (Some cie) fde rows) = writes_then a b c r (fde_line size cie fde) (flat_map (row_line size) rows) h k in
+    let both : Writes a c r (lines_of size (Some cie) fde rows) =
+    writes_then a b c r (fde_line size cie fde) (flat_map (row_line size) rows) h k in
     let its : rows ≡ rows_in frame fde = d ∙ ap (λ o. rows_behind o fde) (sym e) in
     subst (λ s. Writes a c r (lines_of s (cie_in frame fde) fde (rows_in frame fde))) z
     (subst (λ o. Writes a c r (lines_of size o fde (rows_in frame fde))) (sym e)
@@ -46,7 +49,8 @@ fde_then frame size cie fde rows a b c r z e d h k =
 
 -- a beginning of the line of an FDE
 pub fde_front : (frame : Frame) (size : AddressSize) (cie : Cie) (fde : Fde) (a b : Option (List ℕ)) (r : Result (Unit {0}) ReportFault)
-    → size ≡ frame.target.address_size → cie_in frame fde ≡ Some cie → IsErr r → AppendsFront a b (fde_line size cie fde) → Writes a b r (fde_text frame fde)
+    → size ≡ frame.target.address_size → cie_in frame fde ≡ Some cie → IsErr r → AppendsFront a b (fde_line size cie fde)
+    → Writes a b r (fde_text frame fde)
 unfolding fde_text
 fde_front frame size cie fde a b r z e failed h =
     let rest : List ℕ = flat_map (row_line size) (rows_in frame fde) in
@@ -59,12 +63,14 @@ fde_front frame size cie fde a b r z e failed h =
 
 -- its line, where it is there
 pub row_written : (frame : Frame) (address : ℕ) (size : AddressSize) (row : Row) (a b : Option (List ℕ)) (r : Result (Unit {0}) ReportFault)
-    → size ≡ frame.target.address_size → Some row ≡ row_of frame address → Writes a b r (row_line size row) → Writes a b r (lookup_text frame address)
+    → size ≡ frame.target.address_size → Some row ≡ row_of frame address → Writes a b r (row_line size row)
+    → Writes a b r (lookup_text frame address)
 unfolding lookup_text
 row_written frame address size row a b r z e h =
     subst (λ s. Writes a b r (found_text s (row_of frame address))) z (subst (λ o. Writes a b r (found_text size o)) e h)
 
 -- that there is none
-pub none_text : (frame : Frame) (address : ℕ) (bytes : List ℕ) → None ≡ row_of frame address → bytes ≡ codes "none\n" → bytes ≡ lookup_text frame address
+pub none_text : (frame : Frame) (address : ℕ) (bytes : List ℕ) → None ≡ row_of frame address → bytes ≡ codes "none\n"
+    → bytes ≡ lookup_text frame address
 unfolding lookup_text
 none_text frame address bytes e d = d ∙ ap (found_text frame.target.address_size) e

@@ -22,4 +22,5 @@ at_most top n = if nat_le n top then Some n else None
 
 -- the address of a target that `0x` and hex digits spell
 abbrev pub address_of : Target → List ℕ → Option ℕ
-address_of target text = if bytes_eq (take 2 text) (codes "0x") then option_and_then (at_most (top_of target)) (hex_of (drop 2 text)) else None
+address_of target text = if bytes_eq (take 2 text) (codes "0x") then option_and_then (at_most (top_of target)) (hex_of (drop 2 text))
+    else None

@@ -5,11 +5,11 @@ use Rattle.dw_stack.specs.declared.state.Kind.{Kind}
 use Rattle.dw_stack.specs.Expressions.{operations_in, IsGoodExpression, IsDepthOf}
 use Rattle.dw_eval.specs.World.{World}
 use Rattle.dw_eval.specs.Results.{Outcome, IsRun}
-use Rattle.dw_check.specs.StateFile.{Given, first_that, content_in, byte_in, cfa_in, frame_base_in, object_in}
+use Rattle.dw_check.specs.StateFile.{StateFact, first_that, content_in, byte_in, cfa_in, frame_base_in, object_in}
 use Rattle.dw_check.specs.Outcomes.{evaluation_text}
 
 -- a machine of which this was given, under a target
-abbrev pub world_of : Target → List Given → World
+abbrev pub world_of : Target → List StateFact → World
 world_of target gs = record {
   target = target;
   registers = λ n. first_that (content_in n) gs;
@@ -20,14 +20,15 @@ world_of target gs = record {
 }
 
 -- The expression is good, its run on what was given comes to this outcome after so many steps, and this is its depth.
-pub record ComesTo (kind : Kind) (target : Target) (bytes : List ℕ) (gs : List Given) (outcome : Outcome) (steps depth : ℕ) : Type 0 where
+pub record ComesTo (kind : Kind) (target : Target) (bytes : List ℕ) (gs : List StateFact) (outcome : Outcome)
+    (steps depth : ℕ) : Type 0 where
   pub short : length bytes < 2 ^ 32
   pub good : IsGoodExpression kind target bytes
   pub run : IsRun (world_of target gs) kind (operations_in target bytes) (length bytes) outcome steps
   pub deepest : IsDepthOf kind target bytes depth
 
 -- The text shows what it comes to.
-pub record Evaluates (kind : Kind) (target : Target) (bytes : List ℕ) (gs : List Given) (written : List ℕ) : Type 0 where
+pub record Evaluates (kind : Kind) (target : Target) (bytes : List ℕ) (gs : List StateFact) (written : List ℕ) : Type 0 where
   pub outcome : Outcome
   pub steps : ℕ
   pub depth : ℕ

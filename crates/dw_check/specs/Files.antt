@@ -3,7 +3,7 @@ use Rattle.std.specs.Prelude.{ℕ, ◌==◌, ◌||◌, Bool, not, if◌then◌el
 use Rattle.std.specs.Result.{result_ok}
 use Rattle.hex.specs.Hex.{decode_of}
 use Rattle.dw_bytes.specs.declared.target.Target.{Target}
-use Rattle.dw_check.specs.StateFile.{Given, file_given}
+use Rattle.dw_check.specs.StateFile.{StateFact, facts_of_file}
 
 -- a tab, LF, CR or space
 abbrev pub is_blank : ℕ → Bool
@@ -19,6 +19,6 @@ section_bytes hex None = Some []
 section_bytes hex (Some file) = if hex then result_ok (decode_of (without_blanks file)) else Some file
 
 -- what a state file gives, or its first line that isn't one; no file gives nothing
-abbrev pub state_given : Target → Option (List ℕ) → Result (List Given) ℕ
-state_given target None = Ok []
-state_given target (Some text) = file_given target text
+abbrev pub state_facts : Target → Option (List ℕ) → Result (List StateFact) ℕ
+state_facts target None = Ok []
+state_facts target (Some text) = facts_of_file target text

@@ -1,16 +1,36 @@
-pub mod Addresses
-pub mod Asked
-pub mod Commands
-pub mod Evaluations
-pub mod Files
-pub mod Names
-pub mod Outcomes
-pub mod Parts
-pub mod Runs
-pub mod StateFile
-pub mod StateViews
-pub mod Statuses
-pub mod Stops
-pub mod Taken
+-- ---- To be believed: the standard's words. Who checks the headline against DWARF 5 reads these.
+-- the lines of sections and rows
 pub mod Text
-pub mod Written
+-- the text of an outcome
+pub mod Outcomes
+-- the names of faults
+pub mod Names
+-- numbers and addresses as text
+pub mod Addresses
+-- lines and words
+pub mod Parts
+-- what flags and words say
+pub mod Arguments
+-- the table of commands, in clap's words
+pub mod Commands
+-- what a command line asks for
+pub mod Requests
+-- what the files of a request contain
+pub mod Files
+-- what a state file says
+pub mod StateFile
+-- what an expression comes to
+pub mod Evaluations
+-- exit statuses
+pub mod Statuses
+-- what a run writes, and how it ends
+pub mod Runs
+-- ---- What the code's own values stand for, and what its calls answer.
+-- why a run stops
+pub mod Stops
+-- what a sink has taken
+pub mod SinkBytes
+-- what a call that writes has written
+pub mod WriteResults
+-- state lines and states of the code
+pub mod StateViews

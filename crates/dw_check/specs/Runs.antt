@@ -7,20 +7,20 @@ use Rattle.dw_bytes.specs.declared.fault.FaultKind.TheVariants.{SectionTooLong}
 use Rattle.dw_rows.specs.Section.{Frame, section_fault, frame_of}
 use Rattle.dw_stack.specs.declared.state.Kind.{Kind}
 use Rattle.dw_stack.specs.FirstFault.{expression_fault}
-use Rattle.dw_check.specs.Asked.{Asked}
+use Rattle.dw_check.specs.Requests.{Asked}
 use Rattle.dw_check.specs.Evaluations.{Evaluates}
-use Rattle.dw_check.specs.Files.{section_bytes, state_given}
-use Rattle.dw_check.specs.StateFile.{Given}
-use Rattle.dw_check.specs.Taken.{AppendsFront}
+use Rattle.dw_check.specs.Files.{section_bytes, state_facts}
+use Rattle.dw_check.specs.StateFile.{StateFact}
+use Rattle.dw_check.specs.SinkBytes.{AppendsFront}
 use Rattle.dw_check.specs.Text.{refused_line, frame_text, lookup_text}
 use Rattle.dw_check.specs.declared.stop.Section.{Section}
 use Rattle.dw_check.specs.declared.stop.Section.TheVariants as sections
 use Rattle.dw_check.specs.declared.stop.Stop.{Stop}
 use Rattle.dw_check.specs.declared.stop.Stop.TheVariants as stops
-use Rattle.dw_check.specs.declared.asked.Task.{Task}
-use Rattle.dw_check.specs.declared.asked.Task.TheVariants.{Rows, Row, Eval}
-use Rattle.dw_check.specs.declared.asked.End.{End}
-use Rattle.dw_check.specs.declared.asked.End.TheVariants.{Done, Refused, BadHex, StateLine, Memory, Output}
+use Rattle.dw_check.specs.declared.requests.Task.{Task}
+use Rattle.dw_check.specs.declared.requests.Task.TheVariants.{Rows, Row, Eval}
+use Rattle.dw_check.specs.declared.requests.End.{End}
+use Rattle.dw_check.specs.declared.requests.End.TheVariants.{Done, Refused, BadHex, StateLine, Memory, Output}
 
 -- What a run comes to: a text; the line of a refusal; or nothing, where the file at this place is to be hex text and isn't,
 -- or where this line of the state file isn't one.
@@ -52,7 +52,7 @@ OfSection place None Is reply = reply ≡ not_hex place
 OfSection place (Some bytes) Is reply = Is bytes reply
 
 -- what a state comes to, if each of its lines is one
-abbrev pub OfState : Result (List Given) ℕ → (List Given → Reply → Type 0) → Reply → Type 0
+abbrev pub OfState : Result (List StateFact) ℕ → (List StateFact → Reply → Type 0) → Reply → Type 0
 OfState (Err n) Is reply = reply ≡ bad_line n
 OfState (Ok gs) Is reply = Is gs reply
 
@@ -60,7 +60,8 @@ OfState (Ok gs) Is reply = Is gs reply
 
 -- the first fault of a frame section
 abbrev pub frame_refusal : Target → List ℕ → Option Fault
-frame_refusal target section = if nat_lt (length section) (2 ^ 32) then section_fault target section else Some (record { kind = SectionTooLong; at = 0 })
+frame_refusal target section = if nat_lt (length section) (2 ^ 32) then section_fault target section
+    else Some (record { kind = SectionTooLong; at = 0 })
 
 abbrev pub text_unless : Option Fault → Section → List ℕ → Reply
 text_unless (Some fault) section bytes = refusal section fault
@@ -78,12 +79,14 @@ frame_reply address target section = text_unless (frame_refusal target section) 
 
 -- the first fault of an expression
 abbrev pub expression_refusal : Kind → Target → List ℕ → Option Fault
-expression_refusal kind target bytes = if nat_lt (length bytes) (2 ^ 32) then expression_fault kind target bytes else Some (record { kind = SectionTooLong; at = 0 })
+expression_refusal kind target bytes = if nat_lt (length bytes) (2 ^ 32) then expression_fault kind target bytes
+    else Some (record { kind = SectionTooLong; at = 0 })
 
 -- what an expression comes to, on a machine of which this was given
-abbrev pub IsOutcome : Kind → Target → List ℕ → List Given → Reply → Type 0
+abbrev pub IsOutcome : Kind → Target → List ℕ → List StateFact → Reply → Type 0
 IsOutcome kind target bytes gs (text written) = Evaluates kind target bytes gs written
-IsOutcome kind target bytes gs (refusal section fault) = (section ≡ sections.Expression) × (expression_refusal kind target bytes ≡ Some fault)
+IsOutcome kind target bytes gs (refusal section fault) = (section ≡ sections.Expression)
+    × (expression_refusal kind target bytes ≡ Some fault)
 IsOutcome kind target bytes gs _ = ⊥
 
 -- ---- requests: a definition for each command
@@ -96,7 +99,8 @@ IsRowsReply address target hex files reply =
 -- `eval`
 abbrev pub IsEvalReply : Kind → Target → Bool → List (List ℕ) → Reply → Type 0
 IsEvalReply kind target hex files reply =
-    OfSection 0 (section_bytes hex (slice_get files 0)) (λ bytes. OfState (state_given target (slice_get files 1)) (IsOutcome kind target bytes)) reply
+    OfSection 0 (section_bytes hex (slice_get files 0))
+    (λ bytes. OfState (state_facts target (slice_get files 1)) (IsOutcome kind target bytes)) reply
 
 abbrev pub IsReplyTo : Task → Target → Bool → List (List ℕ) → Reply → Type 0
 IsReplyTo Rows target hex files reply = IsRowsReply None target hex files reply
@@ -128,7 +132,8 @@ Goes count Is old new (Err stops.Output) = (reply : Reply) × Is reply × Append
 -- for want of memory a beginning of it, whichever it is, and nothing where it is a refusal; and a beginning where the sink stopped.
 abbrev pub Ends : (Reply → Type 0) → Option (List ℕ) → Option (List ℕ) → Bool → End → Type 0
 Ends Is old new stopped Done = (bytes : List ℕ) × Is (text bytes) × Appends old new bytes × (stopped ≡ false)
-Ends Is old new stopped Refused = (section : Section) × (fault : Fault) × Is (refusal section fault) × Appends old new (refused_line section fault) × (stopped ≡ false)
+Ends Is old new stopped Refused = (section : Section) × (fault : Fault) × Is (refusal section fault)
+    × Appends old new (refused_line section fault) × (stopped ≡ false)
 Ends Is old new stopped (BadHex n) = Is (not_hex n) × Appends old new [] × (stopped ≡ false)
 Ends Is old new stopped (StateLine n) = Is (bad_line n) × Appends old new [] × (stopped ≡ false)
 Ends Is old new stopped Memory = ((reply : Reply) → Is reply → AppendsFront old new (accepted_text reply)) × (stopped ≡ false)

@@ -3,19 +3,19 @@ use Rattle.std.specs.Prelude.{◌≡◌, ℕ, List, Result, Ok}
 use Rattle.std.specs.Ordering.{nat_cmp}
 use Rattle.std.specs.BTreeMap.{get}
 use Rattle.dw_check.specs.declared.machine_state.MachineState.{MachineState}
-use Rattle.dw_check.specs.StateFile.{Given, Known, IsGivenBy, register, bytes, cfa, frame_base, object}
+use Rattle.dw_check.specs.StateFile.{StateFact, KnownState, IsGivenBy, register, bytes, cfa, frame_base, object}
 use Rattle.dw_check.specs.declared.state_line.StateLine.{StateLine}
 use Rattle.dw_check.specs.declared.state_line.StateLine.TheVariants as lines
 
-abbrev pub given_of : StateLine → Given
-given_of (lines.Register n v) = register n v
-given_of (lines.Memory a bs) = bytes a bs.items
-given_of (lines.Cfa v) = cfa v
-given_of (lines.FrameBase v) = frame_base v
-given_of (lines.Object v) = object v
+abbrev pub fact_of : StateLine → StateFact
+fact_of (lines.Register n v) = register n v
+fact_of (lines.Memory a bs) = bytes a bs.items
+fact_of (lines.Cfa v) = cfa v
+fact_of (lines.FrameBase v) = frame_base v
+fact_of (lines.Object v) = object v
 
-abbrev pub known_of : MachineState → Known
-known_of m = record {
+abbrev pub known_state_of : MachineState → KnownState
+known_state_of m = record {
   registers = get nat_cmp m.registers;
   memory = get nat_cmp m.memory;
   cfa = m.cfa;
@@ -24,5 +24,5 @@ known_of m = record {
 }
 
 -- the state is what was given
-abbrev pub IsStateOf : Result (List Given) ℕ → MachineState → Type 0
-IsStateOf given m = (gs : List Given) × (given ≡ Ok gs) × IsGivenBy (known_of m) gs
+abbrev pub IsStateOf : Result (List StateFact) ℕ → MachineState → Type 0
+IsStateOf given m = (gs : List StateFact) × (given ≡ Ok gs) × IsGivenBy (known_state_of m) gs

@@ -1,9 +1,9 @@
 -- The exit statuses.
 use Rattle.std.specs.Prelude.{ℕ}
-use Rattle.dw_check.specs.declared.asked.Usage.{Usage}
-use Rattle.dw_check.specs.declared.asked.Usage.TheVariants as usages
-use Rattle.dw_check.specs.declared.asked.End.{End}
-use Rattle.dw_check.specs.declared.asked.End.TheVariants as ends
+use Rattle.dw_check.specs.declared.requests.Usage.{Usage}
+use Rattle.dw_check.specs.declared.requests.Usage.TheVariants as usages
+use Rattle.dw_check.specs.declared.requests.End.{End}
+use Rattle.dw_check.specs.declared.requests.End.TheVariants as ends
 
 abbrev pub status_of_usage : Usage → ℕ
 status_of_usage (usages.Line _) = 2

@@ -1,7 +1,7 @@
 -- Why a run stops before its text is written whole.
 use Rattle.std.specs.Prelude.{◌≡◌, ℕ, ◌<◌, Bool, true, false, List, Option, Some, None, Result, Ok, Err, codes}
 use Rattle.dw_bytes.specs.declared.fault.Fault.{Fault}
-use Rattle.dw_check.specs.StateFile.{Given}
+use Rattle.dw_check.specs.StateFile.{StateFact}
 use Rattle.dw_check.specs.declared.stop.Section.{Section}
 use Rattle.dw_check.specs.declared.stop.Section.TheVariants as sections
 use Rattle.dw_check.specs.declared.stop.ReportFault.{ReportFault}
@@ -38,7 +38,7 @@ IsBadSection bytes place count Memory = Unit {0}
 IsBadSection bytes place count _ = ⊥
 
 -- Why there is no state: a line is the first that isn't one, or memory ran out.
-abbrev pub IsBadState : Result (List Given) ℕ → Stop → Type 0
+abbrev pub IsBadState : Result (List StateFact) ℕ → Stop → Type 0
 IsBadState given (StateLine n) = given ≡ Err n
 IsBadState given Memory = Unit {0}
 IsBadState given _ = ⊥

@@ -1,12 +1,35 @@
 //! The command line as clap sees it: a subcommand for each task.
 
 ghost use Rattle.std.specs.Prelude.{◌≡◌, IfOk, false, codes};
-ghost use Rattle.clap.specs.Words.{with_subcommand, app_of, rule_of};
+ghost use Rattle.clap.specs.Words.{with_rule, with_subcommand, app_of, rule_of};
 ghost use Rattle.clap.specs.declared.builder.Command.TheViews.{out-Command as fields_of};
-ghost use Rattle.dw_check.specs.Commands.{flag_rule, option_rule, word_rule, with_flags, with_word, rows_app, row_app, eval_app, dwcheck};
+ghost use Rattle.dw_check.specs.Commands.{flag_rule, option_rule, word_rule, with_flags, app_of_command, rows_command, row_command, eval_command, dwcheck};
 
 use clap::{Arg, ArgAction, Command};
 use std::alloc::{AllocError, Global};
+
+// The names of commands, words, flags and options.
+pub(crate) const ROWS: &str = "rows";
+
+pub(crate) const ROW: &str = "row";
+
+pub(crate) const EVAL: &str = "eval";
+
+pub(crate) const FRAME: &str = "FRAME";
+
+pub(crate) const ADDRESS: &str = "ADDRESS";
+
+pub(crate) const KIND: &str = "KIND";
+
+pub(crate) const EXPR: &str = "EXPR";
+
+pub(crate) const STATE: &str = "state";
+
+pub(crate) const BIG: &str = "big";
+
+pub(crate) const ADDR4: &str = "addr4";
+
+pub(crate) const HEX: &str = "hex";
 
 const FRAME_HELP: &str = "A file with the raw bytes of a .debug_frame section";
 
@@ -45,9 +68,9 @@ fn with_flags<'a>(alloc: Global, command: Command<'a>) -> Result<Command<'a>, Al
     ensures local { IfOk result (λ c. (fields_of c).has_globals ≡ false) }
 {
     command
-        .arg(flag(alloc, "big", "Numbers are big-endian"))?
-        .arg(flag(alloc, "addr4", "Addresses have 4 bytes, not 8"))?
-        .arg(flag(alloc, "hex", "The file is hex text"))
+        .arg(flag(alloc, BIG, "Numbers are big-endian"))?
+        .arg(flag(alloc, ADDR4, "Addresses have 4 bytes, not 8"))?
+        .arg(flag(alloc, HEX, "The file is hex text"))
 }
 
 fn with_word<'a>(
@@ -57,7 +80,8 @@ fn with_word<'a>(
     help: &'a str,
 ) -> Result<Command<'a>, AllocError>
     requires { (fields_of command).has_globals ≡ false }
-    ensures app { IfOk result (λ c. app_of c ≡ with_word (app_of command.entry) name.entry.now) }
+    ensures app { IfOk result (λ c. app_of c ≡ with_rule (app_of command.entry)
+        (word_rule name.entry.now)) }
     ensures local { IfOk result (λ c. (fields_of c).has_globals ≡ false) }
 {
     command.arg(word(alloc, name, help))
@@ -66,51 +90,52 @@ fn with_word<'a>(
 fn with_command<'a>(command: Command<'a>, inner: Command<'a>) -> Result<Command<'a>, AllocError>
     requires local { (fields_of command).has_globals ≡ false }
     requires inner_local { (fields_of inner).has_globals ≡ false }
-    ensures app { IfOk result (λ c. app_of c ≡ with_subcommand (app_of command.entry) (app_of inner.entry).top) }
+    ensures app { IfOk result (λ c. app_of c ≡ with_subcommand (app_of command.entry)
+        (app_of inner.entry).top) }
     ensures local { IfOk result (λ c. (fields_of c).has_globals ≡ false) }
 {
     command.subcommand(inner)
 }
 
 fn rows_command<'a>(alloc: Global) -> Result<Command<'a>, AllocError>
-    ensures app { IfOk result (λ c. app_of c ≡ rows_app) }
+    ensures app { IfOk result (λ c. app_of c ≡ app_of_command rows_command) }
     ensures local { IfOk result (λ c. (fields_of c).has_globals ≡ false) }
 {
     let command = with_flags(
         alloc,
-        Command::new(alloc, "rows").about("Show each FDE and its rows"),
+        Command::new(alloc, ROWS).about("Show each FDE and its rows"),
     )?;
-    with_word(alloc, command, "FRAME", FRAME_HELP)
+    with_word(alloc, command, FRAME, FRAME_HELP)
 }
 
 fn row_command<'a>(alloc: Global) -> Result<Command<'a>, AllocError>
-    ensures app { IfOk result (λ c. app_of c ≡ row_app) }
+    ensures app { IfOk result (λ c. app_of c ≡ app_of_command row_command) }
     ensures local { IfOk result (λ c. (fields_of c).has_globals ≡ false) }
 {
     let command = with_flags(
         alloc,
-        Command::new(alloc, "row").about("Show the row of an address"),
+        Command::new(alloc, ROW).about("Show the row of an address"),
     )?;
-    let command = with_word(alloc, command, "FRAME", FRAME_HELP)?;
-    with_word(alloc, command, "ADDRESS", "0x and 1 to 16 hex digits")
+    let command = with_word(alloc, command, FRAME, FRAME_HELP)?;
+    with_word(alloc, command, ADDRESS, "0x and 1 to 16 hex digits")
 }
 
 fn eval_command<'a>(alloc: Global) -> Result<Command<'a>, AllocError>
-    ensures app { IfOk result (λ c. app_of c ≡ eval_app) }
+    ensures app { IfOk result (λ c. app_of c ≡ app_of_command eval_command) }
     ensures local { IfOk result (λ c. (fields_of c).has_globals ≡ false) }
 {
     let command = with_flags(
         alloc,
-        Command::new(alloc, "eval").about("Evaluate an expression"),
+        Command::new(alloc, EVAL).about("Evaluate an expression"),
     )?;
-    let command = with_word(alloc, command, "KIND", "cfa, register or location")?;
+    let command = with_word(alloc, command, KIND, "cfa, register or location")?;
     let command = with_word(
         alloc,
         command,
-        "EXPR",
+        EXPR,
         "A file with the bytes of an expression",
     )?;
-    command.arg(option(alloc, "state", STATE_HELP))
+    command.arg(option(alloc, STATE, STATE_HELP))
 }
 
 /// The whole command line. One of its subcommands has to be named.

@@ -8,9 +8,9 @@ ghost use Rattle.dw_eval.specs.Views.{outcome_of};
 ghost use Rattle.dw_check.specs.Text.{digits_of};
 ghost use Rattle.dw_check.specs.Outcomes.{evaluation_text};
 ghost use Rattle.dw_check.specs.Evaluations.{Evaluates};
-ghost use Rattle.dw_check.specs.StateFile.{Given, IsGivenBy};
-ghost use Rattle.dw_check.specs.StateViews.{known_of};
-ghost use Rattle.dw_check.specs.Written.{IsSame, WritesWhole, is_write};
+ghost use Rattle.dw_check.specs.StateFile.{StateFact, IsGivenBy};
+ghost use Rattle.dw_check.specs.StateViews.{known_state_of};
+ghost use Rattle.dw_check.specs.WriteResults.{IsSame, WritesWhole, is_write};
 
 use crate::machine_state::MachineState;
 use crate::outcomes::push_evaluation;
@@ -26,11 +26,13 @@ fn write_evaluation<S: Sink>(
     evaluation: &Evaluation<'_>,
     depth: u8,
 ) -> Result<(), ReportFault>
-    requires fits { (len : ℕ) × OutcomeFits (16 ^ digits_of out.old.size) len (outcome_of evaluation.now.outcome) }
+    requires fits { (len : ℕ) × OutcomeFits (16 ^ digits_of out.old.size) len
+        (outcome_of evaluation.now.outcome) }
     requires runs { S.has_stopped out.old.sink.now ≡ false }
     ensures same { IsSame out.old out.new }
     ensures written { WritesWhole (S.taken out.old.sink.now) (S.taken out.new.sink.now) result
-        (evaluation_text out.old.size (outcome_of evaluation.now.outcome) evaluation.now.steps depth) }
+        (evaluation_text out.old.size
+        (outcome_of evaluation.now.outcome) evaluation.now.steps depth) }
     ensures stops { S.has_stopped out.new.sink.now ≡ is_write result }
 {
     out.line.clear();
@@ -51,12 +53,15 @@ pub(crate) fn write_outcome<S: Sink>(
     state: &MachineState,
 ) -> Result<(), ReportFault>
     requires short { length (checked_of checked.now).bytes < 2 ^ 32 }
-    requires good { IsGoodExpression (checked_of checked.now).kind (checked_of checked.now).target (checked_of checked.now).bytes }
+    requires good { IsGoodExpression (checked_of checked.now).kind (checked_of checked.now).target
+        (checked_of checked.now).bytes }
     requires size { out.old.size ≡ (checked_of checked.now).target.address_size }
     requires runs { S.has_stopped out.old.sink.now ≡ false }
     ensures same { IsSame out.old out.new }
-    ensures written { (gs : List Given) → IsGivenBy (known_of state.now) gs → (text : List ℕ)
-        × Evaluates (checked_of checked.now).kind (checked_of checked.now).target (checked_of checked.now).bytes gs text
+    ensures written { (gs : List StateFact) → IsGivenBy (known_state_of state.now) gs
+        → (text : List ℕ)
+        × Evaluates (checked_of checked.now).kind (checked_of checked.now).target
+        (checked_of checked.now).bytes gs text
         × WritesWhole (S.taken out.old.sink.now) (S.taken out.new.sink.now) result text }
     ensures stops { S.has_stopped out.new.sink.now ≡ is_write result }
 {

@@ -2,7 +2,7 @@
 
 ghost use Rattle.std.specs.Prelude.{◌≡◌, not, IfOk, IfErr, Some, map, length, slice_get};
 ghost use Rattle.std.specs.Cow.{cow_slice_items};
-ghost use Rattle.dw_check.specs.Files.{is_blank, without_blanks, section_bytes, state_given};
+ghost use Rattle.dw_check.specs.Files.{is_blank, without_blanks, section_bytes, state_facts};
 ghost use Rattle.dw_check.specs.StateViews.{IsStateOf};
 ghost use Rattle.dw_check.specs.Stops.{IsBadSection, IsBadState};
 
@@ -45,9 +45,11 @@ pub(crate) fn section_at<'a>(
     place: usize,
 ) -> Result<CowSlice<'a, u8, Global>, Stop>
     ensures bytes { IfOk result (λ bytes.
-        section_bytes hex (slice_get (map (λ file. file.items) files.entry.now) place) ≡ Some (cow_slice_items bytes)) }
+        section_bytes hex (slice_get (map (λ file. file.items) files.entry.now) place) ≡ Some
+        (cow_slice_items bytes)) }
     ensures stop { IfErr result (IsBadSection
-        (section_bytes hex (slice_get (map (λ file. file.items) files.entry.now) place)) place (length files.entry.now)) }
+        (section_bytes hex (slice_get (map (λ file. file.items) files.entry.now) place)) place
+        (length files.entry.now)) }
 {
     let Some(file) = files.get(place) else {
         return Ok(CowSlice::Borrowed(&[]));
@@ -70,9 +72,9 @@ pub(crate) fn state_at(
     place: usize,
 ) -> Result<MachineState, Stop>
     ensures state { IfOk result (IsStateOf
-        (state_given target (slice_get (map (λ file. file.items) files.now) place))) }
+        (state_facts target (slice_get (map (λ file. file.items) files.now) place))) }
     ensures stop { IfErr result (IsBadState
-        (state_given target (slice_get (map (λ file. file.items) files.now) place))) }
+        (state_facts target (slice_get (map (λ file. file.items) files.now) place))) }
 {
     match files.get(place) {
         Some(file) => read_state(alloc, target, file.as_slice()),

@@ -2,7 +2,7 @@
 #![tactic(auto)]
 
 mod addresses;
-mod asked;
+mod arguments;
 mod command_line;
 mod evaluations;
 mod files;
@@ -14,14 +14,14 @@ mod numbers;
 mod outcomes;
 mod output;
 mod parts;
+mod requests;
 mod runs;
 mod sink;
 mod state_line;
 mod stop;
-mod words;
 mod writer;
 
-pub use asked::{End, Request, Task, Usage};
+pub use arguments::request;
+pub use requests::{End, Request, Task, Usage};
 pub use runs::run;
 pub use sink::{Sink, Stopped, Through};
-pub use words::request;

@@ -31,7 +31,8 @@ pub(crate) fn push_refused(
     section: Section,
     fault: Fault,
 ) -> Result<(), AllocError>
-    ensures { OnOk result (string_bytes line.new ≡ string_bytes line.old ++ refused_line section fault) }
+    ensures { OnOk result (string_bytes line.new ≡ string_bytes line.old
+        ++ refused_line section fault) }
 {
     line.push_str("refused ")?;
     push_kind(line, fault.kind)?;
@@ -48,7 +49,8 @@ fn push_records(
     cie: &CommonInformationEntry<'_>,
     fde: &FrameDescriptionEntry<'_>,
 ) -> Result<(), AllocError>
-    ensures { OnOk result (string_bytes line.new ≡ string_bytes line.old ++ records_text (cie_of cie.now) (fde_of fde.now)) }
+    ensures { OnOk result (string_bytes line.new ≡ string_bytes line.old
+        ++ records_text (cie_of cie.now) (fde_of fde.now)) }
 {
     line.push_str("fde ")?;
     push_offset(line, fde.offset)?;
@@ -65,7 +67,8 @@ pub(crate) fn push_fde(
     fde: &FrameDescriptionEntry<'_>,
 ) -> Result<(), AllocError>
     requires { fde.now.initial_location + fde.now.address_range < 16 ^ digits_of size }
-    ensures { OnOk result (string_bytes line.new ≡ string_bytes line.old ++ fde_line size (cie_of cie.now) (fde_of fde.now)) }
+    ensures { OnOk result (string_bytes line.new ≡ string_bytes line.old
+        ++ fde_line size (cie_of cie.now) (fde_of fde.now)) }
 {
     let end = fde.initial_location + fde.address_range;
     push_records(line, cie, fde)?;
@@ -77,7 +80,8 @@ pub(crate) fn push_fde(
 }
 
 fn push_cfa(line: &mut String, rule: CfaRule) -> Result<(), AllocError>
-    ensures { OnOk result (string_bytes line.new ≡ string_bytes line.old ++ cfa_text (Some (cfa_rule_of rule))) }
+    ensures { OnOk result (string_bytes line.new ≡ string_bytes line.old
+        ++ cfa_text (Some (cfa_rule_of rule))) }
 {
     match rule {
         CfaRule::RegisterAndOffset { register, offset } => {
@@ -89,7 +93,8 @@ fn push_cfa(line: &mut String, rule: CfaRule) -> Result<(), AllocError>
 }
 
 fn push_rule(line: &mut String, rule: RegisterRule) -> Result<(), AllocError>
-    ensures { OnOk result (string_bytes line.new ≡ string_bytes line.old ++ rule_text (rule_of rule)) }
+    ensures { OnOk result (string_bytes line.new ≡ string_bytes line.old
+        ++ rule_text (rule_of rule)) }
 {
     match rule {
         RegisterRule::Default => Ok(()),
@@ -112,7 +117,8 @@ fn push_rule(line: &mut String, rule: RegisterRule) -> Result<(), AllocError>
 }
 
 fn push_register(line: &mut String, register: u16, rule: RegisterRule) -> Result<(), AllocError>
-    ensures { OnOk result (string_bytes line.new ≡ string_bytes line.old ++ register_text (register, rule_of rule)) }
+    ensures { OnOk result (string_bytes line.new ≡ string_bytes line.old
+        ++ register_text (register, rule_of rule)) }
 {
     line.push_str(" r")?;
     push_decimal(line, register)?;
@@ -121,7 +127,8 @@ fn push_register(line: &mut String, register: u16, rule: RegisterRule) -> Result
 }
 
 fn push_rules(line: &mut String, rules: RegisterRules<'_>) -> Result<(), AllocError>
-    ensures { OnOk result (string_bytes line.new ≡ string_bytes line.old ++ flat_map register_text rules.entry) }
+    ensures { OnOk result (string_bytes line.new ≡ string_bytes line.old
+        ++ flat_map register_text rules.entry) }
 {
     for (register, rule) in rules {
         push_register(line, register, rule)?;

@@ -4,9 +4,9 @@ ghost use Rattle.std.specs.Prelude.{◌≡◌, ℕ, ◌+◌, ◌≤◌, ◌^◌,
 ghost use Rattle.std.specs.Ordering.{nat_cmp};
 ghost use Rattle.std.specs.BTreeMap.{get, Updates, IsUnchanged};
 ghost use Rattle.std.specs.Option.{option_or};
-ghost use Rattle.dw_check.specs.StateFile.{Given, FitsAddresses, IsGivenBy, byte_in, file_given};
+ghost use Rattle.dw_check.specs.StateFile.{StateFact, FitsAddresses, IsGivenBy, byte_in, facts_of_file};
 ghost use Rattle.dw_check.specs.Stops.{IsBadState};
-ghost use Rattle.dw_check.specs.StateViews.{given_of, known_of, IsStateOf};
+ghost use Rattle.dw_check.specs.StateViews.{fact_of, known_state_of, IsStateOf};
 
 use crate::parts::Parts;
 use crate::state_line::{StateLine, parse_line};
@@ -33,7 +33,8 @@ fn add_first<K: Ord + Copy, V: Drop>(
     key: K,
     value: V,
 ) -> Result<(), AllocError>
-    ensures { OnOk result (MatchOption (get K.cmp map.old key) (Updates K.cmp map.old map.new key (Some value)) (λ _. IsUnchanged map.old map.new)) }
+    ensures { OnOk result (MatchOption (get K.cmp map.old key)
+        (Updates K.cmp map.old map.new key (Some value)) (λ _. IsUnchanged map.old map.new)) }
 {
     if !map.contains_key(&key) {
         map.insert(key, value)?;
@@ -51,7 +52,8 @@ fn or_value(old: Option<u64>, value: u64) -> Option<u64>
 /// Adds bytes at an address.
 fn add_bytes(memory: &mut BTreeMap<u64, u8>, address: u64, bytes: &[u8]) -> Result<(), AllocError>
     requires { address + length bytes.now ≤ 2 ^ 64 }
-    ensures { OnOk result ((a : ℕ) → get nat_cmp memory.new a ≡ option_or (get nat_cmp memory.old a) (byte_in a (Given.bytes address bytes.now))) }
+    ensures { OnOk result ((a : ℕ) → get nat_cmp memory.new a ≡ option_or (get nat_cmp memory.old a)
+        (byte_in a (StateFact.bytes address bytes.now))) }
 {
     for (index, byte) in bytes.iter().enumerate() {
         add_first(memory, address + index as u64, *byte)?;
@@ -62,7 +64,7 @@ fn add_bytes(memory: &mut BTreeMap<u64, u8>, address: u64, bytes: &[u8]) -> Resu
 impl MachineState {
     /// A machine of which nothing is known.
     pub fn new(alloc: Global) -> Self
-        ensures { IsGivenBy (known_of result) [] }
+        ensures { IsGivenBy (known_state_of result) [] }
     {
         MachineState {
             registers: BTreeMap::new(alloc),
@@ -75,8 +77,9 @@ impl MachineState {
 
     /// Adds what a line gives. What was given before stays.
     fn add(&mut self, line: StateLine) -> Result<(), AllocError>
-        requires { FitsAddresses (given_of line) }
-        ensures { OnOk result ((gs : List Given) → IsGivenBy (known_of self.old) gs → IsGivenBy (known_of self.new) (gs ++ given_of line ∷ [])) }
+        requires { FitsAddresses (fact_of line) }
+        ensures { OnOk result ((gs : List StateFact) → IsGivenBy (known_state_of self.old) gs
+            → IsGivenBy (known_state_of self.new) (gs ++ fact_of line ∷ [])) }
     {
         match line {
             StateLine::Register { number, content } => add_first(
@@ -98,7 +101,7 @@ impl MachineState {
 }
 
 impl Registers for MachineState {
-    ghost contents = { λ m. (known_of m).registers };
+    ghost contents = { λ m. (known_state_of m).registers };
 
     fn register(&self, number: u16) -> Option<u64> {
         self.registers.get(&number).copied()
@@ -106,7 +109,7 @@ impl Registers for MachineState {
 }
 
 impl Memory for MachineState {
-    ghost bytes = { λ m. (known_of m).memory };
+    ghost bytes = { λ m. (known_state_of m).memory };
 
     fn read(&self, address: u64, size: u8, order: Order) -> Option<u64> {
         let mut bytes = [0; 8];
@@ -124,8 +127,8 @@ impl Memory for MachineState {
 /// What a state file says, or its first line that is none. An empty line says nothing, and where two lines
 /// give one thing or one byte, the first holds. Time n log n in the file's length.
 pub(crate) fn read_state(alloc: Global, target: Target, text: &[u8]) -> Result<MachineState, Stop>
-    ensures state { IfOk result (IsStateOf (file_given target text.now)) }
-    ensures stop { IfErr result (IsBadState (file_given target text.now)) }
+    ensures state { IfOk result (IsStateOf (facts_of_file target text.now)) }
+    ensures stop { IfErr result (IsBadState (facts_of_file target text.now)) }
 {
     let mut state = MachineState::new(alloc);
     let mut number = 0;

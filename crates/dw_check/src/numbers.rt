@@ -35,7 +35,8 @@ pub(crate) fn push_address(
     address: u64,
 ) -> Result<(), AllocError>
     requires { address < 16 ^ digits_of size }
-    ensures { OnOk result (string_bytes line.new ≡ string_bytes line.old ++ address_text size address) }
+    ensures { OnOk result (string_bytes line.new ≡ string_bytes line.old
+        ++ address_text size address) }
 {
     match size {
         AddressSize::Four => push_short(line, address),
@@ -53,7 +54,8 @@ pub(crate) fn push_range(
 ) -> Result<(), AllocError>
     requires start { start < 16 ^ digits_of size }
     requires end { end < 16 ^ digits_of size }
-    ensures { OnOk result (string_bytes line.new ≡ string_bytes line.old ++ range_text size start end) }
+    ensures { OnOk result (string_bytes line.new ≡ string_bytes line.old
+        ++ range_text size start end) }
 {
     push_address(line, size, start)?;
     line.push_str("..")?;

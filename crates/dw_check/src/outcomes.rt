@@ -19,7 +19,8 @@ fn push_location(
     location: Location<'_>,
 ) -> Result<(), AllocError>
     requires { LocationFits (16 ^ digits_of size) (location_description_of location) }
-    ensures { OnOk result (string_bytes line.new ≡ string_bytes line.old ++ location_text size (location_description_of location.entry)) }
+    ensures { OnOk result (string_bytes line.new ≡ string_bytes line.old
+        ++ location_text size (location_description_of location.entry)) }
 {
     match location {
         Location::Empty => line.push_str("empty"),
@@ -44,7 +45,8 @@ fn push_location(
 }
 
 fn push_size(line: &mut String, size: PieceSize) -> Result<(), AllocError>
-    ensures { OnOk result (string_bytes line.new ≡ string_bytes line.old ++ size_text (extent_of_size size)) }
+    ensures { OnOk result (string_bytes line.new ≡ string_bytes line.old
+        ++ size_text (extent_of_size size)) }
 {
     match size {
         PieceSize::Bytes(count) => {
@@ -63,7 +65,8 @@ fn push_size(line: &mut String, size: PieceSize) -> Result<(), AllocError>
 #[tactic(auto, unfolding(crate::specs::Outcomes::piece_line))]
 fn push_piece(line: &mut String, size: AddressSize, piece: Piece<'_>) -> Result<(), AllocError>
     requires { PieceFits (16 ^ digits_of size) (piece_in piece) }
-    ensures { OnOk result (string_bytes line.new ≡ string_bytes line.old ++ piece_line size (piece_in piece.entry)) }
+    ensures { OnOk result (string_bytes line.new ≡ string_bytes line.old
+        ++ piece_line size (piece_in piece.entry)) }
 {
     line.push_str("piece ")?;
     push_location(line, size, piece.location)?;
@@ -73,7 +76,8 @@ fn push_piece(line: &mut String, size: AddressSize, piece: Piece<'_>) -> Result<
 
 fn push_pieces(line: &mut String, size: AddressSize, pieces: &[Piece<'_>]) -> Result<(), AllocError>
     requires { All (PieceFits (16 ^ digits_of size)) (map piece_in pieces.now) }
-    ensures { OnOk result (string_bytes line.new ≡ string_bytes line.old ++ flat_map (piece_line size) (map piece_in pieces.now)) }
+    ensures { OnOk result (string_bytes line.new ≡ string_bytes line.old
+        ++ flat_map (piece_line size) (map piece_in pieces.now)) }
 {
     for piece in pieces {
         push_piece(line, size, *piece)?;
@@ -97,7 +101,8 @@ fn push_outcome(
     outcome: &Outcome<'_>,
 ) -> Result<(), AllocError>
     requires { (len : ℕ) × OutcomeFits (16 ^ digits_of size) len (outcome_of outcome.now) }
-    ensures { OnOk result (string_bytes line.new ≡ string_bytes line.old ++ outcome_text size (outcome_of outcome.now)) }
+    ensures { OnOk result (string_bytes line.new ≡ string_bytes line.old
+        ++ outcome_text size (outcome_of outcome.now)) }
 {
     match outcome {
         Outcome::Value(value) => {
@@ -130,7 +135,8 @@ pub(crate) fn push_evaluation(
     depth: u8,
 ) -> Result<(), AllocError>
     requires { (len : ℕ) × OutcomeFits (16 ^ digits_of size) len (outcome_of outcome.now) }
-    ensures { OnOk result (string_bytes line.new ≡ string_bytes line.old ++ evaluation_text size (outcome_of outcome.now) steps depth) }
+    ensures { OnOk result (string_bytes line.new ≡ string_bytes line.old
+        ++ evaluation_text size (outcome_of outcome.now) steps depth) }
 {
     push_outcome(line, size, outcome)?;
     line.push_str("steps ")?;

@@ -5,7 +5,7 @@ ghost use Rattle.std.specs.List.{All, flat_map};
 ghost use Rattle.dw_frame.specs.Views.{cie_of, fde_of};
 ghost use Rattle.dw_frame.specs.Sections.{top_of};
 ghost use Rattle.dw_check.specs.Text.{FitsFde, Fits, refused_line, fde_line, row_line, fde_text, frame_text, lookup_text};
-ghost use Rattle.dw_check.specs.Written.{IsSame, Writes, WritesWhole, is_write};
+ghost use Rattle.dw_check.specs.WriteResults.{IsSame, Writes, WritesWhole, is_write};
 
 use crate::lines::{push_fde, push_refused, push_row};
 use crate::sink::Sink;
@@ -100,9 +100,8 @@ fn write_fde_and_rows<'a, S: Sink>(
         (fde_text frame.now (fde_of fde.now)) }
     ensures stops { S.has_stopped out.new.sink.now ≡ is_write result }
 {
-    let cie = frame.cie_of(fde);
+    let cie = frame.rows_into(fde, rows);
     write_fde(out, &cie, fde)?;
-    frame.rows_into(fde, rows);
     write_rows(out, rows, row)
 }
 

@@ -6,13 +6,13 @@ ghost use Rattle.dw_stack.specs.Certificates.{checked_of};
 ghost use Rattle.dw_stack.specs.Expressions.{IsOf};
 ghost use Rattle.dw_check.specs.Runs.{Ends, Goes, IsPlaceIn, IsReply, IsReplyTo, IsRowsReply, IsEvalReply, frame_refusal, expression_refusal, rows_text};
 ghost use Rattle.dw_check.specs.Stops.{IsRefusal, ended_by, is_output};
-ghost use Rattle.dw_check.specs.Written.{IsSame, Writes, is_write};
+ghost use Rattle.dw_check.specs.WriteResults.{IsSame, Writes, is_write};
 ghost use Rattle.dw_check.specs.declared.stop.Section.TheVariants as sections;
 
-use crate::asked::{End, Request, Task};
 use crate::evaluations::write_outcome;
 use crate::files::{Files, section_at, state_at};
 use crate::output::{write_frame, write_lookup, write_refused};
+use crate::requests::{End, Request, Task};
 use crate::sink::Sink;
 use crate::stop::{ReportFault, Section, Stop};
 use crate::writer::Writer;
@@ -39,7 +39,8 @@ fn checked_frame<'a>(
 ) -> Result<CheckedFrame<'a>, Stop>
     ensures frame { IfOk result (λ frame. frame ≡ frame_of target section.entry.now) }
     ensures whole { IfOk result (λ _. frame_refusal target section.entry.now ≡ None) }
-    ensures stop { IfErr result (IsRefusal sections.Frame (frame_refusal target section.entry.now)) }
+    ensures stop { IfErr result (IsRefusal sections.Frame
+        (frame_refusal target section.entry.now)) }
 {
     if section.len() >= SECTION_LIMIT {
         return Err(Stop::Refused(Section::Frame, TOO_LONG));
@@ -59,8 +60,10 @@ fn checked_expression<'a>(
 ) -> Result<CheckedExpression<'a>, Stop>
     ensures short { IfOk result (λ _. length bytes.entry.now < 2 ^ 32) }
     ensures whole { IfOk result (λ _. expression_refusal kind target bytes.entry.now ≡ None) }
-    ensures checked { IfOk result (λ checked. IsOf kind target bytes.entry.now (checked_of checked)) }
-    ensures stop { IfErr result (IsRefusal sections.Expression (expression_refusal kind target bytes.entry.now)) }
+    ensures checked { IfOk result
+        (λ checked. IsOf kind target bytes.entry.now (checked_of checked)) }
+    ensures stop { IfErr result (IsRefusal sections.Expression
+        (expression_refusal kind target bytes.entry.now)) }
 {
     if bytes.len() >= SECTION_LIMIT {
         return Err(Stop::Refused(Section::Expression, TOO_LONG));
@@ -108,7 +111,8 @@ fn show_rows<S: Sink>(
     requires runs { S.has_stopped out.old.sink.now ≡ false }
     ensures same { IsSame out.old out.new }
     ensures goes { Goes (length files.now.contents.now)
-        (IsRowsReply address files.now.target files.now.hex (map (λ file. file.items) files.now.contents.now))
+        (IsRowsReply address files.now.target files.now.hex
+        (map (λ file. file.items) files.now.contents.now))
         (S.taken out.old.sink.now) (S.taken out.new.sink.now) result }
     ensures stops { S.has_stopped out.new.sink.now ≡ is_output result }
 {
@@ -128,7 +132,8 @@ fn show_outcome<S: Sink>(
     requires runs { S.has_stopped out.old.sink.now ≡ false }
     ensures same { IsSame out.old out.new }
     ensures goes { Goes (length files.now.contents.now)
-        (IsEvalReply kind files.now.target files.now.hex (map (λ file. file.items) files.now.contents.now))
+        (IsEvalReply kind files.now.target files.now.hex
+        (map (λ file. file.items) files.now.contents.now))
         (S.taken out.old.sink.now) (S.taken out.new.sink.now) result }
     ensures stops { S.has_stopped out.new.sink.now ≡ is_output result }
 {
@@ -149,7 +154,8 @@ fn show<S: Sink>(
     requires runs { S.has_stopped out.old.sink.now ≡ false }
     ensures same { IsSame out.old out.new }
     ensures goes { Goes (length files.now.contents.now)
-        (IsReplyTo task files.now.target files.now.hex (map (λ file. file.items) files.now.contents.now))
+        (IsReplyTo task files.now.target files.now.hex
+        (map (λ file. file.items) files.now.contents.now))
         (S.taken out.old.sink.now) (S.taken out.new.sink.now) result }
     ensures stops { S.has_stopped out.new.sink.now ≡ is_output result }
 {

@@ -2,7 +2,7 @@
 
 ghost use Rattle.std.specs.Prelude.{◌≡◌, ℕ, ◌≤◌, Bool, List, Option, true, false, take, length, MatchResult, OnOk, OnErr, IfOk};
 ghost use Rattle.std.specs.Io.KnownBytes.{Appends, Keeps};
-ghost use Rattle.dw_check.specs.Taken.{AppendsFront, stops, writer_of, has_failed};
+ghost use Rattle.dw_check.specs.SinkBytes.{AppendsFront, stops, writer_of, has_failed};
 
 use std::io::Write;
 

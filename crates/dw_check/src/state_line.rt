@@ -1,8 +1,8 @@
 //! The lines of a state file.
 
 ghost use Rattle.std.specs.Prelude.{◌≡◌, IfOk, IfSome, option_map};
-ghost use Rattle.dw_check.specs.StateFile.{FitsAddresses, register_number, bytes_given, register_given, memory_given, numbered, named, line_given};
-ghost use Rattle.dw_check.specs.StateViews.{given_of};
+ghost use Rattle.dw_check.specs.StateFile.{FitsAddresses, register_number, bytes_fact, register_fact, memory_fact, numbered, named, fact_of_line};
+ghost use Rattle.dw_check.specs.StateViews.{fact_of};
 
 use crate::addresses::{parse_address, parse_number};
 use crate::parts::Parts;
@@ -29,8 +29,8 @@ fn parse_register(digits: &[u8]) -> Option<u16>
 
 /// The bytes at an address: one or more, up to the top of the addresses at most.
 fn memory_at(target: Target, address: u64, bytes: Vec<u8>) -> Option<StateLine>
-    ensures given { option_map given_of result ≡ bytes_given target address bytes.items }
-    ensures fits { IfSome result (λ line. FitsAddresses (given_of line)) }
+    ensures given { option_map fact_of result ≡ bytes_fact target address bytes.items }
+    ensures fits { IfSome result (λ line. FitsAddresses (fact_of line)) }
 {
     let top = target.address_size.max_address();
     if bytes.is_empty() || address > top || (bytes.len() - 1) as u64 > top - address {
@@ -41,8 +41,8 @@ fn memory_at(target: Target, address: u64, bytes: Vec<u8>) -> Option<StateLine>
 
 /// What `reg` gives.
 fn parse_register_line(target: Target, place: &[u8], value: &[u8]) -> Option<StateLine>
-    ensures given { option_map given_of result ≡ register_given target place.now value.now }
-    ensures fits { IfSome result (λ line. FitsAddresses (given_of line)) }
+    ensures given { option_map fact_of result ≡ register_fact target place.now value.now }
+    ensures fits { IfSome result (λ line. FitsAddresses (fact_of line)) }
 {
     let number = parse_register(place)?;
     let content = parse_address(value, target)?;
@@ -56,8 +56,9 @@ fn parse_memory_line(
     place: &[u8],
     value: &[u8],
 ) -> Result<Option<StateLine>, AllocError>
-    ensures given { IfOk result (λ r. option_map given_of r ≡ memory_given target place.now value.now) }
-    ensures fits { IfOk result (λ r. IfSome r (λ line. FitsAddresses (given_of line))) }
+    ensures given { IfOk result (λ r. option_map fact_of r
+        ≡ memory_fact target place.now value.now) }
+    ensures fits { IfOk result (λ r. IfSome r (λ line. FitsAddresses (fact_of line))) }
 {
     let Some(address) = parse_address(place, target) else {
         return Ok(None);
@@ -77,8 +78,9 @@ fn parse_numbered(
     place: &[u8],
     value: &[u8],
 ) -> Result<Option<StateLine>, AllocError>
-    ensures given { IfOk result (λ r. option_map given_of r ≡ numbered target word.now place.now value.now) }
-    ensures fits { IfOk result (λ r. IfSome r (λ line. FitsAddresses (given_of line))) }
+    ensures given { IfOk result (λ r. option_map fact_of r
+        ≡ numbered target word.now place.now value.now) }
+    ensures fits { IfOk result (λ r. IfSome r (λ line. FitsAddresses (fact_of line))) }
 {
     if word == "reg".as_bytes() {
         return Ok(parse_register_line(target, place, value));
@@ -91,8 +93,8 @@ fn parse_numbered(
 
 /// What a line of two words gives.
 fn parse_named(target: Target, word: &[u8], value: &[u8]) -> Option<StateLine>
-    ensures given { option_map given_of result ≡ named target word.now value.now }
-    ensures fits { IfSome result (λ line. FitsAddresses (given_of line)) }
+    ensures given { option_map fact_of result ≡ named target word.now value.now }
+    ensures fits { IfSome result (λ line. FitsAddresses (fact_of line)) }
 {
     let value = parse_address(value, target);
     if word == "cfa".as_bytes() {
@@ -113,8 +115,8 @@ pub(crate) fn parse_line(
     target: Target,
     line: &[u8],
 ) -> Result<Option<StateLine>, AllocError>
-    ensures given { IfOk result (λ r. option_map given_of r ≡ line_given target line.now) }
-    ensures fits { IfOk result (λ r. IfSome r (λ line. FitsAddresses (given_of line))) }
+    ensures given { IfOk result (λ r. option_map fact_of r ≡ fact_of_line target line.now) }
+    ensures fits { IfOk result (λ r. IfSome r (λ line. FitsAddresses (fact_of line))) }
 {
     let mut words = Parts::new(line, b' ');
     let (first, second) = (words.next(), words.next());

@@ -2,7 +2,7 @@
 
 ghost use Rattle.std.specs.Prelude.{◌≡◌, false};
 ghost use Rattle.std.specs.String.{string_bytes};
-ghost use Rattle.dw_check.specs.Written.{IsSame, WritesWhole, is_write};
+ghost use Rattle.dw_check.specs.WriteResults.{IsSame, WritesWhole, is_write};
 
 use crate::sink::{Sink, put};
 use crate::stop::ReportFault;

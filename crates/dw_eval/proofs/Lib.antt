@@ -6,8 +6,8 @@ pub mod Topmost
 pub mod Sizes
 pub mod Pushes
 pub mod Ahead
+pub mod Codes
 pub mod Ends
 pub mod Going
 pub mod Loop
 pub mod Determined
-pub mod Contiguous

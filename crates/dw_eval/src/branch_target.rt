@@ -36,7 +36,8 @@ pub fn next_offset(operation: &Operation<'_>, stack: &Stack, next: u32) -> u32
 #[inline(always)]
 pub fn location_named<'a>(operation: &Operation<'a>, stack: &Stack) -> Option<Location<'a>>
     requires { (effect_of (operation_of operation.now)).needs ≤ length stack.now }
-    ensures { option_map location_description_of result ≡ named (operation_of operation.now) stack.now }
+    ensures { option_map location_description_of result ≡ named
+        (operation_of operation.now) stack.now }
 {
     match *operation {
         Operation::Reg { register } => Some(Location::Register(u16::from(register))),

@@ -1,9 +1,9 @@
 //! What an operation does to the stack.
 
-ghost use Rattle.std.specs.Prelude.{◌≡◌, ◌+◌, ◌-◌, ◌^◌, ◌<◌, ◌≤◌, ℕ, List, length, All, IfOk, IfErr, Ok};
+ghost use Rattle.std.specs.Prelude.{◌≡◌, ◌+◌, ◌-◌, ◌<◌, ◌≤◌, ℕ, List, length, IfOk, IfErr, Ok};
 ghost use Rattle.dw_ops.specs.Views.{operation_of};
 ghost use Rattle.dw_stack.specs.Effects.{effect_of};
-ghost use Rattle.dw_eval.specs.World.{width};
+ghost use Rattle.dw_eval.specs.Fits.{AllFit};
 ghost use Rattle.dw_eval.specs.StackChanges.{stack_after_operation, changed, changed_by, IsSized, taken_by, added_by};
 ghost use Rattle.dw_eval.specs.Handed.{world_in};
 
@@ -40,7 +40,7 @@ fn put(taken: usize, value: u64) -> Result<Change, EvaluationError>
 
 /// A divisor, unless it is 0.
 #[inline(always)]
-fn divisor(b: u64) -> Result<u64, EvaluationError>
+pub fn divisor(b: u64) -> Result<u64, EvaluationError>
     ensures ok { IfOk result (λ c. (c ≡ b) × (0 < b)) }
     ensures err { IfErr result (λ why. (b ≡ 0) × (why ≡ EvaluationError.DivisionByZero)) }
 {
@@ -60,7 +60,8 @@ fn pushed<R: Registers, M: Memory>(
     requires one { (effect_of (operation_of operation.now)).adds ≡ 1 }
     ensures takes { IfOk result (λ change. taken_by change ≡ 0) }
     ensures adds { IfOk result (λ change. added_by change ≡ 1) }
-    ensures acts { (s : List ℕ) → changed_by result s ≡ stack_after_operation (world_in R.contents M.bytes environment.now) (operation_of operation.now) s }
+    ensures acts { (s : List ℕ) → changed_by result s ≡ stack_after_operation
+        (world_in R.contents M.bytes environment.now) (operation_of operation.now) s }
 {
     let width = environment.width();
     match *operation {
@@ -102,14 +103,18 @@ fn computed<R: Registers, M: Memory>(
     operation: &Operation<'_>,
     stack: &Stack,
 ) -> Result<Change, EvaluationError>
-    requires all { (effect_of (operation_of operation.now)).takes ≡ (effect_of (operation_of operation.now)).needs }
+    requires all { (effect_of (operation_of operation.now)).takes ≡
+        (effect_of (operation_of operation.now)).needs }
     requires one { (effect_of (operation_of operation.now)).adds ≡ 1 }
     requires needs { (effect_of (operation_of operation.now)).needs ≤ length stack.now }
     requires sized { IsSized (operation_of operation.now) }
-    requires below { All (λ n. n < 2 ^ width (world_in R.contents M.bytes environment.now)) stack.now }
-    ensures takes { IfOk result (λ change. taken_by change ≡ (effect_of (operation_of operation.now)).takes) }
-    ensures adds { IfOk result (λ change. added_by change ≡ (effect_of (operation_of operation.now)).adds) }
-    ensures acts { changed_by result stack.now ≡ stack_after_operation (world_in R.contents M.bytes environment.now) (operation_of operation.now) stack.now }
+    requires below { AllFit (world_in R.contents M.bytes environment.now) stack.now }
+    ensures takes { IfOk result (λ change. taken_by change ≡
+        (effect_of (operation_of operation.now)).takes) }
+    ensures adds { IfOk result (λ change. added_by change ≡
+        (effect_of (operation_of operation.now)).adds) }
+    ensures acts { changed_by result stack.now ≡ stack_after_operation
+        (world_in R.contents M.bytes environment.now) (operation_of operation.now) stack.now }
 {
     let width = environment.width();
     match *operation {
@@ -161,10 +166,13 @@ pub fn change_of<R: Registers, M: Memory>(
 ) -> Result<Change, EvaluationError>
     requires needs { (effect_of (operation_of operation.now)).needs ≤ length stack.now }
     requires sized { IsSized (operation_of operation.now) }
-    requires below { All (λ n. n < 2 ^ width (world_in R.contents M.bytes environment.now)) stack.now }
-    ensures takes { IfOk result (λ change. taken_by change ≡ (effect_of (operation_of operation.now)).takes) }
-    ensures adds { IfOk result (λ change. added_by change ≡ (effect_of (operation_of operation.now)).adds) }
-    ensures acts { changed_by result stack.now ≡ stack_after_operation (world_in R.contents M.bytes environment.now) (operation_of operation.now) stack.now }
+    requires below { AllFit (world_in R.contents M.bytes environment.now) stack.now }
+    ensures takes { IfOk result (λ change. taken_by change ≡
+        (effect_of (operation_of operation.now)).takes) }
+    ensures adds { IfOk result (λ change. added_by change ≡
+        (effect_of (operation_of operation.now)).adds) }
+    ensures acts { changed_by result stack.now ≡ stack_after_operation
+        (world_in R.contents M.bytes environment.now) (operation_of operation.now) stack.now }
 {
     match *operation {
         Operation::Dup => put(0, stack.entry(0)),

@@ -44,7 +44,8 @@ impl<'m, R: Registers, M: Memory> Environment<'m, R, M> {
     /// What is handed in and an offset, modulo 2^w.
     #[inline(always)]
     pub fn sum(&self, value: Option<u64>, offset: i64) -> Result<u64, EvaluationError>
-        ensures { one_of result ≡ present value (λ n. pushed (world_in R.contents M.bytes self.now) (pos n +ℤ offset)) }
+        ensures { one_of result ≡ present value
+            (λ n. pushed (world_in R.contents M.bytes self.now) (pos n +ℤ offset)) }
     {
         match value {
             Some(number) => Ok(self.width().offset(number, offset)),
@@ -55,7 +56,8 @@ impl<'m, R: Registers, M: Memory> Environment<'m, R, M> {
     /// What is handed in, modulo 2^w.
     #[inline(always)]
     pub fn given(&self, value: Option<u64>) -> Result<u64, EvaluationError>
-        ensures { one_of result ≡ present value (λ n. pushed (world_in R.contents M.bytes self.now) (pos n)) }
+        ensures { one_of result ≡ present value
+            (λ n. pushed (world_in R.contents M.bytes self.now) (pos n)) }
     {
         match value {
             Some(number) => Ok(self.width().reduce(number)),

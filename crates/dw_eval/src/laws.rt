@@ -17,27 +17,35 @@ ghost use Rattle.dw_eval.specs.Results.{Outcome, IsOfKind, first_stack, started,
 /// An operation uses the topmost entries alone, as many as it needs: whatever lies below them, it pushes the same, names and
 /// jumps alike, and leaves what lies there. A piece needs no entry, and where it gives an address, that is the one entry.
 pub fn operations_use_the_top_alone()
-    ensures top { (e : World) (op : Operation) (below top : List ℕ) → length top ≡ (effect_of op).needs → UsesTopAlone e op below top }
-    ensures piece { (s : List ℕ) (a : ℕ) → CanDo role.Piece (length s) None → location_of s None ≡ AtAddress a → s ≡ a ∷ [] }
+    ensures top { (e : World) (op : Operation) (below top : List ℕ)
+        → length top ≡ (effect_of op).needs → UsesTopAlone e op below top }
+    ensures piece { (s : List ℕ) (a : ℕ) → CanDo role.Piece (length s) None
+        → location_of s None ≡ AtAddress a → s ≡ a ∷ [] }
 {}
 
 /// An evaluation of a good expression comes to one outcome, after one number of steps.
 pub fn one_evaluation()
-    ensures { (c : Checked) (e : World) (o p : Outcome) (n k : ℕ) → IsGoodExpression c.kind c.target c.bytes → IsEvaluation c e o n → IsEvaluation c e p k → (o ≡ p) × (n ≡ k) }
+    ensures { (c : Checked) (e : World) (o p : Outcome) (n k : ℕ)
+        → IsGoodExpression c.kind c.target c.bytes → IsEvaluation c e o n → IsEvaluation c e p k
+        → (o ≡ p) × (n ≡ k) }
 {}
 
 /// Each checked expression has an evaluation, whatever is handed in, within its number of operations.
 pub fn each_has_an_evaluation()
-    ensures { (c : Checked) (e : World) → IsChecked c → (o : Outcome) × (n : ℕ) × IsEvaluation c e o n × (n ≤ c.count) }
+    ensures { (c : Checked) (e : World) → IsChecked c
+        → (o : Outcome) × (n : ℕ) × IsEvaluation c e o n × (n ≤ c.count) }
 {}
 
 /// All numbers of a run are below 2^w wherever it comes: those on the stack, the value or address that was named, and
 /// those of the pieces.
 pub fn numbers_fit()
-    ensures { (e : World) (kind : Kind) (ops : List Placed) (len n : ℕ) (s : List ℕ) (c : Configuration) → first_stack e kind ≡ Some s → Run (meaning_of e) ops len n (started s) c → NumbersFit (2 ^ width e) c }
+    ensures { (e : World) (kind : Kind) (ops : List Placed) (len n : ℕ) (s : List ℕ)
+        (c : Configuration) → first_stack e kind ≡ Some s
+        → Run (meaning_of e) ops len n (started s) c → NumbersFit (2 ^ width e) c }
 {}
 
 /// Expressions of a frame come to a value or to no answer, and locations to a location, to pieces or to no answer.
 pub fn outcomes_are_of_their_kind()
-    ensures { (c : Checked) (e : World) (o : Outcome) (n : ℕ) → IsEvaluation c e o n → IsOfKind c.kind o }
+    ensures { (c : Checked) (e : World) (o : Outcome) (n : ℕ) → IsEvaluation c e o n
+        → IsOfKind c.kind o }
 {}

@@ -1,18 +1,20 @@
 //! The evaluation of expressions (DWARF 5, sections 2.5 and 2.6).
 #![tactic(auto)]
 
+mod bare;
 mod branch_target;
 mod change;
 mod context;
+mod description;
 mod environment;
 mod evaluation;
 mod evaluation_error;
+mod execution;
+mod frame;
 pub mod laws;
 mod location;
 mod run;
 mod stack;
-#[cfg(test)]
-mod tests;
 mod width;
 
 pub use context::{Context, Memory, Registers};

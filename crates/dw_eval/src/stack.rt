@@ -78,7 +78,8 @@ impl Stack {
     #[inline(always)]
     pub fn swap(&mut self)
         requires { 2 ≤ length self.old }
-        ensures { self.new ≡ take (length self.old - 2) self.old ++ entry self.old 0 ∷ entry self.old 1 ∷ [] }
+        ensures { self.new ≡ take (length self.old - 2) self.old
+            ++ entry self.old 0 ∷ entry self.old 1 ∷ [] }
     {
         let (second, top) = (self.height - 2, self.height - 1);
         let entry = self.places[top];
@@ -90,7 +91,8 @@ impl Stack {
     #[inline(always)]
     pub fn rot(&mut self)
         requires { 3 ≤ length self.old }
-        ensures { self.new ≡ take (length self.old - 3) self.old ++ entry self.old 0 ∷ entry self.old 2 ∷ entry self.old 1 ∷ [] }
+        ensures { self.new ≡ take (length self.old - 3) self.old
+            ++ entry self.old 0 ∷ entry self.old 2 ∷ entry self.old 1 ∷ [] }
     {
         let (third, second, top) = (self.height - 3, self.height - 2, self.height - 1);
         let entry = self.places[top];

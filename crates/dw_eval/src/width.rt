@@ -32,6 +32,14 @@ impl Width {
         }
     }
 
+    /// A number of one byte, which is below 2^w.
+    #[inline(always)]
+    pub fn byte(self, n: u8) -> u64
+        ensures { result ≡ reduced (width_of self.size) (pos n) }
+    {
+        u64::from(n)
+    }
+
     /// The signed number modulo 2^w.
     #[inline(always)]
     pub fn reduce_signed(self, z: i64) -> u64
@@ -93,7 +101,8 @@ impl Width {
         requires a { a < 2 ^ width_of self.size }
         requires b { b < 2 ^ width_of self.size }
         requires nonzero { 0 < b }
-        ensures { result ≡ reduced (width_of self.size) (int_div (signed (width_of self.size) a) (signed (width_of self.size) b)) }
+        ensures { result ≡ reduced (width_of self.size)
+            (int_div (signed (width_of self.size) a) (signed (width_of self.size) b)) }
     {
         self.reduce_signed(self.sign(a).wrapping_div(self.sign(b)))
     }
@@ -102,7 +111,8 @@ impl Width {
     #[inline(always)]
     pub fn abs(self, b: u64) -> u64
         requires { b < 2 ^ width_of self.size }
-        ensures { result ≡ reduced (width_of self.size) (pos (unsigned_abs (signed (width_of self.size) b))) }
+        ensures { result ≡ reduced (width_of self.size)
+            (pos (unsigned_abs (signed (width_of self.size) b))) }
     {
         self.reduce(self.sign(b).unsigned_abs())
     }
@@ -188,7 +198,8 @@ impl Width {
     #[inline(always)]
     pub fn shra(self, a: u64, b: u64) -> u64
         requires { a < 2 ^ width_of self.size }
-        ensures { result ≡ reduced (width_of self.size) (int_shr (signed (width_of self.size) a) b) }
+        ensures { result ≡ reduced (width_of self.size)
+            (int_shr (signed (width_of self.size) a) b) }
     {
         self.reduce_signed(self.sign(a) >> b.min(63))
     }

@@ -36,23 +36,29 @@ which : (b : Bool) (x y z : Found) → cond b x y ≡ z → ((b ≡ true) × (x 
 which true x y z e = inl (refl, e)
 which false x y z e = inr (refl, e)
 
-pub cie-found : (offset : ℕ) (entries : List (Result Record Fault)) (c : Cie) → cie_among offset entries ≡ Ok (Some c) → Contains entries (Ok (cie_record c)) × (c.offset ≡ offset)
+pub cie-found : (offset : ℕ) (entries : List (Result Record Fault)) (c : Cie) → cie_among offset entries ≡ Ok (Some c)
+    → Contains entries (Ok (cie_record c)) × (c.offset ≡ offset)
 cie-found offset [] c e = absurd cc
 cie-found offset (Ok (cie_record d) ∷ entries) c e = elim (which (eqb d.offset offset) (chosen d) (cie_among offset entries) (chosen c) e) [
-  | inl w ↦ subst (λ (x : Cie). Contains (Ok (cie_record d) ∷ entries) (Ok (cie_record x)) × (x.offset ≡ offset)) (same-cie d c w.1) (here (Ok (cie_record d)) entries, eqb-true d.offset offset w.0)
+  | inl w ↦ subst (λ (x : Cie). Contains (Ok (cie_record d) ∷ entries) (Ok (cie_record x)) × (x.offset ≡ offset)) (same-cie d c w.1)
+      (here (Ok (cie_record d)) entries, eqb-true d.offset offset w.0)
   | inr w ↦ let h = cie-found offset entries c w.1 in (there (Ok (cie_record c)) (Ok (cie_record d)) entries h.0, h.1)
 ]
-cie-found offset (Ok (fde_record f) ∷ entries) c e = let h = cie-found offset entries c e in (there (Ok (cie_record c)) (Ok (fde_record f)) entries h.0, h.1)
+cie-found offset (Ok (fde_record f) ∷ entries) c e = let h = cie-found offset entries c e in
+    (there (Ok (cie_record c)) (Ok (fde_record f)) entries h.0, h.1)
 cie-found offset (Err fault ∷ entries) c e = absurd cc
 
-pub cie-fault : (offset : ℕ) (entries : List (Result Record Fault)) (fault : Fault) → cie_among offset entries ≡ Err fault → Contains entries (Err fault)
+pub cie-fault : (offset : ℕ) (entries : List (Result Record Fault)) (fault : Fault) → cie_among offset entries ≡ Err fault
+    → Contains entries (Err fault)
 cie-fault offset [] fault e = absurd cc
-cie-fault offset (Ok (cie_record d) ∷ entries) fault e = elim (which (eqb d.offset offset) (chosen d) (cie_among offset entries) (bad fault) e) [
-  | inl w ↦ absurd (let never : chosen d ≡ bad fault = w.1 in cc)
-  | inr w ↦ there (Err fault) (Ok (cie_record d)) entries (cie-fault offset entries fault w.1)
-]
+cie-fault offset (Ok (cie_record d) ∷ entries) fault e =
+    elim (which (eqb d.offset offset) (chosen d) (cie_among offset entries) (bad fault) e) [
+      | inl w ↦ absurd (let never : chosen d ≡ bad fault = w.1 in cc)
+      | inr w ↦ there (Err fault) (Ok (cie_record d)) entries (cie-fault offset entries fault w.1)
+    ]
 cie-fault offset (Ok (fde_record f) ∷ entries) fault e = there (Err fault) (Ok (fde_record f)) entries (cie-fault offset entries fault e)
-cie-fault offset (Err other ∷ entries) fault e = subst (λ (f : Fault). Contains (Err other ∷ entries) (Err f)) (same-fault other fault e) (here (Err other) entries)
+cie-fault offset (Err other ∷ entries) fault e = subst (λ (f : Fault). Contains (Err other ∷ entries) (Err f)) (same-fault other fault e)
+    (here (Err other) entries)
 
 -- an entry that is no CIE at the offset
 abbrev IsNot : ℕ → Result Record Fault → Type 0
@@ -69,6 +75,7 @@ nowhere offset (Ok (cie_record d) ∷ entries) e = elim (which (eqb d.offset off
 nowhere offset (Ok (fde_record f) ∷ entries) e = (tt, nowhere offset entries e)
 nowhere offset (Err fault ∷ entries) e = absurd cc
 
-pub cie-none : (offset : ℕ) (entries : List (Result Record Fault)) (c : Cie) → cie_among offset entries ≡ Ok None → Contains entries (Ok (cie_record c)) → ¬ (c.offset ≡ offset)
+pub cie-none : (offset : ℕ) (entries : List (Result Record Fault)) (c : Cie) → cie_among offset entries ≡ Ok None
+    → Contains entries (Ok (cie_record c)) → ¬ (c.offset ≡ offset)
 cie-none offset entries c e (k, lt, is) =
     subst (IsNot offset) is (All-from_recursion (IsNot offset) entries (nowhere offset entries e) k (Ok (cie_record c)) lt)

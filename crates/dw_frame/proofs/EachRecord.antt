@@ -22,16 +22,24 @@ use Rattle.dw_frame.proofs.Headers.{header-exact}
 abbrev finish : Record × ReadPosition → Result (Record × ReadPosition) Fault
 finish x = Ok x
 
-record-same : (r : ReadPosition) (x y : Record) (a b : ReadPosition) → finish (x, a) ≡ finish (y, b) → Next (IsRecord r.target r.position) r x a → Next (IsRecord r.target r.position) r y b
+record-same : (r : ReadPosition) (x y : Record) (a b : ReadPosition) → finish (x, a) ≡ finish (y, b)
+    → Next (IsRecord r.target r.position) r x a → Next (IsRecord r.target r.position) r y b
 record-same r x y a b is h =
     let same : (x, a) ≡ (y, b) = ok-is {A = Record} (x, a) (y, b) is in
     subst (λ (p : Record × ReadPosition). Next (IsRecord r.target r.position) r p.0 p.1) same h
 
-record-parts : (r body program after : ReadPosition) (format : Format) (h : Header) → IsFramed r format body after → header_at r.target format body ≡ Ok (h, program) → Next (IsRecord r.target r.position) r (record_from r.position format body.position h program) after
+record-parts : (r body program after : ReadPosition) (format : Format) (h : Header) → IsFramed r format body after
+    → header_at r.target format body ≡ Ok (h, program)
+    → Next (IsRecord r.target r.position) r (record_from r.position format body.position h program) after
 record-parts r body program after format h frame read =
     let header = (header-exact r.target format body frame.body_target).found h program read in
-    let begins : program.position ≡ r.position + length frame.front + length header.bytes = omega (arith, header.position, frame.body_position) in
-    let here : ReadPosition = record { target = r.target; position = r.position + length frame.front + length header.bytes; rest = program.rest } in
+    let begins : program.position ≡ r.position + length frame.front + length header.bytes =
+    omega (arith, header.position, frame.body_position) in
+    let here : ReadPosition = record {
+      target = r.target;
+      position = r.position + length frame.front + length header.bytes;
+      rest = program.rest;
+    } in
     let program_is : program ≡ here = same-reading program here (header.target ∙ frame.body_target) begins refl in
     record {
       bytes = frame.front ++ body.rest;
@@ -44,22 +52,28 @@ record-parts r body program after format h frame read =
         parts = ap (λ (t : List ℕ). frame.front ++ t) header.parts;
         length_is = subst (λ (t : List ℕ). Length r.target.order frame.front (format, length t)) header.parts frame.length_is;
         header_is = subst (λ p. IsHeader r.target format p header.bytes h) frame.body_position header.encoded;
-        record_is = ap (λ n. record_from r.position format n h program) frame.body_position ∙ ap (λ (p : ReadPosition). record_from r.position format (r.position + length frame.front) h p) program_is;
+        record_is = ap (λ n. record_from r.position format n h program) frame.body_position
+            ∙ ap (λ (p : ReadPosition). record_from r.position format (r.position + length frame.front) h p) program_is;
       };
       parts = frame.parts ∙ sym (append_assoc frame.front body.rest after.rest);
       position = omega (arith, frame.position, frame.body_position, length-append frame.front body.rest);
       target = frame.target;
     }
 
-pub record-found : (r : ReadPosition) (x : Record) (after : ReadPosition) → record_at r ≡ Ok (x, after) → Next (IsRecord r.target r.position) r x after
+pub record-found : (r : ReadPosition) (x : Record) (after : ReadPosition) → record_at r ≡ Ok (x, after)
+    → Next (IsRecord r.target r.position) r x after
 unfolding record_at
 record-found r x after is =
-    let a = bind-ok (framed_at r) (λ f. header_at r.target f.0.0 f.0.1 >>= λ h. finish (record_from r.position f.0.0 f.0.1.position h.0 h.1, f.1)) (x, after) is in
-    let b = bind-ok (header_at r.target a.0.0.0 a.0.0.1) (λ h. finish (record_from r.position a.0.0.0 a.0.0.1.position h.0 h.1, a.0.1)) (x, after) a.2 in
+    let a = bind-ok (framed_at r) (λ f. header_at r.target f.0.0 f.0.1 >>= λ h. finish
+    (record_from r.position f.0.0 f.0.1.position h.0 h.1, f.1)) (x, after) is in
+    let b = bind-ok (header_at r.target a.0.0.0 a.0.0.1) (λ h. finish (record_from r.position a.0.0.0 a.0.0.1.position h.0 h.1, a.0.1))
+    (x, after) a.2 in
     let frame = framed-found r a.0.0.0 a.0.0.1 a.0.1 a.1 in
-    record-same r (record_from r.position a.0.0.0 a.0.0.1.position b.0.0 b.0.1) x a.0.1 after b.2 (record-parts r a.0.0.1 b.0.1 a.0.1 a.0.0.0 b.0.0 frame b.1)
+    record-same r (record_from r.position a.0.0.0 a.0.0.1.position b.0.0 b.0.1) x a.0.1 after b.2
+    (record-parts r a.0.0.1 b.0.1 a.0.1 a.0.0.0 b.0.0 frame b.1)
 
-pub record-only : (r : ReadPosition) (x : Record) (after : ReadPosition) → Next (IsRecord r.target r.position) r x after → record_at r ≡ Ok (x, after)
+pub record-only : (r : ReadPosition) (x : Record) (after : ReadPosition) → Next (IsRecord r.target r.position) r x after
+    → record_at r ≡ Ok (x, after)
 unfolding record_at
 record-only r x after next =
     let s = next.encoded in
@@ -74,7 +88,8 @@ record-only r x after next =
       position = omega (arith, next.position, ap length s.parts, length-append s.front (s.fields ++ s.program));
       target = next.target;
     }) in
-    let two = (header-exact r.target s.format body refl).only s.header program (record { bytes = s.fields; encoded = s.header_is; parts = refl; position = refl; target = refl }) in
+    let two = (header-exact r.target s.format body refl).only s.header program
+    (record { bytes = s.fields; encoded = s.header_is; parts = refl; position = refl; target = refl }) in
     rw (one, two) (ap (λ (y : Record). finish (y, after)) (sym s.record_is))
 
 -- a length takes bytes
@@ -103,9 +118,11 @@ records-forward = forward record_at IsRecord each-record
 pub record-exact : (r : ReadPosition) → IsExact record_at (IsRecord r.target r.position) r
 record-exact r = (each-record r.target).exact r refl
 
-pub sections-are-records : (target : Target) (section : List ℕ) (records : List Record) → (entries_of target section ≡ all-read records) ↔ AreRecords target 0 section records
+pub sections-are-records : (target : Target) (section : List ℕ) (records : List Record)
+    → (entries_of target section ≡ all-read records) ↔ AreRecords target 0 section records
 unfolding entries_from
-sections-are-records target section records = sequence-exact target record_at (IsRecord target) (each-record target) (section_from target section 0) records refl
+sections-are-records target section records = sequence-exact target record_at (IsRecord target) (each-record target)
+    (section_from target section 0) records refl
 
 -- ---- the section from an offset on
 
@@ -113,15 +130,20 @@ pub at-end : (target : Target) (section : List ℕ) (at : ℕ) → length sectio
 unfolding entries_from
 at-end target section at h = ends record_at (section_from target section at) (omega (arith, length-drop at section))
 
-pub at-fault : (target : Target) (section : List ℕ) (at : ℕ) (fault : Fault) → at < length section → record_at (section_from target section at) ≡ Err fault → entries_from target section at ≡ Err fault ∷ []
+pub at-fault : (target : Target) (section : List ℕ) (at : ℕ) (fault : Fault) → at < length section
+    → record_at (section_from target section at) ≡ Err fault → entries_from target section at ≡ Err fault ∷ []
 unfolding entries_from
 at-fault target section at fault h is = stops record_at (section_from target section at) fault (omega (arith, length-drop at section)) is
 
-pub at-record : (target : Target) (section : List ℕ) (at next : ℕ) (x : Record) → record_at (section_from target section at) ≡ Ok (x, section_from target section next) → entries_from target section at ≡ Ok x ∷ entries_from target section next
+pub at-record : (target : Target) (section : List ℕ) (at next : ℕ) (x : Record)
+    → record_at (section_from target section at) ≡ Ok (x, section_from target section next)
+    → entries_from target section at ≡ Ok x ∷ entries_from target section next
 unfolding entries_from
-at-record target section at next x is = goes-on record_at records-forward (section_from target section at) x (section_from target section next) is
+at-record target section at next x is = goes-on record_at records-forward (section_from target section at) x
+    (section_from target section next) is
 
-pub record-leaves : (target : Target) (section : List ℕ) (at : ℕ) (x : Record) (after : ReadPosition) → at ≤ length section → record_at (section_from target section at) ≡ Ok (x, after) → IsBehind target section at after
+pub record-leaves : (target : Target) (section : List ℕ) (at : ℕ) (x : Record) (after : ReadPosition) → at ≤ length section
+    → record_at (section_from target section at) ≡ Ok (x, after) → IsBehind target section at after
 record-leaves target section at x after inside is =
     let next = record-found (section_from target section at) x after is in
     let some = some-bytes target at next.bytes x next.encoded in

@@ -26,7 +26,9 @@ framed-program target section at start end format p is section_is start_is targe
     ∙ (ap (λ (t : Target). framed format (section_from t p.section.now p.start) (section_from target section end)) (sym target_is)
     ∙ ap (λ k. framed format (reading_of p) (section_from target section k)) (sym end_is))))
 
-pub header-leaves : (p : Program) (at : ℕ) (format : Format) (h : Header) (after : ReadPosition) → at ≤ length p.section.now → header_at p.target format (reading_from p at) ≡ Ok (h, after) → after ≡ reading_from p after.position
-header-leaves p at format h after inside is = leaves-suffix p.target (header_at p.target format) (IsHeader p.target format) (header-exact p.target format) p.section.now at h after inside is
+pub header-leaves : (p : Program) (at : ℕ) (format : Format) (h : Header) (after : ReadPosition) → at ≤ length p.section.now
+    → header_at p.target format (reading_from p at) ≡ Ok (h, after) → after ≡ reading_from p after.position
+header-leaves p at format h after inside is = leaves-suffix p.target (header_at p.target format) (IsHeader p.target format)
+    (header-exact p.target format) p.section.now at h after inside is
 
 pub ruleset leaves_laws = (header-leaves)

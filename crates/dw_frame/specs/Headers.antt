@@ -6,7 +6,11 @@ use Rattle.dw_frame.specs.declared.header.Header.TheVariants as headers
 use Rattle.dw_frame.specs.Sections.{Header, cie_fields, fde_fields}
 
 abbrev pub cie_head : CieHeader → Header
-cie_head h = cie_fields (record { code_factor = h.code_alignment_factor; data_factor = h.data_alignment_factor; return_register = h.return_address_register })
+cie_head h = cie_fields (record {
+  code_factor = h.code_alignment_factor;
+  data_factor = h.data_alignment_factor;
+  return_register = h.return_address_register;
+})
 
 abbrev pub fde_head : FdeHeader → Header
 fde_head h = fde_fields (record { cie_pointer = h.cie_pointer; initial = h.initial_location; range = h.address_range })

@@ -1,7 +1,16 @@
+-- ---- To be believed: the standard's words. Who checks the headline against DWARF 5 reads these.
+-- CIEs and FDEs (6.4.1)
 pub mod Records
+-- call frame instructions (6.4.2)
 pub mod Instructions
+-- which bytes encode which instruction (7.24), and their reading
 pub mod Codes
+-- which bytes encode which record (6.4.1, 7.24), and their reading
 pub mod Sections
+-- where records and instructions stand
 pub mod Bounds
+-- ---- What the code's own values stand for, and what its calls answer.
+-- headers of the code
 pub mod Headers
+-- records and instructions of the code
 pub mod Views

@@ -82,8 +82,25 @@ header_at target format r = fields_at (header_fields target format) r
 
 -- the record at an offset, its body's offset, its header and its program
 abbrev pub record_from : ℕ → Format → ℕ → Header → ReadPosition → Record
-record_from at format body (cie_fields h) program = cie_record (record { offset = at; format = format; code_factor = h.code_factor; data_factor = h.data_factor; return_register = h.return_register; program = program })
-record_from at format body (fde_fields h) program = fde_record (record { offset = at; format = format; cie_pointer = h.cie_pointer; pointer_offset = body; initial = h.initial; range = h.range; program = program })
+record_from at format body (cie_fields h) program =
+    cie_record (record {
+      offset = at;
+      format = format;
+      code_factor = h.code_factor;
+      data_factor = h.data_factor;
+      return_register = h.return_register;
+      program = program;
+    })
+record_from at format body (fde_fields h) program =
+    fde_record (record {
+      offset = at;
+      format = format;
+      cie_pointer = h.cie_pointer;
+      pointer_offset = body;
+      initial = h.initial;
+      range = h.range;
+      program = program;
+    })
 
 -- A record is a length, and a body of that many bytes. The body is a header, and what is left is the program.
 pub record IsRecord (target : Target) (at : ℕ) (bytes : List ℕ) (r : Record) : Type 0 where
@@ -95,7 +112,8 @@ pub record IsRecord (target : Target) (at : ℕ) (bytes : List ℕ) (r : Record)
   pub parts : bytes ≡ front ++ (fields ++ program)
   pub length_is : Length target.order front (format, length (fields ++ program))
   pub header_is : IsHeader target format (at + length front) fields header
-  pub record_is : r ≡ record_from at format (at + length front) header (record { target = target; position = at + length front + length fields; rest = program })
+  pub record_is : r ≡ record_from at format (at + length front) header
+      (record { target = target; position = at + length front + length fields; rest = program })
 
 -- the records of a section, without a gap
 abbrev pub AreRecords : Target → ℕ → List ℕ → List Record → Type 0

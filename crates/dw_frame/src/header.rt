@@ -37,7 +37,8 @@ impl CieHeader {
 
     /// What is behind the id of a CIE.
     fn read(cursor: &mut Cursor<'_>, target: Target) -> Result<Self, Fault>
-        ensures exact { ParsesBy cie_head (fields_at (cie_header target)) cursor.old result cursor.new }
+        ensures exact { ParsesBy cie_head
+            (fields_at (cie_header target)) cursor.old result cursor.new }
         ensures within { IsRefusedWithin cursor.old result }
         ensures goes_on { MovesForward cursor.old cursor.new }
     {
@@ -71,7 +72,8 @@ impl FdeHeader {
 
     /// What is behind the CIE_pointer of an FDE.
     fn read(cursor: &mut Cursor<'_>, target: Target, cie_pointer: u64) -> Result<Self, Fault>
-        ensures exact { ParsesBy fde_head (fields_at (fde_header target cie_pointer)) cursor.old result cursor.new }
+        ensures exact { ParsesBy fde_head
+            (fields_at (fde_header target cie_pointer)) cursor.old result cursor.new }
         ensures within { IsRefusedWithin cursor.old result }
         ensures goes_on { MovesForward cursor.old cursor.new }
     {

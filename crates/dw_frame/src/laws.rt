@@ -12,31 +12,39 @@ ghost use Rattle.dw_frame.specs.Bounds.{StandsIn, IsBehind, offset_of, Ascends, 
 
 /// No encoding of an instruction begins another, and bytes encode one instruction.
 pub fn one_instruction()
-    ensures { (target : Target) (at : ℕ) (a b x y : List ℕ) (i j : Instruction) → EncodesInstruction target at a i → EncodesInstruction target at b j → a ++ x ≡ b ++ y → (a ≡ b) × (i ≡ j) }
+    ensures { (target : Target) (at : ℕ) (a b x y : List ℕ) (i j : Instruction)
+        → EncodesInstruction target at a i → EncodesInstruction target at b j → a ++ x ≡ b ++ y
+        → (a ≡ b) × (i ≡ j) }
 {}
 
 /// The instruction that is read is the one that is encoded, and one that is encoded is read.
 pub fn instructions_are_exact()
-    ensures { (r : ReadPosition) → IsExact instruction_at (EncodesInstruction r.target r.position) r }
+    ensures { (r : ReadPosition) → IsExact instruction_at
+        (EncodesInstruction r.target r.position) r }
 {}
 
 /// A program is read without a fault exactly where its bytes are the encodings of instructions one
 /// after the other, and then it gives these with their offsets.
 pub fn programs_are_instructions()
-    ensures { (r : ReadPosition) (items : List (ℕ × Instruction)) → (instructions_of r ≡ map Ok items) ↔ AreInstructions r.target r.position r.rest items }
+    ensures { (r : ReadPosition) (items : List (ℕ × Instruction))
+        → (instructions_of r ≡ map Ok items) ↔ AreInstructions r.target r.position r.rest items }
 {}
 
 /// What a program gives from an offset on: the instruction there and then what is behind it, or the
 /// fault there alone, or nothing at its end.
 pub fn instructions_come_in_order()
-    ensures instruction { (r : ReadPosition) (i : Instruction) (after : ReadPosition) → instruction_at r ≡ Ok (i, after) → instructions_of r ≡ Ok (r.position, i) ∷ instructions_of after }
-    ensures fault { (r : ReadPosition) (fault : Fault) → 0 < length r.rest → instruction_at r ≡ Err fault → instructions_of r ≡ Err fault ∷ [] }
+    ensures instruction { (r : ReadPosition) (i : Instruction) (after : ReadPosition)
+        → instruction_at r ≡ Ok (i, after)
+        → instructions_of r ≡ Ok (r.position, i) ∷ instructions_of after }
+    ensures fault { (r : ReadPosition) (fault : Fault) → 0 < length r.rest
+        → instruction_at r ≡ Err fault → instructions_of r ≡ Err fault ∷ [] }
     ensures nothing { (r : ReadPosition) → length r.rest ≡ 0 → instructions_of r ≡ [] }
 {}
 
 /// Each instruction of a program and each fault stands in it, a fault perhaps at its end.
 pub fn instructions_stand_in_their_program()
-    ensures { (r : ReadPosition) (item : Result (ℕ × Instruction) Fault) → Contains (instructions_of r) item → StandsIn r item }
+    ensures { (r : ReadPosition) (item : Result (ℕ × Instruction) Fault)
+        → Contains (instructions_of r) item → StandsIn r item }
 {}
 
 /// The record that is read is the one that is encoded, and one that is encoded is read.
@@ -47,37 +55,52 @@ pub fn records_are_exact()
 /// A section is read without a fault exactly where its bytes are the encodings of records without a
 /// gap, and then it gives these.
 pub fn sections_are_records()
-    ensures { (target : Target) (section : List ℕ) (records : List Record) → (entries_of target section ≡ map Ok records) ↔ AreRecords target 0 section records }
+    ensures { (target : Target) (section : List ℕ) (records : List Record)
+        → (entries_of target section ≡ map Ok records) ↔ AreRecords target 0 section records }
 {}
 
 /// What a section gives from an offset on: the record there and then what is behind it, or the fault
 /// there alone, or nothing at its end.
 pub fn records_come_in_order()
-    ensures entry { (target : Target) (section : List ℕ) (at next : ℕ) (x : Record) → record_at (section_from target section at) ≡ Ok (x, section_from target section next) → entries_from target section at ≡ Ok x ∷ entries_from target section next }
-    ensures fault { (target : Target) (section : List ℕ) (at : ℕ) (fault : Fault) → at < length section → record_at (section_from target section at) ≡ Err fault → entries_from target section at ≡ Err fault ∷ [] }
-    ensures nothing { (target : Target) (section : List ℕ) (at : ℕ) → length section ≤ at → entries_from target section at ≡ [] }
+    ensures entry { (target : Target) (section : List ℕ) (at next : ℕ) (x : Record)
+        → record_at (section_from target section at) ≡ Ok (x, section_from target section next)
+        → entries_from target section at ≡ Ok x ∷ entries_from target section next }
+    ensures fault { (target : Target) (section : List ℕ) (at : ℕ) (fault : Fault)
+        → at < length section → record_at (section_from target section at) ≡ Err fault
+        → entries_from target section at ≡ Err fault ∷ [] }
+    ensures nothing { (target : Target) (section : List ℕ) (at : ℕ) → length section ≤ at
+        → entries_from target section at ≡ [] }
 {}
 
 /// What is left behind a record that is read is the section from a later offset on, its end at most.
 pub fn records_lie_behind_each_other()
-    ensures { (target : Target) (section : List ℕ) (at : ℕ) (x : Record) (after : ReadPosition) → at ≤ length section → record_at (section_from target section at) ≡ Ok (x, after) → IsBehind target section at after }
+    ensures { (target : Target) (section : List ℕ) (at : ℕ) (x : Record) (after : ReadPosition)
+        → at ≤ length section → record_at (section_from target section at) ≡ Ok (x, after)
+        → IsBehind target section at after }
 {}
 
 /// The records of a section begin one behind the other.
 pub fn records_ascend()
-    ensures { (target : Target) (at : ℕ) (section : List ℕ) (records : List Record) → AreRecords target at section records → Ascends offset_of records }
+    ensures { (target : Target) (at : ℕ) (section : List ℕ) (records : List Record)
+        → AreRecords target at section records → Ascends offset_of records }
 {}
 
 /// Each record that a section gives, and so its program, lies inside it, an FDE's addresses are
 /// addresses of the target, and a fault stands inside the section or at its end.
 pub fn records_are_sound()
-    ensures { (target : Target) (section : List ℕ) (item : Result Record Fault) → Contains (entries_of target section) item → IsSound target (length section) item }
+    ensures { (target : Target) (section : List ℕ) (item : Result Record Fault)
+        → Contains (entries_of target section) item → IsSound target (length section) item }
 {}
 
 /// The CIE at an offset is one of the records and begins there. Where there is none, no CIE begins
 /// there, and a fault is one of the section's.
 pub fn the_cie_at_an_offset()
-    ensures found { (offset : ℕ) (entries : List (Result Record Fault)) (c : Cie) → cie_among offset entries ≡ Ok (Some c) → Contains entries (Ok (cie_record c)) × (c.offset ≡ offset) }
-    ensures none { (offset : ℕ) (entries : List (Result Record Fault)) (c : Cie) → cie_among offset entries ≡ Ok None → Contains entries (Ok (cie_record c)) → ¬ (c.offset ≡ offset) }
-    ensures fault { (offset : ℕ) (entries : List (Result Record Fault)) (fault : Fault) → cie_among offset entries ≡ Err fault → Contains entries (Err fault) }
+    ensures found { (offset : ℕ) (entries : List (Result Record Fault)) (c : Cie)
+        → cie_among offset entries ≡ Ok (Some c) → Contains entries (Ok (cie_record c))
+        × (c.offset ≡ offset) }
+    ensures none { (offset : ℕ) (entries : List (Result Record Fault)) (c : Cie)
+        → cie_among offset entries ≡ Ok None → Contains entries (Ok (cie_record c))
+        → ¬ (c.offset ≡ offset) }
+    ensures fault { (offset : ℕ) (entries : List (Result Record Fault)) (fault : Fault)
+        → cie_among offset entries ≡ Err fault → Contains entries (Err fault) }
 {}

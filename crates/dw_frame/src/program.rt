@@ -47,7 +47,8 @@ impl<'a> Program<'a> {
     /// The offset behind its last byte.
     pub fn end(&self) -> u32
         ensures end { result ≡ end_of self.now }
-        ensures behind { result ≡ (reading_of self.now).position + length (reading_of self.now).rest }
+        ensures behind { result ≡ (reading_of self.now).position + length
+            (reading_of self.now).rest }
     {
         self.section.len() as u32
     }

@@ -19,9 +19,13 @@ use dw_bytes::{Body, Fault, Format, Target};
 fn frame<'a>(section: &'a [u8], target: Target, at: u32) -> Result<(Format, Program<'a>), Fault>
     requires inside { at ≤ length section.now }
     requires short { length section.now < 2 ^ 32 }
-    ensures exact { MatchResult result (λ f. framed_at (section_from target section.now at) ≡ Ok ((f.0, reading_of f.1), section_from target section.now (length f.1.section.now))) (λ fault. framed_at (section_from target section.now at) ≡ Err fault) }
+    ensures exact { MatchResult result
+        (λ f. framed_at (section_from target section.now at) ≡ Ok
+        ((f.0, reading_of f.1), section_from target section.now (length f.1.section.now)))
+        (λ fault. framed_at (section_from target section.now at) ≡ Err fault) }
     ensures target { IfOk result (λ f. f.1.target ≡ target) }
-    ensures forward { IfOk result (λ f. at < f.1.start × length f.1.section.now ≤ length section.now) }
+    ensures forward { IfOk result
+        (λ f. at < f.1.start × length f.1.section.now ≤ length section.now) }
     ensures inside { IfErr result (λ fault. fault.at ≤ length section.now) }
 {
     let body = Body::read(section, target, at)?;
@@ -39,7 +43,8 @@ fn entry_from<'a>(
     header: Header,
     program: Program<'a>,
 ) -> Entry<'a>
-    ensures { record_of result ≡ record_from at format body (head_of header) (reading_of program.entry) }
+    ensures { record_of result ≡ record_from at format body (head_of header)
+        (reading_of program.entry) }
 {
     match header {
         Header::Cie(header) => Entry::Cie(CommonInformationEntry {

@@ -83,7 +83,8 @@ among-tables target at bytes [] l are among = absurd (no-list l among)
 among-tables target at bytes (t ∷ ts) l (first, rest, parts, here, others) among =
     elim (Contains-append_cases t.lists (lists_of ts) l among) [
       | inl own ↦ within target at at [] first rest bytes l parts (omega arith) (in-table target at first t l here own)
-      | inr behind ↦ within target at (at + length first) first rest [] bytes l (parts ∙ ap (λ (u : List ℕ). first ++ u) (sym (no-more rest)))
+      | inr behind ↦ within target at (at + length first) first rest [] bytes l
+          (parts ∙ ap (λ (u : List ℕ). first ++ u) (sym (no-more rest)))
           refl (among-tables target (at + length first) rest ts l others behind)
     ]
 

@@ -23,11 +23,20 @@ abbrev pub with_lists : Kept → List Loclist → Kept
 with_lists k lists = record { tables = k.tables; lists = k.lists ++ starts_of lists; expressions = k.expressions ++ expressions_in lists }
 
 abbrev pub with_table : Kept → Table → Kept
-with_table k t = record { tables = k.tables ++ t.offset ∷ []; lists = k.lists ++ starts_of t.lists; expressions = k.expressions ++ expressions_in t.lists }
+with_table k t = record {
+  tables = k.tables ++ t.offset ∷ [];
+  lists = k.lists ++ starts_of t.lists;
+  expressions = k.expressions
+      ++ expressions_in t.lists;
+}
 
 -- of tables, and nothing else
 abbrev pub kept_from : List Table → Kept
-kept_from tables = record { tables = map (λ (t : Table). t.offset) tables; lists = starts_of (lists_of tables); expressions = expressions_in (lists_of tables) }
+kept_from tables = record {
+  tables = map (λ (t : Table). t.offset) tables;
+  lists = starts_of (lists_of tables);
+  expressions = expressions_in (lists_of tables);
+}
 
 -- what a checked section keeps: all that its tables have
 pub record IsKept (s : ListSection) (k : Kept) : Type 0 where

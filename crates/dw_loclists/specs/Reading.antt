@@ -99,7 +99,8 @@ abbrev pub is_among : List ℕ → ℕ → Bool
 is_among starts at = list_any (λ start. start == at) starts
 
 abbrev pub list_offset_at : Format → ℕ → List ℕ → ReadPosition → Result (ℕ × ReadPosition) Fault
-list_offset_at format array starts r = offset_at format r >>= λ offset. judged (unless (is_among starts (array + offset.0)) BadOffsetEntry) r.position offset
+list_offset_at format array starts r = offset_at format r >>= λ offset. judged
+    (unless (is_among starts (array + offset.0)) BadOffsetEntry) r.position offset
 
 -- A table, read within its body: the header, the array, the lists, and then the array again, now that its lists are known.
 unfoldable pub table_at : ReadPosition → Result (Table × ReadPosition) Fault

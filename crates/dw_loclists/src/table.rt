@@ -20,7 +20,8 @@ use std::alloc::Global;
 
 /// What is behind the length of a table, up to its array: how many offsets that has.
 pub fn read_header(cursor: &mut Cursor<'_>, target: Target) -> Result<u32, Fault>
-    ensures exact { ParsesBy (λ count. count) (fields_at (table_header target)) cursor.old result cursor.new }
+    ensures exact { ParsesBy (λ count. count)
+        (fields_at (table_header target)) cursor.old result cursor.new }
     ensures within { IsRefusedWithin cursor.old result }
     ensures goes_on { MovesForward cursor.old cursor.new }
 {

@@ -1,3 +1,9 @@
+-- ---- To be believed: the standard's words. Who checks the headline against DWARF 5 reads these.
+-- the operations (2.5, 2.6)
 pub mod Operations
-pub mod Views
+-- which bytes encode which operation (7.7.1), and their reading
 pub mod Opcodes
+
+-- ---- What the code's own values stand for, and what its calls answer.
+-- operations and expressions of the code
+pub mod Views

@@ -9,7 +9,9 @@ ghost use Rattle.dw_ops.specs.Opcodes.{EncodesOperation, AreOperations, operatio
 
 /// No encoding of an operation begins another, and bytes encode one operation.
 pub fn one_operation()
-    ensures { (target : Target) (at : ℕ) (a b x y : List ℕ) (i j : Operation) → EncodesOperation target at a i → EncodesOperation target at b j → a ++ x ≡ b ++ y → (a ≡ b) × (i ≡ j) }
+    ensures { (target : Target) (at : ℕ) (a b x y : List ℕ) (i j : Operation)
+        → EncodesOperation target at a i → EncodesOperation target at b j → a ++ x ≡ b ++ y
+        → (a ≡ b) × (i ≡ j) }
 {}
 
 /// An operation is read exactly where it is encoded.
@@ -19,17 +21,22 @@ pub fn operations_are_exact()
 
 /// The operations of bytes are read to the end exactly where the bytes are their encodings, one after the other.
 pub fn expressions_are_operations()
-    ensures { (r : ReadPosition) (items : List (ℕ × Operation)) → (operations_of r ≡ map Ok items) ↔ AreOperations r.target r.position r.rest items }
+    ensures { (r : ReadPosition) (items : List (ℕ × Operation))
+        → (operations_of r ≡ map Ok items) ↔ AreOperations r.target r.position r.rest items }
 {}
 
 /// The operations of bytes are the first and then those behind it, up to the end or the first fault.
 pub fn operations_come_in_order()
-    ensures operation { (r : ReadPosition) (i : Operation) (after : ReadPosition) → operation_at r ≡ Ok (i, after) → operations_of r ≡ Ok (r.position, i) ∷ operations_of after }
-    ensures fault { (r : ReadPosition) (fault : Fault) → 0 < length r.rest → operation_at r ≡ Err fault → operations_of r ≡ Err fault ∷ [] }
+    ensures operation { (r : ReadPosition) (i : Operation) (after : ReadPosition)
+        → operation_at r ≡ Ok (i, after)
+        → operations_of r ≡ Ok (r.position, i) ∷ operations_of after }
+    ensures fault { (r : ReadPosition) (fault : Fault) → 0 < length r.rest
+        → operation_at r ≡ Err fault → operations_of r ≡ Err fault ∷ [] }
     ensures nothing { (r : ReadPosition) → length r.rest ≡ 0 → operations_of r ≡ [] }
 {}
 
 /// An operation has a byte at least.
 pub fn no_operation_is_empty()
-    ensures { (target : Target) (at : ℕ) (bytes : List ℕ) (i : Operation) → EncodesOperation target at bytes i → 0 < length bytes }
+    ensures { (target : Target) (at : ℕ) (bytes : List ℕ) (i : Operation)
+        → EncodesOperation target at bytes i → 0 < length bytes }
 {}

@@ -11,6 +11,3 @@ pub use decode::decode_one;
 pub use expression::Expression;
 pub use list::operations;
 pub use operation::Operation;
-
-#[cfg(test)]
-mod tests;

@@ -22,7 +22,8 @@ pub fn operations<'a>(
 ) -> Result<SmallVec<(u32, Operation<'a>), 16>, Fault>
     ensures answer { Answers (fault_in (operations_of (reading_from expression.now 0))) result }
     ensures inside { IfErr result (λ fault. fault.at ≤ length (bytes_of expression.now)) }
-    ensures list { IfOk result (λ list. map located_of list.items ≡ values_in (operations_of (reading_from expression.now 0))) }
+    ensures list { IfOk result (λ list. map located_of list.items ≡ values_in
+        (operations_of (reading_from expression.now 0))) }
 {
     let mut list = SmallVec::new(alloc);
     let end = expression.bytes().len() as u32;

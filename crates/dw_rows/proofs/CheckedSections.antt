@@ -9,7 +9,8 @@ use Rattle.dw_rows.specs.Judgement.{cie_fault}
 use Rattle.dw_rows.specs.Section.{Frame, CoversOnce, IsChecked, section_fault, frame_of, parts_fault}
 use Rattle.dw_rows.specs.RuleSet.{KeptRules}
 use Rattle.dw_rows.specs.Initial.{AreLeftBy}
-use Rattle.dw_rows.specs.Overlap.{cie_offset, fde_offset, IsIndexOf, IsKept}
+use Rattle.dw_rows.specs.Overlap.{cie_offset, fde_offset, IsAddressIndex, IsKept}
+use Rattle.dw_rows.specs.declared.index.IndexEntry.{IndexEntry}
 use Rattle.dw_rows.proofs.Faults.{none-each}
 use Rattle.dw_rows.proofs.Parts.{or_else-none, parts-pass, covers-once-in}
 use Rattle.dw_rows.proofs.SectionOrder.{cies-ascend, fdes-ascend, cies-sound, fdes-sound}
@@ -51,9 +52,9 @@ pub checked-fits : (s : Frame) → IsChecked s → (f : Fde) → Contains s.fdes
 checked-fits s k f among = (checked-fdes-sound s k f among).range
 
 -- what a section without a fault keeps
-pub kept : (target : Target) (section : List ℕ) (cies : List Cie) (left : List KeptRules) (fdes index : List Fde)
+pub kept : (target : Target) (section : List ℕ) (cies : List Cie) (left : List KeptRules) (fdes : List Fde) (index : List IndexEntry)
     → fault_in (entries_of target section) ≡ None → cies ≡ (frame_of target section).cies → fdes ≡ (frame_of target section).fdes
-    → parts_fault cies fdes ≡ None → AreLeftBy cies left → IsIndexOf fdes index
+    → parts_fault cies fdes ≡ None → AreLeftBy cies left → IsAddressIndex fdes index
     → IsKept (record { target = target; section = section; cies = cies; fdes = fdes }) left index
 unfolding section_fault
 kept target section cies left fdes index read cies_is fdes_is none left_by index_of = record {

@@ -35,7 +35,8 @@ shares-address f g (a, cf, cg) =
 abbrev pub clashes : Fde → Fde → Bool
 clashes g f = nat_lt f.offset g.offset && shares f g
 
-any-first : {X : Type 0} (p : X → Bool) (x : X) (xs : List X) (b : Bool) → p x ≡ b → (b || list_any p xs) ≡ true → (list_any p xs ≡ true → (y : X) × Contains xs y × (p y ≡ true)) → (y : X) × Contains (x ∷ xs) y × (p y ≡ true)
+any-first : {X : Type 0} (p : X → Bool) (x : X) (xs : List X) (b : Bool) → p x ≡ b → (b || list_any p xs) ≡ true
+    → (list_any p xs ≡ true → (y : X) × Contains xs y × (p y ≡ true)) → (y : X) × Contains (x ∷ xs) y × (p y ≡ true)
 any-first p x xs true is e rest = (x, (zero, omega arith, refl), is)
 any-first p x xs false is e rest = let found = rest e in (found.0, (suc found.1.0, omega (arith, found.1.1), found.1.2), found.2)
 
@@ -50,7 +51,8 @@ none-some : (f : Fault) → None ≡ Some f → ⊥
 none-some f e = cc
 
 no-clash : (fdes : List Fde) (g : Fde) → IsApart fdes g → (f : Fde) → Contains fdes f → clashes g f ≡ true → ⊥
-no-clash fdes g apart f among e = let tests = both-first (nat_lt f.offset g.offset) (shares f g) e in apart f among (ltb-true _ _ tests.0) (shares-true f g tests.1)
+no-clash fdes g apart f among e = let tests = both-first (nat_lt f.offset g.offset) (shares f g) e in
+    apart f among (ltb-true _ _ tests.0) (shares-true f g tests.1)
 
 any-true : {X : Type 0} (p : X → Bool) (xs : List X) → list_any p xs ≡ true → (x : X) × Contains xs x × (p x ≡ true)
 any-true p [] e = let clash : false ≡ true = e in cc
@@ -77,7 +79,8 @@ overlaps-some fdes g (f, (k, lt, is), order, shared) =
     ap (overlap_if g) any
 
 -- the first element of a list in order that has a fault
-pub first-of : {X : Type 0} (at : X → ℕ) (t : X → Option Fault) (xs : List X) → Ascends at xs → (x : X) (f : Fault) → Contains xs x → t x ≡ Some f → ((y : X) → Contains xs y → at y < at x → t y ≡ None) → first_fault t xs ≡ Some f
+pub first-of : {X : Type 0} (at : X → ℕ) (t : X → Option Fault) (xs : List X) → Ascends at xs → (x : X) (f : Fault) → Contains xs x
+    → t x ≡ Some f → ((y : X) → Contains xs y → at y < at x → t y ≡ None) → first_fault t xs ≡ Some f
 first-of at t [] up x f (k, lt, is) here before = absurd (omega arith)
 first-of at t (y ∷ xs) up x f (zero, lt, is) here before = ap (λ o. or_else o (first_fault t xs)) (ap t is ∙ here)
 first-of at t (y ∷ xs) up x f (suc k, lt, is) here before =
@@ -89,15 +92,18 @@ first-of at t (y ∷ xs) up x f (suc k, lt, is) here before =
 -- where each passes, there is no fault
 pub each-none : {X : Type 0} (t : X → Option Fault) (xs : List X) → ((x : X) → Contains xs x → t x ≡ None) → first_fault t xs ≡ None
 each-none t [] all = refl
-each-none t (x ∷ xs) all = ap (λ o. or_else o (first_fault t xs)) (all x (zero, omega arith, refl)) ∙ each-none t xs (λ y c. all y (suc c.0, omega (arith, c.1), c.2))
+each-none t (x ∷ xs) all = ap (λ o. or_else o (first_fault t xs)) (all x (zero, omega arith, refl))
+    ∙ each-none t xs (λ y c. all y (suc c.0, omega (arith, c.1), c.2))
 
 -- ---- the addresses of a whole section
 
 pub none-overlap : (fdes : List Fde) → AreApart fdes → first_fault (overlap_fault fdes) fdes ≡ None
 none-overlap fdes apart = each-none (overlap_fault fdes) fdes (λ g c. apart-none fdes g (apart g c))
 
-pub first-overlaps : (fdes : List Fde) (g : Fde) → Ascends fde_offset fdes → IsFirstOverlap fdes g → first_fault (overlap_fault fdes) fdes ≡ Some (record { kind = Overlap; at = g.offset })
-first-overlaps fdes g up first = first-of fde_offset (overlap_fault fdes) fdes up g (overlap_at g) first.among (overlaps-some fdes g first.fails) (λ y c lt. apart-none fdes y (first.before y c lt))
+pub first-overlaps : (fdes : List Fde) (g : Fde) → Ascends fde_offset fdes → IsFirstOverlap fdes g
+    → first_fault (overlap_fault fdes) fdes ≡ Some (record { kind = Overlap; at = g.offset })
+first-overlaps fdes g up first = first-of fde_offset (overlap_fault fdes) fdes up g (overlap_at g) first.among
+    (overlaps-some fdes g first.fails) (λ y c lt. apart-none fdes y (first.before y c lt))
 
 -- where no FDE shares an address with an earlier one, no address is covered by two
 pub once-covered : (fdes : List Fde) → Ascends fde_offset fdes → first_fault (overlap_fault fdes) fdes ≡ None → CoversOnce fdes

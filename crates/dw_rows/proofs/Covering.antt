@@ -15,13 +15,16 @@ use Rattle.dw_rows.specs.UnwindRows.{rows_up_to, rows_after, rows_of, has_addres
 use Rattle.dw_rows.proofs.Judging.{passed-from}
 use Rattle.dw_rows.proofs.RowCursors.{or_else-none, standing_at-none, forward}
 
-cover-up : (s : Start) (before : List Effect) (to : ℕ) (rows : List Row) (end : ℕ) → location_of s before ≤ to → Cover to rows end → Cover (location_of s before) (rows_up_to s before to ++ rows) end
+cover-up : (s : Start) (before : List Effect) (to : ℕ) (rows : List Row) (end : ℕ) → location_of s before ≤ to → Cover to rows end
+    → Cover (location_of s before) (rows_up_to s before to ++ rows) end
 cover-up s before to rows end le h = elim (cases_lt (location_of s before) to) [
   | inl lt ↦ rw (lt-ltb (location_of s before) to lt) (refl, lt, h)
-  | inr ge ↦ let same : to ≡ location_of s before = omega arith in rw (le-ltb (location_of s before) to ge) (subst (λ n. Cover n rows end) same h)
+  | inr ge ↦ let same : to ≡ location_of s before = omega arith in
+      rw (le-ltb (location_of s before) to ge) (subst (λ n. Cover n rows end) same h)
 ]
 
-pub cover-after : (c : Cie) (f : Fde) (before : List Effect) (items : List (Result (ℕ × Instruction) Fault)) → location_of (fde_start c f) before ≤ f.initial + f.range → fde_fault_from c f before items ≡ None →
+pub cover-after : (c : Cie) (f : Fde) (before : List Effect) (items : List (Result (ℕ × Instruction) Fault))
+    → location_of (fde_start c f) before ≤ f.initial + f.range → fde_fault_from c f before items ≡ None →
     Cover (location_of (fde_start c f) before) (rows_after (fde_start c f) before (effects_of c items)) (f.initial + f.range)
 cover-after c f before [] le none =
     let s = fde_start c f in
@@ -37,7 +40,8 @@ cover-after c f before (Ok item ∷ items) le none =
     let fine : refusal_at s before x ≡ None = standing_at-none item.0 _ both.0 in
     let past = (passed-from s before x fine).past in
     let within : location_of s (x ∷ before) ≤ s.end = grind (arith, nat_tests) in
-    cover-up s before (location_of s (x ∷ before)) _ (f.initial + f.range) (forward s before x fine) (cover-after c f (x ∷ before) items within both.1)
+    cover-up s before (location_of s (x ∷ before)) _ (f.initial + f.range) (forward s before x fine)
+    (cover-after c f (x ∷ before) items within both.1)
 
 pub cover-rows : (c : Cie) (f : Fde) → fde_fault c f ≡ None → Cover f.initial (rows_of c f) (f.initial + f.range)
 unfolding fde_fault rows_of
@@ -53,7 +57,8 @@ pub not-here-below : (a : ℕ) (row : Row) → a < row.start → has_address a r
 not-here-below a row h = let no : leb row.start a ≡ false = grind (arith, nat_tests) in rw no refl
 
 pub not-here-above : (a : ℕ) (row : Row) → row.end ≤ a → has_address a row ≡ false
-not-here-above a row h = let no : ltb a row.end ≡ false = le-ltb a row.end h in elim (leb row.start a) as (λ b. (b && ltb a row.end) ≡ false) [ true ↦ no | false ↦ refl ]
+not-here-above a row h = let no : ltb a row.end ≡ false = le-ltb a row.end h in
+    elim (leb row.start a) as (λ b. (b && ltb a row.end) ≡ false) [ true ↦ no | false ↦ refl ]
 
 pub here : (a : ℕ) (row : Row) → row.start ≤ a → a < row.end → has_address a row ≡ true
 here a row h k = let yes : leb row.start a ≡ true = grind (arith, nat_tests) in rw (yes, lt-ltb a row.end k) refl
@@ -84,26 +89,34 @@ none-some (Some x) e h = cc
 
 pub find-covered : (a from to : ℕ) (rows : List Row) → Cover from rows to → IsSome (find (has_address a) rows) ↔ ((from ≤ a) × (a < to))
 find-covered a from to rows h = (
-  (λ some. (elim (cases_lt a from) [ inl below ↦ absurd (none-some _ (find-below a from to rows h below) some) | inr ok ↦ ok ], elim (cases_lt a to) [ inl ok ↦ ok | inr above ↦ absurd (none-some _ (find-above a from to rows h above) some) ])),
+  (λ some. (
+    elim (cases_lt a from) [ inl below ↦ absurd (none-some _ (find-below a from to rows h below) some) | inr ok ↦ ok ],
+    elim (cases_lt a to) [ inl ok ↦ ok | inr above ↦ absurd (none-some _ (find-above a from to rows h above) some) ],
+  )),
   (λ k. find-some a from to rows h k.0 k.1),
 )
 
 -- the same of what was found
-pub covered-found : (c : Cie) (f : Fde) (a : ℕ) (found : Option Row) → fde_fault c f ≡ None → found ≡ find (has_address a) (rows_of c f) → IsSome found ↔ ((f.initial ≤ a) × (a < f.initial + f.range))
+pub covered-found : (c : Cie) (f : Fde) (a : ℕ) (found : Option Row) → fde_fault c f ≡ None → found ≡ find (has_address a) (rows_of c f)
+    → IsSome found ↔ ((f.initial ≤ a) × (a < f.initial + f.range))
 covered-found c f a found none e = rw e (find-covered a f.initial (f.initial + f.range) (rows_of c f) (cover-rows c f none))
 
 pub not-found-below : (c : Cie) (f : Fde) (a : ℕ) → fde_fault c f ≡ None → a < f.initial → find (has_address a) (rows_of c f) ≡ None
 not-found-below c f a none h = find-below a f.initial (f.initial + f.range) (rows_of c f) (cover-rows c f none) h
 
-pub not-found-above : (c : Cie) (f : Fde) (a : ℕ) → fde_fault c f ≡ None → f.initial + f.range ≤ a → find (has_address a) (rows_of c f) ≡ None
+pub not-found-above : (c : Cie) (f : Fde) (a : ℕ) → fde_fault c f ≡ None → f.initial + f.range ≤ a
+    → find (has_address a) (rows_of c f) ≡ None
 not-found-above c f a none h = find-above a f.initial (f.initial + f.range) (rows_of c f) (cover-rows c f none) h
 
 -- a covered address has a row
-pub not-missed : (c : Cie) (f : Fde) (a : ℕ) → fde_fault c f ≡ None → f.initial ≤ a → a < f.initial + f.range → find (has_address a) (rows_of c f) ≡ None → ⊥
-not-missed c f a none low high missed = none-some _ missed (find-some a f.initial (f.initial + f.range) (rows_of c f) (cover-rows c f none) low high)
+pub not-missed : (c : Cie) (f : Fde) (a : ℕ) → fde_fault c f ≡ None → f.initial ≤ a → a < f.initial + f.range
+    → find (has_address a) (rows_of c f) ≡ None → ⊥
+not-missed c f a none low high missed = none-some _ missed
+    (find-some a f.initial (f.initial + f.range) (rows_of c f) (cover-rows c f none) low high)
 
 -- a row that is found among rows up to an address begins and ends by it
-pub found-by : (p : Row → Bool) (from to : ℕ) (rows : List Row) (row : Row) → Cover from rows to → find p rows ≡ Some row → (row.start ≤ to) × (row.end ≤ to)
+pub found-by : (p : Row → Bool) (from to : ℕ) (rows : List Row) (row : Row) → Cover from rows to → find p rows ≡ Some row
+    → (row.start ≤ to) × (row.end ≤ to)
 found-by p from to [] row covered found = cc
 found-by p from to (first ∷ rows) row covered found =
     go (λ later. found-by p first.end to rows row covered.2 later) (p first) found
@@ -112,6 +125,7 @@ found-by p from to (first ∷ rows) row covered found =
     here e = subst (λ (r : Row). (r.start ≤ to) × (r.end ≤ to)) e
         (let end = cover-le first.end to rows covered.2 in (omega (arith, covered.1, end), end))
 
-    go : (find p rows ≡ Some row → (row.start ≤ to) × (row.end ≤ to)) → (b : Bool) → cond b (Some first) (find p rows) ≡ Some row → (row.start ≤ to) × (row.end ≤ to)
+    go : (find p rows ≡ Some row → (row.start ≤ to) × (row.end ≤ to)) → (b : Bool) → cond b (Some first) (find p rows) ≡ Some row
+        → (row.start ≤ to) × (row.end ≤ to)
     go next true e = here cc
     go next false e = next e

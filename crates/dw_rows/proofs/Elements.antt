@@ -20,7 +20,13 @@ placed-map f (y ∷ xs) (suc i) x e = placed-map f xs i x e
 -- filtering by what elements stand for
 pub filter-map : {X Y : Type 0} (f : X → Y) (p : Y → Bool) (xs : List X) → map f (filter (λ x. p (f x)) xs) ≡ filter p (map f xs)
 filter-map f p [] = refl
-filter-map f p (x ∷ xs) = elim (p (f x)) as (λ b. map f (if b then (x ∷ filter (λ y. p (f y)) xs) else filter (λ y. p (f y)) xs) ≡ (if b then (f x ∷ filter p (map f xs)) else filter p (map f xs))) [ true ↦ ap (λ l. f x ∷ l) (filter-map f p xs) | false ↦ filter-map f p xs ]
+filter-map f p (x ∷ xs) = elim (p (f x)) as
+    (λ b. map f (if b then (x ∷ filter (λ y. p (f y)) xs) else filter (λ y. p (f y)) xs) ≡
+    (if b then (f x ∷ filter p (map f xs)) else filter p (map f xs))) [
+      | true ↦ ap (λ l. f x ∷ l) (filter-map f p xs)
+      | false ↦
+          filter-map f p xs
+    ]
 
 -- an element of the list, to be its default
 pub some-element : {X : Type 0} (xs : List X) (i : ℕ) → i < length xs → X
@@ -28,7 +34,8 @@ some-element [] i h = absurd (omega arith)
 some-element (x ∷ xs) i h = x
 
 -- sorted by a key of what elements stand for
-pub sorted-map : {X Y : Type 0} (f : X → Y) (key : Y → ℕ) (xs : List X) → IsNonDecreasingBy (λ x. key (f x)) xs → IsNonDecreasingBy key (map f xs)
+pub sorted-map : {X Y : Type 0} (f : X → Y) (key : Y → ℕ) (xs : List X) → IsNonDecreasingBy (λ x. key (f x)) xs
+    → IsNonDecreasingBy key (map f xs)
 sorted-map f key xs sorted i j e le lt =
     let long = length-map xs f in
     let j_in : j < length xs = omega arith in
@@ -40,18 +47,23 @@ sorted-map f key xs sorted i j e le lt =
     subst (λ v. key v ≤ key (get_or (map f xs) j e)) (sym at_i) (subst (λ v. key (f (get_or xs i d)) ≤ key v) (sym at_j) h)
 
 -- the offset at a place, at any default
-pub offset-at : (xs : List FrameDescriptionEntry) (i : ℕ) (x : FrameDescriptionEntry) (d : Fde) → i < length xs → (get_or (map fde_of xs) i d).offset ≡ (get_or xs i x).offset
+pub offset-at : (xs : List FrameDescriptionEntry) (i : ℕ) (x : FrameDescriptionEntry) (d : Fde) → i < length xs
+    → (get_or (map fde_of xs) i d).offset ≡ (get_or xs i x).offset
 offset-at xs i x d i_in = ap (λ (f : Fde). f.offset) (get_or-map fde_of xs i x d i_in)
 
 -- sorted by a key of what elements stand for, read the other way
-pub sorted-back : {X Y : Type 0} (f : X → Y) (key : Y → ℕ) (xs : List X) → IsNonDecreasingBy key (map f xs) → IsNonDecreasingBy (λ x. key (f x)) xs
+pub sorted-back : {X Y : Type 0} (f : X → Y) (key : Y → ℕ) (xs : List X) → IsNonDecreasingBy key (map f xs)
+    → IsNonDecreasingBy (λ x. key (f x)) xs
 sorted-back f key xs sorted i j d le lt =
     let long = length-map xs f in
     let h = sorted i j (f d) le (omega arith) in
-    subst (λ v. key v ≤ key (f (get_or xs j d))) (at_default f xs i d) (subst (λ v. key (get_or (map f xs) i (f d)) ≤ key v) (at_default f xs j d) h)
+    subst (λ v. key v ≤ key (f (get_or xs j d))) (at_default f xs i d)
+    (subst (λ v. key (get_or (map f xs) i (f d)) ≤ key v) (at_default f xs j d) h)
 
 -- where FDEs begin above an address from a place on, so does what they stand for
-pub above-map : (xs : List FrameDescriptionEntry) (place a : ℕ) → ((k : ℕ) (e : FrameDescriptionEntry) → place ≤ k → k < length xs → a < (get_or xs k e).initial_location) → (k : ℕ) (d : Fde) → place ≤ k → k < length (map fde_of xs) → a < (get_or (map fde_of xs) k d).initial
+pub above-map : (xs : List FrameDescriptionEntry) (place a : ℕ)
+    → ((k : ℕ) (e : FrameDescriptionEntry) → place ≤ k → k < length xs → a < (get_or xs k e).initial_location) → (k : ℕ) (d : Fde)
+    → place ≤ k → k < length (map fde_of xs) → a < (get_or (map fde_of xs) k d).initial
 above-map xs place a above k d le lt =
     let long = length-map xs fde_of in
     let k_in : k < length xs = omega arith in
@@ -65,9 +77,11 @@ contains-map f xs x (k, lt, is) = let long = length-map xs f in (k, omega arith,
 pub contained-map : {X Y : Type 0} (f : X → Y) (xs : List X) (y : Y) → Contains (map f xs) y → (x : X) × Contains xs x × (f x ≡ y)
 contained-map f [] y (k, lt, is) = absurd (omega arith)
 contained-map f (x ∷ xs) y (zero, lt, is) = (x, (zero, omega arith, refl), is)
-contained-map f (x ∷ xs) y (suc k, lt, is) = let rest = contained-map f xs y (k, omega arith, is) in (rest.0, (suc rest.1.0, omega (arith, rest.1.1), rest.1.2), rest.2)
+contained-map f (x ∷ xs) y (suc k, lt, is) = let rest = contained-map f xs y (k, omega arith, is) in
+    (rest.0, (suc rest.1.0, omega (arith, rest.1.1), rest.1.2), rest.2)
 
-all-back : {X Y : Type 0} (f : X → Y) (at : Y → ℕ) (n : ℕ) (xs : List X) → AllByRecursion (λ y. n < at y) (map f xs) → AllByRecursion (λ x. n < at (f x)) xs
+all-back : {X Y : Type 0} (f : X → Y) (at : Y → ℕ) (n : ℕ) (xs : List X) → AllByRecursion (λ y. n < at y) (map f xs)
+    → AllByRecursion (λ x. n < at (f x)) xs
 all-back f at n [] all = tt
 all-back f at n (x ∷ xs) all = (all.0, all-back f at n xs all.1)
 
@@ -77,9 +91,11 @@ ascending-back f at [] up = tt
 ascending-back f at (x ∷ xs) up = (all-back f at (at (f x)) xs up.0, ascending-back f at xs up.1)
 
 -- what is read at a place is what its element stands for
-pub read-map : {X Y : Type 0} (f : X → Y) (xs : List X) (i : ℕ) (x : X) → i < length xs → get_or xs i x ≡ x → slice_get (map f xs) i ≡ Some (f x)
+pub read-map : {X Y : Type 0} (f : X → Y) (xs : List X) (i : ℕ) (x : X) → i < length xs → get_or xs i x ≡ x
+    → slice_get (map f xs) i ≡ Some (f x)
 read-map f xs i x lt is = let long = length-map xs f in slice_get-get_or (map f xs) i (f x) (omega arith) ∙ ap Some (placed-map f xs i x is)
 
 -- one element more at the front
-pub front-map : {X Y : Type 0} (f : X → Y) (xs : List X) (i : ℕ) (x : X) → i < length xs → get_or xs i x ≡ x → map f (take (i + 1) xs) ≡ map f (take i xs) ++ f x ∷ []
+pub front-map : {X Y : Type 0} (f : X → Y) (xs : List X) (i : ℕ) (x : X) → i < length xs → get_or xs i x ≡ x
+    → map f (take (i + 1) xs) ≡ map f (take i xs) ++ f x ∷ []
 front-map f xs i x lt is = ap (map f) (take_more xs i x lt ∙ ap (λ y. take i xs ++ y ∷ []) is) ∙ map-append f (take i xs) (x ∷ [])

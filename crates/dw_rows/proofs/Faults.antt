@@ -12,22 +12,26 @@ use Rattle.dw_frame.specs.Bounds.{Ascends}
 use Rattle.dw_rows.proofs.Search.{ascending-same}
 
 -- what is left of a list begins with the element at the place
-from-here : {X Y : Type 0} (view : X → Y) (t : Y → Option Fault) (xs : List X) (i : ℕ) (x : X) → i < length xs → get_or xs i x ≡ x → first_fault t (map view (drop i xs)) ≡ or_else (t (view x)) (first_fault t (map view (drop (i + 1) xs)))
+from-here : {X Y : Type 0} (view : X → Y) (t : Y → Option Fault) (xs : List X) (i : ℕ) (x : X) → i < length xs → get_or xs i x ≡ x
+    → first_fault t (map view (drop i xs)) ≡ or_else (t (view x)) (first_fault t (map view (drop (i + 1) xs)))
 from-here view t xs i x lt is =
     let next : suc i ≡ i + 1 = omega arith in
     let split : drop i xs ≡ x ∷ drop (i + 1) xs = drop-cons xs i x lt ∙ (ap (λ y. y ∷ drop (suc i) xs) is ∙ ap (λ k. x ∷ drop k xs) next) in
     ap (λ l. first_fault t (map view l)) split
 
 -- an element that passes
-pub passed : {X Y : Type 0} (view : X → Y) (t : Y → Option Fault) (xs : List X) (i : ℕ) (x : X) → i < length xs → get_or xs i x ≡ x → t (view x) ≡ None → first_fault t (map view (drop i xs)) ≡ first_fault t (map view (drop (i + 1) xs))
+pub passed : {X Y : Type 0} (view : X → Y) (t : Y → Option Fault) (xs : List X) (i : ℕ) (x : X) → i < length xs → get_or xs i x ≡ x
+    → t (view x) ≡ None → first_fault t (map view (drop i xs)) ≡ first_fault t (map view (drop (i + 1) xs))
 passed view t xs i x lt is none = from-here view t xs i x lt is ∙ ap (λ o. or_else o (first_fault t (map view (drop (i + 1) xs)))) none
 
 -- an element that has a fault
-pub refused : {X Y : Type 0} (view : X → Y) (t : Y → Option Fault) (xs : List X) (i : ℕ) (x : X) (f : Fault) → i < length xs → get_or xs i x ≡ x → t (view x) ≡ Some f → first_fault t (map view (drop i xs)) ≡ Some f
+pub refused : {X Y : Type 0} (view : X → Y) (t : Y → Option Fault) (xs : List X) (i : ℕ) (x : X) (f : Fault) → i < length xs
+    → get_or xs i x ≡ x → t (view x) ≡ Some f → first_fault t (map view (drop i xs)) ≡ Some f
 refused view t xs i x f lt is some = from-here view t xs i x lt is ∙ ap (λ o. or_else o (first_fault t (map view (drop (i + 1) xs)))) some
 
 -- no element is left
-pub ended : {X Y : Type 0} (view : X → Y) (t : Y → Option Fault) (xs : List X) (i : ℕ) → length xs ≤ i → first_fault t (map view (drop i xs)) ≡ None
+pub ended : {X Y : Type 0} (view : X → Y) (t : Y → Option Fault) (xs : List X) (i : ℕ) → length xs ≤ i
+    → first_fault t (map view (drop i xs)) ≡ None
 ended view t [] zero le = refl
 ended view t [] (suc i) le = refl
 ended view t (x ∷ xs) zero le = absurd (omega arith)
@@ -42,28 +46,33 @@ Contains-rest c x xs (suc k, lt, is) other = (k, omega arith, is)
 -- where a CIE is at an offset, it is found there
 pub found-at : (cies : List Cie) → Ascends cie_offset cies → (c : Cie) (at : ℕ) → Contains cies c → c.offset ≡ at → cie_at cies at ≡ Some c
 found-at [] up c at (k, lt, is) same = absurd (omega arith)
-found-at (x ∷ xs) up c at among same = elim (x.offset == at) as (λ b. (x.offset == at) ≡ b → (if b then Some x else find (λ y. y.offset == at) xs) ≡ Some c) [
-  | true ↦ λ e. ap Some (ascending-same cie_offset (x ∷ xs) up x c (zero, omega arith, refl) among (eqb-true _ _ e ∙ sym same))
-  | false ↦ λ e. found-at xs up.1 c at (Contains-rest c x xs among (λ h. let no : (x.offset == at) ≡ true = grind (arith, nat_tests) in let clash : true ≡ false = sym no ∙ e in cc)) same
-] refl
+found-at (x ∷ xs) up c at among same = elim (x.offset == at) as
+    (λ b. (x.offset == at) ≡ b → (if b then Some x else find (λ y. y.offset == at) xs) ≡ Some c) [
+      | true ↦ λ e. ap Some (ascending-same cie_offset (x ∷ xs) up x c (zero, omega arith, refl) among (eqb-true _ _ e ∙ sym same))
+      | false ↦ λ e. found-at xs up.1 c at (Contains-rest c x xs among (λ h. let no : (x.offset == at) ≡ true = grind (arith, nat_tests) in
+          let clash : true ≡ false = sym no ∙ e in cc)) same
+    ] refl
 
 -- where none is, none is found
 pub absent-at : (cies : List Cie) (at : ℕ) → ((c : Cie) → Contains cies c → c.offset ≢ at) → cie_at cies at ≡ None
 absent-at [] at none = refl
-absent-at (x ∷ xs) at none = elim (x.offset == at) as (λ b. (x.offset == at) ≡ b → (if b then Some x else find (λ y. y.offset == at) xs) ≡ None) [
-  | true ↦ λ e. absurd (none x (zero, omega arith, refl) (eqb-true _ _ e))
-  | false ↦ λ e. absent-at xs at (λ c h. none c (suc h.0, omega (arith, h.1), h.2))
-] refl
+absent-at (x ∷ xs) at none = elim (x.offset == at) as
+    (λ b. (x.offset == at) ≡ b → (if b then Some x else find (λ y. y.offset == at) xs) ≡ None) [
+      | true ↦ λ e. absurd (none x (zero, omega arith, refl) (eqb-true _ _ e))
+      | false ↦ λ e. absent-at xs at (λ c h. none c (suc h.0, omega (arith, h.1), h.2))
+    ] refl
 
 -- a CIE that is found stands among them, at its offset
 pub at-found : (cies : List Cie) (at : ℕ) (c : Cie) → cie_at cies at ≡ Some c → Contains cies c × (c.offset ≡ at)
 at-found [] at c e = let nothing : Option Cie = None in let clash : nothing ≡ Some c = e in cc
-at-found (x ∷ xs) at c e = elim (x.offset == at) as (λ b. (x.offset == at) ≡ b → (if b then Some x else find (λ y. y.offset == at) xs) ≡ Some c → Contains (x ∷ xs) c × (c.offset ≡ at)) [
-  | true ↦ λ yes is. let same : x ≡ c = cc in ((zero, omega arith, same), subst (λ v. v.offset ≡ at) same (eqb-true _ _ yes))
-  | false ↦ λ not_here is. let rest = at-found xs at c is in ((suc rest.0.0, omega (arith, rest.0.1), rest.0.2), rest.1)
-] refl e
+at-found (x ∷ xs) at c e = elim (x.offset == at) as
+    (λ b. (x.offset == at) ≡ b → (if b then Some x else find (λ y. y.offset == at) xs) ≡ Some c → Contains (x ∷ xs) c × (c.offset ≡ at)) [
+      | true ↦ λ yes is. let same : x ≡ c = cc in ((zero, omega arith, same), subst (λ v. v.offset ≡ at) same (eqb-true _ _ yes))
+      | false ↦ λ not_here is. let rest = at-found xs at c is in ((suc rest.0.0, omega (arith, rest.0.1), rest.0.2), rest.1)
+    ] refl e
 
-none-behind : {X : Type 0} (t : X → Option Fault) (y : X) (xs : List X) → t y ≡ None → (x : X) → (Contains xs x → t x ≡ None) → Contains (y ∷ xs) x → t x ≡ None
+none-behind : {X : Type 0} (t : X → Option Fault) (y : X) (xs : List X) → t y ≡ None → (x : X) → (Contains xs x → t x ≡ None)
+    → Contains (y ∷ xs) x → t x ≡ None
 none-behind t y xs here x rest (zero, lt, is) = ap t (sym is) ∙ here
 none-behind t y xs here x rest (suc k, lt, is) = rest (k, omega arith, is)
 

@@ -33,25 +33,31 @@ pub spans-grown : (entries more : List RuleEntry) (spans : List RuleSpan) → Ar
 spans-grown entries more [] all = tt
 spans-grown entries more (s ∷ spans) all = (span-grown entries more s all.0, spans-grown entries more spans all.1)
 
-pub kept-grown : (entries more : List RuleEntry) (spans : List RuleSpan) → AreSpans entries spans → kept_in_spans (entries ++ more) spans ≡ kept_in_spans entries spans
+pub kept-grown : (entries more : List RuleEntry) (spans : List RuleSpan) → AreSpans entries spans
+    → kept_in_spans (entries ++ more) spans ≡ kept_in_spans entries spans
 kept-grown entries more [] all = refl
 kept-grown entries more (s ∷ spans) all =
-    let here : kept_in_span (entries ++ more) s ≡ kept_in_span entries s = ap (λ l. record { cfa = (kept_in_span entries s).cfa; rules = entries_of l }) (range-front entries more s.start s.end all.0.within) in
+    let here : kept_in_span (entries ++ more) s ≡ kept_in_span entries s =
+    ap (λ l. record { cfa = (kept_in_span entries s).cfa; rules = entries_of l })
+    (range-front entries more s.start s.end all.0.within) in
     let rest = kept-grown entries more spans all.1 in
     cc
 
 -- ---- one span more
 
-spans-one : (entries : List RuleEntry) (spans : List RuleSpan) (s : RuleSpan) → AreSpans entries spans → IsSpan entries s → AreSpans entries (spans ++ s ∷ [])
+spans-one : (entries : List RuleEntry) (spans : List RuleSpan) (s : RuleSpan) → AreSpans entries spans → IsSpan entries s
+    → AreSpans entries (spans ++ s ∷ [])
 spans-one entries [] s all one = (one, tt)
 spans-one entries (x ∷ spans) s all one = (all.0, spans-one entries spans s all.1 one)
 
 -- the entries of a row behind those that are there, and their span
 pub record Pushed (entries more : List RuleEntry) (spans : List RuleSpan) (s : RuleSpan) : Type 0 where
   pub are : AreSpans (entries ++ more) (spans ++ s ∷ [])
-  pub kept : kept_in_spans (entries ++ more) (spans ++ s ∷ []) ≡ kept_in_spans entries spans ++ record { cfa = (kept_in_span entries s).cfa; rules = entries_of more } ∷ []
+  pub kept : kept_in_spans (entries ++ more) (spans ++ s ∷ []) ≡ kept_in_spans entries spans
+      ++ record { cfa = (kept_in_span entries s).cfa; rules = entries_of more } ∷ []
 
-pub pushed : (entries more : List RuleEntry) (spans : List RuleSpan) (s : RuleSpan) → AreSpans entries spans → s.start ≡ length entries → s.end ≡ length (entries ++ more) → length more ≤ MAX_RULES → IsTable 0 (entries_of more) → Pushed entries more spans s
+pub pushed : (entries more : List RuleEntry) (spans : List RuleSpan) (s : RuleSpan) → AreSpans entries spans → s.start ≡ length entries
+    → s.end ≡ length (entries ++ more) → length more ≤ MAX_RULES → IsTable 0 (entries_of more) → Pushed entries more spans s
 pushed entries more spans s all here there few table =
     let long = length-append entries more in
     let rules : slice_range (entries ++ more) s.start s.end ≡ more = range-back entries more s.start s.end here there in
@@ -61,15 +67,19 @@ pushed entries more spans s all here there few table =
       few = omega (arith, here, there, long);
       table = subst (λ l. IsTable 0 (entries_of l)) (sym rules) table;
     } in
-    let last : kept_in_span (entries ++ more) s ≡ record { cfa = (kept_in_span entries s).cfa; rules = entries_of more } = ap (λ l. record { cfa = (kept_in_span entries s).cfa; rules = entries_of l }) rules in
+    let last : kept_in_span (entries ++ more) s ≡ record { cfa = (kept_in_span entries s).cfa; rules = entries_of more } =
+    ap (λ l. record { cfa = (kept_in_span entries s).cfa; rules = entries_of l }) rules in
     record {
       are = spans-one (entries ++ more) spans s (spans-grown entries more spans all) one;
-      kept = map-append (kept_in_span (entries ++ more)) spans (s ∷ []) ∙ (ap (λ l. l ++ kept_in_span (entries ++ more) s ∷ []) (kept-grown entries more spans all) ∙ ap (λ k. kept_in_spans entries spans ++ k ∷ []) last);
+      kept = map-append (kept_in_span (entries ++ more)) spans (s ∷ [])
+          ∙ (ap (λ l. l ++ kept_in_span (entries ++ more) s ∷ []) (kept-grown entries more spans all)
+          ∙ ap (λ k. kept_in_spans entries spans ++ k ∷ []) last);
     }
 
 -- ---- what the CIEs leave, one after the other
 
-pub left-one : (cies : List Cie) (left : List KeptRules) (c : Cie) (k : KeptRules) → AreLeftBy cies left → IsLeftBy c k → AreLeftBy (cies ++ c ∷ []) (left ++ k ∷ [])
+pub left-one : (cies : List Cie) (left : List KeptRules) (c : Cie) (k : KeptRules) → AreLeftBy cies left → IsLeftBy c k
+    → AreLeftBy (cies ++ c ∷ []) (left ++ k ∷ [])
 left-one [] [] c k all one = (one, tt)
 left-one [] (x ∷ left) c k all one = absurd all
 left-one (d ∷ cies) [] c k all one = absurd all
@@ -81,7 +91,8 @@ left-count [] (x ∷ left) all = absurd all
 left-count (d ∷ cies) [] all = absurd all
 left-count (d ∷ cies) (x ∷ left) all = ap suc (left-count cies left all.1)
 
-pub left-at : (cies : List Cie) (left : List KeptRules) (i : ℕ) (c : Cie) (k : KeptRules) → AreLeftBy cies left → slice_get cies i ≡ Some c → slice_get left i ≡ Some k → IsLeftBy c k
+pub left-at : (cies : List Cie) (left : List KeptRules) (i : ℕ) (c : Cie) (k : KeptRules) → AreLeftBy cies left → slice_get cies i ≡ Some c
+    → slice_get left i ≡ Some k → IsLeftBy c k
 left-at [] left i c k all is there = let no : None ≡ Some c = is in cc
 left-at (d ∷ cies) [] i c k all is there = absurd all
 left-at (d ∷ cies) (x ∷ left) zero c k all is there =

@@ -24,7 +24,8 @@ behind : {X : Type 0} (x f : X) (xs : List X) → (x ≡ f → ⊥) → Contains
 behind x f xs other (zero, few, here) = absurd (other here)
 behind x f xs other (suc k, few, here) = (k, omega (arith, few), here)
 
-find_only : {X : Type 0} (p : X → Bool) (xs : List X) (f : X) → Contains xs f → p f ≡ true → ((g : X) → Contains xs g → p g ≡ true → g ≡ f) → find p xs ≡ Some f
+find_only : {X : Type 0} (p : X → Bool) (xs : List X) (f : X) → Contains xs f → p f ≡ true → ((g : X) → Contains xs g → p g ≡ true → g ≡ f)
+    → find p xs ≡ Some f
 find_only p [] f at passes only = absurd (omega (arith, at.1))
 find_only p (x ∷ xs) f at passes only =
     let next : Contains xs f → find p xs ≡ Some f = λ there. find_only p xs f there passes (λ g here. only g (later x g xs here)) in
@@ -52,7 +53,8 @@ covers_so : (a : ℕ) (f : Fde) → Covers f a → covers a f ≡ true
 covers_so a f here = grind (arith, nat_tests)
 
 -- the row of the only FDE that covers an address is the row of the address
-pub row-found : (s : Frame) (a : ℕ) (f : Fde) (row : Row) → IsCoverOf s.fdes a (Some f) → find (has_address a) (rows_in s f) ≡ Some row → row_of s a ≡ Some row
+pub row-found : (s : Frame) (a : ℕ) (f : Fde) (row : Row) → IsCoverOf s.fdes a (Some f) → find (has_address a) (rows_in s f) ≡ Some row
+    → row_of s a ≡ Some row
 row-found s a f row only found =
     ap (option_and_then (λ g. find (has_address a) (rows_in s g)))
     (find_only (covers a) s.fdes f only.0 (covers_so a f only.1) (λ g at e. only.2 g at (covers_then a g e)))

@@ -21,7 +21,8 @@ between (x ∷ a) b (y ∷ c) d e l =
     record { middle = k.middle; front = ap (λ l. y ∷ l) k.front ∙ ap (λ z. z ∷ (a ++ k.middle)) (sym same); back = k.back }
 
 -- what lies between brackets holds no restore_state that is unmatched, and none after it
-no-shorter : (b c r s : List Effect) → IsBalanced b → IsBalanced c → b ++ restores_state ∷ r ≡ c ++ restores_state ∷ s → length b < length c → ⊥
+no-shorter : (b c r s : List Effect) → IsBalanced b → IsBalanced c → b ++ restores_state ∷ r ≡ c ++ restores_state ∷ s → length b < length c
+    → ⊥
 no-shorter b c r s b_good c_good e l = go k.middle k.front k.back
   where
     k : Between b (restores_state ∷ r) c (restores_state ∷ s)
@@ -32,13 +33,15 @@ no-shorter b c r s b_good c_good e l = go k.middle k.front k.back
     go (x ∷ m) front back =
         let first : restores_state ≡ x = cc in
         let whole : c ≡ (b ++ restores_state ∷ []) ++ m = front ∙ rw (← first) (sym (append_assoc b (restores_state ∷ []) m)) in
-        let few : restores_in (b ++ restores_state ∷ []) ≤ remembers (b ++ restores_state ∷ []) = c_good.each (b ++ restores_state ∷ []) m whole in
+        let few : restores_in (b ++ restores_state ∷ []) ≤ remembers (b ++ restores_state ∷ []) =
+        c_good.each (b ++ restores_state ∷ []) m whole in
         let more : restores_in (b ++ restores_state ∷ []) ≡ restores_in b + 1 = restores-append b (restores_state ∷ []) in
         let same : remembers (b ++ restores_state ∷ []) ≡ remembers b + 0 = remembers-append b (restores_state ∷ []) in
         omega (arith, b_good.equal)
 
 -- nor a remember_state
-no-later : (f b g c : List Effect) → IsBalanced b → IsBalanced c → f ++ remembers_state ∷ b ≡ g ++ remembers_state ∷ c → length f < length g → ⊥
+no-later : (f b g c : List Effect) → IsBalanced b → IsBalanced c → f ++ remembers_state ∷ b ≡ g ++ remembers_state ∷ c → length f < length g
+    → ⊥
 no-later f b g c b_good c_good e l = go k.middle k.front k.back
   where
     k : Between f (remembers_state ∷ b) g (remembers_state ∷ c)
@@ -84,7 +87,8 @@ long-before p i j m = length-append m.front (remembers_state ∷ m.between) ∙ 
 
 pub one-remember : (p : List Effect) (i k j : ℕ) → Match p i j → Match p k j → i ≡ k
 one-remember p i k j m n =
-    let parts = same-fronts (m.front ++ remembers_state ∷ m.between) (n.front ++ remembers_state ∷ n.between) _ _ (sym (before-restore p i j m) ∙ before-restore p k j n) (long-before p i j m ∙ sym (long-before p k j n)) in
+    let parts = same-fronts (m.front ++ remembers_state ∷ m.between) (n.front ++ remembers_state ∷ n.between) _ _
+    (sym (before-restore p i j m) ∙ before-restore p k j n) (long-before p i j m ∙ sym (long-before p k j n)) in
     elim (cases_lt (length m.front) (length n.front)) [
       | inl lt ↦ absurd (no-later m.front m.between n.front n.between m.balanced n.balanced parts.0 lt)
       | inr ge ↦ elim (cases_lt (length n.front) (length m.front)) [

@@ -26,19 +26,22 @@ found-alone : (p : Row → Bool) (rows : List Row) (row : Row) → filter p rows
 found-alone p [] row e = cc
 found-alone p (x ∷ rows) row e = go (λ later. found-alone p rows row later) (p x) e
   where
-    go : (filter p rows ≡ row ∷ [] → find p rows ≡ Some row) → (b : Bool) → cond b (x ∷ filter p rows) (filter p rows) ≡ row ∷ [] → cond b (Some x) (find p rows) ≡ Some row
+    go : (filter p rows ≡ row ∷ [] → find p rows ≡ Some row) → (b : Bool) → cond b (x ∷ filter p rows) (filter p rows) ≡ row ∷ []
+        → cond b (Some x) (find p rows) ≡ Some row
     go next true e = let same : x ≡ row = cc in ap Some same
     go next false e = next e
 
 -- and it is one of the rows of the program
-row-alone : (s : Start) (program : List Effect) (p : Row → Bool) (from to : ℕ) (rows : List Row) (row : Row) → AreRowsFrom s program from rows to → filter p rows ≡ row ∷ [] → IsRow s program row × (p row ≡ true)
+row-alone : (s : Start) (program : List Effect) (p : Row → Bool) (from to : ℕ) (rows : List Row) (row : Row)
+    → AreRowsFrom s program from rows to → filter p rows ≡ row ∷ [] → IsRow s program row × (p row ≡ true)
 row-alone s program p from to [] row are e = cc
 row-alone s program p from to (x ∷ rows) row are e = go (λ later. row-alone s program p x.end to rows row are.2 later) (p x) refl e
   where
     here : p x ≡ true → x ≡ row → IsRow s program row × (p row ≡ true)
     here passes same = subst (λ r. IsRow s program r × (p r ≡ true)) same (are.1, passes)
 
-    go : (filter p rows ≡ row ∷ [] → IsRow s program row × (p row ≡ true)) → (b : Bool) → p x ≡ b → cond b (x ∷ filter p rows) (filter p rows) ≡ row ∷ [] → IsRow s program row × (p row ≡ true)
+    go : (filter p rows ≡ row ∷ [] → IsRow s program row × (p row ≡ true)) → (b : Bool) → p x ≡ b
+        → cond b (x ∷ filter p rows) (filter p rows) ≡ row ∷ [] → IsRow s program row × (p row ≡ true)
     go next true passes e = here passes cc
     go next false passes e = next e
 
@@ -89,7 +92,8 @@ has-one-row s a checked f among covers =
     let good = good-from-fde c f (good-from-cie c none.0) none.1 in
     let one = one-row a f.initial (f.initial + f.range) (rows_of c f) (cover-rows c f none.1) covers.0 covers.1 in
     let row = one.0 in
-    let is = row-alone (start_in c f good) (program_in c f good) (has_address a) f.initial (f.initial + f.range) (rows_of c f) row (rows-of-good c f good) one.1 in
+    let is = row-alone (start_in c f good) (program_in c f good) (has_address a) f.initial (f.initial + f.range) (rows_of c f) row
+    (rows-of-good c f good) one.1 in
     let rows : rows_in s f ≡ rows_of c f = ap (λ o. rows_behind o f) pointed.1 in
     let only : IsCoverOf s.fdes a (Some f) = (among, covers, λ g g_in g_covers. checked-once s checked a g f g_in among g_covers covers) in
     let alone : filter (has_address a) (rows_in s f) ≡ row ∷ [] = ap (filter (has_address a)) rows ∙ one.1 in

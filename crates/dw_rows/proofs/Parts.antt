@@ -25,7 +25,8 @@ pub parts-pass : (cies : List Cie) (fdes : List Fde) → parts_fault cies fdes �
 unfolding parts_fault
 parts-pass cies fdes none =
     let last = or_else-none (programs_fault cies fdes) (first_fault (overlap_fault fdes) fdes) none in
-    let pointers = or_else-none (first_fault (pointer_fault cies) fdes) (or_else (first_fault cie_fault cies) (first_fault (program_fault cies) fdes)) last.0 in
+    let pointers = or_else-none (first_fault (pointer_fault cies) fdes)
+    (or_else (first_fault cie_fault cies) (first_fault (program_fault cies) fdes)) last.0 in
     let programs = or_else-none (first_fault cie_fault cies) (first_fault (program_fault cies) fdes) pointers.1 in
     record { pointers = pointers.0; cie_programs = programs.0; fde_programs = programs.1; overlap = last.1 }
 
@@ -41,14 +42,16 @@ found-by None fault e = let clash : Some fault ≡ None = e in cc
 pub pointed : (cies : List Cie) (f : Fde) → pointer_fault cies f ≡ None → (c : Cie) × (cie_at cies f.cie_pointer ≡ Some c)
 pointed cies f none = found-by (cie_at cies f.cie_pointer) _ none
 
-pub pointed-in : (cies : List Cie) (fdes : List Fde) → parts_fault cies fdes ≡ None → (f : Fde) → Contains fdes f → (c : Cie) × (cie_at cies f.cie_pointer ≡ Some c)
+pub pointed-in : (cies : List Cie) (fdes : List Fde) → parts_fault cies fdes ≡ None → (f : Fde) → Contains fdes f
+    → (c : Cie) × (cie_at cies f.cie_pointer ≡ Some c)
 pointed-in cies fdes none f among = pointed cies f (none-each (pointer_fault cies) fdes (parts-pass cies fdes none).pointers f among)
 
 pub covers-once-in : (cies : List Cie) (fdes : List Fde) → Ascends fde_offset fdes → parts_fault cies fdes ≡ None → CoversOnce fdes
 covers-once-in cies fdes up none = once-covered fdes up (parts-pass cies fdes none).overlap
 
 -- the programs of an FDE and of its CIE are good
-pub good-behind : (cies : List Cie) (fdes : List Fde) → parts_fault cies fdes ≡ None → (f : Fde) → Contains fdes f → (c : Cie) → cie_at cies f.cie_pointer ≡ Some c → (cie_fault c ≡ None) × (fde_fault c f ≡ None)
+pub good-behind : (cies : List Cie) (fdes : List Fde) → parts_fault cies fdes ≡ None → (f : Fde) → Contains fdes f → (c : Cie)
+    → cie_at cies f.cie_pointer ≡ Some c → (cie_fault c ≡ None) × (fde_fault c f ≡ None)
 good-behind cies fdes none f among c is =
     let parts = parts-pass cies fdes none in
     let found = at-found cies f.cie_pointer c is in

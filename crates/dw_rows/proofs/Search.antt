@@ -12,7 +12,11 @@ use Rattle.dw_frame.specs.Bounds.{Ascends}
 
 -- below, equal or above
 pub three_ways : (i j : ℕ) → (i < j) ⊎ ((i ≡ j) ⊎ (j < i))
-three_ways i j = elim (cases_lt i j) [ inl lt ↦ inl lt | inr le ↦ elim (cases_lt j i) [ inl lt ↦ inr (inr lt) | inr ge ↦ inr (inl (omega arith)) ] ]
+three_ways i j = elim (cases_lt i j) [
+  | inl lt ↦ inl lt
+  | inr le ↦ elim
+      (cases_lt j i) [ inl lt ↦ inr (inr lt) | inr ge ↦ inr (inl (omega arith)) ]
+]
 
 -- below one more
 pub before_or_at : (k i : ℕ) → k < i + 1 → (k < i) ⊎ (k ≡ i)
@@ -23,7 +27,8 @@ pub squeeze : (i j : ℕ) → ¬ (i < j) → ¬ (j < i) → i ≡ j
 squeeze i j low high = elim (three_ways i j) [ inl lt ↦ absurd (low lt) | inr rest ↦ elim rest [ inl e ↦ e | inr lt ↦ absurd (high lt) ] ]
 
 -- an earlier place has the lower offset
-pub ascending-at : {X : Type 0} (at : X → ℕ) (xs : List X) → Ascends at xs → (i j : ℕ) (d : X) → i < j → j < length xs → at (get_or xs i d) < at (get_or xs j d)
+pub ascending-at : {X : Type 0} (at : X → ℕ) (xs : List X) → Ascends at xs → (i j : ℕ) (d : X) → i < j → j < length xs
+    → at (get_or xs i d) < at (get_or xs j d)
 ascending-at at [] up i j d lt in_range = absurd (omega arith)
 ascending-at at (x ∷ xs) up zero zero d lt in_range = absurd (omega arith)
 ascending-at at (x ∷ xs) up zero (suc j) d lt in_range = All-from_recursion (λ y. at x < at y) xs up.0 j d (omega arith)
@@ -31,39 +36,50 @@ ascending-at at (x ∷ xs) up (suc i) zero d lt in_range = absurd (omega arith)
 ascending-at at (x ∷ xs) up (suc i) (suc j) d lt in_range = ascending-at at xs up.1 i j d (omega arith) (omega arith)
 
 -- a lower offset has the earlier place
-pub ascending-place : {X : Type 0} (at : X → ℕ) (xs : List X) → Ascends at xs → (i j : ℕ) (d : X) → i < length xs → j < length xs → at (get_or xs i d) < at (get_or xs j d) → i < j
-ascending-place at xs up i j d i_in j_in lt = grind (arith, ascending-at at xs up j i d, λ (same : i ≡ j). ap (λ k. at (get_or xs k d)) same)
+pub ascending-place : {X : Type 0} (at : X → ℕ) (xs : List X) → Ascends at xs → (i j : ℕ) (d : X) → i < length xs → j < length xs
+    → at (get_or xs i d) < at (get_or xs j d) → i < j
+ascending-place at xs up i j d i_in j_in lt =
+    grind (arith, ascending-at at xs up j i d, λ (same : i ≡ j). ap (λ k. at (get_or xs k d)) same)
 
 -- two elements at one offset are one
-pub ascending-same : {X : Type 0} (at : X → ℕ) (xs : List X) → Ascends at xs → (x y : X) → Contains xs x → Contains xs y → at x ≡ at y → x ≡ y
+pub ascending-same : {X : Type 0} (at : X → ℕ) (xs : List X) → Ascends at xs → (x y : X) → Contains xs x → Contains xs y → at x ≡ at y
+    → x ≡ y
 ascending-same at xs up x y (i, i_in, i_is) (j, j_in, j_is) same =
     let y_is : get_or xs j x ≡ y = get_or_default xs j x y j_in ∙ j_is in
-    let low : ¬ (i < j) = λ lt. let h : at x < at y = subst (λ v. at x < at v) y_is (subst (λ v. at v < at (get_or xs j x)) i_is (ascending-at at xs up i j x lt j_in)) in omega arith in
-    let high : ¬ (j < i) = λ lt. let h : at y < at x = subst (λ v. at v < at x) y_is (subst (λ v. at (get_or xs j x) < at v) i_is (ascending-at at xs up j i x lt i_in)) in omega arith in
+    let low : ¬ (i < j) = λ lt. let h : at x < at y =
+    subst (λ v. at x < at v) y_is (subst (λ v. at v < at (get_or xs j x)) i_is (ascending-at at xs up i j x lt j_in)) in omega arith in
+    let high : ¬ (j < i) = λ lt. let h : at y < at x =
+    subst (λ v. at v < at x) y_is (subst (λ v. at (get_or xs j x) < at v) i_is (ascending-at at xs up j i x lt i_in)) in omega arith in
     let place : i ≡ j = squeeze i j low high in
     sym i_is ∙ (ap (λ k. get_or xs k x) place ∙ y_is)
 
 -- where each element before a place passes, each at a lower offset does
-pub first-at : {X : Type 0} (at : X → ℕ) (Passes Fails : X → Type 0) (xs : List X) → Ascends at xs → (i : ℕ) (x : X) → i < length xs → get_or xs i x ≡ x → ((k : ℕ) (d : X) → k < i → Passes (get_or xs k d)) → Fails x → IsFirst at Passes Fails xs x
+pub first-at : {X : Type 0} (at : X → ℕ) (Passes Fails : X → Type 0) (xs : List X) → Ascends at xs → (i : ℕ) (x : X) → i < length xs
+    → get_or xs i x ≡ x → ((k : ℕ) (d : X) → k < i → Passes (get_or xs k d)) → Fails x → IsFirst at Passes Fails xs x
 first-at at Passes Fails xs up i x i_in i_is passed failed = record {
   among = (i, i_in, i_is);
   fails = failed;
   before = λ y (j, j_in, j_is) lt.
       let x_is : get_or xs i y ≡ x = get_or_default xs i y x i_in ∙ i_is in
-      let lower : at (get_or xs j y) < at (get_or xs i y) = subst (λ v. at v < at (get_or xs i y)) (sym j_is) (subst (λ v. at y < at v) (sym x_is) lt) in
+      let lower : at (get_or xs j y) < at (get_or xs i y) =
+      subst (λ v. at v < at (get_or xs i y)) (sym j_is) (subst (λ v. at y < at v) (sym x_is) lt) in
       subst Passes j_is (passed j y (ascending-place at xs up j i y j_in i_in lower));
 }
 
 -- the same of what a place reads, at any default
-pub first-read : {X : Type 0} (at : X → ℕ) (Passes Fails : X → Type 0) (xs : List X) → Ascends at xs → (i : ℕ) (d : X) → i < length xs → ((k : ℕ) (d : X) → k < i → Passes (get_or xs k d)) → Fails (get_or xs i d) → IsFirst at Passes Fails xs (get_or xs i d)
-first-read at Passes Fails xs up i d i_in passed failed = first-at at Passes Fails xs up i (get_or xs i d) i_in (get_or_default xs i (get_or xs i d) d i_in) passed failed
+pub first-read : {X : Type 0} (at : X → ℕ) (Passes Fails : X → Type 0) (xs : List X) → Ascends at xs → (i : ℕ) (d : X) → i < length xs
+    → ((k : ℕ) (d : X) → k < i → Passes (get_or xs k d)) → Fails (get_or xs i d) → IsFirst at Passes Fails xs (get_or xs i d)
+first-read at Passes Fails xs up i d i_in passed failed =
+    first-at at Passes Fails xs up i (get_or xs i d) i_in (get_or_default xs i (get_or xs i d) d i_in) passed failed
 
 -- where each place passes, each element does
-pub all-at : {X : Type 0} (P : X → Type 0) (xs : List X) (i : ℕ) → length xs ≤ i → ((k : ℕ) (d : X) → k < i → P (get_or xs k d)) → (x : X) → Contains xs x → P x
+pub all-at : {X : Type 0} (P : X → Type 0) (xs : List X) (i : ℕ) → length xs ≤ i → ((k : ℕ) (d : X) → k < i → P (get_or xs k d)) → (x : X)
+    → Contains xs x → P x
 all-at P xs i le passed x (j, j_in, j_is) = subst P j_is (passed j x (omega arith))
 
 -- one more passes
-pub passed-more : {X : Type 0} (P : X → Type 0) (xs : List X) (i : ℕ) (x : X) → i < length xs → get_or xs i x ≡ x → ((k : ℕ) (d : X) → k < i → P (get_or xs k d)) → P x → (k : ℕ) (d : X) → k < i + 1 → P (get_or xs k d)
+pub passed-more : {X : Type 0} (P : X → Type 0) (xs : List X) (i : ℕ) (x : X) → i < length xs → get_or xs i x ≡ x
+    → ((k : ℕ) (d : X) → k < i → P (get_or xs k d)) → P x → (k : ℕ) (d : X) → k < i + 1 → P (get_or xs k d)
 passed-more P xs i x i_in i_is passed here k d lt = elim (before_or_at k i lt) [
   | inl low ↦ passed k d low
   | inr e ↦ subst P (sym (ap (λ n. get_or xs n d) e ∙ (get_or_default xs i d x i_in ∙ i_is))) here
@@ -73,10 +89,12 @@ index-rises : (a b k : ℕ) → a ≤ b → ordering_index (nat_cmp a k) ≤ ord
 index-rises a b k le = grind (arith, nat_tests)
 
 -- what a search by key finds
-pub searched-found : {X : Type 0} (key : X → ℕ) (xs : List X) (k : ℕ) (d : X) (i : ℕ) → i < length xs → IsBinarySearchResult (λ y. nat_cmp (key y) k) xs (Ok i) → Contains xs (get_or xs i d) × (key (get_or xs i d) ≡ k)
+pub searched-found : {X : Type 0} (key : X → ℕ) (xs : List X) (k : ℕ) (d : X) (i : ℕ) → i < length xs
+    → IsBinarySearchResult (λ y. nat_cmp (key y) k) xs (Ok i) → Contains xs (get_or xs i d) × (key (get_or xs i d) ≡ k)
 searched-found key xs k d i in_range found = (Contains-get_or xs i d in_range, ranked _ k _ (sym (found d)))
 
-pub searched-none : {X : Type 0} (key : X → ℕ) (xs : List X) → Ascends key xs → (k : ℕ) (i : ℕ) → i ≤ length xs → IsBinarySearchResult (λ y. nat_cmp (key y) k) xs (Err i) → (x : X) → Contains xs x → key x ≢ k
+pub searched-none : {X : Type 0} (key : X → ℕ) (xs : List X) → Ascends key xs → (k : ℕ) (i : ℕ) → i ≤ length xs
+    → IsBinarySearchResult (λ y. nat_cmp (key y) k) xs (Err i) → (x : X) → Contains xs x → key x ≢ k
 searched-none {X} key xs up k i in_range parted =
     let not_above : (i j : ℕ) (e : X) → i ≤ j → j < length xs → key (get_or xs i e) ≤ key (get_or xs j e) =
     λ i j e le lt. grind (arith, ascending-at key xs up i j e, λ (same : i ≡ j). ap (λ n. key (get_or xs n e)) same) in

@@ -11,20 +11,27 @@ use Rattle.dw_rows.proofs.Search.{ascending-at, ascending-place, ascending-same,
 pub record IsSwept (xs : List Fde) (last i end : ℕ) : Type 0 where
   pub below : (k : ℕ) (d : Fde) → k < i → (get_or xs k d).offset ≤ last → (get_or xs k d).initial + (get_or xs k d).range ≤ end
   pub source : (end ≡ 0) ⊎ ((k : ℕ) × (f : Fde) × (k < i) × (get_or xs k f ≡ f) × (f.offset ≤ last) × (end ≡ f.initial + f.range))
-  pub apart : (j k : ℕ) (d : Fde) → j < k → k < i → (get_or xs j d).offset ≤ last → (get_or xs k d).offset ≤ last → (get_or xs j d).initial + (get_or xs j d).range ≤ (get_or xs k d).initial
+  pub apart : (j k : ℕ) (d : Fde) → j < k → k < i → (get_or xs j d).offset ≤ last → (get_or xs k d).offset ≤ last
+      → (get_or xs j d).initial + (get_or xs j d).range ≤ (get_or xs k d).initial
 
 pub swept-none : (xs : List Fde) (last : ℕ) → IsSwept xs last 0 0
-swept-none xs last = record { below = λ k d lt le. absurd (omega arith); source = inl refl; apart = λ j k d jk lt le1 le2. absurd (omega arith) }
+swept-none xs last = record {
+  below = λ k d lt le. absurd (omega arith);
+  source = inl refl;
+  apart = λ j k d jk lt le1 le2. absurd (omega arith);
+}
 
 symmetric : (f g : Fde) → SharesAddress f g → SharesAddress g f
 symmetric f g (a, cf, cg) = (a, cg, cf)
 
-pub clash-at : (xs : List Fde) (last i end : ℕ) (x : Fde) → IsOrdered xs → IsSwept xs last i end → i < length xs → get_or xs i x ≡ x → x.offset ≤ last → x.initial < end → ClashWithin xs last
+pub clash-at : (xs : List Fde) (last i end : ℕ) (x : Fde) → IsOrdered xs → IsSwept xs last i end → i < length xs → get_or xs i x ≡ x
+    → x.offset ≤ last → x.initial < end → ClashWithin xs last
 clash-at xs last i end x ordered swept i_in i_is le lt = elim swept.source [
   | inl none ↦ absurd (omega arith)
   | inr (k, f, k_lt, k_is, f_le, f_end) ↦
       let f_is : get_or xs k x ≡ f = get_or_default xs k x f (omega arith) ∙ k_is in
-      let before : f.initial ≤ x.initial = subst (λ v. v.initial ≤ x.initial) f_is (subst (λ v. (get_or xs k x).initial ≤ v.initial) i_is (ordered.sorted k i x (omega arith) i_in)) in
+      let before : f.initial ≤ x.initial = subst (λ v. v.initial ≤ x.initial) f_is
+      (subst (λ v. (get_or xs k x).initial ≤ v.initial) i_is (ordered.sorted k i x (omega arith) i_in)) in
       let f_in : Contains xs f = (k, omega arith, k_is) in
       let x_in : Contains xs x = (i, i_in, i_is) in
       let some : 0 < x.range = ordered.some x x_in in
@@ -42,18 +49,33 @@ clash-at xs last i end x ordered swept i_in i_is le lt = elim swept.source [
       ]
 ]
 
-pub swept-skip : (xs : List Fde) (last i end : ℕ) (x : Fde) → IsSwept xs last i end → i < length xs → get_or xs i x ≡ x → last < x.offset → IsSwept xs last (i + 1) end
+pub swept-skip : (xs : List Fde) (last i end : ℕ) (x : Fde) → IsSwept xs last i end → i < length xs → get_or xs i x ≡ x → last < x.offset
+    → IsSwept xs last (i + 1) end
 swept-skip xs last i end x swept i_in i_is lt =
-    let out : (d : Fde) → last < (get_or xs i d).offset = λ d. subst (λ v. last < v.offset) (sym (get_or_default xs i d x i_in ∙ i_is)) lt in
+    let out : (d : Fde) → last < (get_or xs i d).offset =
+    λ d. subst (λ v. last < v.offset) (sym (get_or_default xs i d x i_in ∙ i_is)) lt in
     record {
       below = λ k d k_lt le.
-          elim (before_or_at k i k_lt) [ inl earlier ↦ swept.below k d earlier le | inr here ↦ let no : last < (get_or xs k d).offset = subst (λ n. last < (get_or xs n d).offset) (sym here) (out d) in absurd (omega arith) ];
-      source = elim swept.source [ inl none ↦ inl none | inr (k, f, k_lt, rest0, rest1, rest2) ↦ inr (k, f, omega arith, rest0, rest1, rest2) ];
+          elim (before_or_at k i k_lt) [
+            | inl earlier ↦ swept.below k d earlier le
+            | inr here ↦ let no : last <
+                (get_or xs k d).offset = subst (λ n. last < (get_or xs n d).offset) (sym here) (out d) in absurd (omega arith)
+          ];
+      source = elim swept.source [
+        | inl none ↦ inl none
+        | inr (k, f, k_lt, rest0, rest1, rest2) ↦ inr
+            (k, f, omega arith, rest0, rest1, rest2)
+      ];
       apart = λ j k d jk k_lt j_le k_le.
-          elim (before_or_at k i k_lt) [ inl earlier ↦ swept.apart j k d jk earlier j_le k_le | inr here ↦ let no : last < (get_or xs k d).offset = subst (λ n. last < (get_or xs n d).offset) (sym here) (out d) in absurd (omega arith) ];
+          elim (before_or_at k i k_lt) [
+            | inl earlier ↦ swept.apart j k d jk earlier j_le k_le
+            | inr here ↦ let no : last <
+                (get_or xs k d).offset = subst (λ n. last < (get_or xs n d).offset) (sym here) (out d) in absurd (omega arith)
+          ];
     }
 
-pub swept-more : (xs : List Fde) (last i end : ℕ) (x : Fde) → IsSwept xs last i end → i < length xs → get_or xs i x ≡ x → x.offset ≤ last → end ≤ x.initial → IsSwept xs last (i + 1) (x.initial + x.range)
+pub swept-more : (xs : List Fde) (last i end : ℕ) (x : Fde) → IsSwept xs last i end → i < length xs → get_or xs i x ≡ x → x.offset ≤ last
+    → end ≤ x.initial → IsSwept xs last (i + 1) (x.initial + x.range)
 swept-more xs last i end x swept i_in i_is x_le le =
     let is : (d : Fde) → get_or xs i d ≡ x = λ d. get_or_default xs i d x i_in ∙ i_is in
     record {
@@ -68,7 +90,8 @@ swept-more xs last i end x swept i_in i_is x_le le =
             | inl earlier ↦ swept.apart j k d jk earlier j_le k_le
             | inr here ↦
                 let h = swept.below j d (omega arith) j_le in
-                subst (λ v. (get_or xs j d).initial + (get_or xs j d).range ≤ v.initial) (sym (ap (λ n. get_or xs n d) here ∙ is d)) (omega (arith, h))
+                subst (λ v. (get_or xs j d).initial + (get_or xs j d).range ≤ v.initial) (sym (ap (λ n. get_or xs n d) here ∙ is d))
+                (omega (arith, h))
           ];
     }
 
@@ -77,37 +100,61 @@ swept-all xs last i end swept all f g (j, j_in, j_is) (k, k_in, k_is) lt le (a, 
     let g_is : get_or xs k f ≡ g = get_or_default xs k f g k_in ∙ k_is in
     let f_le : (get_or xs j f).offset ≤ last = subst (λ v. v.offset ≤ last) (sym j_is) (omega arith) in
     let g_le : (get_or xs k f).offset ≤ last = subst (λ v. v.offset ≤ last) (sym g_is) le in
-    let low : j < k → f.initial + f.range ≤ g.initial = λ jk. subst (λ v. f.initial + f.range ≤ v.initial) g_is (subst (λ v. v.initial + v.range ≤ (get_or xs k f).initial) j_is (swept.apart j k f jk (omega arith) f_le g_le)) in
-    let high : k < j → g.initial + g.range ≤ f.initial = λ kj. subst (λ v. v.initial + v.range ≤ f.initial) g_is (subst (λ v. (get_or xs k f).initial + (get_or xs k f).range ≤ v.initial) j_is (swept.apart k j f kj (omega arith) g_le f_le)) in
+    let low : j < k → f.initial + f.range ≤ g.initial =
+    λ jk. subst (λ v. f.initial + f.range ≤ v.initial) g_is
+    (subst (λ v. v.initial + v.range ≤ (get_or xs k f).initial) j_is (swept.apart j k f jk (omega arith) f_le g_le)) in
+    let high : k < j → g.initial + g.range ≤ f.initial =
+    λ kj. subst (λ v. v.initial + v.range ≤ f.initial) g_is
+    (subst (λ v. (get_or xs k f).initial + (get_or xs k f).range ≤ v.initial) j_is (swept.apart k j f kj (omega arith) g_le f_le)) in
     let same : j ≡ k → f.offset ≡ g.offset = λ e. ap fde_offset (sym j_is ∙ (ap (λ n. get_or xs n f) e ∙ g_is)) in
-    elim (three_ways j k) [ inl jk ↦ let h = low jk in omega (arith, h, cf.1, cg.0) | inr rest ↦ elim rest [ inl e ↦ let h = same e in omega (arith, h, lt) | inr kj ↦ let h = high kj in omega (arith, h, cf.0, cg.1) ] ]
+    elim (three_ways j k) [
+      | inl jk ↦ let h = low jk in
+          omega (arith, h, cf.1, cg.0)
+      | inr rest ↦ elim rest [
+        | inl e ↦ let h = same e in omega (arith, h, lt)
+        | inr kj ↦ let h = high kj in
+            omega (arith, h, cf.0, cg.1)
+      ]
+    ]
 
 -- a range with an address is not empty
 some-of : (f : Fde) (a : ℕ) → Covers f a → 0 < f.range
 some-of f a c = omega (arith, c.0, c.1)
 
-pub first-clash : (fdes index : List Fde) (i : ℕ) (x : Fde) → Ascends fde_offset fdes → IsIndexOf fdes index → i < length fdes → get_or fdes i x ≡ x → ClashWithin index x.offset → ((k : ℕ) (d : Fde) → k < i → ApartWithin index (get_or fdes k d).offset) → IsFirstOverlap fdes x
+pub first-clash : (fdes index : List Fde) (i : ℕ) (x : Fde) → Ascends fde_offset fdes → IsIndexOf fdes index → i < length fdes
+    → get_or fdes i x ≡ x → ClashWithin index x.offset → ((k : ℕ) (d : Fde) → k < i → ApartWithin index (get_or fdes k d).offset)
+    → IsFirstOverlap fdes x
 first-clash fdes index i x up is i_in i_is clash apart =
     let g_in : Contains fdes clash.g = is.from clash.g clash.g_in in
     let x_in : Contains fdes x = (i, i_in, i_is) in
     let placed : (y : Fde) → Contains fdes y → y.offset < x.offset → ApartWithin index y.offset = λ y (m, m_in, m_is) lt.
     let x_is : get_or fdes i y ≡ x = get_or_default fdes i y x i_in ∙ i_is in
-    let lower : (get_or fdes m y).offset < (get_or fdes i y).offset = subst (λ v. v.offset < (get_or fdes i y).offset) (sym m_is) (subst (λ v. y.offset < v.offset) (sym x_is) lt) in
+    let lower : (get_or fdes m y).offset < (get_or fdes i y).offset =
+    subst (λ v. v.offset < (get_or fdes i y).offset) (sym m_is) (subst (λ v. y.offset < v.offset) (sym x_is) lt) in
     subst (λ v. ApartWithin index v.offset) m_is (apart m y (ascending-place fde_offset fdes up m i y m_in i_in lower)) in
-    let not_before : ¬ (clash.g.offset < x.offset) = λ lt. placed clash.g g_in lt clash.f clash.g clash.f_in clash.g_in clash.order (omega arith) clash.shared in
+    let not_before : ¬ (clash.g.offset < x.offset) = λ lt. placed clash.g g_in lt clash.f clash.g clash.f_in clash.g_in clash.order
+    (omega arith) clash.shared in
     let here : clash.g ≡ x = ascending-same fde_offset fdes up clash.g x g_in x_in (omega (arith, not_before, clash.within)) in
     record {
       among = x_in;
       fails = subst (Overlaps fdes) here (clash.f, is.from clash.f clash.f_in, clash.order, clash.shared);
-      before = λ y y_in lt f f_in f_lt (a, cf, cy). placed y y_in lt f y (is.to f f_in (some-of f a cf)) (is.to y y_in (some-of y a cy)) f_lt (omega arith) (a, cf, cy);
+      before = λ y y_in lt f f_in f_lt (a, cf, cy). placed y y_in lt f y (is.to f f_in (some-of f a cf))
+          (is.to y y_in (some-of y a cy)) f_lt (omega arith) (a, cf, cy);
     }
 
-pub none-clash : (fdes index : List Fde) (i : ℕ) (x : Fde) → Ascends fde_offset fdes → IsIndexOf fdes index → i < length fdes → length fdes ≤ i + 1 → get_or fdes i x ≡ x → ApartWithin index x.offset → AreApart fdes
+pub none-clash : (fdes index : List Fde) (i : ℕ) (x : Fde) → Ascends fde_offset fdes → IsIndexOf fdes index → i < length fdes
+    → length fdes ≤ i + 1 → get_or fdes i x ≡ x → ApartWithin index x.offset → AreApart fdes
 none-clash fdes index i x up is i_in last i_is apart g (m, m_in, m_is) f f_in f_lt (a, cf, cg) =
     let x_is : get_or fdes i g ≡ x = get_or_default fdes i g x i_in ∙ i_is in
-    let before : m < i → g.offset < x.offset = λ lt. subst (λ v. g.offset < v.offset) x_is (subst (λ v. v.offset < (get_or fdes i g).offset) m_is (ascending-at fde_offset fdes up m i g lt i_in)) in
+    let before : m < i → g.offset < x.offset =
+    λ lt. subst (λ v. g.offset < v.offset) x_is
+    (subst (λ v. v.offset < (get_or fdes i g).offset) m_is (ascending-at fde_offset fdes up m i g lt i_in)) in
     let here : m ≡ i → g.offset ≡ x.offset = λ e. ap fde_offset (sym m_is ∙ (ap (λ n. get_or fdes n g) e ∙ x_is)) in
-    let at_most : g.offset ≤ x.offset = elim (before_or_at m i (omega arith)) [ inl lt ↦ let h = before lt in omega (arith, h) | inr e ↦ let h = here e in omega (arith, h) ] in
+    let at_most : g.offset ≤ x.offset = elim (before_or_at m i (omega arith)) [
+      | inl lt ↦ let h = before lt in
+          omega (arith, h)
+      | inr e ↦ let h = here e in omega (arith, h)
+    ] in
     apart f g (is.to f f_in (some-of f a cf)) (is.to g (m, m_in, m_is) (some-of g a cg)) f_lt at_most (a, cf, cg)
 
 pub none-apart : (fdes : List Fde) → length fdes ≡ 0 → AreApart fdes
@@ -121,11 +168,13 @@ covers-once fdes up apart a f g f_in g_in cf cg =
     ascending-same fde_offset fdes up f g f_in g_in (omega (arith, low, high))
 
 -- where none share an address up to an FDE, none do up to an earlier one
-pub apart-below : (fdes index : List Fde) (i : ℕ) (x : Fde) → Ascends fde_offset fdes → i < length fdes → get_or fdes i x ≡ x → ApartWithin index x.offset → (k : ℕ) (d : Fde) → k ≤ i → ApartWithin index (get_or fdes k d).offset
+pub apart-below : (fdes index : List Fde) (i : ℕ) (x : Fde) → Ascends fde_offset fdes → i < length fdes → get_or fdes i x ≡ x
+    → ApartWithin index x.offset → (k : ℕ) (d : Fde) → k ≤ i → ApartWithin index (get_or fdes k d).offset
 apart-below fdes index i x up i_in i_is apart k d le f g f_in g_in order within shared =
     let x_is : get_or fdes i d ≡ x = get_or_default fdes i d x i_in ∙ i_is in
     let below : (get_or fdes k d).offset ≤ x.offset = elim (before_or_at k i (omega arith)) [
-      | inl lt ↦ let h : (get_or fdes k d).offset < x.offset = subst (λ v. (get_or fdes k d).offset < v.offset) x_is (ascending-at fde_offset fdes up k i d lt i_in) in omega (arith, h)
+      | inl lt ↦ let h : (get_or fdes k d).offset < x.offset =
+          subst (λ v. (get_or fdes k d).offset < v.offset) x_is (ascending-at fde_offset fdes up k i d lt i_in) in omega (arith, h)
       | inr e ↦ let h : (get_or fdes k d).offset ≡ x.offset = ap fde_offset (ap (λ n. get_or fdes n d) e ∙ x_is) in omega (arith, h)
     ] in
     apart f g f_in g_in order (omega (arith, below, within)) shared

@@ -25,7 +25,8 @@ record ProgramLaws : Type 0 where
 well-formed : ProgramLaws → (target : Target) (section : List ℕ) → section_fault target section ≡ None → IsWellFormed target section
 unfolding section_fault
 well-formed laws target section none =
-    let split = or_else-none (fault_in (entries_of target section)) (parts_fault (frame_of target section).cies (frame_of target section).fdes) none in
+    let split = or_else-none (fault_in (entries_of target section))
+    (parts_fault (frame_of target section).cies (frame_of target section).fdes) none in
     let records = values_in (entries_of target section) in
     let cies = cies_among records in
     let fdes = fdes_among records in
@@ -34,9 +35,11 @@ well-formed laws target section none =
     record {
       records = records;
       encoded = are-records target section split.0;
-      pointers = λ f among. let pointed = pointed-in cies fdes split.1 f among in let found = at-found cies f.cie_pointer pointed.0 pointed.1 in (pointed.0, found.0, found.1);
+      pointers = λ f among. let pointed = pointed-in cies fdes split.1 f among in
+          let found = at-found cies f.cie_pointer pointed.0 pointed.1 in (pointed.0, found.0, found.1);
       cie_programs = λ c among. (laws.cie c).0 (none-each cie_fault cies parts.cie_programs c among);
-      fde_programs = λ f c f_in c_in same. let good = good-behind cies fdes split.1 f f_in c (found-at cies up c f.cie_pointer c_in same) in (laws.fde c f good.0).0 good.1;
+      fde_programs = λ f c f_in c_in same. let good = good-behind cies fdes split.1 f f_in c (found-at cies up c f.cie_pointer c_in same) in
+          (laws.fde c f good.0).0 good.1;
       once = covers-once-in cies fdes (fdes-ascend target section split.0) split.1;
     }
 
@@ -49,16 +52,20 @@ all-read-values [] = refl
 all-read-values (r ∷ records) = ap (λ l. r ∷ l) (all-read-values records)
 
 apart-from-once : (fdes : List Fde) → CoversOnce fdes → AreApart fdes
-apart-from-once fdes once g g_in f f_in lt (a, cf, cg) = let same : f.offset ≡ g.offset = ap fde_offset (once a f g f_in g_in cf cg) in absurd (omega arith)
+apart-from-once fdes once g g_in f f_in lt (a, cf, cg) = let same : f.offset ≡ g.offset = ap fde_offset (once a f g f_in g_in cf cg) in
+    absurd (omega arith)
 
 no-pointer-fault : (cies : List Cie) (f : Fde) (c : Cie) → cie_at cies f.cie_pointer ≡ Some c → pointer_fault cies f ≡ None
 no-pointer-fault cies f c is = rw is refl
 
 passes : ProgramLaws → (cies : List Cie) (fdes : List Fde) → Ascends cie_offset cies
-    → ((f : Fde) → Contains fdes f → (c : Cie) × Contains cies c × (c.offset ≡ f.cie_pointer)) → ((c : Cie) → Contains cies c → IsGoodCieProgram c)
-    → ((f : Fde) (c : Cie) → Contains fdes f → Contains cies c → c.offset ≡ f.cie_pointer → IsGoodFdeProgram c f) → CoversOnce fdes → PartsPass cies fdes
+    → ((f : Fde) → Contains fdes f → (c : Cie) × Contains cies c × (c.offset ≡ f.cie_pointer))
+    → ((c : Cie) → Contains cies c → IsGoodCieProgram c)
+    → ((f : Fde) (c : Cie) → Contains fdes f → Contains cies c → c.offset ≡ f.cie_pointer → IsGoodFdeProgram c f) → CoversOnce fdes
+    → PartsPass cies fdes
 passes laws cies fdes up pointers cie_programs fde_programs once = record {
-  pointers = each-none (pointer_fault cies) fdes (λ f among. let c = pointers f among in no-pointer-fault cies f c.0 (found-at cies up c.0 f.cie_pointer c.1 c.2));
+  pointers = each-none (pointer_fault cies) fdes (λ f among. let c = pointers f among in
+      no-pointer-fault cies f c.0 (found-at cies up c.0 f.cie_pointer c.1 c.2));
   cie_programs = each-none cie_fault cies (λ c among. (laws.cie c).1 (cie_programs c among));
   fde_programs = each-none (program_fault cies) fdes (λ f among.
       let c = pointers f among in
@@ -74,9 +81,13 @@ no-fault laws target section w =
     let read : entries_of target section ≡ map Ok w.records = (sections-are-records target section w.records).1 w.encoded in
     let none : fault_in (entries_of target section) ≡ None = ap fault_in read ∙ all-read-fault w.records in
     let values : values_in (entries_of target section) ≡ w.records = ap values_in read ∙ all-read-values w.records in
-    let up : Ascends cie_offset (cies_among w.records) = subst (λ l. Ascends cie_offset (cies_among l)) values (cies-ascend target section none) in
-    let parts : parts_fault (cies_among w.records) (fdes_among w.records) ≡ None = pass-parts (cies_among w.records) (fdes_among w.records) (passes laws (cies_among w.records) (fdes_among w.records) up w.pointers w.cie_programs w.fde_programs w.once) in
-    let frame : parts_fault (frame_of target section).cies (frame_of target section).fdes ≡ None = ap (λ l. parts_fault (cies_among l) (fdes_among l)) values ∙ parts in
+    let up : Ascends cie_offset (cies_among w.records) =
+    subst (λ l. Ascends cie_offset (cies_among l)) values (cies-ascend target section none) in
+    let parts : parts_fault (cies_among w.records) (fdes_among w.records) ≡ None =
+    pass-parts (cies_among w.records) (fdes_among w.records)
+    (passes laws (cies_among w.records) (fdes_among w.records) up w.pointers w.cie_programs w.fde_programs w.once) in
+    let frame : parts_fault (frame_of target section).cies (frame_of target section).fdes ≡ None =
+    ap (λ l. parts_fault (cies_among l) (fdes_among l)) values ∙ parts in
     rw none frame
 
 faultless-iff : ProgramLaws → (target : Target) (section : List ℕ) → (section_fault target section ≡ None) ↔ IsWellFormed target section

@@ -1,18 +1,40 @@
+-- ---- To be believed: the standard's words. Who checks the headline against DWARF 5 reads these.
+-- the rules of a row (6.4.1)
 pub mod Rules
-pub mod Views
-pub mod RuleSet
-pub mod RememberStack
+-- what each instruction does (6.4.2)
 pub mod Effects
+-- location, rules and CFA after instructions (6.4.1)
 pub mod InForce
-pub mod Judgement
+-- the rows of a program (6.4.1)
 pub mod UnwindRows
-pub mod ProgramState
-pub mod EffectViews
-pub mod Initial
-pub mod Section
-pub mod Overlap
-pub mod RowCursors
-pub mod Good
+-- the rules after each instruction, clause by clause (6.4.2.2 to 6.4.2.4)
 pub mod Clauses
+-- good programs: brackets, locations, rows (6.4.1, 6.4.2)
+pub mod Good
+-- whole sections (6.4.1): what is accepted, its first fault, the row of an address
+pub mod Section
+-- sections that are right (6.4.1)
 pub mod WellFormed
+-- the one row of an address (6.4.1)
 pub mod ExactRows
+-- ---- The first fault, as a function of the bytes. Laws tie it to what is to be believed.
+-- the first fault of a program
+pub mod Judgement
+-- ---- What the code's own values stand for, and what its calls answer.
+-- rules and rows of the code
+pub mod Views
+-- ---- Behind the contracts: no contract of a public call speaks of these.
+-- the rules of a row, as they are kept
+pub mod RuleSet
+-- places in a table of rules, and in a stack of them
+pub mod RememberStack
+-- where a program stands
+pub mod ProgramState
+-- effects of the code
+pub mod EffectViews
+-- what the initial instructions of CIEs leave
+pub mod Initial
+-- going from row to row
+pub mod RowCursors
+-- FDEs in order of offset, and of address
+pub mod Overlap

@@ -1,5 +1,9 @@
 -- FDEs in order of offset, and in order of address. No contract of a public call speaks of these.
-use Rattle.std.specs.Prelude.{◌≡◌, ℕ, ◌<◌, ◌≤◌, List, length, Contains, slice_index_or}
+use Rattle.std.specs.Prelude.{◌≡◌, ℕ, ◌+◌, ◌*◌, ◌<◌, ◌≤◌, List, [], length, map, All, Contains, slice_index_or}
+use Rattle.dw_bytes.specs.declared.target.Format.TheVariants.{Dwarf32}
+use Rattle.dw_bytes.specs.declared.target.Order.TheVariants.{Little}
+use Rattle.dw_bytes.specs.declared.target.AddressSize.TheVariants.{Four}
+use Rattle.dw_rows.specs.declared.index.IndexEntry.{IndexEntry}
 use Rattle.std.specs.List.Sorted.{IsNonDecreasingBy}
 use Rattle.dw_frame.specs.Records.{Cie, Fde}
 use Rattle.dw_rows.specs.Section.{Frame, SharesAddress, IsChecked}
@@ -50,7 +54,8 @@ ApartWithin fdes last = (f g : Fde) → Contains fdes f → Contains fdes g → 
 -- FDEs that cover an address each, in order of address, none of them twice
 pub record IsOrdered (index : List Fde) : Type 0 where
   pub some : (f : Fde) → Contains index f → 0 < f.range
-  pub distinct : (i j : ℕ) (d : Fde) → i < length index → j < length index → (slice_index_or index i d).offset ≡ (slice_index_or index j d).offset → i ≡ j
+  pub distinct : (i j : ℕ) (d : Fde) → i < length index → j < length index
+      → (slice_index_or index i d).offset ≡ (slice_index_or index j d).offset → i ≡ j
   pub sorted : IsNonDecreasingBy initial_of index
 
 -- the FDEs that cover an address, in order of address
@@ -59,8 +64,47 @@ pub record IsIndexOf (fdes index : List Fde) : Type 0 where
   pub to : (f : Fde) → Contains fdes f → 0 < f.range → Contains index f
   pub ordered : IsOrdered index
 
+-- ---- the index as it is kept: where each FDE begins, and its place among all
+
+-- an FDE that is nowhere, as that of a place past the end, which no entry has
+abbrev pub no_fde : Fde
+no_fde = record {
+  offset = 0;
+  format = Dwarf32;
+  cie_pointer = 0;
+  pointer_offset = 0;
+  initial = 0;
+  range = 0;
+  program = record { target = record { order = Little; address_size = Four }; position = 0; rest = [] };
+}
+
+-- the FDE of an entry
+abbrev pub fde_at : List Fde → IndexEntry → Fde
+fde_at fdes e = slice_index_or fdes e.place no_fde
+
+pub record IsEntry (fdes : List Fde) (e : IndexEntry) : Type 0 where
+  pub within : e.place < length fdes
+  pub start : e.start ≡ (fde_at fdes e).initial
+
+-- the entries are those of the FDEs that cover an address, in order of address
+pub record IsAddressIndex (fdes : List Fde) (entries : List IndexEntry) : Type 0 where
+  pub each : All (IsEntry fdes) entries
+  pub index_of : IsIndexOf fdes (map (fde_at fdes) entries)
+
+-- so far from an entry begins one at or below an address, if it isn't the entry itself, and one quarter further none does
+pub record IsStride (entries : List IndexEntry) (low quarter a stride : ℕ) : Type 0 where
+  pub bound : stride ≤ 3 * quarter
+  pub below : (d : IndexEntry) → 0 < stride → (slice_index_or entries (low + stride) d).start ≤ a
+  pub above : (d : IndexEntry) → stride < 3 * quarter → a < (slice_index_or entries (low + stride + quarter) d).start
+
+-- so many entries begin at or below an address, and no others
+pub record IsCountUpTo (entries : List IndexEntry) (a count : ℕ) : Type 0 where
+  pub bound : count ≤ length entries
+  pub below : (k : ℕ) (d : IndexEntry) → k < count → (slice_index_or entries k d).start ≤ a
+  pub above : (k : ℕ) (d : IndexEntry) → count ≤ k → k < length entries → a < (slice_index_or entries k d).start
+
 -- what a checked section keeps: its records, what its CIEs leave, and its FDEs in order of address
-pub record IsKept (s : Frame) (left : List KeptRules) (index : List Fde) : Type 0 where
+pub record IsKept (s : Frame) (left : List KeptRules) (index : List IndexEntry) : Type 0 where
   pub checked : IsChecked s
   pub left_by : AreLeftBy s.cies left
-  pub index_of : IsIndexOf s.fdes index
+  pub index_of : IsAddressIndex s.fdes index

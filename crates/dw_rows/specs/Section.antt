@@ -84,11 +84,13 @@ shares f g = nat_lt 0 f.range && nat_lt 0 g.range && nat_lt f.initial (g.initial
 
 -- no FDE before this one shares an address with it
 abbrev pub overlap_fault : List Fde → Fde → Option Fault
-overlap_fault fdes g = if list_any (λ f. nat_lt f.offset g.offset && shares f g) fdes then Some (record { kind = Overlap; at = g.offset }) else None
+overlap_fault fdes g = if list_any (λ f. nat_lt f.offset g.offset && shares f g) fdes then Some (record { kind = Overlap; at = g.offset })
+    else None
 
 -- all CIE_pointers, then the CIEs' programs, then the FDEs' programs
 abbrev pub programs_fault : List Cie → List Fde → Option Fault
-programs_fault cies fdes = or_else (first_fault (pointer_fault cies) fdes) (or_else (first_fault cie_fault cies) (first_fault (program_fault cies) fdes))
+programs_fault cies fdes = or_else (first_fault (pointer_fault cies) fdes)
+    (or_else (first_fault cie_fault cies) (first_fault (program_fault cies) fdes))
 
 -- and then the addresses
 unfoldable pub parts_fault : List Cie → List Fde → Option Fault
@@ -96,7 +98,8 @@ parts_fault cies fdes = or_else (programs_fault cies fdes) (first_fault (overlap
 
 -- the first fault of a section: of its records, or else of what was read
 unfoldable pub section_fault : Target → List ℕ → Option Fault
-section_fault target section = or_else (fault_in (entries_of target section)) (parts_fault (frame_of target section).cies (frame_of target section).fdes)
+section_fault target section = or_else (fault_in (entries_of target section))
+    (parts_fault (frame_of target section).cies (frame_of target section).fdes)
 
 -- A section that is accepted: it is its bytes, and these have no fault.
 pub record IsChecked (s : Frame) : Type 0 where

@@ -13,5 +13,6 @@ pub record IsWellFormed (target : Target) (section : List ℕ) : Type 0 where
   pub encoded : AreRecords target 0 section records
   pub pointers : (f : Fde) → Contains (fdes_among records) f → (c : Cie) × Contains (cies_among records) c × (c.offset ≡ f.cie_pointer)
   pub cie_programs : (c : Cie) → Contains (cies_among records) c → IsGoodCieProgram c
-  pub fde_programs : (f : Fde) (c : Cie) → Contains (fdes_among records) f → Contains (cies_among records) c → c.offset ≡ f.cie_pointer → IsGoodFdeProgram c f
+  pub fde_programs : (f : Fde) (c : Cie) → Contains (fdes_among records) f → Contains (cies_among records) c → c.offset ≡ f.cie_pointer
+      → IsGoodFdeProgram c f
   pub once : CoversOnce (fdes_among records)

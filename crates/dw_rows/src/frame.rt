@@ -1,18 +1,19 @@
 //! A checked section.
 
-ghost use Rattle.std.specs.Prelude.{◌≡◌, ◌+◌, ◌<◌, ◌≤◌, ◌^◌, None, Some, Contains, length, map, option_map, IfOk, IfErr, IfSome, IfNone};
+ghost use Rattle.std.specs.Prelude.{◌≡◌, ◌+◌, ◌<◌, ◌≤◌, ◌^◌, None, Some, Contains, length, map, option_map, IfOk, IfErr, IfSome, IfNone, find};
+ghost use Rattle.dw_rows.specs.UnwindRows.{has_address};
 ghost use Rattle.dw_frame.specs.Records.{Cie, Fde};
 ghost use Rattle.dw_frame.specs.Sections.{entries_of, top_of};
 ghost use Rattle.dw_frame.specs.Views.{cie_of, fde_of};
 ghost use Rattle.dw_bytes.specs.Answers.{Judges, Answers, fault_in};
 ghost use Rattle.dw_rows.specs.Judgement.{cie_fault, fde_fault};
 ghost use Rattle.dw_rows.specs.Section.{IsCoverOf, first_fault, overlap_fault, programs_fault, parts_fault, section_fault, IsChecked, frame_of, cie_in, rows_in, row_of};
-ghost use Rattle.dw_rows.specs.Overlap.{cie_offset, fde_offset, IsIndexOf};
+ghost use Rattle.dw_rows.specs.Overlap.{cie_offset, fde_offset, IsAddressIndex};
 ghost use Rattle.dw_frame.specs.Bounds.{Ascends};
 ghost use Rattle.dw_rows.specs.ProgramState.{IsLeftBy};
 ghost use Rattle.dw_rows.specs.Initial.{AreLeftBy};
 
-use crate::index::{covering, first_overlap, index_of};
+use crate::index::{IndexEntry, covering, first_overlap, index_of};
 use crate::initial_rules::InitialRules;
 use crate::lookup::write_row_at;
 use crate::row::UnwindTableRow;
@@ -35,7 +36,7 @@ pub struct CheckedFrame<'a> {
     initial: InitialRules,
     fdes: Vec<FrameDescriptionEntry<'a>>,
     /// The FDEs that cover an address, in order of address.
-    index: Vec<FrameDescriptionEntry<'a>>,
+    index: Vec<IndexEntry>,
 }
 
 impl<'a> Model for CheckedFrame<'a> {
@@ -46,10 +47,25 @@ impl<'a> Model for CheckedFrame<'a> {
 
     ghost Value = { Frame };
 
-    ghost view = { λ c. record { target = c.target; section = c.section.now; cies = map cie_of c.cies.items; fdes = map fde_of c.fdes.items } };
+    ghost view = { λ c. record {
+      target = c.target;
+      section = c.section.now;
+      cies = map cie_of c.cies.items;
+      fdes = map fde_of c.fdes.items;
+    } };
 
-    ghost invariant = { λ c. IsKept (record { target = c.target; section = c.section.now; cies = map cie_of c.cies.items; fdes = map fde_of c.fdes.items }) c.initial (map fde_of c.index.items) };
+    ghost invariant = { λ c. IsKept
+        (record {
+          target = c.target;
+          section = c.section.now;
+          cies = map cie_of c.cies.items;
+          fdes = map fde_of c.fdes.items;
+        }) c.initial c.index.items };
 }
+
+/// An FDE of a compiler has as many bytes or more: room for so many is asked for at once, so that the list of them need
+/// not be moved as it grows.
+const USUAL_FDE: usize = 48;
 
 /// The records of a section, the CIEs and the FDEs apart. One pass.
 fn records_of<'a>(
@@ -65,11 +81,15 @@ fn records_of<'a>(
 >
     requires { length section.now < 2 ^ 32 }
     ensures read { Answers (fault_in (entries_of target section.now)) result }
-    ensures cies { IfOk result (λ records. map cie_of records.0.items ≡ (frame_of target section.now).cies) }
-    ensures fdes { IfOk result (λ records. map fde_of records.1.items ≡ (frame_of target section.now).fdes) }
+    ensures cies { IfOk result (λ records. map cie_of records.0.items ≡
+        (frame_of target section.now).cies) }
+    ensures fdes { IfOk result (λ records. map fde_of records.1.items ≡
+        (frame_of target section.now).fdes) }
 {
     let mut cies = Vec::new(alloc);
-    let mut fdes = Vec::new(alloc);
+    let Ok(mut fdes) = Vec::with_capacity(alloc, section.len() / USUAL_FDE) else {
+        return Err(MEMORY);
+    };
     for entry in entries(section, target) {
         match entry? {
             Entry::Cie(cie) => {
@@ -88,13 +108,11 @@ fn records_of<'a>(
 }
 
 /// No address may be covered by two FDEs.
-fn check_overlap(
-    fdes: &[FrameDescriptionEntry<'_>],
-    index: &[FrameDescriptionEntry<'_>],
-) -> Result<(), Fault>
+fn check_overlap(fdes: &[FrameDescriptionEntry<'_>], index: &[IndexEntry]) -> Result<(), Fault>
     requires fdes { Ascends fde_offset (map fde_of fdes.now) }
-    requires index { IsIndexOf (map fde_of fdes.now) (map fde_of index.now) }
-    ensures { Judges (first_fault (overlap_fault (map fde_of fdes.now)) (map fde_of fdes.now)) result }
+    requires index { IsAddressIndex (map fde_of fdes.now) index.now }
+    ensures { Judges (first_fault (overlap_fault (map fde_of fdes.now))
+        (map fde_of fdes.now)) result }
 {
     match first_overlap(fdes, index) {
         Some(fde) => Err(Fault {
@@ -128,12 +146,12 @@ fn check_parts<'a>(
     alloc: Global,
     cies: &[CommonInformationEntry<'a>],
     fdes: &[FrameDescriptionEntry<'a>],
-) -> Result<(InitialRules, Vec<FrameDescriptionEntry<'a>>), Fault>
+) -> Result<(InitialRules, Vec<IndexEntry>), Fault>
     requires cies { Ascends cie_offset (map cie_of cies.now) }
     requires fdes { Ascends fde_offset (map fde_of fdes.now) }
     ensures answer { Answers (parts_fault (map cie_of cies.now) (map fde_of fdes.now)) result }
     ensures left { IfOk result (λ parts. AreLeftBy (map cie_of cies.now) parts.0) }
-    ensures index { IfOk result (λ parts. IsIndexOf (map fde_of fdes.now) (map fde_of parts.1.items)) }
+    ensures index { IfOk result (λ parts. IsAddressIndex (map fde_of fdes.now) parts.1.items) }
 {
     let initial = check_programs(alloc, cies, fdes)?;
     let index = match index_of(alloc, fdes) {
@@ -196,7 +214,8 @@ impl<'a> CheckedFrame<'a> {
     /// All FDEs, in the order of the section. Their addresses are addresses of the target.
     pub fn fdes(&self) -> &[FrameDescriptionEntry<'a>]
         ensures fdes { map fde_of result.now ≡ self.now.fdes }
-        ensures fit { (f : Fde) → Contains self.now.fdes f → f.initial + f.range ≤ top_of self.now.target }
+        ensures fit { (f : Fde) → Contains self.now.fdes f
+            → f.initial + f.range ≤ top_of self.now.target }
     {
         self.fdes.as_slice()
     }
@@ -204,9 +223,10 @@ impl<'a> CheckedFrame<'a> {
     /// The FDE that covers an address: the only one that does, found by halving.
     pub fn fde_for_address(&self, address: u64) -> Option<FrameDescriptionEntry<'a>>
         ensures only { IsCoverOf self.now.fdes address (option_map fde_of result) }
-        ensures fit { IfSome result (λ fde. fde.initial_location + fde.address_range ≤ top_of self.now.target) }
+        ensures fit { IfSome result (λ fde. fde.initial_location + fde.address_range
+            ≤ top_of self.now.target) }
     {
-        covering(&self.index, address)
+        covering(&self.fdes, &self.index, address)
     }
 
     /// The CIE of one of the FDEs, found by halving. Both have good programs.
@@ -241,6 +261,7 @@ impl<'a> CheckedFrame<'a> {
 
     /// The rows of one of the FDEs, in the order of their addresses. Each call runs the FDE's program again as the rows are
     /// asked for, behind what was kept of its CIE's, and takes no memory.
+    #[inline(always)]
     pub fn rows(&self, fde: &FrameDescriptionEntry<'a>) -> Rows<'a>
         requires { Contains self.now.fdes (fde_of fde.now) }
         ensures { result ≡ rows_in self.now (fde_of fde.now) }
@@ -248,19 +269,26 @@ impl<'a> CheckedFrame<'a> {
         Rows::of(self, fde)
     }
 
-    /// The rows of one of the FDEs as `rows` gives them, in the place of others.
-    pub fn rows_into(&self, fde: &FrameDescriptionEntry<'a>, rows: &mut Rows<'a>)
+    /// The rows of one of the FDEs as `rows` gives them, in the place of others. The answer is the FDE's CIE, as `cie_of`.
+    pub fn rows_into(
+        &self,
+        fde: &FrameDescriptionEntry<'a>,
+        rows: &mut Rows<'a>,
+    ) -> CommonInformationEntry<'a>
         requires { Contains self.now.fdes (fde_of fde.now) }
-        ensures { rows.new ≡ rows_in self.now (fde_of fde.now) }
+        ensures rows { rows.new ≡ rows_in self.now (fde_of fde.now) }
+        ensures cie { cie_in self.now (fde_of fde.now) ≡ Some (cie_of result) }
+        ensures fde_program { fde_fault (cie_of result) (fde_of fde.now) ≡ None }
     {
-        rows.restart_in(self, fde);
+        rows.restart_in(self, fde)
     }
 
     /// The row of an address, or none where no FDE covers it. It takes no memory: the FDE is found by halving, and its
     /// program is run up to that row, behind what was kept of its CIE's.
     pub fn row_for_address(&self, address: u64) -> Option<UnwindTableRow>
         ensures row { result ≡ row_of self.now address }
-        ensures fit { IfSome result (λ row. (row.start ≤ top_of self.now.target) × (row.end ≤ top_of self.now.target)) }
+        ensures fit { IfSome result (λ row. (row.start ≤ top_of self.now.target)
+            × (row.end ≤ top_of self.now.target)) }
     {
         let mut row = UnwindTableRow::empty();
         self.row_for_address_into(address, &mut row)?;
@@ -274,16 +302,40 @@ impl<'a> CheckedFrame<'a> {
         address: u64,
         row: &mut UnwindTableRow,
     ) -> Option<(CommonInformationEntry<'a>, FrameDescriptionEntry<'a>)>
-        ensures only { IsCoverOf self.now.fdes address (option_map (λ found. fde_of found.1) result) }
-        ensures cie { IfSome result (λ found. cie_in self.now (fde_of found.1) ≡ Some (cie_of found.0)) }
+        ensures only { IsCoverOf self.now.fdes address
+            (option_map (λ found. fde_of found.1) result) }
+        ensures cie { IfSome result (λ found. cie_in self.now (fde_of found.1) ≡ Some
+            (cie_of found.0)) }
         ensures row { IfSome result (λ _. row_of self.now address ≡ Some row.new) }
-        ensures fit { IfSome result (λ _. (row.new.start ≤ top_of self.now.target) × (row.new.end ≤ top_of self.now.target)) }
+        ensures fit { IfSome result (λ _. (row.new.start ≤ top_of self.now.target)
+            × (row.new.end ≤ top_of self.now.target)) }
         ensures none { IfNone result ((row_of self.now address ≡ None) × (row.new ≡ row.old)) }
     {
         let fde = self.fde_for_address(address)?;
-        let mut state = UnwindState::new();
-        let cie = self.begin_with_cie(&mut state, &fde);
-        write_row_at(&mut state, &cie, &fde, address, row);
+        let cie = self.write_row_of(&fde, address, row);
         Some((cie, fde))
+    }
+
+    /// Writes the row of an address that an FDE covers into the place of another, and answers the FDE's CIE. It stays a call:
+    /// room for a state is then made once, and only where an FDE is found.
+    #[inline(never)]
+    fn write_row_of(
+        &self,
+        fde: &FrameDescriptionEntry<'a>,
+        address: u64,
+        row: &mut UnwindTableRow,
+    ) -> CommonInformationEntry<'a>
+        requires among { Contains self.now.fdes (fde_of fde.now) }
+        requires low { fde.now.initial_location ≤ address }
+        requires high { address < fde.now.initial_location + fde.now.address_range }
+        ensures cie { cie_in self.now (fde_of fde.now) ≡ Some (cie_of result) }
+        ensures fde_program { fde_fault (cie_of result) (fde_of fde.now) ≡ None }
+        ensures row { find (has_address address) (rows_in self.now (fde_of fde.now))
+            ≡ Some row.new }
+    {
+        let mut state = UnwindState::new();
+        let cie = self.begin_with_cie(&mut state, fde);
+        write_row_at(&mut state, &cie, fde, address, row);
+        cie
     }
 }

@@ -1,48 +1,64 @@
 //! FDEs in order of address.
 
-ghost use Rattle.std.specs.Prelude.{◌≡◌, ◌<◌, ◌≤◌, length, map, MatchBool, MatchOption, IfOk, filter, nat_lt, option_map};
+ghost use Rattle.std.specs.Prelude.{◌≡◌, ◌+◌, ◌*◌, ◌<◌, ◌≤◌, length, map, All, MatchBool, MatchOption, IfOk, filter, nat_lt, option_map};
 ghost use Rattle.dw_frame.specs.Views.{fde_of};
-ghost use Rattle.dw_frame.specs.declared.entry.FrameDescriptionEntry.{FrameDescriptionEntry};
 ghost use Rattle.dw_rows.specs.Section.{CoversOnce, IsCoverOf};
-ghost use Rattle.dw_rows.specs.Overlap.{fde_offset, IsIndexOf, IsOrdered, ClashWithin, ApartWithin, AreApart, IsFirstOverlap};
+ghost use Rattle.dw_rows.specs.Overlap.{fde_offset, fde_at, IsStride, IsCountUpTo, IsEntry, IsAddressIndex, ClashWithin, ApartWithin, AreApart, IsFirstOverlap};
 ghost use Rattle.dw_frame.specs.Bounds.{Ascends};
+ghost use Rattle.std.specs.List.Sorted.{IsNonDecreasingBy};
+ghost use Rattle.dw_rows.specs.declared.index.IndexEntry.{IndexEntry};
 
 use dw_frame::FrameDescriptionEntry;
 use std::alloc::{AllocError, Global};
 
-/// The FDEs that cover an address.
-fn covering_some<'a>(
+/// Where an FDE begins in the address space, and its place among all FDEs: what halving looks at takes 16 bytes.
+#[derive(Clone, Copy, Debug)]
+pub struct IndexEntry {
+    pub start: u64,
+    pub place: usize,
+}
+
+/// The entries of the FDEs that cover an address.
+fn covering_some(
     alloc: Global,
-    fdes: &[FrameDescriptionEntry<'a>],
-) -> Result<Vec<FrameDescriptionEntry<'a>>, AllocError>
-    ensures { IfOk result (λ kept. kept.items ≡ filter (λ (f : FrameDescriptionEntry). nat_lt 0 f.address_range) fdes.now) }
+    fdes: &[FrameDescriptionEntry<'_>],
+) -> Result<Vec<IndexEntry>, AllocError>
+    ensures entries { IfOk result (λ index. All (IsEntry (map fde_of fdes.now)) index.items) }
+    ensures fdes { IfOk result (λ index. map (fde_at (map fde_of fdes.now)) index.items ≡ filter
+        (λ f. nat_lt 0 f.range) (map fde_of fdes.now)) }
 {
-    fdes.iter()
-        .filter(|fde| fde.address_range > 0)
-        .copied()
-        .collect(alloc)
+    let mut index = Vec::with_capacity(alloc, fdes.len())?;
+    for (place, fde) in fdes.iter().enumerate() {
+        if fde.address_range > 0 {
+            let start = fde.initial_location;
+            index.push(IndexEntry { start, place })?;
+        }
+    }
+    Ok(index)
 }
 
 /// The FDEs that cover an address, in order of address: n log n for n FDEs.
-pub fn index_of<'a>(
+pub fn index_of(
     alloc: Global,
-    fdes: &[FrameDescriptionEntry<'a>],
-) -> Result<Vec<FrameDescriptionEntry<'a>>, AllocError>
+    fdes: &[FrameDescriptionEntry<'_>],
+) -> Result<Vec<IndexEntry>, AllocError>
     requires { Ascends fde_offset (map fde_of fdes.now) }
-    ensures { IfOk result (λ index. IsIndexOf (map fde_of fdes.now) (map fde_of index.items)) }
+    ensures { IfOk result (λ index. IsAddressIndex (map fde_of fdes.now) index.items) }
 {
     let mut index = covering_some(alloc, fdes)?;
-    index.sort_unstable_by_key(|fde| fde.initial_location);
+    index.sort_unstable_by_key(|entry| entry.start);
     Ok(index)
 }
 
 /// Whether two of the FDEs up to an offset share an address. One pass over FDEs in order of address.
-fn overlaps(index: &[FrameDescriptionEntry<'_>], last: u32) -> bool
-    requires { IsOrdered (map fde_of index.now) }
-    ensures { MatchBool result (ClashWithin (map fde_of index.now) last) (ApartWithin (map fde_of index.now) last) }
+fn overlaps(fdes: &[FrameDescriptionEntry<'_>], index: &[IndexEntry], last: u32) -> bool
+    requires { IsAddressIndex (map fde_of fdes.now) index.now }
+    ensures { MatchBool result (ClashWithin (map (fde_at (map fde_of fdes.now)) index.now) last)
+        (ApartWithin (map (fde_at (map fde_of fdes.now)) index.now) last) }
 {
     let mut end = 0;
-    for fde in index {
+    for entry in index {
+        let fde = fdes[entry.place];
         if fde.offset <= last {
             if fde.initial_location < end {
                 return true;
@@ -57,21 +73,22 @@ fn overlaps(index: &[FrameDescriptionEntry<'_>], last: u32) -> bool
 /// there is none, and once there is it stays: so halving finds where it comes, in n log n for n FDEs.
 pub fn first_overlap<'a>(
     fdes: &[FrameDescriptionEntry<'a>],
-    index: &[FrameDescriptionEntry<'a>],
+    index: &[IndexEntry],
 ) -> Option<FrameDescriptionEntry<'a>>
     requires fdes { Ascends fde_offset (map fde_of fdes.now) }
-    requires index { IsIndexOf (map fde_of fdes.now) (map fde_of index.now) }
-    ensures { MatchOption result (AreApart (map fde_of fdes.now)) (λ g. IsFirstOverlap (map fde_of fdes.now) (fde_of g)) }
+    requires index { IsAddressIndex (map fde_of fdes.now) index.now }
+    ensures { MatchOption result (AreApart (map fde_of fdes.now))
+        (λ g. IsFirstOverlap (map fde_of fdes.now) (fde_of g)) }
 {
     let mut high = fdes.len();
-    if high == 0 || !overlaps(index, fdes[high - 1].offset) {
+    if high == 0 || !overlaps(fdes, index, fdes[high - 1].offset) {
         return None;
     }
     high -= 1;
     let mut low = 0;
     while low < high {
         let middle = low + (high - low) / 2;
-        if overlaps(index, fdes[middle].offset) {
+        if overlaps(fdes, index, fdes[middle].offset) {
             high = middle;
         } else {
             low = middle + 1;
@@ -80,20 +97,54 @@ pub fn first_overlap<'a>(
     Some(fdes[high])
 }
 
-/// The FDE that covers an address, by halving FDEs in order of address.
+/// How far to go on from an entry towards the last one that begins at or below an address: none, one, two or three quarters.
+/// It sums and doesn't branch: halving would wait for a wrong guess at every other step.
+#[inline(always)]
+fn stride(index: &[IndexEntry], low: usize, quarter: usize, address: u64) -> usize
+    requires sorted { IsNonDecreasingBy (λ (e : IndexEntry). e.start) index.now }
+    requires inside { low + 3 * quarter < length index.now }
+    ensures { IsStride index.now low quarter address result }
+{
+    let first = usize::from(index[low + quarter].start <= address);
+    let second = usize::from(index[low + 2 * quarter].start <= address);
+    let third = usize::from(index[low + 3 * quarter].start <= address);
+    (first + second + third) * quarter
+}
+
+/// How many entries begin at or below an address, in log n steps for n entries.
+fn count_up_to(index: &[IndexEntry], address: u64) -> usize
+    requires { IsNonDecreasingBy (λ (e : IndexEntry). e.start) index.now }
+    ensures { IsCountUpTo index.now address result }
+{
+    let mut low = 0;
+    let mut size = index.len();
+    while size >= 4 {
+        let quarter = size / 4;
+        low += stride(index, low, quarter, address);
+        size -= 3 * quarter;
+    }
+    while size > 0 && index[low].start <= address {
+        low += 1;
+        size -= 1;
+    }
+    low
+}
+
+/// The FDE that covers an address, found among FDEs in order of address.
 pub fn covering<'a>(
-    index: &[FrameDescriptionEntry<'a>],
+    fdes: &[FrameDescriptionEntry<'a>],
+    index: &[IndexEntry],
     address: u64,
 ) -> Option<FrameDescriptionEntry<'a>>
-    requires order { IsOrdered (map fde_of index.now) }
-    requires once { CoversOnce (map fde_of index.now) }
-    ensures { IsCoverOf (map fde_of index.now) address (option_map fde_of result) }
+    requires index { IsAddressIndex (map fde_of fdes.now) index.now }
+    requires once { CoversOnce (map fde_of fdes.now) }
+    ensures { IsCoverOf (map fde_of fdes.now) address (option_map fde_of result) }
 {
-    let place = index.partition_point(|fde| fde.initial_location <= address);
-    if place == 0 {
+    let after = count_up_to(index, address);
+    if after == 0 {
         return None;
     }
-    let fde = index[place - 1];
+    let fde = fdes[index[after - 1].place];
     if address - fde.initial_location < fde.address_range {
         return Some(fde);
     }

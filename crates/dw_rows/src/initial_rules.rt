@@ -50,7 +50,8 @@ impl InitialRules {
 
     /// Keeps the rules that one more CIE leaves. Where memory is refused, what was kept stays.
     pub fn push(&mut self, rules: &RuleSet) -> Result<(), AllocError>
-        ensures { MatchResult result (λ _. self.new ≡ self.old ++ rules.now ∷ []) (λ _. self.new ≡ self.old) }
+        ensures { MatchResult result (λ _. self.new ≡ self.old ++ rules.now ∷ [])
+            (λ _. self.new ≡ self.old) }
     {
         let start = self.entries.len();
         self.entries

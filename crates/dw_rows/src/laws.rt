@@ -22,35 +22,44 @@ ghost use Rattle.dw_rows.specs.declared.remember_stack.TheConstants.{MAX_REMEMBE
 /// The rules after each instruction are those that the instruction gives, a restore_state those before
 /// its match. No others are.
 pub fn rules_by_instruction()
-    ensures meet { (s : Start) (program : List Effect) → AreRules s program (rule_after s program) (cfa_after s program) }
-    ensures only { (s : Start) (program : List Effect) (rule : ℕ → ℕ → Rule) (cfa : ℕ → Option Cfa) → AreRules s program rule cfa →
+    ensures meet { (s : Start) (program : List Effect)
+        → AreRules s program (rule_after s program) (cfa_after s program) }
+    ensures only { (s : Start) (program : List Effect) (rule : ℕ → ℕ → Rule) (cfa : ℕ → Option Cfa)
+        → AreRules s program rule cfa →
         ((j : ℕ) → slice_get program j ≡ Some restores_state → (i : ℕ) × Match program i j) →
-        (k : ℕ) → k ≤ length program → ((r : ℕ) → rule k r ≡ rule_after s program k r) × (cfa k ≡ cfa_after s program k) }
+        (k : ℕ) → k ≤ length program → ((r : ℕ) → rule k r ≡ rule_after s program k r)
+        × (cfa k ≡ cfa_after s program k) }
 {}
 
 /// A CIE's program has no fault exactly where it is good, and neither has an FDE's behind a good CIE's.
 pub fn good_programs_have_no_fault()
     ensures cie { (cie : Cie) → (cie_fault cie ≡ None) ↔ IsGoodCieProgram cie }
-    ensures fde { (cie : Cie) (fde : Fde) → cie_fault cie ≡ None → (fde_fault cie fde ≡ None) ↔ IsGoodFdeProgram cie fde }
+    ensures fde { (cie : Cie) (fde : Fde) → cie_fault cie ≡ None
+        → (fde_fault cie fde ≡ None) ↔ IsGoodFdeProgram cie fde }
 {}
 
 /// The rows of an FDE whose program is good are the rows of the addresses that it covers: each has the
 /// rules behind the longest beginning of the program whose location is no higher, and all covered
 /// addresses with that beginning.
 pub fn rows_are_those_of_addresses()
-    ensures { (cie : Cie) (fde : Fde) → (good : IsGoodFdeProgram cie fde) → AreRowsOf cie fde good (rows_of cie fde) }
+    ensures { (cie : Cie) (fde : Fde) → (good : IsGoodFdeProgram cie fde)
+        → AreRowsOf cie fde good (rows_of cie fde) }
 {}
 
 /// The rows of an FDE whose program is good lie one behind another and cover what it covers, and each
 /// covered address has one.
 pub fn rows_cover()
-    ensures cover { (cie : Cie) (fde : Fde) → fde_fault cie fde ≡ None → Cover fde.initial (rows_of cie fde) (fde.initial + fde.range) }
-    ensures one { (cie : Cie) (fde : Fde) (address : ℕ) → fde_fault cie fde ≡ None → fde.initial ≤ address → address < fde.initial + fde.range → (row : Row) × (filter (has_address address) (rows_of cie fde) ≡ row ∷ []) }
+    ensures cover { (cie : Cie) (fde : Fde) → fde_fault cie fde ≡ None
+        → Cover fde.initial (rows_of cie fde) (fde.initial + fde.range) }
+    ensures one { (cie : Cie) (fde : Fde) (address : ℕ) → fde_fault cie fde ≡ None
+        → fde.initial ≤ address → address < fde.initial + fde.range
+        → (row : Row) × (filter (has_address address) (rows_of cie fde) ≡ row ∷ []) }
 {}
 
 /// A list of rules by ascending registers and the function that it stands for say the same.
 pub fn rule_lists_are_rules()
-    ensures list { (entries : List (ℕ × Rule)) → IsTable 0 entries → rule_list (rule_in entries) ≡ entries }
+    ensures list { (entries : List (ℕ × Rule)) → IsTable 0 entries
+        → rule_list (rule_in entries) ≡ entries }
     ensures rules { (rules : ℕ → Rule) (r : ℕ) → r < 65536 → rule_in (rule_list rules) r ≡ rules r }
     ensures table { (rules : ℕ → Rule) → IsTable 0 (rule_list rules) }
 {}
@@ -58,29 +67,36 @@ pub fn rule_lists_are_rules()
 /// A section has no fault exactly where it is well formed: a concatenation of records whose CIE_pointers point to CIEs,
 /// with good programs, and no address covered by two FDEs.
 pub fn sections_without_fault_are_well_formed()
-    ensures { (target : Target) (section : List ℕ) → (section_fault target section ≡ None) ↔ IsWellFormed target section }
+    ensures { (target : Target) (section : List ℕ)
+        → (section_fault target section ≡ None) ↔ IsWellFormed target section }
 {}
 
 /// In a section that is accepted each address that an FDE covers has exactly one row, the standard's: one FDE covers it,
 /// one of that FDE's rows has it, and that row is the answer of a look-up. Any other address has none.
 pub fn exact_rows()
-    ensures covered { (s : Frame) (a : ℕ) → IsChecked s → (f : Fde) → Contains s.fdes f → Covers f a → HasOneRow s a }
-    ensures others { (s : Frame) (a : ℕ) → ((f : Fde) → Contains s.fdes f → ¬ Covers f a) → row_of s a ≡ None }
+    ensures covered { (s : Frame) (a : ℕ) → IsChecked s → (f : Fde) → Contains s.fdes f → Covers f a
+        → HasOneRow s a }
+    ensures others { (s : Frame) (a : ℕ) → ((f : Fde) → Contains s.fdes f → ¬ Covers f a)
+        → row_of s a ≡ None }
 {}
 
 /// What a section that is accepted holds: good programs that lie in it and are of its target, in order of offset.
 pub fn checked_sections()
     ensures well_formed { (s : Frame) → IsChecked s → IsWellFormed s.target s.section }
-    ensures cies { (s : Frame) → IsChecked s → (c : Cie) → Contains s.cies c → IsSoundCie s.target (length s.section) c }
-    ensures fdes { (s : Frame) → IsChecked s → (f : Fde) → Contains s.fdes f → IsSoundFde s.target (length s.section) f }
+    ensures cies { (s : Frame) → IsChecked s → (c : Cie) → Contains s.cies c
+        → IsSoundCie s.target (length s.section) c }
+    ensures fdes { (s : Frame) → IsChecked s → (f : Fde) → Contains s.fdes f
+        → IsSoundFde s.target (length s.section) f }
     ensures cies_ascend { (s : Frame) → IsChecked s → Ascends (λ (c : Cie). c.offset) s.cies }
     ensures fdes_ascend { (s : Frame) → IsChecked s → Ascends (λ (f : Fde). f.offset) s.fdes }
 {}
 
 /// Each restore_state has at most one match, and so has each remember_state.
 pub fn matches_are_unique()
-    ensures restore { (program : List Effect) (i j k : ℕ) → Match program i j → Match program i k → j ≡ k }
-    ensures remember { (program : List Effect) (i k j : ℕ) → Match program i j → Match program k j → i ≡ k }
+    ensures restore { (program : List Effect) (i j k : ℕ) → Match program i j → Match program i k
+        → j ≡ k }
+    ensures remember { (program : List Effect) (i k j : ℕ) → Match program i j → Match program k j
+        → i ≡ k }
 {}
 
 /// At most so many registers of a row have a rule other than default, and at most so many rows are remembered at once.
@@ -91,7 +107,10 @@ pub fn limits()
 
 /// Each fault of a program stands in it or at its end, and each of a section likewise.
 pub fn faults_stand_inside()
-    ensures cie { (cie : Cie) (fault : Fault) → cie_fault cie ≡ Some fault → StandsIn cie.program (Err fault) }
-    ensures fde { (cie : Cie) (fde : Fde) (fault : Fault) → fde_fault cie fde ≡ Some fault → StandsIn fde.program (Err fault) }
-    ensures section { (target : Target) (section : List ℕ) (fault : Fault) → section_fault target section ≡ Some fault → fault.at ≤ length section }
+    ensures cie { (cie : Cie) (fault : Fault) → cie_fault cie ≡ Some fault
+        → StandsIn cie.program (Err fault) }
+    ensures fde { (cie : Cie) (fde : Fde) (fault : Fault) → fde_fault cie fde ≡ Some fault
+        → StandsIn fde.program (Err fault) }
+    ensures section { (target : Target) (section : List ℕ) (fault : Fault)
+        → section_fault target section ≡ Some fault → fault.at ≤ length section }
 {}

@@ -15,8 +15,6 @@ mod row_cursor;
 mod row_iter;
 mod rule_set;
 mod section;
-#[cfg(test)]
-mod tests;
 mod unwind_context;
 mod unwind_state;
 

@@ -34,7 +34,9 @@ pub fn row_at<'a>(
     requires cie { cie_fault (cie_of cie.now) ≡ None }
     requires fde { fde_fault (cie_of cie.now) (fde_of fde.now) ≡ None }
     ensures row { result ≡ find (has_address address) (rows_of (cie_of cie.now) (fde_of fde.now)) }
-    ensures covered { IsSome result ↔ ((fde.now.initial_location ≤ address) × (address < fde.now.initial_location + fde.now.address_range)) }
+    ensures covered { IsSome result ↔
+        ((fde.now.initial_location ≤ address)
+        × (address < fde.now.initial_location + fde.now.address_range)) }
 {
     if address < fde.initial_location {
         return None;
@@ -62,7 +64,8 @@ pub(crate) fn write_row_at<'a>(
     requires fde { fde_fault (cie_of cie.now) (fde_of fde.now) ≡ None }
     requires low { fde.now.initial_location ≤ address }
     requires high { address < fde.now.initial_location + fde.now.address_range }
-    ensures { find (has_address address) (rows_of (cie_of cie.now) (fde_of fde.now)) ≡ Some row.new }
+    ensures { find (has_address address) (rows_of (cie_of cie.now) (fde_of fde.now))
+        ≡ Some row.new }
 {
     let limit = fde.initial_location + fde.address_range;
     let mut instructions = begin_at(state, fde);
@@ -97,8 +100,16 @@ fn write_row_behind<'a>(
     requires fde { fde_fault (cie_of cie.now) (fde_of fde.now) ≡ None }
     requires low { fde.now.initial_location ≤ address }
     requires high { address < fde.now.initial_location + fde.now.address_range }
-    requires seeks { Seeks (cie_of cie.now) (fde_of fde.now) address (remembering (record { cie = cie_of cie.now; end = fde.now.initial_location + fde.now.address_range; context = state.now; instructions = instructions })) }
-    ensures { find (has_address address) (rows_of (cie_of cie.now) (fde_of fde.now)) ≡ Some row.new }
+    requires seeks { Seeks (cie_of cie.now) (fde_of fde.now) address
+        (remembering (record {
+          cie = cie_of cie.now;
+          end = fde.now.initial_location + fde.now.address_range;
+          context = state.now;
+          instructions =
+              instructions;
+        })) }
+    ensures { find (has_address address) (rows_of (cie_of cie.now) (fde_of fde.now))
+        ≡ Some row.new }
 {
     let limit = fde.initial_location + fde.address_range;
     let mut context = UnwindContext::new();

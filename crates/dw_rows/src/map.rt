@@ -1,6 +1,6 @@
 //! The rules of a row, by register.
 
-ghost use Rattle.std.specs.Prelude.{◌≡◌, ◌≢◌, ℕ, ◌+◌, ◌<◌, ◌≤◌, [], List, length, slice_get, MatchResult};
+ghost use Rattle.std.specs.Prelude.{◌≡◌, ◌≢◌, ℕ, ◌+◌, ◌<◌, ◌≤◌, [], List, length, slice_get, slice_set, MatchResult};
 ghost use Rattle.arrayvec.specs.ArrayVec.{array_vec_len};
 ghost use Rattle.dw_bytes.specs.declared.fault.FaultKind.{FaultKind};
 ghost use Rattle.std.specs.Bool.{OnTrue, OnFalse};
@@ -104,6 +104,7 @@ impl Model for RegisterRuleMap {
 
 impl RegisterRuleMap {
     /// No rule but `Default`.
+    #[inline(always)]
     pub fn new() -> Self
         ensures { result ≡ [] }
     {
@@ -167,8 +168,10 @@ impl RegisterRuleMap {
     #[inline(always)]
     pub fn set(&mut self, number: u16, rule: RegisterRule) -> Result<(), FaultKind>
         ensures { MatchResult result
-            (λ _. (self.new ≡ rule_list (changed_at (rule_in self.old) number (rule_of rule))) × (length self.new ≤ MAX_RULES))
-            (λ kind. (kind ≡ FaultKind.TooManyRules) × (MAX_RULES < rule_count (changed_at (rule_in self.old) number (rule_of rule)))) }
+            (λ _. (self.new ≡ rule_list (changed_at (rule_in self.old) number (rule_of rule)))
+            × (length self.new ≤ MAX_RULES))
+            (λ kind. (kind ≡ FaultKind.TooManyRules)
+            × (MAX_RULES < rule_count (changed_at (rule_in self.old) number (rule_of rule)))) }
     {
         if put_rule(&mut self.entries, number, rule) {
             Ok(())
@@ -220,6 +223,7 @@ fn clear_rule(table: &mut ArrayVec<RuleEntry, MAX_RULES>, register: u16)
     requires { IsTable 0 (entries_of table.old.items) }
     ensures table { IsTable 0 (entries_of table.new.items) }
     ensures rules { entries_of table.new.items ≡ rule_list (changed_at (rule_in (entries_of table.old.items)) register Rule.default) }
+    ensures few { length (entries_of table.new.items) ≤ MAX_RULES }
 {
     let place = place_of(table.as_slice(), register);
     if place < table.len() && table.as_slice()[place].register == register {
@@ -227,24 +231,41 @@ fn clear_rule(table: &mut ArrayVec<RuleEntry, MAX_RULES>, register: u16)
     }
 }
 
+/// Puts an entry in the place of another.
+#[inline(always)]
+fn overwrite(table: &mut ArrayVec<RuleEntry, MAX_RULES>, place: usize, entry: RuleEntry)
+    requires { place < length table.old.items }
+    ensures items { table.new.items ≡ slice_set table.old.items place entry }
+    ensures few { length table.new.items ≤ MAX_RULES }
+{
+    table.as_mut_slice()[place] = entry;
+}
+
 /// Gives the register the rule. Only where there is no room for it, it answers `false`.
 #[inline(always)]
 fn put_rule(table: &mut ArrayVec<RuleEntry, MAX_RULES>, register: u16, rule: RegisterRule) -> bool
     requires { IsTable 0 (entries_of table.old.items) }
     ensures table { IsTable 0 (entries_of table.new.items) }
-    ensures rules { OnTrue result (entries_of table.new.items ≡ rule_list (changed_at (rule_in (entries_of table.old.items)) register (rule_of rule))) }
+    ensures rules { OnTrue result
+        (entries_of table.new.items ≡ rule_list
+        (changed_at (rule_in (entries_of table.old.items)) register (rule_of rule))) }
     ensures few { length (entries_of table.new.items) ≤ MAX_RULES }
-    ensures full { OnFalse result (MAX_RULES < rule_count (changed_at (rule_in (entries_of table.old.items)) register (rule_of rule))) }
+    ensures full { OnFalse result
+        (MAX_RULES < rule_count (changed_at (rule_in (entries_of table.old.items)) register
+        (rule_of rule))) }
 {
-    clear_rule(table, register);
-    let full = table.is_full();
     if let RegisterRule::Default = rule {
+        clear_rule(table, register);
         return true;
     }
-    if full {
+    let place = place_of(table.as_slice(), register);
+    if place < table.len() && table.as_slice()[place].register == register {
+        overwrite(table, place, entry(register, rule));
+        return true;
+    }
+    if table.is_full() {
         return false;
     }
-    let place = place_of(table.as_slice(), register);
     table.insert(place, entry(register, rule));
     true
 }

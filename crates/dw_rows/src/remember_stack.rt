@@ -1,6 +1,6 @@
 //! Rows that are remembered.
 
-ghost use Rattle.std.specs.Prelude.{◌≡◌, ◌<◌, [], ◌∷◌, length};
+ghost use Rattle.std.specs.Prelude.{◌≡◌, ◌<◌, [], ◌∷◌, length, Some};
 ghost use Rattle.std.specs.Bool.{OnTrue, OnFalse};
 
 use crate::rule_set::RuleSet;
@@ -32,6 +32,7 @@ impl Model for RememberStack {
 
 impl RememberStack {
     /// None yet.
+    #[inline(always)]
     pub fn new() -> Self
         ensures { result ≡ [] }
     {
@@ -55,12 +56,12 @@ impl RememberStack {
         self.depth = 0;
     }
 
-    /// Remembers one more. There must be room.
+    /// Remembers one more. There must be room. A place that had rules before serves again.
     pub fn push(&mut self, rules: &RuleSet)
         requires { length self.old < MAX_REMEMBERED }
         ensures { self.new ≡ rules.now ∷ self.old }
     {
-        self.rows[self.depth] = Some(rules.copy());
+        write_into(&mut self.rows[self.depth], rules);
         self.depth += 1;
     }
 
@@ -79,5 +80,16 @@ impl RememberStack {
             None => unreachable!(),
         }
         true
+    }
+}
+
+/// Writes rules into a place. Where it had some before, it isn't made anew.
+#[inline(always)]
+fn write_into(place: &mut Option<RuleSet>, rules: &RuleSet)
+    ensures { place.new ≡ Some rules.now }
+{
+    match place {
+        Some(row) => row.copy_from(rules),
+        None => *place = Some(rules.copy()),
     }
 }

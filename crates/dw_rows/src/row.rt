@@ -48,13 +48,24 @@ impl Model for UnwindTableRow {
 
     ghost use Rattle.dw_rows.specs.Views.{cfa_rule_of};
 
-    ghost view = { λ row. record { start = row.start; end = row.end; cfa = Some (cfa_rule_of row.cfa); rules = row.rules } };
+    ghost view = { λ row. record {
+      start = row.start;
+      end = row.end;
+      cfa = Some (cfa_rule_of row.cfa);
+      rules = row.rules;
+    } };
 }
 
 impl UnwindTableRow {
     /// A row of no address, as a place for others: `Rows::next_into` writes a row there.
+    #[inline(always)]
     pub fn empty() -> Self
-        ensures { result ≡ record { start = 0; end = 0; cfa = Some (Cfa.register_and_offset 0 (pos 0)); rules = [] } }
+        ensures { result ≡ record {
+          start = 0;
+          end = 0;
+          cfa = Some (Cfa.register_and_offset 0 (pos 0));
+          rules = [];
+        } }
     {
         UnwindTableRow {
             start: 0,
@@ -69,7 +80,12 @@ impl UnwindTableRow {
 
     /// Becomes the row of these addresses with these rules.
     pub(crate) fn set(&mut self, start: u64, end: u64, cfa: CfaRule, rules: &RegisterRuleMap)
-        ensures { self.new ≡ record { start = start; end = end; cfa = Some (cfa_rule_of cfa); rules = rules.now } }
+        ensures { self.new ≡ record {
+          start = start;
+          end = end;
+          cfa = Some (cfa_rule_of cfa);
+          rules = rules.now;
+        } }
     {
         self.start = start;
         self.end = end;

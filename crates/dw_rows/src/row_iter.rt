@@ -36,16 +36,22 @@ impl<'a> Model for Rows<'a> {
 
     ghost view = { λ r. drop r.given (rows_of (cie_of r.cie) (fde_of r.fde)) };
 
-    ghost invariant = { λ r. IsReady (cie_of r.cie) (fde_of r.fde) (record { cie = cie_of r.cie; end = r.fde.initial_location + r.fde.address_range; context = r.context; instructions = r.instructions }) r.given };
+    ghost invariant = { λ r. IsReady (cie_of r.cie) (fde_of r.fde)
+        (record {
+          cie = cie_of r.cie;
+          end = r.fde.initial_location + r.fde.address_range;
+          context = r.context;
+          instructions = r.instructions;
+        }) r.given };
 }
 
 impl<'a> Rows<'a> {
-    ghost use Rattle.std.specs.Prelude.{◌≡◌, None, [], ◌∷◌, Contains};
+    ghost use Rattle.std.specs.Prelude.{◌≡◌, None, Some, [], ◌∷◌, Contains};
     ghost use Rattle.std.specs.Bool.{OnTrue, OnFalse};
     ghost use Rattle.dw_frame.specs.Views.{cie_of, fde_of};
     ghost use Rattle.dw_rows.specs.Judgement.{cie_fault, fde_fault};
     ghost use Rattle.dw_rows.specs.UnwindRows.{rows_of};
-    ghost use Rattle.dw_rows.specs.Section.{rows_in};
+    ghost use Rattle.dw_rows.specs.Section.{cie_in, rows_in};
 
     /// All rows of an FDE. Its program and its CIE's must be good.
     pub(crate) fn new(cie: &CommonInformationEntry<'a>, fde: &FrameDescriptionEntry<'a>) -> Self
@@ -66,6 +72,7 @@ impl<'a> Rows<'a> {
     }
 
     /// All rows of an FDE of a checked section.
+    #[inline(always)]
     pub(crate) fn of(frame: &CheckedFrame<'a>, fde: &FrameDescriptionEntry<'a>) -> Self
         requires { Contains frame.now.fdes (fde_of fde.now) }
         ensures { result ≡ rows_in frame.now (fde_of fde.now) }
@@ -82,16 +89,23 @@ impl<'a> Rows<'a> {
         }
     }
 
-    /// Begins with the rows of an FDE of a checked section, in the same place.
-    pub(crate) fn restart_in(&mut self, frame: &CheckedFrame<'a>, fde: &FrameDescriptionEntry<'a>)
+    /// Begins with the rows of an FDE of a checked section, in the same place, and gives its CIE.
+    pub(crate) fn restart_in(
+        &mut self,
+        frame: &CheckedFrame<'a>,
+        fde: &FrameDescriptionEntry<'a>,
+    ) -> CommonInformationEntry<'a>
         requires { Contains frame.now.fdes (fde_of fde.now) }
-        ensures { self.new ≡ rows_in frame.now (fde_of fde.now) }
+        ensures rows { self.new ≡ rows_in frame.now (fde_of fde.now) }
+        ensures cie { cie_in frame.now (fde_of fde.now) ≡ Some (cie_of result) }
+        ensures fde_program { fde_fault (cie_of result) (fde_of fde.now) ≡ None }
     {
         let cie = frame.begin_with_cie(&mut self.context.state, fde);
         self.instructions = begin(&mut self.context, fde);
         self.cie = cie;
         self.fde = *fde;
         self.given = 0;
+        cie
     }
 
     /// Writes the next row into the place of another, if there is one, and answers whether there was. Only
@@ -122,6 +136,7 @@ impl<'a> Iterator for Rows<'a> {
 
     ghost remaining = { item_count (λ rows. rows) };
 
+    #[inline(always)]
     fn next(&mut self) -> Option<UnwindTableRow> {
         let mut row = UnwindTableRow::empty();
         if self.next_into(&mut row) {

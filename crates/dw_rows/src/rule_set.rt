@@ -31,6 +31,7 @@ impl RuleSet {
     ghost use Rattle.dw_rows.specs.ProgramState.{Sets};
 
     /// No rules.
+    #[inline(always)]
     pub fn new() -> Self
         ensures { result ≡ record { cfa = None; rules = [] } }
     {
@@ -70,7 +71,10 @@ impl RuleSet {
     pub fn assign(&mut self, cfa: Option<CfaRule>, entries: &[RuleEntry])
         requires few { length entries.now ≤ MAX_RULES }
         requires table { IsTable 0 (entries_of entries.now) }
-        ensures { self.new ≡ record { cfa = option_map cfa_rule_of cfa; rules = entries_of entries.now } }
+        ensures { self.new ≡ record {
+          cfa = option_map cfa_rule_of cfa;
+          rules = entries_of entries.now;
+        } }
     {
         self.cfa = cfa;
         self.rules.assign(entries);

@@ -29,7 +29,8 @@ fn place_of_cie(cies: &[CommonInformationEntry<'_>], offset: u64) -> Option<usiz
     requires { Ascends cie_offset (map cie_of cies.now) }
     ensures { MatchOption result
         (cie_at (map cie_of cies.now) offset ≡ None)
-        (λ place. (place < length cies.now) × (cie_at (map cie_of cies.now) offset ≡ slice_get (map cie_of cies.now) place)) }
+        (λ place. (place < length cies.now)
+        × (cie_at (map cie_of cies.now) offset ≡ slice_get (map cie_of cies.now) place)) }
 {
     match cies.binary_search_by_key(&offset, |cie| u64::from(cie.offset)) {
         Ok(place) => Some(place),
@@ -72,7 +73,8 @@ pub fn check_pointers(
     fdes: &[FrameDescriptionEntry<'_>],
 ) -> Result<(), Fault>
     requires { Ascends cie_offset (map cie_of cies.now) }
-    ensures { Judges (first_fault (pointer_fault (map cie_of cies.now)) (map fde_of fdes.now)) result }
+    ensures { Judges (first_fault (pointer_fault (map cie_of cies.now))
+        (map fde_of fdes.now)) result }
 {
     for fde in fdes {
         if find_cie(cies, fde.cie_pointer).is_none() {
@@ -113,7 +115,8 @@ pub fn check_fdes(
 ) -> Result<(), Fault>
     requires order { Ascends cie_offset (map cie_of cies.now) }
     requires left { AreLeftBy (map cie_of cies.now) initial.now }
-    ensures { Judges (first_fault (program_fault (map cie_of cies.now)) (map fde_of fdes.now)) result }
+    ensures { Judges (first_fault (program_fault (map cie_of cies.now))
+        (map fde_of fdes.now)) result }
 {
     for fde in fdes {
         if let Some(cie) = begin_with_cie(&mut context.state, cies, initial, fde.cie_pointer) {

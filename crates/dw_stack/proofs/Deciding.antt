@@ -44,7 +44,8 @@ arrived_none Unreached P d none = refl
 arrived_none (Known s) P d none = absurd (none s d.0)
 arrived_none Conflict P d none = absurd (none d.0 d.2)
 
-arrived_one : (a : InState) (P : StackState → Type 0) (s : StackState) → Describes a P → P s → ((t : StackState) → P t → t ≡ s) → a ≡ Known s
+arrived_one : (a : InState) (P : StackState → Type 0) (s : StackState) → Describes a P → P s → ((t : StackState) → P t → t ≡ s)
+    → a ≡ Known s
 arrived_one Unreached P s d here one = absurd (d s here)
 arrived_one (Known t) P s d here one = ap (λ (x : StackState). Known x) (one t d.0)
 arrived_one Conflict P s d here one = absurd (d.4 (one d.0 d.2 ∙ sym (one d.1 d.3)))
@@ -91,15 +92,19 @@ fault_of kind at = record { kind = kind; at = at }
 answered_yes : (b : Bool) (f : FaultKind) (at : ℕ) (rest : List Question) → b ≡ true → first_no (else_fault b f at ∷ rest) ≡ first_no rest
 answered_yes b f at rest is = ap (λ (c : Bool). first_no (else_fault c f at ∷ rest)) is
 
-answered_no : (b : Bool) (f : FaultKind) (at : ℕ) (rest : List Question) → b ≡ false → first_no (else_fault b f at ∷ rest) ≡ Some (fault_of f at)
+answered_no : (b : Bool) (f : FaultKind) (at : ℕ) (rest : List Question) → b ≡ false
+    → first_no (else_fault b f at ∷ rest) ≡ Some (fault_of f at)
 answered_no b f at rest is = ap (λ (c : Bool). first_no (else_fault c f at ∷ rest)) is
 
 -- the questions of an operation name the first judgement that it doesn't pass
-first_no-map : (p : FaultKind → Bool) (at : ℕ) (fs : List FaultKind) → first_no (map (λ f. else_fault (p f) f at) fs) ≡ option_map (λ f. fault_of f at) (find (λ f. not (p f)) fs)
+first_no-map : (p : FaultKind → Bool) (at : ℕ) (fs : List FaultKind)
+    → first_no (map (λ f. else_fault (p f) f at) fs) ≡ option_map (λ f. fault_of f at) (find (λ f. not (p f)) fs)
 first_no-map p at [] = refl
 first_no-map p at (f ∷ fs) = by (p f) (first_no-map p at fs)
   where
-    by : (b : Bool) → first_no (map (λ g. else_fault (p g) g at) fs) ≡ option_map (λ g. fault_of g at) (find (λ g. not (p g)) fs) → first_no (else_fault b f at ∷ map (λ g. else_fault (p g) g at) fs) ≡ option_map (λ g. fault_of g at) (cond (not b) (Some f) (find (λ g. not (p g)) fs))
+    by : (b : Bool) → first_no (map (λ g. else_fault (p g) g at) fs) ≡ option_map (λ g. fault_of g at) (find (λ g. not (p g)) fs)
+        → first_no (else_fault b f at ∷ map (λ g. else_fault (p g) g at) fs) ≡ option_map (λ g. fault_of g at)
+        (cond (not b) (Some f) (find (λ g. not (p g)) fs))
     by true rest = rest
     by false rest = refl
 
@@ -108,7 +113,7 @@ first_no-append [] ys = refl
 first_no-append ((true, f) ∷ xs) ys = first_no-append xs ys
 first_no-append ((false, f) ∷ xs) ys = refl
 
-at_seam : (before left : List Placed) (x : Placed) → slice_get (before ++ x ∷ left) (length before) ≡ Some x
+pub at_seam : (before left : List Placed) (x : Placed) → slice_get (before ++ x ∷ left) (length before) ≡ Some x
 at_seam [] left x = refl
 at_seam (y ∷ before) left x = at_seam before left x
 
@@ -133,7 +138,8 @@ same_placed t at s = elim (same_tells (stack_of t) s) [
 ]
 
 -- a given state is the right one, or it isn't, and then some are given
-given_tells : (ops : List Placed) (len : ℕ) (given : Option (List State)) (k : ℕ) (s : StackState) → Given ops len given k s ⊎ ((Given ops len given k s → ⊥) × (given ≡ None → ⊥))
+given_tells : (ops : List Placed) (len : ℕ) (given : Option (List State)) (k : ℕ) (s : StackState)
+    → Given ops len given k s ⊎ ((Given ops len given k s → ⊥) × (given ≡ None → ⊥))
 given_tells ops len None k s = inl tt
 given_tells ops len (Some states) k s = elim (slice_get_cases states k).1 [
   | inr past ↦ inr (λ is. let lt = slice_get_within states k (at_offset (place ops len k) s) is in omega (arith, lt, past.0), λ none. cc)
@@ -154,16 +160,27 @@ pub record Certified (kind : Kind) (ops : List Placed) (len : ℕ) (given : Opti
 
 module _ (kind : Kind) (ops : List Placed) (len : ℕ) (laid : IsLaidOut ops len) where
   -- a jump that isn't backward, to where an operation begins or to the end, has a target
-  target_there : (k : ℕ) → k < length ops → (o : Option ℤ) → is_ahead (place ops len (k + 1)) o ≡ true → is_start ops len (jump_target (place ops len (k + 1)) o) ≡ true → (t : Option ℕ) × TargetIs ops len k o t
+  target_there : (k : ℕ) → k < length ops → (o : Option ℤ) → is_ahead (place ops len (k + 1)) o ≡ true
+      → is_start ops len (jump_target (place ops len (k + 1)) o) ≡ true → (t : Option ℕ) × TargetIs ops len k o t
   target_there k lt None ahead start = (None, tt)
   target_there k lt (Some (negsuc n)) ahead start = absurd (cc)
   target_there k lt (Some (pos n)) ahead start = elim (start_tells ops len (place ops len (k + 1) + n)) [
-    | inl found ↦ (Some found.1, record { later = later_place ops len laid k found.1 lt (omega (arith, found.3)); within = found.2; there = ap (λ (t : ℕ). Some t) (sym found.3) })
+    | inl found ↦ (
+      Some found.1,
+      record {
+        later = later_place ops len laid k found.1 lt (omega (arith, found.3));
+        within = found.2;
+        there = ap (λ (t : ℕ). Some t) (sym found.3);
+      },
+    )
     | inr none ↦ let no = none.0 in absurd (cc)
   ]
 
   abbrev Asked : ℕ → Placed → StackState → Type 0
-  Asked k x s = ((first_no (asked_at kind ops len k (effect_of x.1) s x.0) ≡ None) × (out : OutState) × Judged kind ops len k (pieces_before ops k) s out) ⊎ ((f : FaultKind) × (first_no (asked_at kind ops len k (effect_of x.1) s x.0) ≡ Some (fault_of f x.0)) × Objects kind ops len k (pieces_before ops k) s f)
+  Asked k x s = ((first_no (asked_at kind ops len k (effect_of x.1) s x.0) ≡ None) × (out : OutState)
+      × Judged kind ops len k (pieces_before ops k) s out)
+      ⊎ ((f : FaultKind) × (first_no (asked_at kind ops len k (effect_of x.1) s x.0) ≡ Some (fault_of f x.0))
+      × Objects kind ops len k (pieces_before ops k) s f)
 
   module _ (k : ℕ) (x : Placed) (s : StackState) (lt : k < length ops) (stands : slice_get ops k ≡ Some x) where
     abbrev e : StackEffect
@@ -190,18 +207,35 @@ module _ (kind : Kind) (ops : List Placed) (len : ℕ) (laid : IsLaidOut ops len
             let all = all_passed kind ops len k n s e is in
             let target = target_there k lt e.jump all.1 all.2 in
             let height : ℕ = height_after e s in
-            let out : OutState = record { state = next_mode e.role height s.pieced; height = height; piece = is_piece e.role; falls_through = e.falls_through; target = target.0 } in
-            inl (questions ∙ ap (option_map (λ g. fault_of g x.0)) is, out, judged kind ops len k n s e at height all.0 target.0 out target.1 refl refl refl refl refl)
+            let out : OutState = record {
+              state = next_mode e.role height s.pieced;
+              height = height;
+              piece = is_piece e.role;
+              falls_through = e.falls_through;
+              target = target.0;
+            } in
+            inl (
+              questions ∙ ap (option_map (λ g. fault_of g x.0)) is,
+              out,
+              judged kind ops len k n s e at height all.0 target.0 out target.1 refl refl refl refl refl,
+            )
 
   module _ (given : Option (List State)) where
     -- All is good, or this is the first fault. Where no states are given, the questions name no fault, or this one.
     abbrev Named : Option Fault → Type 0
-    Named o = ((given ≡ None → o ≡ None) × Certified kind ops len given) ⊎ ((f : FaultKind) × (a : ℕ) × (given ≡ None → o ≡ Some (fault_of f a)) × IsFirstFault kind ops len given f a)
+    Named o = ((given ≡ None → o ≡ None) × Certified kind ops len given)
+        ⊎ ((f : FaultKind) × (a : ℕ) × (given ≡ None → o ≡ Some (fault_of f a)) × IsFirstFault kind ops len given f a)
 
     named_by : (o p : Option Fault) → o ≡ p → Named p → Named o
-    named_by o p same named = elim named [ inl good ↦ inl (λ none. same ∙ good.0 none, good.1) | inr bad ↦ inr (bad.0, bad.1, λ none. same ∙ bad.2 none, bad.3) ]
+    named_by o p same named = elim named [
+      | inl good ↦ inl (λ none. same ∙ good.0 none, good.1)
+      | inr bad ↦ inr
+          (bad.0, bad.1, λ none. same ∙ bad.2 none, bad.3)
+    ]
 
-    module _ (i : ℕ) (states : List State) (in_states : List InState) (depth pieces : ℕ) (w : Walked kind ops len given i states in_states depth pieces) (le : i ≤ length ops) (l : List StackState) (list_is : states_to kind ops len i ≡ l) where
+    module _ (i : ℕ) (states : List State) (in_states : List InState) (depth pieces : ℕ)
+        (w : Walked kind ops len given i states in_states depth pieces) (le : i ≤ length ops) (l : List StackState)
+        (list_is : states_to kind ops len i ≡ l) where
       comes : (t : StackState) → Has l t → Comes kind ops len i (place ops len i) t
       comes t h = states_come kind ops len laid i t le (subst (λ (m : List StackState). Has m t) (sym list_is) h)
 
@@ -209,15 +243,24 @@ module _ (kind : Kind) (ops : List Placed) (len : ℕ) (laid : IsLaidOut ops len
       listed_there t c = subst (λ (m : List StackState). Has m t) list_is (come_states kind ops len laid i t le c)
 
       nothing_there : l ≡ [] → get_or in_states i Unreached ≡ Unreached
-      nothing_there is = arrived_none (get_or in_states i Unreached) (Comes kind ops len i (place ops len i)) (w.described i (omega arith) le) (λ t c. subst (λ (m : List StackState). Has m t) is (listed_there t c))
+      nothing_there is = arrived_none (get_or in_states i Unreached) (Comes kind ops len i (place ops len i))
+          (w.described i (omega arith) le) (λ t c. subst (λ (m : List StackState). Has m t) is (listed_there t c))
 
-      one_there : (s : StackState) (others : List StackState) → l ≡ s ∷ others → ((t : StackState) → Has others t → t ≡ s) → get_or in_states i Unreached ≡ Known s
-      one_there s others is same = arrived_one (get_or in_states i Unreached) (Comes kind ops len i (place ops len i)) s (w.described i (omega arith) le) (comes s (subst (λ (m : List StackState). Has m s) (sym is) (inl refl))) (λ t c. elim (subst (λ (m : List StackState). Has m t) is (listed_there t c)) [ inl here ↦ sym here | inr later ↦ same t later ])
+      one_there : (s : StackState) (others : List StackState) → l ≡ s ∷ others → ((t : StackState) → Has others t → t ≡ s)
+          → get_or in_states i Unreached ≡ Known s
+      one_there s others is same = arrived_one (get_or in_states i Unreached) (Comes kind ops len i (place ops len i)) s
+          (w.described i (omega arith) le) (comes s (subst (λ (m : List StackState). Has m s) (sym is) (inl refl)))
+          (λ t c. elim (subst (λ (m : List StackState). Has m t) is (listed_there t c)) [ inl here ↦ sym here | inr later ↦ same t later ])
 
-      many_there : (s t : StackState) (others : List StackState) → l ≡ s ∷ others → Has others t → s ≢ t → get_or in_states i Unreached ≡ Conflict
-      many_there s t others is there other = arrived_many (get_or in_states i Unreached) (Comes kind ops len i (place ops len i)) s t (w.described i (omega arith) le) (comes s (subst (λ (m : List StackState). Has m s) (sym is) (inl refl))) (comes t (subst (λ (m : List StackState). Has m t) (sym is) (inr there))) other
+      many_there : (s t : StackState) (others : List StackState) → l ≡ s ∷ others → Has others t → s ≢ t
+          → get_or in_states i Unreached ≡ Conflict
+      many_there s t others is there other = arrived_many (get_or in_states i Unreached) (Comes kind ops len i (place ops len i)) s t
+          (w.described i (omega arith) le) (comes s (subst (λ (m : List StackState). Has m s) (sym is) (inl refl)))
+          (comes t (subst (λ (m : List StackState). Has m t) (sym is) (inr there))) other
 
-    walk : (left : List Placed) (i : ℕ) (before : List Placed) (states : List State) (in_states : List InState) (depth pieces : ℕ) → before ++ left ≡ ops → length before ≡ i → Walked kind ops len given i states in_states depth pieces → Named (first_no (asked_from kind ops len i left))
+    walk : (left : List Placed) (i : ℕ) (before : List Placed) (states : List State) (in_states : List InState) (depth pieces : ℕ)
+        → before ++ left ≡ ops → length before ≡ i → Walked kind ops len given i states in_states depth pieces
+        → Named (first_no (asked_from kind ops len i left))
     walk [] i before states in_states depth pieces parts count w = at_end (states_to kind ops len i) refl
       where
         all : i ≡ length ops
@@ -226,7 +269,8 @@ module _ (kind : Kind) (ops : List Placed) (len : ℕ) (laid : IsLaidOut ops len
         here : (a : InState) → get_or in_states i Unreached ≡ a → get_or in_states (length ops) Unreached ≡ a
         here a is = ap (λ (n : ℕ). get_or in_states n Unreached) (sym all) ∙ is
 
-        certified : (s : StackState) → get_or in_states (length ops) Unreached ≡ Known s → HasResult kind (length ops == 0) s → Certified kind ops len given
+        certified : (s : StackState) → get_or in_states (length ops) Unreached ≡ Known s → HasResult kind (length ops == 0) s
+            → Certified kind ops len given
         certified s one result = record {
           good = end_good kind ops len laid given i all states in_states depth pieces w s one result;
           known = record { each = end_given kind ops len laid given i all states in_states depth pieces w };
@@ -237,22 +281,44 @@ module _ (kind : Kind) (ops : List Placed) (len : ℕ) (laid : IsLaidOut ops len
         }
 
         at_end : (l : List StackState) → states_to kind ops len i ≡ l → Named (first_no (asked_last kind ops len l))
-        at_end [] is = absurd (end_not_nothing kind ops len laid given i all states in_states depth pieces w (here Unreached (nothing_there i states in_states depth pieces w (omega (arith, all)) [] is refl)))
+        at_end [] is = absurd (end_not_nothing kind ops len laid given i all states in_states depth pieces w
+            (here Unreached (nothing_there i states in_states depth pieces w (omega (arith, all)) [] is refl)))
         at_end (s ∷ others) is = elim (others_tell s others) [
-          | inr mixed ↦ inr (fault.Mismatch, len, λ none. answered_no (list_all (same_state s) others) fault.Mismatch len _ mixed.0, end_mismatch kind ops len laid given i all states in_states depth pieces w (here Conflict (many_there i states in_states depth pieces w (omega (arith, all)) (s ∷ others) is s mixed.1 others refl mixed.2 mixed.3)))
+          | inr mixed ↦ inr (
+            fault.Mismatch,
+            len,
+            λ none. answered_no (list_all (same_state s) others) fault.Mismatch len _ mixed.0,
+            end_mismatch kind ops len laid given i all states in_states depth pieces w
+                (here Conflict (many_there i states in_states depth pieces w (omega (arith, all))
+                (s ∷ others) is s mixed.1 others refl mixed.2 mixed.3)),
+          )
           | inl same ↦
-              let one = here (Known s) (one_there i states in_states depth pieces w (omega (arith, all)) (s ∷ others) is s others refl same.1) in
-              let first = answered_yes (list_all (same_state s) others) fault.Mismatch len (else_fault (has_result kind s.mode (length ops == 0) s.pieced s.height) fault.EndsEmpty len ∷ []) same.0 in
+              let one = here (Known s) (one_there i states in_states depth pieces w (omega (arith, all))
+              (s ∷ others) is s others refl same.1) in
+              let first = answered_yes (list_all (same_state s) others) fault.Mismatch len
+              (else_fault (has_result kind s.mode (length ops == 0) s.pieced s.height) fault.EndsEmpty len ∷ []) same.0 in
               elim (bool_tells (has_result kind s.mode (length ops == 0) s.pieced s.height)) [
-                | inl has ↦ inl (λ none. first ∙ answered_yes (has_result kind s.mode (length ops == 0) s.pieced s.height) fault.EndsEmpty len [] has.0, certified s one has.1)
-                | inr bad ↦ inr (fault.EndsEmpty, len, λ none. first ∙ answered_no (has_result kind s.mode (length ops == 0) s.pieced s.height) fault.EndsEmpty len [] bad.0, end_empty kind ops len laid given i all states in_states depth pieces w s one bad.1)
+                | inl has ↦ inl (
+                  λ none. first ∙ answered_yes
+                      (has_result kind s.mode (length ops == 0) s.pieced s.height) fault.EndsEmpty len [] has.0,
+                  certified s one has.1,
+                )
+                | inr bad ↦ inr (
+                  fault.EndsEmpty,
+                  len,
+                  λ none. first
+                      ∙ answered_no (has_result kind s.mode (length ops == 0) s.pieced s.height) fault.EndsEmpty len [] bad.0,
+                  end_empty kind ops len laid given i all states in_states depth pieces w s one bad.1,
+                )
               ]
         ]
     walk (x ∷ left) i before states in_states depth pieces parts count w =
-        at_step (states_to kind ops len i) refl (λ more new deep many next. walk left (i + 1) (before ++ x ∷ []) more new deep many (append_assoc before (x ∷ []) left ∙ parts) (let long = length-append before (x ∷ []) in omega (arith, long, count)) next)
+        at_step (states_to kind ops len i) refl (λ more new deep many next. walk left (i + 1) (before ++ x ∷ []) more new deep many
+        (append_assoc before (x ∷ []) left ∙ parts) (let long = length-append before (x ∷ []) in omega (arith, long, count)) next)
       where
         stands : slice_get ops i ≡ Some x
-        stands = ap (slice_get ops) (sym count) ∙ (ap (λ (xs : List Placed). slice_get xs (length before)) (sym parts) ∙ at_seam before left x)
+        stands = ap (slice_get ops) (sym count) ∙ (ap (λ (xs : List Placed). slice_get xs (length before)) (sym parts)
+            ∙ at_seam before left x)
 
         lt : i < length ops
         lt = slice_get_within ops i x stands
@@ -260,25 +326,69 @@ module _ (kind : Kind) (ops : List Placed) (len : ℕ) (laid : IsLaidOut ops len
         here : (f : FaultKind) → IsFirstFault kind ops len given f (place ops len i) → IsFirstFault kind ops len given f x.0
         here f first = subst (λ (n : ℕ). IsFirstFault kind ops len given f n) (place_of_some ops len i x stands) first
 
-        at_step : (l : List StackState) → states_to kind ops len i ≡ l → ((more : List State) (new : List InState) (deep many : ℕ) → Walked kind ops len given (i + 1) more new deep many → Named (first_no (asked_from kind ops len (i + 1) left))) → Named (first_no (asked_of kind ops len i x l ++ asked_from kind ops len (i + 1) left))
-        at_step [] is on = inr (fault.Unreachable, x.0, λ none. refl, here fault.Unreachable (step_fault kind ops len laid given i states in_states depth pieces w fault.Unreachable lt (nothing_there i states in_states depth pieces w (omega (arith, lt)) [] is refl)))
+        at_step : (l : List StackState) → states_to kind ops len i ≡ l
+            → ((more : List State) (new : List InState) (deep many : ℕ) → Walked kind ops len given (i + 1) more new deep many
+            → Named (first_no (asked_from kind ops len (i + 1) left)))
+            → Named (first_no (asked_of kind ops len i x l ++ asked_from kind ops len (i + 1) left))
+        at_step [] is on = inr (
+          fault.Unreachable,
+          x.0,
+          λ none. refl,
+          here fault.Unreachable (step_fault kind ops len laid given i states in_states depth pieces w fault.Unreachable lt
+              (nothing_there i states in_states depth pieces w (omega (arith, lt)) [] is refl)),
+        )
         at_step (s ∷ others) is on = elim (others_tell s others) [
-          | inr mixed ↦ inr (fault.Mismatch, x.0, λ none. answered_no (list_all (same_state s) others) fault.Mismatch x.0 _ mixed.0, here fault.Mismatch (step_fault kind ops len laid given i states in_states depth pieces w fault.Mismatch lt (many_there i states in_states depth pieces w (omega (arith, lt)) (s ∷ others) is s mixed.1 others refl mixed.2 mixed.3)))
+          | inr mixed ↦ inr (
+            fault.Mismatch,
+            x.0,
+            λ none. answered_no (list_all (same_state s) others) fault.Mismatch x.0 _ mixed.0,
+            here fault.Mismatch (step_fault kind ops len laid given i states in_states depth pieces w fault.Mismatch lt
+                (many_there i states in_states depth pieces w (omega (arith, lt)) (s ∷ others) is s mixed.1 others refl mixed.2 mixed.3)),
+          )
           | inl same ↦
               let one = one_there i states in_states depth pieces w (omega (arith, lt)) (s ∷ others) is s others refl same.1 in
-              let first : first_no (asked_of kind ops len i x (s ∷ others) ++ asked_from kind ops len (i + 1) left) ≡ option_or (first_no (asked_at kind ops len i (effect_of x.1) s x.0)) (first_no (asked_from kind ops len (i + 1) left)) =
-              answered_yes (list_all (same_state s) others) fault.Mismatch x.0 (asked_at kind ops len i (effect_of x.1) s x.0 ++ asked_from kind ops len (i + 1) left) same.0 ∙ first_no-append (asked_at kind ops len i (effect_of x.1) s x.0) (asked_from kind ops len (i + 1) left) in
+              let first : first_no (asked_of kind ops len i x (s ∷ others) ++ asked_from kind ops len (i + 1) left) ≡ option_or
+              (first_no (asked_at kind ops len i (effect_of x.1) s x.0)) (first_no (asked_from kind ops len (i + 1) left)) =
+              answered_yes (list_all (same_state s) others) fault.Mismatch x.0
+              (asked_at kind ops len i (effect_of x.1) s x.0 ++ asked_from kind ops len (i + 1) left) same.0
+              ∙ first_no-append (asked_at kind ops len i (effect_of x.1) s x.0) (asked_from kind ops len (i + 1) left) in
               elim (given_tells ops len given i s) [
-                | inr other ↦ inr (fault.CertState, x.0, λ none. absurd (other.1 none), here fault.CertState (step_fault kind ops len laid given i states in_states depth pieces w fault.CertState lt (s, one, other.0)))
+                | inr other ↦ inr (
+                  fault.CertState,
+                  x.0,
+                  λ none. absurd (other.1 none),
+                  here fault.CertState (step_fault kind ops len laid given i states in_states depth pieces w fault.CertState lt
+                      (s, one, other.0)),
+                )
                 | inl known ↦
                     elim (asked i x s lt stands) [
-                      | inr bad ↦ inr (bad.0, x.0, λ none. first ∙ ap (λ (o : Option Fault). option_or o (first_no (asked_from kind ops len (i + 1) left))) bad.1, here bad.0 (objects_fault kind ops len laid given i states in_states depth pieces w bad.0 s lt one known (subst (λ (n : ℕ). Objects kind ops len i n s bad.0) (sym w.counted) bad.2)))
+                      | inr bad ↦ inr (
+                        bad.0,
+                        x.0,
+                        λ none. first
+                            ∙ ap (λ (o : Option Fault). option_or o (first_no (asked_from kind ops len (i + 1) left))) bad.1,
+                        here bad.0 (objects_fault kind ops len laid given i states in_states depth pieces w bad.0 s lt one known
+                            (subst (λ (n : ℕ). Objects kind ops len i n s bad.0) (sym w.counted) bad.2)),
+                      )
                       | inl fine ↦
                           let out : OutState = fine.1 in
                           let done : Done = record { state = s; height = out.height; piece = out.piece } in
                           let new = passed_on in_states i out in
-                          let stepped : Stepped kind ops len given i pieces in_states done new.0 = record { out = out; one = one; given_is = known; judged = subst (λ (n : ℕ). Judged kind ops len i n s out) (sym w.counted) fine.2; height = refl; piece = refl; passes = new.1 } in
-                          named_by (first_no (asked_of kind ops len i x (s ∷ others) ++ asked_from kind ops len (i + 1) left)) (first_no (asked_from kind ops len (i + 1) left)) (first ∙ ap (λ (o : Option Fault). option_or o (first_no (asked_from kind ops len (i + 1) left))) fine.0) (on _ new.0 _ _ (walked_step kind ops len laid given i states in_states new.0 depth pieces done lt w stepped))
+                          let stepped : Stepped kind ops len given i pieces in_states done new.0 =
+                          record {
+                            out = out;
+                            one = one;
+                            given_is = known;
+                            judged = subst (λ (n : ℕ). Judged kind ops len i n s out)
+                                (sym w.counted) fine.2;
+                            height = refl;
+                            piece = refl;
+                            passes = new.1;
+                          } in
+                          named_by (first_no (asked_of kind ops len i x (s ∷ others) ++ asked_from kind ops len (i + 1) left))
+                          (first_no (asked_from kind ops len (i + 1) left))
+                          (first ∙ ap (λ (o : Option Fault). option_or o (first_no (asked_from kind ops len (i + 1) left))) fine.0)
+                          (on _ new.0 _ _ (walked_step kind ops len laid given i states in_states new.0 depth pieces done lt w stepped))
                     ]
               ]
         ]
@@ -287,22 +397,31 @@ module _ (kind : Kind) (ops : List Placed) (len : ℕ) (laid : IsLaidOut ops len
     unfolding first_fault
     named =
         let first : List InState = Known (start_of kind) ∷ replicate (length ops) Unreached in
-        walk ops 0 [] [] first (start_of kind).height 0 refl refl (walked_start kind ops len laid given first (wide (length ops)) refl (λ j above le. others j above le))
+        walk ops 0 [] [] first (start_of kind).height 0 refl refl
+        (walked_start kind ops len laid given first (wide (length ops)) refl (λ j above le. others j above le))
       where
         wide : (n : ℕ) → length (Known (start_of kind) ∷ replicate n Unreached) ≡ n + 1
         wide n = let long = length-replicate n Unreached in omega (arith, long)
 
-        others : (j : ℕ) → 0 < j → j ≤ length ops → get_or (Known (start_of kind) ∷ replicate (length ops) Unreached) j Unreached ≡ Unreached
+        others : (j : ℕ) → 0 < j → j ≤ length ops → get_or (Known (start_of kind) ∷ replicate (length ops) Unreached) j Unreached
+            ≡ Unreached
         others zero above le = absurd (omega arith)
         others (suc j) above le = get_or-replicate (length ops) j Unreached Unreached (omega arith)
 
 -- the same of an expression
-pub named_expression : (kind : Kind) (target : Target) (bytes : List ℕ) → ((expression_fault kind target bytes ≡ None) × IsGoodExpression kind target bytes) ⊎ ((f : Fault) × (expression_fault kind target bytes ≡ Some f) × IsFaultOf kind target bytes None f)
+pub named_expression : (kind : Kind) (target : Target) (bytes : List ℕ)
+    → ((expression_fault kind target bytes ≡ None) × IsGoodExpression kind target bytes)
+    ⊎ ((f : Fault) × (expression_fault kind target bytes ≡ Some f) × IsFaultOf kind target bytes None f)
 unfolding expression_fault
 named_expression kind target bytes = by_reading (reading_fault target bytes) refl
   where
-    by_reading : (o : Option Fault) → reading_fault target bytes ≡ o → ((option_or (reading_fault target bytes) (first_fault kind (operations_in target bytes) (length bytes)) ≡ None) × IsGoodExpression kind target bytes) ⊎ ((f : Fault) × (option_or (reading_fault target bytes) (first_fault kind (operations_in target bytes) (length bytes)) ≡ Some f) × IsFaultOf kind target bytes None f)
-    by_reading (Some f) is = inr (f, ap (λ (o : Option Fault). option_or o (first_fault kind (operations_in target bytes) (length bytes))) is, inl is)
+    by_reading : (o : Option Fault) → reading_fault target bytes ≡ o
+        → ((option_or (reading_fault target bytes) (first_fault kind (operations_in target bytes) (length bytes)) ≡ None)
+        × IsGoodExpression kind target bytes) ⊎ ((f : Fault)
+        × (option_or (reading_fault target bytes) (first_fault kind (operations_in target bytes) (length bytes)) ≡ Some f)
+        × IsFaultOf kind target bytes None f)
+    by_reading (Some f) is =
+        inr (f, ap (λ (o : Option Fault). option_or o (first_fault kind (operations_in target bytes) (length bytes))) is, inl is)
     by_reading None is =
         let then = ap (λ (o : Option Fault). option_or o (first_fault kind (operations_in target bytes) (length bytes))) is in
         elim (named kind (operations_in target bytes) (length bytes) (laid_if_read target bytes is) None) [

@@ -19,7 +19,8 @@ arrived_is Unreached s is = absurd (cc)
 arrived_is (Known t) s is = let same : t ≡ s = cc in ap (λ (x : StackState). Known x) same
 arrived_is Conflict s is = absurd (cc)
 
-pub describes_same : (a : InState) (P Q : StackState → Type 0) → ((h : StackState) → P h → Q h) → ((h : StackState) → Q h → P h) → Describes a P → Describes a Q
+pub describes_same : (a : InState) (P Q : StackState → Type 0) → ((h : StackState) → P h → Q h) → ((h : StackState) → Q h → P h)
+    → Describes a P → Describes a Q
 describes_same Unreached P Q to from d = λ h q. d h (from h q)
 describes_same (Known s) P Q to from d = (to s d.0, λ h q. d.1 h (from h q))
 describes_same Conflict P Q to from d = (d.0, d.1, to d.0 d.2, to d.1 d.3, d.4)
@@ -27,30 +28,37 @@ describes_same Conflict P Q to from d = (d.0, d.1, to d.0 d.2, to d.1 d.3, d.4)
 pub describes_is : (a b : InState) (P : StackState → Type 0) → a ≡ b → Describes a P → Describes b P
 describes_is a b P e d = subst (λ (x : InState). Describes x P) e d
 
-pub describes_merged : (a b : InState) (s : StackState) (P : StackState → Type 0) → Merges a s b → Describes a P → Describes b (λ h. P h ⊎ (h ≡ s))
+pub describes_merged : (a b : InState) (s : StackState) (P : StackState → Type 0) → Merges a s b → Describes a P
+    → Describes b (λ h. P h ⊎ (h ≡ s))
 describes_merged Unreached b s P m d =
     describes_is (Known s) b (λ h. P h ⊎ (h ≡ s)) (sym m) (inr refl, λ h p. elim p [ inl old ↦ absurd (d h old) | inr new ↦ new ])
 describes_merged (Known t) b s P m d =
     elim m [
-      | inl same ↦ describes_is (Known t) b (λ h. P h ⊎ (h ≡ s)) (sym same.1) (inl d.0, λ h p. elim p [ inl old ↦ d.1 h old | inr new ↦ new ∙ sym same.0 ])
+      | inl same ↦ describes_is (Known t) b (λ h. P h ⊎ (h ≡ s)) (sym same.1)
+          (inl d.0, λ h p. elim p [ inl old ↦ d.1 h old | inr new ↦ new ∙ sym same.0 ])
       | inr other ↦ describes_is Conflict b (λ h. P h ⊎ (h ≡ s)) (sym other.1) (t, s, inl d.0, inr refl, other.0)
     ]
 describes_merged Conflict b s P m d =
     describes_is Conflict b (λ h. P h ⊎ (h ≡ s)) (sym m) (d.0, d.1, inl d.2, inl d.3, d.4)
 
 -- one state more arrives at k
-pub describes_received : (old new : List InState) (k : ℕ) (s : StackState) (j : ℕ) (P : StackState → Type 0) → k < length old → Receives old k s new → Describes (get_or old j Unreached) P → Describes (get_or new j Unreached) (λ h. P h ⊎ ((j ≡ k) × (h ≡ s)))
+pub describes_received : (old new : List InState) (k : ℕ) (s : StackState) (j : ℕ) (P : StackState → Type 0) → k < length old
+    → Receives old k s new → Describes (get_or old j Unreached) P → Describes (get_or new j Unreached) (λ h. P h ⊎ ((j ≡ k) × (h ≡ s)))
 describes_received old new k s j P lt r d =
     elim (cases_eq j k) [
       | inl same ↦
           let d' = subst (λ (i : ℕ). Describes (get_or old i Unreached) P) same d in
           let m = describes_merged (get_or old k Unreached) r.in_state s P r.merges d' in
-          let m' = describes_same r.in_state (λ h. P h ⊎ (h ≡ s)) (λ h. P h ⊎ ((j ≡ k) × (h ≡ s))) (λ h p. elim p [ inl o ↦ inl o | inr n ↦ inr (same, n) ]) (λ h p. elim p [ inl o ↦ inl o | inr n ↦ inr n.1 ]) m in
-          let e : get_or new j Unreached ≡ r.in_state = ap (λ (i : ℕ). get_or new i Unreached) same ∙ ap (λ (xs : List InState). get_or xs k Unreached) r.set ∙ get_or-set_same old k r.in_state Unreached lt in
+          let m' = describes_same r.in_state (λ h. P h ⊎ (h ≡ s)) (λ h. P h ⊎ ((j ≡ k) × (h ≡ s)))
+          (λ h p. elim p [ inl o ↦ inl o | inr n ↦ inr (same, n) ]) (λ h p. elim p [ inl o ↦ inl o | inr n ↦ inr n.1 ]) m in
+          let e : get_or new j Unreached ≡ r.in_state = ap (λ (i : ℕ). get_or new i Unreached) same
+          ∙ ap (λ (xs : List InState). get_or xs k Unreached) r.set ∙ get_or-set_same old k r.in_state Unreached lt in
           describes_is r.in_state (get_or new j Unreached) (λ h. P h ⊎ ((j ≡ k) × (h ≡ s))) (sym e) m'
       | inr other ↦
-          let m' = describes_same (get_or old j Unreached) P (λ h. P h ⊎ ((j ≡ k) × (h ≡ s))) (λ h p. inl p) (λ h p. elim p [ inl o ↦ o | inr n ↦ absurd (other n.0) ]) d in
-          let e : get_or new j Unreached ≡ get_or old j Unreached = ap (λ (xs : List InState). get_or xs j Unreached) r.set ∙ get_or-set_other old k j r.in_state Unreached other in
+          let m' = describes_same (get_or old j Unreached) P (λ h. P h ⊎ ((j ≡ k) × (h ≡ s))) (λ h p. inl p)
+          (λ h p. elim p [ inl o ↦ o | inr n ↦ absurd (other n.0) ]) d in
+          let e : get_or new j Unreached ≡ get_or old j Unreached = ap (λ (xs : List InState). get_or xs j Unreached) r.set
+          ∙ get_or-set_other old k j r.in_state Unreached other in
           describes_is (get_or old j Unreached) (get_or new j Unreached) (λ h. P h ⊎ ((j ≡ k) × (h ≡ s))) (sym e) m'
     ]
 
@@ -65,22 +73,28 @@ pub length_target : (o : Option ℕ) (old new : List InState) (s : StackState) �
 length_target None old new s r = ap (λ (xs : List InState). length xs) r
 length_target (Some k) old new s r = length_received old new k s r
 
-pub describes_next : (b : Bool) (old new : List InState) (k : ℕ) (s : StackState) (n : ℕ) (P : StackState → Type 0) → k < length old → ReceivesIf b old k s new → Describes (get_or old n Unreached) P → Describes (get_or new n Unreached) (λ h. P h ⊎ (IsTrue b × (n ≡ k) × (h ≡ s)))
+pub describes_next : (b : Bool) (old new : List InState) (k : ℕ) (s : StackState) (n : ℕ) (P : StackState → Type 0) → k < length old
+    → ReceivesIf b old k s new → Describes (get_or old n Unreached) P
+    → Describes (get_or new n Unreached) (λ h. P h ⊎ (IsTrue b × (n ≡ k) × (h ≡ s)))
 describes_next true old new k s n P lt r d =
     describes_same (get_or new n Unreached) (λ h. P h ⊎ ((n ≡ k) × (h ≡ s))) (λ h. P h ⊎ (IsTrue true × (n ≡ k) × (h ≡ s)))
     (λ h p. elim p [ inl o ↦ inl o | inr new ↦ inr (refl, new.0, new.1) ])
     (λ h p. elim p [ inl o ↦ inl o | inr new ↦ inr (new.1, new.2) ])
     (describes_received old new k s n P lt r d)
 describes_next false old new k s n P lt r d =
-    describes_is (get_or old n Unreached) (get_or new n Unreached) (λ h. P h ⊎ (IsTrue false × (n ≡ k) × (h ≡ s))) (ap (λ (xs : List InState). get_or xs n Unreached) (sym r))
+    describes_is (get_or old n Unreached) (get_or new n Unreached) (λ h. P h ⊎ (IsTrue false × (n ≡ k) × (h ≡ s)))
+    (ap (λ (xs : List InState). get_or xs n Unreached) (sym r))
     (describes_same (get_or old n Unreached) P (λ h. P h ⊎ (IsTrue false × (n ≡ k) × (h ≡ s)))
     (λ h p. inl p)
     (λ h p. elim p [ inl o ↦ o | inr new ↦ let none = new.0 in absurd (cc) ])
     d)
 
-pub describes_target : (o : Option ℕ) (old new : List InState) (s : StackState) (n : ℕ) (P : StackState → Type 0) → ((k : ℕ) → o ≡ Some k → k < length old) → ReceivesAt o old s new → Describes (get_or old n Unreached) P → Describes (get_or new n Unreached) (λ h. P h ⊎ ((o ≡ Some n) × (h ≡ s)))
+pub describes_target : (o : Option ℕ) (old new : List InState) (s : StackState) (n : ℕ) (P : StackState → Type 0)
+    → ((k : ℕ) → o ≡ Some k → k < length old) → ReceivesAt o old s new → Describes (get_or old n Unreached) P
+    → Describes (get_or new n Unreached) (λ h. P h ⊎ ((o ≡ Some n) × (h ≡ s)))
 describes_target None old new s n P lt r d =
-    describes_is (get_or old n Unreached) (get_or new n Unreached) (λ h. P h ⊎ ((None ≡ Some n) × (h ≡ s))) (ap (λ (xs : List InState). get_or xs n Unreached) (sym r))
+    describes_is (get_or old n Unreached) (get_or new n Unreached) (λ h. P h ⊎ ((None ≡ Some n) × (h ≡ s)))
+    (ap (λ (xs : List InState). get_or xs n Unreached) (sym r))
     (describes_same (get_or old n Unreached) P (λ h. P h ⊎ ((None ≡ Some n) × (h ≡ s)))
     (λ h p. inl p)
     (λ h p. elim p [ inl o ↦ o | inr new ↦ let none = new.0 in absurd (cc) ])

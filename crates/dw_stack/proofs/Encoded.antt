@@ -10,16 +10,19 @@ use Rattle.dw_ops.proofs.Lists.{expressions-are-operations}
 use Rattle.dw_stack.specs.Paths.{Placed, place, IsLaidOut}
 use Rattle.dw_stack.specs.Expressions.{operations_in, reading_fault}
 
-pub first_place : (target : Target) (at : ℕ) (bytes : List ℕ) (ops : List Placed) → AreOperations target at bytes ops → place ops (at + length bytes) 0 ≡ at
+pub first_place : (target : Target) (at : ℕ) (bytes : List ℕ) (ops : List Placed) → AreOperations target at bytes ops
+    → place ops (at + length bytes) 0 ≡ at
 first_place target at bytes [] are = let none = ap length are in omega (arith, none)
 first_place target at bytes (x ∷ xs) (first, rest, parts, encoded, others) = encoded.0
 
-next_place : (target : Target) (at : ℕ) (bytes : List ℕ) (ops : List Placed) → AreOperations target at bytes ops → (j : ℕ) → j < length ops → place ops (at + length bytes) j < place ops (at + length bytes) (suc j)
+next_place : (target : Target) (at : ℕ) (bytes : List ℕ) (ops : List Placed) → AreOperations target at bytes ops → (j : ℕ) → j < length ops
+    → place ops (at + length bytes) j < place ops (at + length bytes) (suc j)
 next_place target at bytes [] are j lt = absurd (omega arith)
 next_place target at bytes (x ∷ xs) (first, rest, parts, encoded, others) zero lt =
     let some = some-bytes target at first x.1 encoded.1 in
     let next = first_place target (at + length first) rest xs others in
-    let same : place xs (at + length bytes) 0 ≡ place xs (at + length first + length rest) 0 = ap (λ (n : ℕ). place xs n 0) (omega (arith, ap length parts, length-append first rest)) in
+    let same : place xs (at + length bytes) 0 ≡ place xs (at + length first + length rest) 0 =
+    ap (λ (n : ℕ). place xs n 0) (omega (arith, ap length parts, length-append first rest)) in
     omega (arith, some, next, same, encoded.0)
 next_place target at bytes (x ∷ xs) (first, rest, parts, encoded, others) (suc j) lt =
     let step = next_place target (at + length first) rest xs others j (omega arith) in
@@ -29,7 +32,8 @@ next_place target at bytes (x ∷ xs) (first, rest, parts, encoded, others) (suc
 pub laid_out : (target : Target) (bytes : List ℕ) (ops : List Placed) → AreOperations target 0 bytes ops → IsLaidOut ops (length bytes)
 laid_out target bytes ops are = subst (λ (n : ℕ). IsLaidOut ops n) (from_zero (length bytes)) (record {
   first = first_place target 0 bytes ops are;
-  each = λ j lt. let e : place ops (0 + length bytes) (suc j) ≡ place ops (0 + length bytes) (j + 1) = ap (place ops (0 + length bytes)) (omega arith) in let step = next_place target 0 bytes ops are j lt in omega (arith, step, e);
+  each = λ j lt. let e : place ops (0 + length bytes) (suc j) ≡ place ops (0 + length bytes) (j + 1) =
+      ap (place ops (0 + length bytes)) (omega arith) in let step = next_place target 0 bytes ops are j lt in omega (arith, step, e);
 })
   where
     from_zero : (n : ℕ) → 0 + n ≡ n
@@ -45,7 +49,8 @@ none_refused [] = refl
 none_refused (x ∷ xs) = none_refused xs
 
 -- what is read to the end is encoded, and what is encoded is read to the end
-pub encoded_of : (target : Target) (bytes : List ℕ) → reading_fault target bytes ≡ None → AreOperations target 0 bytes (operations_in target bytes)
+pub encoded_of : (target : Target) (bytes : List ℕ) → reading_fault target bytes ≡ None
+    → AreOperations target 0 bytes (operations_in target bytes)
 encoded_of target bytes none =
     let r : ReadPosition = record { target = target; position = 0; rest = bytes } in
     (expressions-are-operations r (operations_in target bytes)).0 (all_read (operations_of r) none)
@@ -55,5 +60,6 @@ read_of target bytes ops are =
     let r : ReadPosition = record { target = target; position = 0; rest = bytes } in
     ap fault_in ((expressions-are-operations r ops).1 are) ∙ none_refused ops
 
-pub laid_if_read : (target : Target) (bytes : List ℕ) → reading_fault target bytes ≡ None → IsLaidOut (operations_in target bytes) (length bytes)
+pub laid_if_read : (target : Target) (bytes : List ℕ) → reading_fault target bytes ≡ None
+    → IsLaidOut (operations_in target bytes) (length bytes)
 laid_if_read target bytes none = laid_out target bytes (operations_in target bytes) (encoded_of target bytes none)

@@ -19,7 +19,8 @@ module _ (kind : Kind) (target : Target) (bytes : List ℕ) where
       let laid = laid_out target bytes (operations_in target bytes) good.encoded in
       elim (named kind (operations_in target bytes) (length bytes) laid None) [
         | inl certified ↦ certified.1
-        | inr bad ↦ absurd (good_refuses kind (operations_in target bytes) (length bytes) laid None (λ k x s stands r. tt) good.good bad.0 bad.1 bad.3.refuses)
+        | inr bad ↦ absurd (good_refuses kind (operations_in target bytes) (length bytes) laid None
+            (λ k x s stands r. tt) good.good bad.0 bad.1 bad.3.refuses)
       ]
 
   pub each_has_a_depth : IsGoodExpression kind target bytes → (d : ℕ) × IsDepthOf kind target bytes d
@@ -36,22 +37,28 @@ module _ (kind : Kind) (target : Target) (bytes : List ℕ) where
     | inr other ↦ inr other
   ]
 
-  knows_of : (given : Option (List State)) → (IsOtherCount target bytes given → ⊥) → KnowsOnly kind (operations_in target bytes) (length bytes) given → Knows kind target bytes given
+  knows_of : (given : Option (List State)) → (IsOtherCount target bytes given → ⊥)
+      → KnowsOnly kind (operations_in target bytes) (length bytes) given → Knows kind target bytes given
   knows_of None same known = tt
   knows_of (Some states) same known = elim (cases_eq (length states) (length (operations_in target bytes))) [
     | inl long ↦ states_known kind (operations_in target bytes) (length bytes) states long known
     | inr other ↦ absurd (same other)
   ]
 
-  pub every_expression_has_a_verdict : (given : Option (List State)) → (IsGoodExpression kind target bytes × Knows kind target bytes given) ⊎ ((f : Fault) × IsFaultOf kind target bytes given f)
+  pub every_expression_has_a_verdict : (given : Option (List State)) → (IsGoodExpression kind target bytes × Knows kind target bytes given)
+      ⊎ ((f : Fault) × IsFaultOf kind target bytes given f)
   every_expression_has_a_verdict given = by_reading (reading_fault target bytes) refl
     where
-      by_reading : (o : Option Fault) → reading_fault target bytes ≡ o → (IsGoodExpression kind target bytes × Knows kind target bytes given) ⊎ ((f : Fault) × IsFaultOf kind target bytes given f)
+      by_reading : (o : Option Fault) → reading_fault target bytes ≡ o
+          → (IsGoodExpression kind target bytes × Knows kind target bytes given) ⊎ ((f : Fault) × IsFaultOf kind target bytes given f)
       by_reading (Some f) is = inr (f, inl is)
       by_reading None is = elim (count_tells given) [
         | inr other ↦ inr (record { kind = CertLength; at = 0 }, inr (inl (is, other, refl)))
         | inl same ↦ elim (named kind (operations_in target bytes) (length bytes) (laid_if_read target bytes is) given) [
-          | inl certified ↦ inl (record { encoded = encoded_of target bytes is; good = certified.1.good }, knows_of given same certified.1.known)
+          | inl certified ↦ inl (
+            record { encoded = encoded_of target bytes is; good = certified.1.good },
+            knows_of given same certified.1.known,
+          )
           | inr bad ↦ inr (record { kind = bad.0; at = bad.1 }, inr (inr (is, same, bad.3)))
         ]
       ]

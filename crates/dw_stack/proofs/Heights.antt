@@ -32,7 +32,8 @@ module _ (kind : Kind) (ops : List Placed) (len : ℕ) (good : IsGood kind ops l
     | inl same ↦ let start = start_within kind in let e = ap (λ (t : StackState). t.height) same.1 in omega (arith, start, e)
     | inr last ↦
         let x = last.edge.placed in
-        let limit = good.limit last.edge.number x last.h last.edge.stands (reach_from kind ops len last.a x.0 last.h last.h (sym last.edge.from) refl last.reached) in
+        let limit = good.limit last.edge.number x last.h last.edge.stands
+        (reach_from kind ops len last.a x.0 last.h last.h (sym last.edge.from) refl last.reached) in
         let low = next_height_le (effect_of x.1).role (height_after (effect_of x.1) last.h) last.h.pieced in
         let is = ap (λ (t : StackState). t.height) last.edge.state in
         omega (arith, limit, low, is)

@@ -68,17 +68,29 @@ paired at s = (at, s)
 has_state : (at : ℕ) (come : List (ℕ × StackState)) (s : StackState) → Has come (at, s) → Has (states_at at come) s
 has_state at [] s h = absurd h
 has_state at (c ∷ come) s h = elim (cases_eq c.0 at) [
-  | inl here ↦ subst (λ (l : List StackState). Has l s) (sym (cond-true (eqb c.0 at) (c.1 ∷ states_at at come) (states_at at come) (eq-eqb c.0 at here))) (elim h [ inl same ↦ inl (ap (λ (p : ℕ × StackState). p.1) same) | inr later ↦ inr (has_state at come s later) ])
-  | inr other ↦ subst (λ (l : List StackState). Has l s) (sym (cond-false (eqb c.0 at) (c.1 ∷ states_at at come) (states_at at come) (ne_eqb c.0 at other))) (elim h [ inl same ↦ absurd (other (ap (λ (p : ℕ × StackState). p.0) same)) | inr later ↦ has_state at come s later ])
+  | inl here ↦ subst (λ (l : List StackState). Has l s)
+      (sym (cond-true (eqb c.0 at) (c.1 ∷ states_at at come) (states_at at come) (eq-eqb c.0 at here)))
+      (elim h [ inl same ↦ inl (ap (λ (p : ℕ × StackState). p.1) same) | inr later ↦ inr (has_state at come s later) ])
+  | inr other ↦ subst (λ (l : List StackState). Has l s)
+      (sym (cond-false (eqb c.0 at) (c.1 ∷ states_at at come) (states_at at come) (ne_eqb c.0 at other)))
+      (elim h [ inl same ↦ absurd (other (ap (λ (p : ℕ × StackState). p.0) same)) | inr later ↦ has_state at come s later ])
 ]
 
 state_has : (at : ℕ) (come : List (ℕ × StackState)) (s : StackState) → Has (states_at at come) s → Has come (at, s)
 state_has at [] s h = absurd h
 state_has at (c ∷ come) s h = elim (cases_eq c.0 at) [
   | inl here ↦
-      let it : Has (c.1 ∷ states_at at come) s = subst (λ (l : List StackState). Has l s) (cond-true (eqb c.0 at) (c.1 ∷ states_at at come) (states_at at come) (eq-eqb c.0 at here)) h in
-      elim it [ inl same ↦ inl (ap (λ (n : ℕ). paired n c.1) here ∙ ap (λ (t : StackState). paired at t) same) | inr later ↦ inr (state_has at come s later) ]
-  | inr other ↦ inr (state_has at come s (subst (λ (l : List StackState). Has l s) (cond-false (eqb c.0 at) (c.1 ∷ states_at at come) (states_at at come) (ne_eqb c.0 at other)) h))
+      let it : Has (c.1 ∷ states_at at come) s =
+      subst (λ (l : List StackState). Has l s)
+      (cond-true (eqb c.0 at) (c.1 ∷ states_at at come) (states_at at come) (eq-eqb c.0 at here)) h in
+      elim it [
+        | inl same ↦ inl (ap (λ (n : ℕ). paired n c.1) here ∙ ap (λ (t : StackState). paired at t) same)
+        | inr later ↦ inr
+            (state_has at come s later)
+      ]
+  | inr other ↦
+      inr (state_has at come s (subst (λ (l : List StackState). Has l s)
+      (cond-false (eqb c.0 at) (c.1 ∷ states_at at come) (states_at at come) (ne_eqb c.0 at other)) h))
 ]
 
 -- ---- the offsets behind an operation
@@ -106,47 +118,71 @@ aimed_ahead next b (Some z) e = let same = same_Some _ b e in omega (arith, same
 
 module _ (kind : Kind) (ops : List Placed) (len : ℕ) (laid : IsLaidOut ops len) where
   weaker : (i b : ℕ) (s : StackState) → Comes kind ops len i b s → Comes kind ops len (suc i) b s
-  weaker i b s c = elim c [ inl same ↦ inl same | inr before ↦ inr (record { last = before.last; below = let le = before.below in omega (arith, le) }) ]
-
-  leads_to : (i j b : ℕ) (e : StackEffect) → i < length ops → j ≤ length ops → place ops len j ≡ b → Has (offsets_after ops len i e) b → Leads ops len i e b
-  leads_to i j b e lt le at h = elim (has_split (if e.falls_through then place ops len (i + 1) ∷ [] else []) (offsets_to (branch_target_of ops len i e)) b h) [
-    | inl falls_through ↦ inl (next_has e.falls_through (place ops len (i + 1)) b falls_through)
-    | inr goes ↦
-        let to = target_has (branch_target_of ops len i e) b goes in
-        let ahead = aimed_ahead (place ops len (i + 1)) b e.jump to in
-        inr (to, record { number = j; later = later_place ops len laid i j lt (omega (arith, ahead, at)); within = le; there = at })
+  weaker i b s c = elim c [
+    | inl same ↦ inl same
+    | inr before ↦ inr
+        (record { last = before.last; below = let le = before.below in omega (arith, le) })
   ]
+
+  leads_to : (i j b : ℕ) (e : StackEffect) → i < length ops → j ≤ length ops → place ops len j ≡ b → Has (offsets_after ops len i e) b
+      → Leads ops len i e b
+  leads_to i j b e lt le at h = elim (has_split (if e.falls_through then place ops len (i + 1) ∷ [] else [])
+      (offsets_to (branch_target_of ops len i e)) b h) [
+        | inl falls_through ↦ inl (next_has e.falls_through (place ops len (i + 1)) b falls_through)
+        | inr goes ↦
+            let to = target_has (branch_target_of ops len i e) b goes in
+            let ahead = aimed_ahead (place ops len (i + 1)) b e.jump to in
+            inr (to, record { number = j; later = later_place ops len laid i j lt (omega (arith, ahead, at)); within = le; there = at })
+      ]
 
   leads_has : (i b : ℕ) (e : StackEffect) → Leads ops len i e b → Has (offsets_after ops len i e) b
   leads_has i b e leads = elim leads [
-    | inl falls_through ↦ has_left (if e.falls_through then place ops len (i + 1) ∷ [] else []) (offsets_to (branch_target_of ops len i e)) b (has_next e.falls_through (place ops len (i + 1)) b falls_through.0 falls_through.1)
-    | inr goes ↦ has_right (if e.falls_through then place ops len (i + 1) ∷ [] else []) (offsets_to (branch_target_of ops len i e)) b (has_target (branch_target_of ops len i e) b goes.0)
+    | inl falls_through ↦ has_left (if e.falls_through then place ops len (i + 1) ∷ [] else [])
+        (offsets_to (branch_target_of ops len i e)) b (has_next e.falls_through (place ops len (i + 1)) b falls_through.0 falls_through.1)
+    | inr goes ↦ has_right (if e.falls_through then place ops len (i + 1) ∷ [] else []) (offsets_to (branch_target_of ops len i e)) b
+        (has_target (branch_target_of ops len i e) b goes.0)
   ]
 
   abbrev from_state : ℕ → Placed → StackState → List (ℕ × StackState)
   from_state i x t = map (λ (b : ℕ). paired b (state_after (effect_of x.1) t)) (offsets_after ops len i (effect_of x.1))
 
-  arriving_comes : (i j b : ℕ) (s : StackState) → i ≤ length ops → j ≤ length ops → place ops len j ≡ b → Has (arriving kind ops len i) (b, s) → Comes kind ops len i b s
-  arriving_comes zero j b s le lej at h = elim h [ inl e ↦ inl (ap (λ (p : ℕ × StackState). p.0) e, ap (λ (p : ℕ × StackState). p.1) e) | inr none ↦ absurd none ]
-  arriving_comes (suc i) j b s le lej at h = elim (has_split (arriving kind ops len i) (onward ops len i (slice_get ops i) (states_to kind ops len i)) (b, s) h) [
-    | inl old ↦ weaker i b s (arriving_comes i j b s (omega arith) lej at old)
-    | inr new ↦ over (slice_get ops i) refl (λ t has. arriving_comes i i (place ops len i) t (omega arith) (omega arith) refl has) new
+  arriving_comes : (i j b : ℕ) (s : StackState) → i ≤ length ops → j ≤ length ops → place ops len j ≡ b
+      → Has (arriving kind ops len i) (b, s) → Comes kind ops len i b s
+  arriving_comes zero j b s le lej at h = elim h [
+    | inl e ↦ inl
+        (ap (λ (p : ℕ × StackState). p.0) e, ap (λ (p : ℕ × StackState). p.1) e)
+    | inr none ↦ absurd none
   ]
+  arriving_comes (suc i) j b s le lej at h =
+      elim (has_split (arriving kind ops len i) (onward ops len i (slice_get ops i) (states_to kind ops len i)) (b, s) h) [
+        | inl old ↦ weaker i b s (arriving_comes i j b s (omega arith) lej at old)
+        | inr new ↦ over (slice_get ops i) refl (λ t has. arriving_comes i i (place ops len i) t (omega arith) (omega arith) refl has) new
+      ]
     where
-      over : (o : Option Placed) → slice_get ops i ≡ o → ((t : StackState) → Has (arriving kind ops len i) (place ops len i, t) → Comes kind ops len i (place ops len i) t) → Has (onward ops len i o (states_to kind ops len i)) (b, s) → Comes kind ops len (suc i) b s
+      over : (o : Option Placed) → slice_get ops i ≡ o
+          → ((t : StackState) → Has (arriving kind ops len i) (place ops len i, t) → Comes kind ops len i (place ops len i) t)
+          → Has (onward ops len i o (states_to kind ops len i)) (b, s) → Comes kind ops len (suc i) b s
       over None is before new = absurd new
       over (Some x) is before new =
           let f = flat_map_has (from_state i x) (states_to kind ops len i) (b, s) new in
           let m = map_has (λ (n : ℕ). paired n (state_after (effect_of x.1) f.0)) (offsets_after ops len i (effect_of x.1)) (b, s) f.2 in
           let to : m.0 ≡ b = ap (λ (p : ℕ × StackState). p.0) m.2 in
           let here = before f.0 (state_has (place ops len i) (arriving kind ops len i) f.0 f.1) in
-          let leads = leads_to i j b (effect_of x.1) (slice_get_within ops i x is) lej at (subst (λ (n : ℕ). Has (offsets_after ops len i (effect_of x.1)) n) to m.1) in
+          let leads = leads_to i j b (effect_of x.1) (slice_get_within ops i x is) lej at
+          (subst (λ (n : ℕ). Has (offsets_after ops len i (effect_of x.1)) n) to m.1) in
           inr (record {
             last = record {
               a = place ops len i;
               h = f.0;
               reached = reaches_from_comes kind ops len laid i (place ops len i) f.0 here;
-              edge = record { number = i; placed = x; stands = is; from = sym (place_of_some ops len i x is); leads = leads; state = sym (ap (λ (p : ℕ × StackState). p.1) m.2) };
+              edge = record {
+                number = i;
+                placed = x;
+                stands = is;
+                from = sym (place_of_some ops len i x is);
+                leads = leads;
+                state = sym (ap (λ (p : ℕ × StackState). p.1) m.2);
+              };
             };
             below = omega arith;
           })
@@ -165,12 +201,18 @@ module _ (kind : Kind) (ops : List Placed) (len : ℕ) (laid : IsLaidOut ops len
           let same : e.number ≡ i = omega (arith, before.below, above) in
           let stands : slice_get ops i ≡ Some e.placed = ap (slice_get ops) (sym same) ∙ e.stands in
           let at : before.last.a ≡ place ops len i = sym e.from ∙ sym (place_of_some ops len i e.placed stands) in
-          let here = comes_arriving i (place ops len i) before.last.h (omega arith) (comes_from_reaches kind ops len laid i before.last.h (omega arith) (reach_from kind ops len before.last.a (place ops len i) before.last.h before.last.h at refl before.last.reached)) in
+          let here = comes_arriving i (place ops len i) before.last.h (omega arith)
+          (comes_from_reaches kind ops len laid i before.last.h (omega arith)
+          (reach_from kind ops len before.last.a (place ops len i) before.last.h before.last.h at refl before.last.reached)) in
           let leads = leads_has i b (effect_of e.placed.1) (subst (λ (n : ℕ). Leads ops len n (effect_of e.placed.1) b) same e.leads) in
-          let there = has_map (λ (n : ℕ). paired n (state_after (effect_of e.placed.1) before.last.h)) (offsets_after ops len i (effect_of e.placed.1)) b leads in
-          let it : Has (from_state i e.placed before.last.h) (b, s) = subst (λ (t : StackState). Has (from_state i e.placed before.last.h) (b, t)) (sym e.state) there in
-          let new = has_flat_map (from_state i e.placed) (states_to kind ops len i) before.last.h (b, s) (has_state (place ops len i) (arriving kind ops len i) before.last.h here) it in
-          has_right (arriving kind ops len i) (onward ops len i (slice_get ops i) (states_to kind ops len i)) (b, s) (subst (λ (o : Option Placed). Has (onward ops len i o (states_to kind ops len i)) (b, s)) (sym stands) new)
+          let there = has_map (λ (n : ℕ). paired n (state_after (effect_of e.placed.1) before.last.h))
+          (offsets_after ops len i (effect_of e.placed.1)) b leads in
+          let it : Has (from_state i e.placed before.last.h) (b, s) =
+          subst (λ (t : StackState). Has (from_state i e.placed before.last.h) (b, t)) (sym e.state) there in
+          let new = has_flat_map (from_state i e.placed) (states_to kind ops len i) before.last.h (b, s)
+          (has_state (place ops len i) (arriving kind ops len i) before.last.h here) it in
+          has_right (arriving kind ops len i) (onward ops len i (slice_get ops i) (states_to kind ops len i)) (b, s)
+          (subst (λ (o : Option Placed). Has (onward ops len i o (states_to kind ops len i)) (b, s)) (sym stands) new)
     ]
   ]
     where

@@ -20,3 +20,4 @@ pub mod Telling
 pub mod Named
 pub mod Existing
 pub mod Determined
+pub mod Unbranched

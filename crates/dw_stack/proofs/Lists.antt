@@ -10,7 +10,8 @@ pub listed_length : (ops : List (ℕ × coded.Operation)) → length (listed ops
 listed_length [] = refl
 listed_length (x ∷ xs) = ap suc (listed_length xs)
 
-pub place_read : (ops : List (ℕ × coded.Operation)) (len j : ℕ) (d : ℕ × coded.Operation) → j < length ops → place (listed ops) len j ≡ (get_or ops j d).0
+pub place_read : (ops : List (ℕ × coded.Operation)) (len j : ℕ) (d : ℕ × coded.Operation) → j < length ops
+    → place (listed ops) len j ≡ (get_or ops j d).0
 place_read [] len j d h = absurd (omega arith)
 place_read (x ∷ xs) len zero d h = refl
 place_read (x ∷ xs) len (suc j) d h = place_read xs len j d (omega arith)
@@ -20,7 +21,8 @@ place_beyond [] len j h = refl
 place_beyond (x ∷ xs) len zero h = absurd (omega arith)
 place_beyond (x ∷ xs) len (suc j) h = place_beyond xs len j (omega arith)
 
-pub stands_read : (ops : List (ℕ × coded.Operation)) (j : ℕ) (d : ℕ × coded.Operation) → j < length ops → slice_get (listed ops) j ≡ Some (located_of (get_or ops j d))
+pub stands_read : (ops : List (ℕ × coded.Operation)) (j : ℕ) (d : ℕ × coded.Operation) → j < length ops
+    → slice_get (listed ops) j ≡ Some (located_of (get_or ops j d))
 stands_read [] j d h = absurd (omega arith)
 stands_read (x ∷ xs) zero d h = refl
 stands_read (x ∷ xs) (suc j) d h = stands_read xs j d (omega arith)

@@ -37,6 +37,7 @@ module _ (kind : Kind) (target : Target) (bytes : List ℕ) where
     | inr bad ↦ bad.1 ∙ ap (λ (g : Fault). Some g) (one_fault kind target bytes None bad.0 f bad.2 is)
   ]
 
-  pub answers_for : {X : Type 0} (r : Result X Fault) → OnOk r (IsGoodExpression kind target bytes) → IfErr r (λ f. (f ≡ memory) ⊎ IsFaultOf kind target bytes None f) → Answers (expression_fault kind target bytes) r
+  pub answers_for : {X : Type 0} (r : Result X Fault) → OnOk r (IsGoodExpression kind target bytes)
+      → IfErr r (λ f. (f ≡ memory) ⊎ IsFaultOf kind target bytes None f) → Answers (expression_fault kind target bytes) r
   answers_for (Ok x) good fault = none_if_good good
   answers_for (Err f) good fault = elim fault [ inl lacks ↦ inl lacks | inr is ↦ inr (some_if_first f is) ]

@@ -17,11 +17,13 @@ pieces_mono ops j k le =
     let same = ap (λ (xs : List Placed). sum_by (λ (x : Placed). cond (is_piece (effect_of x.1).role) 1 0) xs) (take-take j k ops le) in
     omega (arith, part, same)
 
-pub pieces_with : (ops : List Placed) (k : ℕ) (x : Placed) → slice_get ops k ≡ Some x → pieces_before ops k + cond (is_piece (effect_of x.1).role) 1 0 ≡ pieces_before ops (k + 1)
+pub pieces_with : (ops : List Placed) (k : ℕ) (x : Placed) → slice_get ops k ≡ Some x
+    → pieces_before ops k + cond (is_piece (effect_of x.1).role) 1 0 ≡ pieces_before ops (k + 1)
 pieces_with ops k x stands = count_more ops k (pieces_before ops k) x (is_piece (effect_of x.1).role) stands refl refl
 
 -- an operation adds the piece that it names
-pub length-pieces_after : (r : Role) (pieces : List Piece) (p : Piece) → length (pieces_after r pieces p) ≡ length pieces + cond (is_piece r) 1 0
+pub length-pieces_after : (r : Role) (pieces : List Piece) (p : Piece)
+    → length (pieces_after r pieces p) ≡ length pieces + cond (is_piece r) 1 0
 length-pieces_after role.Piece pieces p = let e = length-append pieces (p ∷ []) in omega (arith, e)
 length-pieces_after role.Plain pieces p = omega arith
 length-pieces_after role.Register pieces p = omega arith

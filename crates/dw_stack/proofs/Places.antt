@@ -56,7 +56,8 @@ module _ (ops : List Placed) (len : ℕ) (laid : IsLaidOut ops len) where
   ]
 
 -- no operation begins at t, and the end is not there, where t is between two neighbours
-pub nowhere : (ops : List Placed) (len : ℕ) → IsLaidOut ops len → (k t : ℕ) → 0 < k → k ≤ length ops → place ops len (k - 1) < t → (k < length ops → t ≤ place ops len k) → (place ops len k ≡ t → ⊥) → (j : ℕ) → j ≤ length ops → place ops len j ≡ t → ⊥
+pub nowhere : (ops : List Placed) (len : ℕ) → IsLaidOut ops len → (k t : ℕ) → 0 < k → k ≤ length ops → place ops len (k - 1) < t
+    → (k < length ops → t ≤ place ops len k) → (place ops len k ≡ t → ⊥) → (j : ℕ) → j ≤ length ops → place ops len j ≡ t → ⊥
 nowhere ops len laid k t pos le low high ne j lej e =
     elim (cases_order j k) [
       | inl same ↦ ne (ap (place ops len) (sym same) ∙ e)
@@ -84,6 +85,10 @@ count_le ops len laid = omega (arith, place_ge ops len laid (length ops) (omega 
 pub place_le : (ops : List Placed) (len : ℕ) → IsLaidOut ops len → (j : ℕ) → place ops len j ≤ len
 place_le ops len laid j =
     elim (cases_lt j (length ops)) [
-      | inl within ↦ omega (arith, place_mono ops len laid j (length ops) within (omega arith), place_past ops len (length ops) (omega arith))
+      | inl within ↦ omega (
+        arith,
+        place_mono ops len laid j (length ops) within (omega arith),
+        place_past ops len (length ops) (omega arith),
+      )
       | inr past ↦ omega (arith, place_past ops len j past)
     ]

@@ -26,22 +26,32 @@ module _ (kind : Kind) (ops : List Placed) (len : ℕ) where
   reach_from b b' h h' eb eh r =
       subst (λ (x : ℕ). Reaches kind ops len x h') eb (subst (λ (x : StackState). Reaches kind ops len b x) eh r)
 
-  longer : (path : List ℕ) (a : ℕ) (h : StackState) (b : ℕ) (g : StackState) (c : ℕ) (k : StackState) → Follows ops len a h path b g → Edge ops len b g c k → Follows ops len a h (path ++ c ∷ []) c k
+  longer : (path : List ℕ) (a : ℕ) (h : StackState) (b : ℕ) (g : StackState) (c : ℕ) (k : StackState) → Follows ops len a h path b g
+      → Edge ops len b g c k → Follows ops len a h (path ++ c ∷ []) c k
   longer [] a h b g c k f e = (k, move_from b a g h c k (sym f.0) (sym f.1) e, (refl, refl))
   longer (d ∷ path) a h b g c k f e = (f.0, f.1, longer path d f.0 b g c k f.2 e)
 
   -- one edge more
-  pub extend : (b : ℕ) (g : StackState) (c : ℕ) (k : StackState) → Reaches kind ops len b g → Edge ops len b g c k → Reaches kind ops len c k
+  pub extend : (b : ℕ) (g : StackState) (c : ℕ) (k : StackState) → Reaches kind ops len b g → Edge ops len b g c k
+      → Reaches kind ops len c k
   extend b g c k r e = record { path = r.path ++ c ∷ []; follows = longer r.path 0 (start_of kind) b g c k r.follows e }
 
   pub at_start : Reaches kind ops len 0 (start_of kind)
   at_start = record { path = []; follows = (refl, refl) }
 
-  last_from : (path : List ℕ) (a : ℕ) (h : StackState) (b : ℕ) (g : StackState) → Reaches kind ops len a h → Follows ops len a h path b g → ((a ≡ b) × (h ≡ g)) ⊎ LastEdge kind ops len b g
+  last_from : (path : List ℕ) (a : ℕ) (h : StackState) (b : ℕ) (g : StackState) → Reaches kind ops len a h → Follows ops len a h path b g
+      → ((a ≡ b) × (h ≡ g)) ⊎ LastEdge kind ops len b g
   last_from [] a h b g r f = inl f
   last_from (c ∷ path) a h b g r f =
       elim (last_from path c f.0 b g (extend a h c f.0 r f.1) f.2) [
-        | inl same ↦ inr (record { a = a; h = h; reached = r; edge = subst (λ (x : ℕ). Edge ops len a h x g) same.0 (subst (λ (x : StackState). Edge ops len a h c x) same.1 f.1) })
+        | inl same ↦
+            inr (record {
+              a = a;
+              h = h;
+              reached = r;
+              edge = subst (λ (x : ℕ). Edge ops len a h x g) same.0
+                  (subst (λ (x : StackState). Edge ops len a h c x) same.1 f.1);
+            })
         | inr last ↦ inr last
       ]
 
@@ -56,7 +66,8 @@ pub record Lands (ops : List Placed) (len k b : ℕ) : Type 0 where
   pub within : number ≤ length ops
   pub there : place ops len number ≡ b
 
-pub lands : (ops : List Placed) (len k : ℕ) (x : Placed) (b : ℕ) → slice_get ops k ≡ Some x → Leads ops len k (effect_of x.1) b → Lands ops len k b
+pub lands : (ops : List Placed) (len k : ℕ) (x : Placed) (b : ℕ) → slice_get ops k ≡ Some x → Leads ops len k (effect_of x.1) b
+    → Lands ops len k b
 lands ops len k x b s leads =
     let within = slice_get_within ops k x s in
     elim leads [
@@ -64,7 +75,8 @@ lands ops len k x b s leads =
       | inr goes ↦ record { number = goes.1.number; later = goes.1.later; within = goes.1.within; there = goes.1.there }
     ]
 
-pub edge_lands : (ops : List Placed) (len a : ℕ) (h : StackState) (b : ℕ) (g : StackState) (e : Edge ops len a h b g) → Lands ops len e.number b
+pub edge_lands : (ops : List Placed) (len a : ℕ) (h : StackState) (b : ℕ) (g : StackState) (e : Edge ops len a h b g)
+    → Lands ops len e.number b
 edge_lands ops len a h b g e = lands ops len e.number e.placed b e.stands e.leads
 
 -- the height h comes to offset b from the start, or over an edge of an operation numbered below i
@@ -84,7 +96,8 @@ module _ (kind : Kind) (ops : List Placed) (len : ℕ) (laid : IsLaidOut ops len
       ]
 
   -- all that comes to an operation has come over the operations before it
-  pub comes_from_reaches : (i : ℕ) (h : StackState) → i ≤ length ops → Reaches kind ops len (place ops len i) h → Comes kind ops len i (place ops len i) h
+  pub comes_from_reaches : (i : ℕ) (h : StackState) → i ≤ length ops → Reaches kind ops len (place ops len i) h
+      → Comes kind ops len i (place ops len i) h
   comes_from_reaches i h le r =
       elim (last_edge kind ops len (place ops len i) h r) [
         | inl same ↦ inl same

@@ -25,7 +25,8 @@ use Rattle.dw_stack.proofs.Ends.{pieced_after, result_there}
 use Rattle.dw_stack.proofs.Routes.{reach_from, extend, at_start, reached_place, edge_lands}
 
 -- per operation: what it names is what its role says
-pending_is : (op : Operation) (s : List ℕ) (p : Option LocationDescription) (h : ℕ) (b : Bool) → p ≡ named op s → PendingIs (next_mode (effect_of op).role h b).mode p (next_mode (effect_of op).role h b).height
+pending_is : (op : Operation) (s : List ℕ) (p : Option LocationDescription) (h : ℕ) (b : Bool) → p ≡ named op s
+    → PendingIs (next_mode (effect_of op).role h b).mode p (next_mode (effect_of op).role h b).height
 pending_is (reg r) s p h b e = (r, e)
 pending_is (regx r) s p h b e = (r, e)
 pending_is (implicit_value bytes) s p h b e = inr (bytes, e)
@@ -35,7 +36,8 @@ pending_is (bit_piece n m) s p h b e = (e, refl)
 pending_is _ s p h b e = e
 
 -- per operation: where it jumps it has a jump, and else it falls through
-branches : (op : Operation) (s : List ℕ) → MatchBool (jumps op s) ((z : ℤ) × ((effect_of op).jump ≡ Some z)) (IsTrue (effect_of op).falls_through)
+branches : (op : Operation) (s : List ℕ) → MatchBool (jumps op s) ((z : ℤ) × ((effect_of op).jump ≡ Some z))
+    (IsTrue (effect_of op).falls_through)
 branches (bra z) s = either (not (eqb (entry s 0) 0))
   where
     either : (b : Bool) → MatchBool b ((y : ℤ) × ((effect_of (bra z)).jump ≡ Some y)) (IsTrue true)
@@ -45,7 +47,8 @@ branches (skip z) s = (z, refl)
 branches _ s = refl
 
 -- the rest goes by roles
-height_behind : (r : Role) (new rest : List ℕ) (b : Bool) → length (stack_after r new rest) ≡ (next_mode r (length rest + length new) b).height
+height_behind : (r : Role) (new rest : List ℕ) (b : Bool)
+    → length (stack_after r new rest) ≡ (next_mode r (length rest + length new) b).height
 height_behind role.Piece new rest b = refl
 height_behind role.Plain new rest b = let e = length-append rest new in omega (arith, e)
 height_behind role.Register new rest b = let e = length-append rest new in omega (arith, e)
@@ -56,7 +59,8 @@ parts_push : (parts : List Piece) (p : Piece) → has_pieces (parts ++ p ∷ [])
 parts_push [] p = refl
 parts_push (q ∷ parts) p = refl
 
-pieced_behind : (r : Role) (h : ℕ) (b : Bool) (parts : List Piece) (p : Piece) → b ≡ has_pieces parts → (next_mode r h b).pieced ≡ has_pieces (pieces_after r parts p)
+pieced_behind : (r : Role) (h : ℕ) (b : Bool) (parts : List Piece) (p : Piece) → b ≡ has_pieces parts
+    → (next_mode r h b).pieced ≡ has_pieces (pieces_after r parts p)
 pieced_behind role.Piece h b parts p e = sym (parts_push parts p)
 pieced_behind role.Plain h b parts p e = e
 pieced_behind role.Register h b parts p e = e
@@ -64,11 +68,14 @@ pieced_behind role.Bytes h b parts p e = e
 pieced_behind role.Top h b parts p e = e
 
 -- one step leads from agreement to agreement
-agrees_after : (m : Meaning) (ops : List Placed) (len : ℕ) (s : StackState) (c d : Configuration) (t : Step m ops len c d) → Agrees s c → Agrees (state_after (effect_of t.meets.placed.1) s) d
+agrees_after : (m : Meaning) (ops : List Placed) (len : ℕ) (s : StackState) (c d : Configuration) (t : Step m ops len c d) → Agrees s c
+    → Agrees (state_after (effect_of t.meets.placed.1) s) d
 agrees_after m ops len s c d t a = record {
-  height = ap length t.stack ∙ height_behind e.role t.new (take (length c.stack - e.takes) c.stack) s.pieced ∙ ap (λ (n : ℕ). (next_mode e.role n s.pieced).height) counts;
+  height = ap length t.stack ∙ height_behind e.role t.new (take (length c.stack - e.takes) c.stack) s.pieced
+      ∙ ap (λ (n : ℕ). (next_mode e.role n s.pieced).height) counts;
   pending = pending_is op c.stack d.pending (s.height - e.takes + e.adds) s.pieced t.pending;
-  pieces = pieced_behind e.role (s.height - e.takes + e.adds) s.pieced c.pieces (record { location = location_of c.stack c.pending; size = extent_of op }) a.pieces ∙ ap has_pieces (sym t.pieces);
+  pieces = pieced_behind e.role (s.height - e.takes + e.adds) s.pieced c.pieces
+      (record { location = location_of c.stack c.pending; size = extent_of op }) a.pieces ∙ ap has_pieces (sym t.pieces);
 }
   where
     op : Operation
@@ -77,7 +84,8 @@ agrees_after m ops len s c d t a = record {
     e : StackEffect
     e = effect_of t.meets.placed.1
 
-    counts : length (take (length c.stack - (effect_of t.meets.placed.1).takes) c.stack) + length t.new ≡ s.height - (effect_of t.meets.placed.1).takes + (effect_of t.meets.placed.1).adds
+    counts : length (take (length c.stack - (effect_of t.meets.placed.1).takes) c.stack) + length t.new ≡ s.height -
+        (effect_of t.meets.placed.1).takes + (effect_of t.meets.placed.1).adds
     counts =
         let l = length-take (length c.stack - (effect_of t.meets.placed.1).takes) c.stack in
         let fair = m.fair t.meets.placed.1 c.stack t.new t.meets.entries t.answered in
@@ -107,7 +115,8 @@ can_do r mode.Register h n p e alone is = absurd (cc)
 can_do r mode.Value h n p e alone is = absurd (cc)
 
 -- one step more at the end of a run
-pub run_more : (m : Meaning) (ops : List Placed) (len n : ℕ) (c d e : Configuration) → Run m ops len n c d → Step m ops len d e → Run m ops len (suc n) c e
+pub run_more : (m : Meaning) (ops : List Placed) (len n : ℕ) (c d e : Configuration) → Run m ops len n c d → Step m ops len d e
+    → Run m ops len (suc n) c e
 run_more m ops len zero c d e run t = (e, subst (λ (x : Configuration). Step m ops len x e) (sym run) t, refl)
 run_more m ops len (suc n) c d e run t = (run.0, run.1, run_more m ops len n run.0 d e run.2 t)
 
@@ -118,23 +127,29 @@ module _ (kind : Kind) (ops : List Placed) (len : ℕ) (laid : IsLaidOut ops len
   ahead_of k x (negsuc n) stands jump = absurd (good.ahead k (negsuc n) x stands jump refl)
 
   -- where a jump leads is its target on paths
-  target_is : (k b : ℕ) (x : Placed) (o : Option ℤ) → slice_get ops k ≡ Some x → (effect_of x.1).jump ≡ o → JumpsTo o (place ops len (k + 1)) b → jump_target (place ops len (k + 1)) o ≡ Some b
+  target_is : (k b : ℕ) (x : Placed) (o : Option ℤ) → slice_get ops k ≡ Some x → (effect_of x.1).jump ≡ o
+      → JumpsTo o (place ops len (k + 1)) b → jump_target (place ops len (k + 1)) o ≡ Some b
   target_is k b x None stands jump to = absurd to
   target_is k b x (Some (pos n)) stands jump to = let same : pos b ≡ pos (place ops len (k + 1) + n) = to in cc
   target_is k b x (Some (negsuc n)) stands jump to = absurd (good.ahead k (negsuc n) x stands jump refl)
 
-  leads_there : (k b : ℕ) (x : Placed) (j : Bool) → slice_get ops k ≡ Some x → MatchBool j ((z : ℤ) × ((effect_of x.1).jump ≡ Some z)) (IsTrue (effect_of x.1).falls_through) → MatchBool j (JumpsTo (effect_of x.1).jump (place ops len (k + 1)) b) (b ≡ place ops len (k + 1)) → Leads ops len k (effect_of x.1) b
-  leads_there k b x true stands br to = let there = target_is k b x (effect_of x.1).jump stands refl to in inr (there, good.targets k b x stands there)
+  leads_there : (k b : ℕ) (x : Placed) (j : Bool) → slice_get ops k ≡ Some x
+      → MatchBool j ((z : ℤ) × ((effect_of x.1).jump ≡ Some z)) (IsTrue (effect_of x.1).falls_through)
+      → MatchBool j (JumpsTo (effect_of x.1).jump (place ops len (k + 1)) b) (b ≡ place ops len (k + 1)) → Leads ops len k (effect_of x.1) b
+  leads_there k b x true stands br to = let there = target_is k b x (effect_of x.1).jump stands refl to in
+      inr (there, good.targets k b x stands there)
   leads_there k b x false stands br to = inl (br, to)
 
   -- a step goes along an edge
-  pub step_edge : (m : Meaning) (s : StackState) (c d : Configuration) (t : Step m ops len c d) → Edge ops len c.offset s d.offset (state_after (effect_of t.meets.placed.1) s)
+  pub step_edge : (m : Meaning) (s : StackState) (c d : Configuration) (t : Step m ops len c d)
+      → Edge ops len c.offset s d.offset (state_after (effect_of t.meets.placed.1) s)
   step_edge m s c d t = record {
     number = t.meets.number;
     placed = t.meets.placed;
     stands = t.meets.stands;
     from = t.meets.from;
-    leads = leads_there t.meets.number d.offset t.meets.placed (jumps t.meets.placed.1 c.stack) t.meets.stands (branches t.meets.placed.1 c.stack) t.to;
+    leads = leads_there t.meets.number d.offset t.meets.placed (jumps t.meets.placed.1 c.stack) t.meets.stands
+        (branches t.meets.placed.1 c.stack) t.to;
     state = refl;
   }
 
@@ -148,7 +163,11 @@ module _ (kind : Kind) (ops : List Placed) (len : ℕ) (laid : IsLaidOut ops len
   run_follows m (suc n) c d r run =
       let t = run.1 in
       let after = state_after (effect_of t.meets.placed.1) r.0 in
-      run_follows m n run.0 d (after, extend kind ops len c.offset r.0 run.0.offset after r.1 (step_edge m r.0 c run.0 t), agrees_after m ops len r.0 c run.0 t r.2) run.2
+      run_follows m n run.0 d (
+        after,
+        extend kind ops len c.offset r.0 run.0.offset after r.1 (step_edge m r.0 c run.0 t),
+        agrees_after m ops len r.0 c run.0 t r.2,
+      ) run.2
 
   agrees_at_start : (c : Configuration) → Starts kind c → Agrees (start_of kind) c
   agrees_at_start c s = record {
@@ -176,13 +195,15 @@ module _ (kind : Kind) (ops : List Placed) (len : ℕ) (laid : IsLaidOut ops len
   )
 
   -- each step comes to a later operation, and where a run comes to has its number
-  run_later : (m : Meaning) (n i : ℕ) (c d : Configuration) → i ≤ length ops → place ops len i ≡ c.offset → Run m ops len n c d → (j : ℕ) × (i + n ≤ j) × (j ≤ length ops) × (place ops len j ≡ d.offset)
+  run_later : (m : Meaning) (n i : ℕ) (c d : Configuration) → i ≤ length ops → place ops len i ≡ c.offset → Run m ops len n c d
+      → (j : ℕ) × (i + n ≤ j) × (j ≤ length ops) × (place ops len j ≡ d.offset)
   run_later m zero i c d le at run = (i, omega arith, le, at ∙ ap (λ (e : Configuration). e.offset) run)
   run_later m (suc n) i c d le at run =
       let t = run.1 in
       let e = step_edge m (start_of kind) c run.0 t in
       let l = edge_lands ops len c.offset (start_of kind) run.0.offset (state_after (effect_of t.meets.placed.1) (start_of kind)) e in
-      let same : e.number ≡ i = place_inj ops len laid e.number i (omega (arith, slice_get_within ops e.number e.placed e.stands)) le (place_of_some ops len e.number e.placed e.stands ∙ e.from ∙ sym at) in
+      let same : e.number ≡ i = place_inj ops len laid e.number i (omega (arith, slice_get_within ops e.number e.placed e.stands)) le
+      (place_of_some ops len e.number e.placed e.stands ∙ e.from ∙ sym at) in
       let later = run_later m n l.number run.0 d l.within l.there run.2 in
       (later.0, omega (arith, later.1, l.later, same), later.2, later.3)
 
@@ -190,7 +211,8 @@ module _ (kind : Kind) (ops : List Placed) (len : ℕ) (laid : IsLaidOut ops len
   before_end : (j : ℕ) (d : Configuration) → j ≤ length ops → place ops len j ≡ d.offset → Meets ops d → j + 1 ≤ length ops
   before_end j d le at t =
       let within = slice_get_within ops t.number t.placed t.stands in
-      let same : t.number ≡ j = place_inj ops len laid t.number j (omega (arith, within)) le (place_of_some ops len t.number t.placed t.stands ∙ t.from ∙ sym at) in
+      let same : t.number ≡ j = place_inj ops len laid t.number j (omega (arith, within)) le
+      (place_of_some ops len t.number t.placed t.stands ∙ t.from ∙ sym at) in
       omega (arith, same, within)
 
   -- a step leads to a later offset
@@ -198,7 +220,13 @@ module _ (kind : Kind) (ops : List Placed) (len : ℕ) (laid : IsLaidOut ops len
   step_later m c d t =
       let e = step_edge m (start_of kind) c d t in
       let l = edge_lands ops len c.offset (start_of kind) d.offset (state_after (effect_of t.meets.placed.1) (start_of kind)) e in
-      omega (arith, l.there, e.from, place_of_some ops len e.number e.placed e.stands, place_mono ops len laid e.number l.number l.later l.within)
+      omega (
+        arith,
+        l.there,
+        e.from,
+        place_of_some ops len e.number e.placed e.stands,
+        place_mono ops len laid e.number l.number l.later l.within,
+      )
 
   -- the configuration behind a step
   behind : (x : Placed) (c : Configuration) (new : List ℕ) → ℕ → Configuration
@@ -210,25 +238,52 @@ module _ (kind : Kind) (ops : List Placed) (len : ℕ) (laid : IsLaidOut ops len
   }
 
   -- a step from an operation that is there
-  go_to : (m : Meaning) (c : Configuration) (new : List ℕ) (t : Meets ops c) (j : Bool) → m.answer t.placed.1 c.stack ≡ Ok new → j ≡ jumps t.placed.1 c.stack → MatchBool j ((z : ℤ) × ((effect_of t.placed.1).jump ≡ Some z)) (IsTrue (effect_of t.placed.1).falls_through) → (e : Configuration) × Step m ops len c e
+  go_to : (m : Meaning) (c : Configuration) (new : List ℕ) (t : Meets ops c) (j : Bool) → m.answer t.placed.1 c.stack ≡ Ok new
+      → j ≡ jumps t.placed.1 c.stack → MatchBool j ((z : ℤ) × ((effect_of t.placed.1).jump ≡ Some z))
+      (IsTrue (effect_of t.placed.1).falls_through) → (e : Configuration) × Step m ops len c e
   unfolding behind
   go_to m c new t true answered is br =
       let next : ℕ = place ops len (t.number + 1) in
       let ahead = ahead_of t.number t.placed br.0 t.stands br.1 in
       let jump : (effect_of t.placed.1).jump ≡ Some (pos ahead.0) = br.1 ∙ ap (λ (z : ℤ). Some z) ahead.1 in
-      let there : JumpsTo (effect_of t.placed.1).jump next (next + ahead.0) = subst (λ (o : Option ℤ). JumpsTo o next (next + ahead.0)) (sym jump) refl in
-      (behind t.placed c new (next + ahead.0), record { meets = t; new = new; answered = answered; to = subst (λ (b : Bool). MatchBool b (JumpsTo (effect_of t.placed.1).jump next (next + ahead.0)) (next + ahead.0 ≡ next)) is there; stack = refl; pending = refl; pieces = refl })
+      let there : JumpsTo (effect_of t.placed.1).jump next (next + ahead.0) =
+      subst (λ (o : Option ℤ). JumpsTo o next (next + ahead.0)) (sym jump) refl in (
+        behind t.placed c new (next + ahead.0),
+        record {
+          meets = t;
+          new = new;
+          answered = answered;
+          to = subst (λ (b : Bool). MatchBool b (JumpsTo (effect_of t.placed.1).jump next (next + ahead.0))
+              (next + ahead.0 ≡ next)) is there;
+          stack = refl;
+          pending = refl;
+          pieces = refl;
+        },
+      )
   go_to m c new t false answered is br =
-      let next : ℕ = place ops len (t.number + 1) in
-      (behind t.placed c new next, record { meets = t; new = new; answered = answered; to = subst (λ (b : Bool). MatchBool b (JumpsTo (effect_of t.placed.1).jump next next) (next ≡ next)) is refl; stack = refl; pending = refl; pieces = refl })
+      let next : ℕ = place ops len (t.number + 1) in (
+        behind t.placed c new next,
+        record {
+          meets = t;
+          new = new;
+          answered = answered;
+          to = subst (λ (b : Bool). MatchBool b (JumpsTo (effect_of t.placed.1).jump next next) (next ≡ next)) is refl;
+          stack =
+              refl;
+          pending = refl;
+          pieces = refl;
+        },
+      )
 
   -- an operation that is there answers, or says why it doesn't
-  answer_of : (m : Meaning) (c : Configuration) (t : Meets ops c) (a : Result (List ℕ) EvaluationError) → m.answer t.placed.1 c.stack ≡ a → IsNotStuck kind m ops len c
+  answer_of : (m : Meaning) (c : Configuration) (t : Meets ops c) (a : Result (List ℕ) EvaluationError) → m.answer t.placed.1 c.stack ≡ a
+      → IsNotStuck kind m ops len c
   answer_of m c t (Ok new) is = inr (inl (go_to m c new t (jumps t.placed.1 c.stack) is refl (branches t.placed.1 c.stack)))
   answer_of m c t (Err why) is = inr (inr (why, record { meets = t; answered = is }))
 
   -- where a path comes to an operation, all that it needs is there
-  pub meets_at : (c : Configuration) (s : StackState) → Reaches kind ops len c.offset s → Agrees s c → (k : ℕ) (x : Placed) → slice_get ops k ≡ Some x → x.0 ≡ c.offset → Meets ops c
+  pub meets_at : (c : Configuration) (s : StackState) → Reaches kind ops len c.offset s → Agrees s c → (k : ℕ) (x : Placed)
+      → slice_get ops k ≡ Some x → x.0 ≡ c.offset → Meets ops c
   meets_at c s there agrees k x stands at =
       let here = reach_from kind ops len c.offset x.0 s s (sym at) refl there in
       let needs = good.needs k x s stands here in
@@ -238,7 +293,8 @@ module _ (kind : Kind) (ops : List Placed) (len : ℕ) (laid : IsLaidOut ops len
         stands = stands;
         from = at;
         entries = omega (arith, needs, agrees.height);
-        can = can_do (effect_of x.1).role s.mode s.height (length c.stack) c.pending agrees.height (good.alone k x s stands here) agrees.pending;
+        can = can_do (effect_of x.1).role s.mode s.height (length c.stack) c.pending agrees.height
+            (good.alone k x s stands here) agrees.pending;
       }
 
   -- from where a path comes, it goes on, or stops, or this is the end
@@ -255,23 +311,39 @@ module _ (kind : Kind) (ops : List Placed) (len : ℕ) (laid : IsLaidOut ops len
         | inr past ↦
             let here : c.offset ≡ len = sym p.2 ∙ place_past ops len p.0 past.0 in
             let reached = reach_from kind ops len c.offset len r.0 r.0 here refl r.1 in
-            inl (record { there = here; result = result_there kind (length ops == 0) r.0 c (pieced_after kind ops len len r.0 reached) r.2 (good.ends r.0 reached) })
+            inl (record {
+              there = here;
+              result = result_there kind (length ops == 0) r.0 c (pieced_after kind ops len len r.0 reached) r.2
+                  (good.ends r.0 reached);
+            })
       ]
 
   -- no stack is above the depth
-  bound : (m : Meaning) (n depth : ℕ) (c d : Configuration) → IsDepth kind ops len depth → Stands c → length c.stack ≤ depth → Run m ops len n c d → length d.stack ≤ depth
+  bound : (m : Meaning) (n depth : ℕ) (c d : Configuration) → IsDepth kind ops len depth → Stands c → length c.stack ≤ depth
+      → Run m ops len n c d → length d.stack ≤ depth
   unfolding Stands
   bound m zero depth c d deep r le run = let same = ap (λ (e : Configuration). length e.stack) run in omega (arith, same)
   bound m (suc n) depth c d deep r le run =
       let t = run.1 in
       let after = state_after (effect_of t.meets.placed.1) r.0 in
       let agrees = agrees_after m ops len r.0 c run.0 t r.2 in
-      let below = deep.greatest (height_after (effect_of t.meets.placed.1) r.0) (inr (t.meets.number, t.meets.placed, r.0, t.meets.stands, reach_from kind ops len c.offset t.meets.placed.0 r.0 r.0 (sym t.meets.from) refl r.1, inr refl)) in
+      let below = deep.greatest (height_after (effect_of t.meets.placed.1) r.0)
+      (inr (
+        t.meets.number,
+        t.meets.placed,
+        r.0,
+        t.meets.stands,
+        reach_from kind ops len c.offset t.meets.placed.0 r.0 r.0
+            (sym t.meets.from) refl r.1,
+        inr refl,
+      )) in
       let low = next_height_le (effect_of t.meets.placed.1).role (height_after (effect_of t.meets.placed.1) r.0) r.0.pieced in
-      bound m n depth run.0 d deep (after, extend kind ops len c.offset r.0 run.0.offset after r.1 (step_edge m r.0 c run.0 t), agrees) (omega (arith, agrees.height, below, low)) run.2
+      bound m n depth run.0 d deep (after, extend kind ops len c.offset r.0 run.0.offset after r.1 (step_edge m r.0 c run.0 t), agrees)
+      (omega (arith, agrees.height, below, low)) run.2
 
   -- with so many steps left
-  finish_in : (left : ℕ) (m : Meaning) (c : Configuration) → Starts kind c → (n : ℕ) (d : Configuration) → length ops ≤ n + left → Run m ops len n c d → Stands d → (k : ℕ) × (e : Configuration) × Run m ops len k c e × IsOver kind m ops len e
+  finish_in : (left : ℕ) (m : Meaning) (c : Configuration) → Starts kind c → (n : ℕ) (d : Configuration) → length ops ≤ n + left
+      → Run m ops len n c d → Stands d → (k : ℕ) × (e : Configuration) × Run m ops len k c e × IsOver kind m ops len e
   finish_in zero m c s n d enough run here = elim (on_from m d here) [
     | inl over ↦ (n, d, run, inl over)
     | inr rest ↦ elim rest [
@@ -284,28 +356,37 @@ module _ (kind : Kind) (ops : List Placed) (len : ℕ) (laid : IsLaidOut ops len
   finish_in (suc left) m c s n d enough run here = elim (on_from m d here) [
     | inl over ↦ (n, d, run, inl over)
     | inr rest ↦ elim rest [
-      | inl step ↦ let more = run_more m ops len n c d step.0 run step.1 in finish_in left m c s (suc n) step.0 (omega (arith, enough)) more (run_follows m (suc n) c step.0 (starts c s) more)
+      | inl step ↦ let more = run_more m ops len n c d step.0 run step.1 in
+          finish_in left m c s (suc n) step.0 (omega (arith, enough)) more (run_follows m (suc n) c step.0 (starts c s) more)
       | inr stop ↦ (n, d, run, inr stop)
     ]
   ]
 
   -- the offsets of a run are a path
-  run_path : (m : Meaning) (n : ℕ) (c d : Configuration) (s : StackState) → Agrees s c → (run : Run m ops len n c d) → (t : StackState) × Follows ops len c.offset s (offsets_of m ops len n c d run) d.offset t × Agrees t d
-  run_path m zero c d s agrees run = (s, (ap (λ (e : Configuration). e.offset) run, refl), subst (λ (e : Configuration). Agrees s e) run agrees)
+  run_path : (m : Meaning) (n : ℕ) (c d : Configuration) (s : StackState) → Agrees s c → (run : Run m ops len n c d)
+      → (t : StackState) × Follows ops len c.offset s (offsets_of m ops len n c d run) d.offset t × Agrees t d
+  run_path m zero c d s agrees run = (
+    s,
+    (ap (λ (e : Configuration). e.offset) run, refl),
+    subst (λ (e : Configuration). Agrees s e) run agrees,
+  )
   run_path m (suc n) c d s agrees run =
       let t = run.1 in
       let after = state_after (effect_of t.meets.placed.1) s in
       let rest = run_path m n run.0 d after (agrees_after m ops len s c run.0 t agrees) run.2 in
       (rest.0, (after, step_edge m s c run.0 t, rest.1), rest.2)
 
-  path_from_start : (m : Meaning) (c d : Configuration) (n : ℕ) → Starts kind c → (run : Run m ops len n c d) → (s : StackState) × Follows ops len 0 (start_of kind) (offsets_of m ops len n c d run) d.offset s × Agrees s d
+  path_from_start : (m : Meaning) (c d : Configuration) (n : ℕ) → Starts kind c → (run : Run m ops len n c d)
+      → (s : StackState) × Follows ops len 0 (start_of kind) (offsets_of m ops len n c d run) d.offset s × Agrees s d
   unfolding Stands
   path_from_start m c d n s run =
       let p = run_path m n c d (start_of kind) (agrees_at_start c s) run in
       (p.0, subst (λ (at : ℕ). Follows ops len at (start_of kind) (offsets_of m ops len n c d run) d.offset p.0) s.offset p.1, p.2)
 
   -- a run has no more pieces than operations before it name
-  run_pieces : (m : Meaning) (n i : ℕ) (c d : Configuration) → i ≤ length ops → place ops len i ≡ c.offset → length c.pieces ≤ pieces_before ops i → Run m ops len n c d → (j : ℕ) × (j ≤ length ops) × (place ops len j ≡ d.offset) × (length d.pieces ≤ pieces_before ops j)
+  run_pieces : (m : Meaning) (n i : ℕ) (c d : Configuration) → i ≤ length ops → place ops len i ≡ c.offset
+      → length c.pieces ≤ pieces_before ops i → Run m ops len n c d → (j : ℕ) × (j ≤ length ops) × (place ops len j ≡ d.offset)
+      × (length d.pieces ≤ pieces_before ops j)
   run_pieces m zero i c d le at few run =
       let same = ap (λ (e : Configuration). length e.pieces) run in
       (i, le, at ∙ ap (λ (e : Configuration). e.offset) run, omega (arith, same, few))
@@ -314,16 +395,22 @@ module _ (kind : Kind) (ops : List Placed) (len : ℕ) (laid : IsLaidOut ops len
       let x = t.meets.placed in
       let e = step_edge m (start_of kind) c run.0 t in
       let l = edge_lands ops len c.offset (start_of kind) run.0.offset (state_after (effect_of x.1) (start_of kind)) e in
-      let same : e.number ≡ i = place_inj ops len laid e.number i (omega (arith, slice_get_within ops e.number e.placed e.stands)) le (place_of_some ops len e.number e.placed e.stands ∙ e.from ∙ sym at) in
-      let here : t.meets.number ≡ i = place_inj ops len laid t.meets.number i (omega (arith, slice_get_within ops t.meets.number x t.meets.stands)) le (place_of_some ops len t.meets.number x t.meets.stands ∙ t.meets.from ∙ sym at) in
+      let same : e.number ≡ i = place_inj ops len laid e.number i (omega (arith, slice_get_within ops e.number e.placed e.stands)) le
+      (place_of_some ops len e.number e.placed e.stands ∙ e.from ∙ sym at) in
+      let here : t.meets.number ≡ i = place_inj ops len laid t.meets.number i
+      (omega (arith, slice_get_within ops t.meets.number x t.meets.stands)) le
+      (place_of_some ops len t.meets.number x t.meets.stands ∙ t.meets.from ∙ sym at) in
       let named_here = pieces_with ops t.meets.number x t.meets.stands in
       let before : pieces_before ops t.meets.number ≡ pieces_before ops i = ap (pieces_before ops) here in
       let later = pieces_mono ops (t.meets.number + 1) l.number (omega (arith, l.later, same, here)) in
-      let more = ap length t.pieces ∙ length-pieces_after (effect_of x.1).role c.pieces (record { location = location_of c.stack c.pending; size = extent_of x.1 }) in
+      let more = ap length t.pieces ∙ length-pieces_after (effect_of x.1).role c.pieces
+      (record { location = location_of c.stack c.pending; size = extent_of x.1 }) in
       run_pieces m n l.number run.0 d l.within l.there (omega (arith, few, named_here, before, later, more)) run.2
 
-  pieces_at : (m : Meaning) (c d : Configuration) (n : ℕ) → Starts kind c → Run m ops len n c d → (j : ℕ) × (j ≤ length ops) × (place ops len j ≡ d.offset) × (length d.pieces ≤ pieces_before ops j)
-  pieces_at m c d n s run = run_pieces m n 0 c d (omega arith) (laid.first ∙ sym s.offset) (let none = ap length s.pieces in omega (arith, none)) run
+  pieces_at : (m : Meaning) (c d : Configuration) (n : ℕ) → Starts kind c → Run m ops len n c d
+      → (j : ℕ) × (j ≤ length ops) × (place ops len j ≡ d.offset) × (length d.pieces ≤ pieces_before ops j)
+  pieces_at m c d n s run = run_pieces m n 0 c d (omega arith) (laid.first ∙ sym s.offset) (let none = ap length s.pieces in
+      omega (arith, none)) run
 
   few_pieces : (m : Meaning) (c d : Configuration) (n : ℕ) → Starts kind c → Run m ops len n c d → length d.pieces ≤ MAX_PIECES
   few_pieces m c d n s run =
@@ -333,22 +420,33 @@ module _ (kind : Kind) (ops : List Placed) (len : ℕ) (laid : IsLaidOut ops len
   counted : Bool → ℕ
   counted b = cond b 1 0
 
-  room_for_piece : (m : Meaning) (c d : Configuration) (n : ℕ) → Starts kind c → Run m ops len n c d → (t : Meets ops d) → is_piece (effect_of t.placed.1).role ≡ true → length d.pieces < MAX_PIECES
+  room_for_piece : (m : Meaning) (c d : Configuration) (n : ℕ) → Starts kind c → Run m ops len n c d → (t : Meets ops d)
+      → is_piece (effect_of t.placed.1).role ≡ true → length d.pieces < MAX_PIECES
   unfolding counted
   room_for_piece m c d n s run t names =
       let there = pieces_at m c d n s run in
       let lt = slice_get_within ops t.number t.placed t.stands in
-      let same : t.number ≡ there.0 = place_inj ops len laid t.number there.0 (omega (arith, lt)) there.1 (place_of_some ops len t.number t.placed t.stands ∙ t.from ∙ sym there.2) in
+      let same : t.number ≡ there.0 = place_inj ops len laid t.number there.0 (omega (arith, lt)) there.1
+      (place_of_some ops len t.number t.placed t.stands ∙ t.from ∙ sym there.2) in
       let before : pieces_before ops t.number ≡ pieces_before ops there.0 = ap (pieces_before ops) same in
       let names_one = ap (λ (b : Bool). counted b) names in
       let more = pieces_with ops t.number t.placed t.stands in
       omega (arith, there.3, before, names_one, more, pieces_mono ops (t.number + 1) (length ops) (omega (arith, lt)), good.pieces)
 
-  room_at : (m : Meaning) (depth : ℕ) (c d : Configuration) (n : ℕ) → IsDepth kind ops len depth → Starts kind c → Run m ops len n c d → (t : Meets ops d) → length d.stack - (effect_of t.placed.1).takes + (effect_of t.placed.1).adds ≤ depth
+  room_at : (m : Meaning) (depth : ℕ) (c d : Configuration) (n : ℕ) → IsDepth kind ops len depth → Starts kind c → Run m ops len n c d
+      → (t : Meets ops d) → length d.stack - (effect_of t.placed.1).takes + (effect_of t.placed.1).adds ≤ depth
   unfolding Stands
   room_at m depth c d n deep s run t =
       let here = run_follows m n c d (starts c s) run in
-      let below = deep.greatest (height_after (effect_of t.placed.1) here.0) (inr (t.number, t.placed, here.0, t.stands, reach_from kind ops len d.offset t.placed.0 here.0 here.0 (sym t.from) refl here.1, inr refl)) in
+      let below = deep.greatest (height_after (effect_of t.placed.1) here.0)
+      (inr (
+        t.number,
+        t.placed,
+        here.0,
+        t.stands,
+        reach_from kind ops len d.offset t.placed.0 here.0 here.0 (sym t.from) refl here.1,
+        inr refl,
+      )) in
       omega (arith, below, here.2.height)
 
   starts_within : (j at : ℕ) → place ops len j ≡ at → IsStart ops len at
@@ -372,9 +470,11 @@ module _ (kind : Kind) (ops : List Placed) (len : ℕ) (laid : IsLaidOut ops len
     room = λ m c d n s run t. room_at m depth c d n deep s run t;
     pieces = few_pieces;
     room_for_piece = room_for_piece;
-    bounded = λ m c d n s run. bound m n depth c d deep (starts c s) (omega (arith, s.stack, deep.greatest (start_of kind).height (inl refl))) run;
+    bounded = λ m c d n s run. bound m n depth c d deep (starts c s)
+        (omega (arith, s.stack, deep.greatest (start_of kind).height (inl refl))) run;
     short = λ m c d n s run. let l = run_later m n 0 c d (omega arith) (laid.first ∙ sym s.offset) run in omega (arith, l.1, l.2);
-    stops = λ m c d n why s run stop. let l = run_later m n 0 c d (omega arith) (laid.first ∙ sym s.offset) run in let b = before_end l.0 d l.2 l.3 stop.meets in omega (arith, l.1, b);
+    stops = λ m c d n why s run stop. let l = run_later m n 0 c d (omega arith) (laid.first ∙ sym s.offset) run in
+        let b = before_end l.0 d l.2 l.3 stop.meets in omega (arith, l.1, b);
     goes_on = λ m c d n s run. on_from m d (run_follows m n c d (starts c s) run);
     ends = λ m c d n s run at.
         let r = run_follows m n c d (starts c s) run in
@@ -383,12 +483,15 @@ module _ (kind : Kind) (ops : List Placed) (len : ℕ) (laid : IsLaidOut ops len
     finishes = λ m c s. finish_in (length ops) m c s 0 c (omega arith) refl (starts c s);
   }
 
-  pub run_stands : (m : Meaning) (n : ℕ) (c d : Configuration) → Starts kind c → Run m ops len n c d → (s : StackState) × Reaches kind ops len d.offset s × Agrees s d
+  pub run_stands : (m : Meaning) (n : ℕ) (c d : Configuration) → Starts kind c → Run m ops len n c d
+      → (s : StackState) × Reaches kind ops len d.offset s × Agrees s d
   unfolding Stands
   run_stands m n c d s run = run_follows m n c d (starts c s) run
 
   -- where a run stands at an operation it is as the certificate says
-  pub as_certified : (states : List State) → AreStates kind ops len states → (m : Meaning) (c d : Configuration) (n k : ℕ) → Starts kind c → Run m ops len n c d → k < length ops → d.offset ≡ place ops len k → (s : StackState) × (slice_get states k ≡ Some (at_offset d.offset s)) × Agrees s d
+  pub as_certified : (states : List State) → AreStates kind ops len states → (m : Meaning) (c d : Configuration) (n k : ℕ) → Starts kind c
+      → Run m ops len n c d → k < length ops → d.offset ≡ place ops len k
+      → (s : StackState) × (slice_get states k ≡ Some (at_offset d.offset s)) × Agrees s d
   as_certified states are m c d n k s run lt at =
       let here = run_stands m n c d s run in
       elim (slice_get_cases ops k).1 [

@@ -44,7 +44,8 @@ state_stable : (s t : StackState) → ∥ s ≡ t ∥₁ → s ≡ t
 state_stable s t h =
     let height : s.height ≡ t.height = ∥∥₁_elim h (Coded-set coded_ℕ _ _) (λ e. ap (λ (x : StackState). x.height) e) in
     let pieced : s.pieced ≡ t.pieced = ∥∥₁_elim h (Coded-set coded_bool _ _) (λ e. ap (λ (x : StackState). x.pieced) e) in
-    let number : number_of s.mode ≡ number_of t.mode = ∥∥₁_elim h (Coded-set coded_ℕ _ _) (λ e. ap (λ (x : StackState). number_of x.mode) e) in
+    let number : number_of s.mode ≡ number_of t.mode =
+    ∥∥₁_elim h (Coded-set coded_ℕ _ _) (λ e. ap (λ (x : StackState). number_of x.mode) e) in
     let same : s.mode ≡ t.mode = mode_stable s.mode t.mode number in
     let first : made s.height s.mode s.pieced ≡ made t.height s.mode s.pieced = ap (λ (h : ℕ). made h s.mode s.pieced) height in
     let second : made t.height s.mode s.pieced ≡ made t.height t.mode s.pieced = ap (λ (m : Mode). made t.height m s.pieced) same in
@@ -58,7 +59,8 @@ state_in s = made s.height s.mode s.pieced
 located_stable : (s t : State) → ∥ s ≡ t ∥₁ → s ≡ t
 located_stable s t h =
     let offset : s.offset ≡ t.offset = ∥∥₁_elim h (Coded-set coded_ℕ _ _) (λ e. ap (λ (x : State). x.offset) e) in
-    let state : state_in s ≡ state_in t = state_stable (state_in s) (state_in t) (∥∥₁_elim h ∥∥₁_prop (λ e. ∣ ap (λ (x : State). state_in x) e ∣₁)) in
+    let state : state_in s ≡ state_in t = state_stable (state_in s) (state_in t)
+    (∥∥₁_elim h ∥∥₁_prop (λ e. ∣ ap (λ (x : State). state_in x) e ∣₁)) in
     let moved : at_offset s.offset (state_in s) ≡ at_offset t.offset (state_in s) = ap (λ (n : ℕ). at_offset n (state_in s)) offset in
     let changed : at_offset t.offset (state_in s) ≡ at_offset t.offset (state_in t) = ap (λ (x : StackState). at_offset t.offset x) state in
     moved ∙ changed
@@ -68,14 +70,16 @@ found_stable None t h = absurd (∥∥₁_elim h ⊥_prop (λ e. cc))
 found_stable (Some s) t h = ap (λ (x : State). Some x) (located_stable s t (∥∥₁_elim h ∥∥₁_prop (λ e. ∣ same_Some s t e ∣₁)))
 
 -- what merely are the states are the states
-pub states_stable : (kind : Kind) (ops : List Placed) (len : ℕ) (states : List State) → ∥ AreStates kind ops len states ∥₁ → AreStates kind ops len states
+pub states_stable : (kind : Kind) (ops : List Placed) (len : ℕ) (states : List State) → ∥ AreStates kind ops len states ∥₁
+    → AreStates kind ops len states
 states_stable kind ops len states h = record {
   long = ∥∥₁_elim h (Coded-set coded_ℕ _ _) (λ are. are.long);
   each = λ k x s stands r. found_stable (slice_get states k) (at_offset x.0 s) (∥∥₁_elim h ∥∥₁_prop (λ are. ∣ are.each k x s stands r ∣₁));
 }
 
 -- an operation, or the end, begins at t, or none does
-pub find_place : (ops : List Placed) (len t n : ℕ) → ((j : ℕ) × (j ≤ n) × (place ops len j ≡ t)) ⊎ ((j : ℕ) → j ≤ n → place ops len j ≡ t → ⊥)
+pub find_place : (ops : List Placed) (len t n : ℕ) → ((j : ℕ) × (j ≤ n) × (place ops len j ≡ t))
+    ⊎ ((j : ℕ) → j ≤ n → place ops len j ≡ t → ⊥)
 find_place ops len t zero = elim (cases_eq (place ops len 0) t) [
   | inl here ↦ inl (0, omega arith, here)
   | inr other ↦ inr (λ j le e. let first : j ≡ 0 = omega arith in other (ap (place ops len) (sym first) ∙ e))
@@ -92,13 +96,15 @@ find_place ops len t (suc n) = elim (find_place ops len t n) [
 ]
 
 module _ (kind : Kind) (ops : List Placed) (len : ℕ) (laid : IsLaidOut ops len) (h : ∥ IsGood kind ops len ∥₁) where
-  target_stable : (k t : ℕ) (x : Placed) → slice_get ops k ≡ Some x → branch_target_of ops len k (effect_of x.1) ≡ Some t → IsTarget ops len k t
+  target_stable : (k t : ℕ) (x : Placed) → slice_get ops k ≡ Some x → branch_target_of ops len k (effect_of x.1) ≡ Some t
+      → IsTarget ops len k t
   target_stable k t x stands to = elim (find_place ops len t (length ops)) [
     | inl found ↦ record {
       number = found.0;
       later = ∥∥₁_elim h le_prop (λ g.
           let target = g.targets k t x stands to in
-          let same : target.number ≡ found.0 = place_inj ops len laid target.number found.0 target.within found.1 (target.there ∙ sym found.2) in
+          let same : target.number ≡ found.0 = place_inj ops len laid target.number found.0 target.within found.1
+          (target.there ∙ sym found.2) in
           omega (arith, target.later, same));
       within = found.1;
       there = found.2;
@@ -123,7 +129,9 @@ module _ (kind : Kind) (ops : List Placed) (len : ℕ) (laid : IsLaidOut ops len
 module _ (c : Checked) (h : ∥ IsChecked c ∥₁) where
   read_stable : (o : Option Fault) → reading_fault c.target c.bytes ≡ o → reading_fault c.target c.bytes ≡ None
   read_stable None is = is
-  read_stable (Some f) is = absurd (∥∥₁_elim h ⊥_prop (λ checked. let none = read_of c.target c.bytes (operations_in c.target c.bytes) checked.good.encoded in let other : None ≡ Some f = sym none ∙ is in cc))
+  read_stable (Some f) is = absurd (∥∥₁_elim h ⊥_prop
+      (λ checked. let none = read_of c.target c.bytes (operations_in c.target c.bytes) checked.good.encoded in
+      let other : None ≡ Some f = sym none ∙ is in cc))
 
   pub checked_stable : IsChecked c
   checked_stable =
@@ -132,7 +140,8 @@ module _ (c : Checked) (h : ∥ IsChecked c ∥₁) where
       record {
         good = record {
           encoded = encoded;
-          good = good_stable c.kind (operations_in c.target c.bytes) (length c.bytes) laid (∥∥₁_elim h ∥∥₁_prop (λ checked. ∣ checked.good.good ∣₁));
+          good = good_stable c.kind (operations_in c.target c.bytes) (length c.bytes) laid
+              (∥∥₁_elim h ∥∥₁_prop (λ checked. ∣ checked.good.good ∣₁));
         };
         depth = record {
           touched = ∥∥₁_elim h ∥∥₁_prop (λ checked. checked.depth.touched);

@@ -23,7 +23,14 @@ pub equal_tells : (a b : ℕ) → Tells (a == b) (a ≡ b)
 equal_tells a b = elim (cases_Bool (eqb a b)) [ inl is ↦ inl (is, eqb-true a b is) | inr is ↦ inr (is, eqb-false a b is) ]
 
 pub le_tells : (a b : ℕ) → Tells (leb a b) (a ≤ b)
-le_tells a b = elim (cases_Bool (leb a b)) [ inl is ↦ inl (is, leb-true a b is) | inr is ↦ inr (is, λ le. let lt = leb-false a b is in omega (arith, le, lt)) ]
+le_tells a b = elim (cases_Bool (leb a b)) [
+  | inl is ↦ inl (is, leb-true a b is)
+  | inr is ↦ inr (
+    is,
+    λ le. let lt = leb-false a b is in
+        omega (arith, le, lt),
+  )
+]
 
 -- ---- states and targets
 
@@ -49,36 +56,57 @@ abbrev made : ℕ → Mode → Bool → StackState
 made height m pieced = record { height = height; mode = m; pieced = pieced }
 
 pub same_tells : (s t : StackState) → Tells (same_state s t) (s ≡ t)
-same_tells s t = elim (both_tell (s.height == t.height) (number_of s.mode == number_of t.mode) (if s.pieced then t.pieced else not t.pieced) (equal_tells s.height t.height) (equal_tells (number_of s.mode) (number_of t.mode)) (flag_tells s.pieced t.pieced)) [
-  | inr other ↦ inr (other.0, λ e. other.1 (ap (λ (x : StackState). x.height) e, ap (λ (x : StackState). number_of x.mode) e, ap (λ (x : StackState). x.pieced) e))
-  | inl all ↦
-      let first : made s.height s.mode s.pieced ≡ made t.height s.mode s.pieced = ap (λ (h : ℕ). made h s.mode s.pieced) all.1.0 in
-      let second : made t.height s.mode s.pieced ≡ made t.height t.mode s.pieced = ap (λ (m : Mode). made t.height m s.pieced) (mode_stable s.mode t.mode all.1.1) in
-      let third : made t.height t.mode s.pieced ≡ made t.height t.mode t.pieced = ap (λ (b : Bool). made t.height t.mode b) all.1.2 in
-      inl (all.0, first ∙ (second ∙ third))
-]
+same_tells s t = elim (both_tell (s.height == t.height) (number_of s.mode == number_of t.mode) (if s.pieced then t.pieced else not t.pieced)
+    (equal_tells s.height t.height) (equal_tells (number_of s.mode) (number_of t.mode)) (flag_tells s.pieced t.pieced)) [
+      | inr other ↦ inr (
+        other.0,
+        λ e. other.1 (
+          ap (λ (x : StackState). x.height) e,
+          ap (λ (x : StackState). number_of x.mode) e,
+          ap (λ (x : StackState). x.pieced) e,
+        ),
+      )
+      | inl all ↦
+          let first : made s.height s.mode s.pieced ≡ made t.height s.mode s.pieced = ap (λ (h : ℕ). made h s.mode s.pieced) all.1.0 in
+          let second : made t.height s.mode s.pieced ≡ made t.height t.mode s.pieced =
+          ap (λ (m : Mode). made t.height m s.pieced) (mode_stable s.mode t.mode all.1.1) in
+          let third : made t.height t.mode s.pieced ≡ made t.height t.mode t.pieced = ap (λ (b : Bool). made t.height t.mode b) all.1.2 in
+          inl (all.0, first ∙ (second ∙ third))
+    ]
 
-pub others_tell : (s : StackState) (others : List StackState) → ((list_all (same_state s) others ≡ true) × ((t : StackState) → Has others t → t ≡ s)) ⊎ ((list_all (same_state s) others ≡ false) × (t : StackState) × Has others t × (s ≢ t))
+pub others_tell : (s : StackState) (others : List StackState)
+    → ((list_all (same_state s) others ≡ true) × ((t : StackState) → Has others t → t ≡ s))
+    ⊎ ((list_all (same_state s) others ≡ false) × (t : StackState) × Has others t × (s ≢ t))
 others_tell s [] = inl (refl, λ t h. absurd h)
 others_tell s (u ∷ others) = elim (same_tells s u) [
   | inr other ↦ inr (ap (λ (b : Bool). b && list_all (same_state s) others) other.0, u, inl refl, other.1)
   | inl same ↦
-      let passes : list_all (same_state s) (u ∷ others) ≡ list_all (same_state s) others = ap (λ (b : Bool). b && list_all (same_state s) others) same.0 in
+      let passes : list_all (same_state s) (u ∷ others) ≡ list_all (same_state s) others =
+      ap (λ (b : Bool). b && list_all (same_state s) others) same.0 in
       elim (others_tell s others) [
         | inr later ↦ inr (passes ∙ later.0, later.1, inr later.2, later.3)
         | inl all ↦ inl (passes ∙ all.0, λ t h. elim h [ inl here ↦ sym here ∙ sym same.1 | inr later ↦ all.1 t later ])
       ]
 ]
 
-pub start_tells : (ops : List Placed) (len t : ℕ) → ((is_start ops len (Some t) ≡ true) × (j : ℕ) × (j ≤ length ops) × (place ops len j ≡ t)) ⊎ ((is_start ops len (Some t) ≡ false) × ((j : ℕ) → j ≤ length ops → place ops len j ≢ t))
+pub start_tells : (ops : List Placed) (len t : ℕ)
+    → ((is_start ops len (Some t) ≡ true) × (j : ℕ) × (j ≤ length ops) × (place ops len j ≡ t))
+    ⊎ ((is_start ops len (Some t) ≡ false) × ((j : ℕ) → j ≤ length ops → place ops len j ≢ t))
 start_tells [] len t = elim (equal_tells len t) [
   | inl here ↦ inl (or_left (len == t) false here.0, 0, omega arith, here.1)
   | inr other ↦ inr (ap (λ (b : Bool). b || false) other.0, λ j le. other.1)
 ]
 start_tells (x ∷ ops) len t = elim (equal_tells x.0 t) [
-  | inl here ↦ inl (or_right (len == t) ((x.0 == t) || list_any (λ (y : Placed). y.0 == t) ops) (or_left (x.0 == t) (list_any (λ (y : Placed). y.0 == t) ops) here.0), 0, omega arith, here.1)
+  | inl here ↦ inl (
+    or_right (len == t) ((x.0 == t) || list_any (λ (y : Placed). y.0 == t) ops)
+        (or_left (x.0 == t) (list_any (λ (y : Placed). y.0 == t) ops) here.0),
+    0,
+    omega arith,
+    here.1,
+  )
   | inr other ↦
-      let passes : is_start (x ∷ ops) len (Some t) ≡ is_start ops len (Some t) = ap (λ (b : Bool). (len == t) || (b || list_any (λ (y : Placed). y.0 == t) ops)) other.0 in
+      let passes : is_start (x ∷ ops) len (Some t) ≡ is_start ops len (Some t) =
+      ap (λ (b : Bool). (len == t) || (b || list_any (λ (y : Placed). y.0 == t) ops)) other.0 in
       elim (start_tells ops len t) [
         | inl found ↦ inl (passes ∙ found.0, found.1 + 1, omega (arith, found.2), found_at found.1 found.3)
         | inr none ↦ inr (passes ∙ none.0, λ j le. nowhere_at j le other.1 none.1)

@@ -79,7 +79,8 @@ module _ (kind : Kind) (ops : List Placed) (len : ℕ) (given : Option (List Sta
     ]
   ]
 
-pub one_fault : (kind : Kind) (target : Target) (bytes : List ℕ) (given : Option (List State)) (f g : Fault) → IsFaultOf kind target bytes given f → IsFaultOf kind target bytes given g → f ≡ g
+pub one_fault : (kind : Kind) (target : Target) (bytes : List ℕ) (given : Option (List State)) (f g : Fault)
+    → IsFaultOf kind target bytes given f → IsFaultOf kind target bytes given g → f ≡ g
 one_fault kind target bytes given f g first second = elim first [
   | inl unread ↦ elim second [
     | inl again ↦ same_Some f g (sym unread ∙ again)
@@ -118,13 +119,18 @@ state_stable s t h =
     let pieced : s.pieced ≡ t.pieced = ∥∥₁_elim h (Coded-set coded_bool _ _) (λ e. ap (λ (x : State). x.pieced) e) in
     let number : number_of s.mode ≡ number_of t.mode = ∥∥₁_elim h (Coded-set coded_ℕ _ _) (λ e. ap (λ (x : State). number_of x.mode) e) in
     let same : s.mode ≡ t.mode = mode_stable s.mode t.mode number in
-    let one : state_of s.offset s.height s.mode s.pieced ≡ state_of t.offset s.height s.mode s.pieced = ap (λ (n : ℕ). state_of n s.height s.mode s.pieced) offset in
-    let two : state_of t.offset s.height s.mode s.pieced ≡ state_of t.offset t.height s.mode s.pieced = ap (λ (n : ℕ). state_of t.offset n s.mode s.pieced) height in
-    let three : state_of t.offset t.height s.mode s.pieced ≡ state_of t.offset t.height t.mode s.pieced = ap (λ (m : Mode). state_of t.offset t.height m s.pieced) same in
-    let four : state_of t.offset t.height t.mode s.pieced ≡ state_of t.offset t.height t.mode t.pieced = ap (λ (b : Bool). state_of t.offset t.height t.mode b) pieced in
+    let one : state_of s.offset s.height s.mode s.pieced ≡ state_of t.offset s.height s.mode s.pieced =
+    ap (λ (n : ℕ). state_of n s.height s.mode s.pieced) offset in
+    let two : state_of t.offset s.height s.mode s.pieced ≡ state_of t.offset t.height s.mode s.pieced =
+    ap (λ (n : ℕ). state_of t.offset n s.mode s.pieced) height in
+    let three : state_of t.offset t.height s.mode s.pieced ≡ state_of t.offset t.height t.mode s.pieced =
+    ap (λ (m : Mode). state_of t.offset t.height m s.pieced) same in
+    let four : state_of t.offset t.height t.mode s.pieced ≡ state_of t.offset t.height t.mode t.pieced =
+    ap (λ (b : Bool). state_of t.offset t.height t.mode b) pieced in
     one ∙ (two ∙ (three ∙ four))
 
-same_lists : (s t : List State) → length s ≡ length t → ((k : ℕ) (a b : State) → slice_get s k ≡ Some a → slice_get t k ≡ Some b → a ≡ b) → s ≡ t
+same_lists : (s t : List State) → length s ≡ length t → ((k : ℕ) (a b : State) → slice_get s k ≡ Some a → slice_get t k ≡ Some b → a ≡ b)
+    → s ≡ t
 same_lists [] [] long each = refl
 same_lists [] (b ∷ t) long each = absurd (omega arith)
 same_lists (a ∷ s) [] long each = absurd (omega arith)
@@ -133,7 +139,8 @@ same_lists (a ∷ s) (b ∷ t) long each =
     let tail : s ≡ t = same_lists s t (omega arith) (λ k x y hx hy. each (suc k) x y hx hy) in
     ap (λ (x : State). x ∷ s) head ∙ ap (λ (l : List State). b ∷ l) tail
 
-pub one_certificate : (kind : Kind) (ops : List Placed) (len : ℕ) (s t : List State) → IsGood kind ops len → AreStates kind ops len s → AreStates kind ops len t → s ≡ t
+pub one_certificate : (kind : Kind) (ops : List Placed) (len : ℕ) (s t : List State) → IsGood kind ops len → AreStates kind ops len s
+    → AreStates kind ops len t → s ≡ t
 one_certificate kind ops len s t good first second = same_lists s t (first.long ∙ sym second.long) each
   where
     within : (l : List State) (k : ℕ) (a : State) → slice_get l k ≡ Some a → k < length l

@@ -51,7 +51,8 @@ abbrev pub IsFaultOf : Kind → Target → List ℕ → Option (List State) → 
 IsFaultOf kind target bytes given f =
     (reading_fault target bytes ≡ Some f)
     ⊎ ((reading_fault target bytes ≡ None) × IsOtherCount target bytes given × (f ≡ record { kind = CertLength; at = 0 }))
-    ⊎ ((reading_fault target bytes ≡ None) × (IsOtherCount target bytes given → ⊥) × IsFirstFault kind (operations_in target bytes) (length bytes) given f.kind f.at)
+    ⊎ ((reading_fault target bytes ≡ None) × (IsOtherCount target bytes given → ⊥) × IsFirstFault kind (operations_in target bytes)
+    (length bytes) given f.kind f.at)
 
 -- what a checked expression is to a caller
 pub record Checked : Type 0 where

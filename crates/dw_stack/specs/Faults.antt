@@ -25,7 +25,8 @@ Given ops len given k s = Keeps given k (at_offset (place ops len k) s)
 
 -- in their order, where paths come to it with one state
 abbrev pub judgements : List FaultKind
-judgements = fault.NotInFrame ∷ fault.NotAlone ∷ fault.Underflow ∷ fault.TooDeep ∷ fault.TooManyPieces ∷ fault.Backward ∷ fault.TargetNotStart ∷ []
+judgements = fault.NotInFrame ∷ fault.NotAlone ∷ fault.Underflow ∷ fault.TooDeep ∷ fault.TooManyPieces ∷ fault.Backward
+    ∷ fault.TargetNotStart ∷ []
 
 -- the jump, if there is one, isn't backward
 abbrev pub is_ahead : ℕ → Option ℤ → Bool
@@ -69,11 +70,13 @@ Refuses kind ops len given fault.Unreachable at =
 Refuses kind ops len given fault.Mismatch at =
     (s : StackState) × (t : StackState) × Reaches kind ops len at s × Reaches kind ops len at t × (s ≢ t)
 Refuses kind ops len given fault.CertState at =
-    (k : ℕ) × (x : Placed) × (s : StackState) × (slice_get ops k ≡ Some x) × (x.0 ≡ at) × Reaches kind ops len at s × (Given ops len given k s → ⊥)
+    (k : ℕ) × (x : Placed) × (s : StackState) × (slice_get ops k ≡ Some x) × (x.0 ≡ at) × Reaches kind ops len at s
+    × (Given ops len given k s → ⊥)
 Refuses kind ops len given fault.EndsEmpty at =
     (at ≡ len) × ((s : StackState) × Reaches kind ops len len s × (HasResult kind (length ops == 0) s → ⊥))
 Refuses kind ops len given f at =
-    (k : ℕ) × (x : Placed) × (s : StackState) × (slice_get ops k ≡ Some x) × (x.0 ≡ at) × Reaches kind ops len at s × Objection kind ops len k (pieces_before ops k) x s f
+    (k : ℕ) × (x : Placed) × (s : StackState) × (slice_get ops k ≡ Some x) × (x.0 ≡ at) × Reaches kind ops len at s
+    × Objection kind ops len k (pieces_before ops k) x s f
 
 -- the order of judgement at one offset
 abbrev pub rank : FaultKind → ℕ

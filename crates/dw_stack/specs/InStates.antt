@@ -48,7 +48,8 @@ known_state Unreached = Err fault.Unreachable
 known_state (Known s) = Ok s
 known_state Conflict = Err fault.Mismatch
 
-pub record Stepped (kind : Kind) (ops : List Placed) (len : ℕ) (given : Option (List State)) (i pieces : ℕ) (old : List InState) (done : Done) (new : List InState) : Type 0 where
+pub record Stepped (kind : Kind) (ops : List Placed) (len : ℕ) (given : Option (List State)) (i pieces : ℕ) (old : List InState)
+    (done : Done) (new : List InState) : Type 0 where
   pub out : OutState
   pub one : slice_index_or old i Unreached ≡ Known done.state
   pub given_is : Given ops len given i done.state
@@ -60,5 +61,7 @@ pub record Stepped (kind : Kind) (ops : List Placed) (len : ℕ) (given : Option
 abbrev pub StepObjects : Kind → List Placed → ℕ → Option (List State) → ℕ → ℕ → List InState → FaultKind → Type 0
 StepObjects kind ops len given i pieces old fault.Unreachable = slice_index_or old i Unreached ≡ Unreached
 StepObjects kind ops len given i pieces old fault.Mismatch = slice_index_or old i Unreached ≡ Conflict
-StepObjects kind ops len given i pieces old fault.CertState = (s : StackState) × (slice_index_or old i Unreached ≡ Known s) × (Given ops len given i s → ⊥)
-StepObjects kind ops len given i pieces old f = (s : StackState) × (slice_index_or old i Unreached ≡ Known s) × Given ops len given i s × Objects kind ops len i pieces s f
+StepObjects kind ops len given i pieces old fault.CertState = (s : StackState) × (slice_index_or old i Unreached ≡ Known s)
+    × (Given ops len given i s → ⊥)
+StepObjects kind ops len given i pieces old f = (s : StackState) × (slice_index_or old i Unreached ≡ Known s) × Given ops len given i s
+    × Objects kind ops len i pieces s f

@@ -1,11 +1,26 @@
+-- ---- To be believed: the standard's words. Who checks the headline against DWARF 5 reads these.
+-- what each operation does to the height of the stack (2.5, 2.6)
 pub mod Effects
+-- height, mode and pieces on a path
 pub mod States
+-- all paths, and what makes an expression good
 pub mod Paths
-pub mod Faults
-pub mod Judge
-pub mod InStates
+-- runs, value by value, whatever registers and memory answer (2.5, 2.6)
 pub mod Machine
+-- the same of an expression by its bytes
 pub mod Expressions
-pub mod Views
+-- what certificates and checked expressions are
 pub mod Certificates
+-- ---- The first fault, as a function of the bytes. Laws tie it to what is to be believed.
+-- what each judgement refuses, and their order
+pub mod Faults
+-- the first fault from the bytes
 pub mod FirstFault
+-- ---- What the code's own values stand for, and what its calls answer.
+-- lists of states
+pub mod Views
+-- ---- Behind the contracts: no contract of a public call speaks of these.
+-- one operation at one state
+pub mod Judge
+-- the table of in-states of the one pass
+pub mod InStates

@@ -54,7 +54,8 @@ pub record IsTarget (ops : List Placed) (len k t : ℕ) : Type 0 where
 
 -- b may come after the operation numbered k, of this effect
 abbrev pub Leads : List Placed → ℕ → ℕ → StackEffect → ℕ → Type 0
-Leads ops len k e b = (IsTrue e.falls_through × (b ≡ place ops len (k + 1))) ⊎ ((branch_target_of ops len k e ≡ Some b) × IsTarget ops len k b)
+Leads ops len k e b = (IsTrue e.falls_through × (b ≡ place ops len (k + 1)))
+    ⊎ ((branch_target_of ops len k e ≡ Some b) × IsTarget ops len k b)
 
 -- an edge from the operation at offset a to offset b, and what it does to the state
 pub record Edge (ops : List Placed) (len a : ℕ) (s : StackState) (b : ℕ) (t : StackState) : Type 0 where
@@ -95,17 +96,22 @@ pieces_before ops k = count_by (λ x. is_piece (effect_of x.1).role) (take k ops
 pub record IsGood (kind : Kind) (ops : List Placed) (len : ℕ) : Type 0 where
   pub allowed : (k : ℕ) (x : Placed) → slice_get ops k ≡ Some x → IsAllowed kind (effect_of x.1)
   -- every path that comes to an operation meets its needs
-  pub alone : (k : ℕ) (x : Placed) (s : StackState) → slice_get ops k ≡ Some x → Reaches kind ops len x.0 s → StandsAlone (effect_of x.1).role s.mode s.height
-  pub needs : (k : ℕ) (x : Placed) (s : StackState) → slice_get ops k ≡ Some x → Reaches kind ops len x.0 s → (effect_of x.1).needs ≤ s.height
+  pub alone : (k : ℕ) (x : Placed) (s : StackState) → slice_get ops k ≡ Some x → Reaches kind ops len x.0 s
+      → StandsAlone (effect_of x.1).role s.mode s.height
+  pub needs : (k : ℕ) (x : Placed) (s : StackState) → slice_get ops k ≡ Some x → Reaches kind ops len x.0 s
+      → (effect_of x.1).needs ≤ s.height
   -- no height is above the limit
-  pub limit : (k : ℕ) (x : Placed) (s : StackState) → slice_get ops k ≡ Some x → Reaches kind ops len x.0 s → height_after (effect_of x.1) s ≤ MAX_HEIGHT
+  pub limit : (k : ℕ) (x : Placed) (s : StackState) → slice_get ops k ≡ Some x → Reaches kind ops len x.0 s
+      → height_after (effect_of x.1) s ≤ MAX_HEIGHT
   -- two paths to one offset, the end included, have one state
   pub one : (b : ℕ) (s t : StackState) → Reaches kind ops len b s → Reaches kind ops len b t → s ≡ t
   -- every operation is on a path
   pub each : (k : ℕ) (x : Placed) → slice_get ops k ≡ Some x → ∥ ((s : StackState) × Reaches kind ops len x.0 s) ∥₁
   -- no branch goes back, and every target is a later operation's offset, or the length
-  pub ahead : (k : ℕ) (z : ℤ) (x : Placed) → slice_get ops k ≡ Some x → (effect_of x.1).jump ≡ Some z → branch_target (place ops len (k + 1)) z ≡ None → ⊥
-  pub targets : (k t : ℕ) (x : Placed) → slice_get ops k ≡ Some x → branch_target_of ops len k (effect_of x.1) ≡ Some t → IsTarget ops len k t
+  pub ahead : (k : ℕ) (z : ℤ) (x : Placed) → slice_get ops k ≡ Some x → (effect_of x.1).jump ≡ Some z
+      → branch_target (place ops len (k + 1)) z ≡ None → ⊥
+  pub targets : (k t : ℕ) (x : Placed) → slice_get ops k ≡ Some x → branch_target_of ops len k (effect_of x.1) ≡ Some t
+      → IsTarget ops len k t
   pub pieces : pieces_before ops (length ops) ≤ MAX_PIECES
   -- every path to the end has a result
   pub ends : (s : StackState) → Reaches kind ops len len s → HasResult kind (length ops == 0) s
@@ -113,12 +119,14 @@ pub record IsGood (kind : Kind) (ops : List Placed) (len : ℕ) : Type 0 where
 -- a state before each operation: the one that paths have there
 pub record AreStates (kind : Kind) (ops : List Placed) (len : ℕ) (states : List State) : Type 0 where
   pub long : length states ≡ length ops
-  pub each : (k : ℕ) (x : Placed) (s : StackState) → slice_get ops k ≡ Some x → Reaches kind ops len x.0 s → slice_get states k ≡ Some (at_offset x.0 s)
+  pub each : (k : ℕ) (x : Placed) (s : StackState) → slice_get ops k ≡ Some x → Reaches kind ops len x.0 s
+      → slice_get states k ≡ Some (at_offset x.0 s)
 
 -- h is the height before or after an operation on a path, or that of the start
 abbrev pub Touches : Kind → List Placed → ℕ → ℕ → Type 0
 Touches kind ops len h =
-    (h ≡ (start_of kind).height) ⊎ ((k : ℕ) × (x : Placed) × (s : StackState) × (slice_get ops k ≡ Some x) × Reaches kind ops len x.0 s × ((h ≡ s.height) ⊎ (h ≡ height_after (effect_of x.1) s)))
+    (h ≡ (start_of kind).height) ⊎ ((k : ℕ) × (x : Placed) × (s : StackState) × (slice_get ops k ≡ Some x) × Reaches kind ops len x.0 s
+    × ((h ≡ s.height) ⊎ (h ≡ height_after (effect_of x.1) s)))
 
 -- some path touches d, and none a greater height
 pub record IsDepth (kind : Kind) (ops : List Placed) (len d : ℕ) : Type 0 where

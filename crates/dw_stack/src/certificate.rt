@@ -12,7 +12,8 @@ use smallvec::SmallVec;
 pub struct Certificate<'a> {
     pub(crate) checked: CheckedExpression<'a>,
     pub(crate) states: SmallVec<State, 16>,
-    pub ghost certified: { ∥ AreStatesOf checked.kind (target_of checked.expression) (bytes_of checked.expression) states.items ∥₁ },
+    pub ghost certified: { ∥ AreStatesOf checked.kind (target_of checked.expression)
+        (bytes_of checked.expression) states.items ∥₁ },
 }
 
 impl<'a> Certificate<'a> {
@@ -22,7 +23,8 @@ impl<'a> Certificate<'a> {
     /// The state before each operation, in their order: the one that every path which comes there has.
     pub fn states(&self) -> &[State]
         ensures value { result.now ≡ states_in self.now }
-        ensures states { AreStatesOf (checked_in self.now).kind (checked_in self.now).target (checked_in self.now).bytes result.now }
+        ensures states { AreStatesOf (checked_in self.now).kind (checked_in self.now).target
+            (checked_in self.now).bytes result.now }
     {
         self.states.as_slice()
     }

@@ -15,7 +15,14 @@ pub struct CheckedExpression<'a> {
     kind: Kind,
     depth: u8,
     count: u32,
-    pub ghost checked: { ∥ IsChecked (record { kind = kind; target = target_of expression; bytes = bytes_of expression; depth = depth; count = count }) ∥₁ },
+    pub ghost checked: { ∥ IsChecked
+        (record {
+          kind = kind;
+          target = target_of expression;
+          bytes = bytes_of expression;
+          depth = depth;
+          count = count;
+        }) ∥₁ },
 }
 
 impl<'a> CheckedExpression<'a> {
@@ -25,8 +32,20 @@ impl<'a> CheckedExpression<'a> {
 
     /// An expression with what was learned of it.
     pub(crate) fn new(expression: Expression<'a>, kind: Kind, depth: u8, count: u32) -> Self
-        requires { IsChecked (record { kind = kind; target = target_of expression; bytes = bytes_of expression; depth = depth; count = count }) }
-        ensures { checked_of result ≡ record { kind = kind; target = target_of expression.entry; bytes = bytes_of expression.entry; depth = depth; count = count } }
+        requires { IsChecked (record {
+          kind = kind;
+          target = target_of expression;
+          bytes = bytes_of expression;
+          depth = depth;
+          count = count;
+        }) }
+        ensures { checked_of result ≡ record {
+          kind = kind;
+          target = target_of expression.entry;
+          bytes = bytes_of expression.entry;
+          depth = depth;
+          count = count;
+        } }
     {
         CheckedExpression {
             expression,
@@ -40,7 +59,8 @@ impl<'a> CheckedExpression<'a> {
     pub fn expression(&self) -> Expression<'a>
         ensures bytes { bytes_of result ≡ (checked_of self.now).bytes }
         ensures target { target_of result ≡ (checked_of self.now).target }
-        ensures good { IsGoodExpression (checked_of self.now).kind (target_of result) (bytes_of result) }
+        ensures good { IsGoodExpression (checked_of self.now).kind (target_of result)
+            (bytes_of result) }
     {
         self.expression
     }
@@ -55,9 +75,11 @@ impl<'a> CheckedExpression<'a> {
     /// The greatest height on any path, the start included, at most `MAX_HEIGHT`. No run of the expression has more entries.
     pub fn depth(&self) -> u8
         ensures value { result ≡ (checked_of self.now).depth }
-        ensures depth { IsDepthOf (checked_of self.now).kind (checked_of self.now).target (checked_of self.now).bytes result }
+        ensures depth { IsDepthOf (checked_of self.now).kind (checked_of self.now).target
+            (checked_of self.now).bytes result }
         ensures limit { result ≤ MAX_HEIGHT }
-        ensures runs { RunsWellWithin (checked_of self.now).kind (checked_of self.now).target (checked_of self.now).bytes result }
+        ensures runs { RunsWellWithin (checked_of self.now).kind (checked_of self.now).target
+            (checked_of self.now).bytes result }
     {
         self.depth
     }
@@ -65,7 +87,8 @@ impl<'a> CheckedExpression<'a> {
     /// How many operations the bytes encode. `depth` promises that no run takes more steps (`runs`).
     pub fn operation_count(&self) -> u32
         ensures value { result ≡ (checked_of self.now).count }
-        ensures count { result ≡ length (operations_in (checked_of self.now).target (checked_of self.now).bytes) }
+        ensures count { result ≡ length
+            (operations_in (checked_of self.now).target (checked_of self.now).bytes) }
     {
         self.count
     }

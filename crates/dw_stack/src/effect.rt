@@ -77,7 +77,10 @@ fn names(role: Role, needs: u16, takes: u16) -> StackEffect
 
 #[inline(always)]
 fn branches(needs: u16, falls_through: bool, offset: i16) -> StackEffect
-    ensures { result ≡ record (computing needs needs 0) { falls_through = falls_through; jump = Some offset } }
+    ensures { result ≡ record (computing needs needs 0) {
+      falls_through = falls_through;
+      jump = Some offset;
+    } }
 {
     StackEffect {
         falls_through,

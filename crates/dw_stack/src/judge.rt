@@ -48,7 +48,7 @@ fn effect_at(operations: &[(u32, Operation<'_>)], i: usize) -> StackEffect
 /// Whether an operation of this effect may stand at this state, behind so many pieces. The height behind it, before a
 /// piece clears it.
 #[inline(always)]
-fn suits(
+pub fn suits(
     kind: Kind,
     effect: &StackEffect,
     pieces: usize,

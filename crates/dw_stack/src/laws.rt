@@ -19,24 +19,40 @@ use crate::judge::{MAX_HEIGHT, MAX_PIECES};
 /// there says, goes forward, never has more entries than the depth, takes no more steps than there are operations, and is
 /// never stuck.
 pub fn good_expressions_run_well()
-    ensures { (kind : Kind) (target : Target) (bytes : List ℕ) (depth : ℕ) → IsGoodExpression kind target bytes → IsDepthOf kind target bytes depth → RunsWellWithin kind target bytes depth }
+    ensures { (kind : Kind) (target : Target) (bytes : List ℕ) (depth : ℕ)
+        → IsGoodExpression kind target bytes → IsDepthOf kind target bytes depth
+        → RunsWellWithin kind target bytes depth }
 {}
 
 /// Wherever a run of a good expression stands at an operation, its height, its mode and whether a piece came before are those
 /// of the certificate's state there.
 pub fn runs_are_as_certified()
-    ensures { (kind : Kind) (target : Target) (bytes : List ℕ) (states : List State) → IsGoodExpression kind target bytes → AreStatesOf kind target bytes states → (m : Meaning) (c d : Configuration) (n k : ℕ) → Starts kind c → Run m (operations_in target bytes) (length bytes) n c d → k < length (operations_in target bytes) → d.offset ≡ place (operations_in target bytes) (length bytes) k → (s : StackState) × (slice_get states k ≡ Some (at_offset d.offset s)) × Agrees s d }
+    ensures { (kind : Kind) (target : Target) (bytes : List ℕ) (states : List State)
+        → IsGoodExpression kind target bytes → AreStatesOf kind target bytes states
+        → (m : Meaning) (c d : Configuration) (n k : ℕ) → Starts kind c
+        → Run m (operations_in target bytes) (length bytes) n c d
+        → k < length (operations_in target bytes)
+        → d.offset ≡ place (operations_in target bytes) (length bytes) k
+        → (s : StackState) × (slice_get states k ≡ Some (at_offset d.offset s)) × Agrees s d }
 {}
 
 /// A run of a good expression stands where an operation begins, or at the end, and never inside an operation.
 pub fn runs_stand_on_operations()
-    ensures { (kind : Kind) (target : Target) (bytes : List ℕ) → IsGoodExpression kind target bytes → (m : Meaning) (c d : Configuration) (n : ℕ) → Starts kind c → Run m (operations_in target bytes) (length bytes) n c d → IsStart (operations_in target bytes) (length bytes) d.offset }
+    ensures { (kind : Kind) (target : Target) (bytes : List ℕ) → IsGoodExpression kind target bytes
+        → (m : Meaning) (c d : Configuration) (n : ℕ) → Starts kind c
+        → Run m (operations_in target bytes) (length bytes) n c d
+        → IsStart (operations_in target bytes) (length bytes) d.offset }
 {}
 
 /// A run of a good expression has one end: for the same registers, memory and context, and from the same start, any two that
 /// are over took as many steps and stand in the same configuration.
 pub fn one_run()
-    ensures { (kind : Kind) (target : Target) (bytes : List ℕ) → IsGoodExpression kind target bytes → (m : Meaning) (n k : ℕ) (c d e : Configuration) → Run m (operations_in target bytes) (length bytes) n c d → IsOver kind m (operations_in target bytes) (length bytes) d → Run m (operations_in target bytes) (length bytes) k c e → IsOver kind m (operations_in target bytes) (length bytes) e → (n ≡ k) × (d ≡ e) }
+    ensures { (kind : Kind) (target : Target) (bytes : List ℕ) → IsGoodExpression kind target bytes
+        → (m : Meaning) (n k : ℕ) (c d e : Configuration)
+        → Run m (operations_in target bytes) (length bytes) n c d
+        → IsOver kind m (operations_in target bytes) (length bytes) d
+        → Run m (operations_in target bytes) (length bytes) k c e
+        → IsOver kind m (operations_in target bytes) (length bytes) e → (n ≡ k) × (d ≡ e) }
 {}
 
 /// The numbers of this checker's two limits.
@@ -47,63 +63,90 @@ pub fn limits()
 
 /// A good expression has no fault, nor has it one where the given states are its own.
 pub fn good_expressions_have_no_fault()
-    ensures alone { (kind : Kind) (target : Target) (bytes : List ℕ) (f : Fault) → IsGoodExpression kind target bytes → IsFaultOf kind target bytes None f → ⊥ }
-    ensures given { (kind : Kind) (target : Target) (bytes : List ℕ) (given : Option (List State)) (f : Fault) → IsGoodExpression kind target bytes → Knows kind target bytes given → IsFaultOf kind target bytes given f → ⊥ }
+    ensures alone { (kind : Kind) (target : Target) (bytes : List ℕ) (f : Fault)
+        → IsGoodExpression kind target bytes → IsFaultOf kind target bytes None f → ⊥ }
+    ensures given { (kind : Kind) (target : Target) (bytes : List ℕ) (given : Option (List State))
+        (f : Fault) → IsGoodExpression kind target bytes → Knows kind target bytes given
+        → IsFaultOf kind target bytes given f → ⊥ }
 {}
 
 /// Every expression is good or has a first fault. Where states are given, it is good and they are its states, or it has a first
 /// fault.
 pub fn every_expression_has_a_verdict()
-    ensures alone { (kind : Kind) (target : Target) (bytes : List ℕ) → IsGoodExpression kind target bytes ⊎ ((f : Fault) × IsFaultOf kind target bytes None f) }
-    ensures given { (kind : Kind) (target : Target) (bytes : List ℕ) (given : Option (List State)) → (IsGoodExpression kind target bytes × Knows kind target bytes given) ⊎ ((f : Fault) × IsFaultOf kind target bytes given f) }
+    ensures alone { (kind : Kind) (target : Target) (bytes : List ℕ)
+        → IsGoodExpression kind target bytes ⊎ ((f : Fault) × IsFaultOf kind target bytes None f) }
+    ensures given { (kind : Kind) (target : Target) (bytes : List ℕ) (given : Option (List State))
+        → (IsGoodExpression kind target bytes × Knows kind target bytes given)
+        ⊎ ((f : Fault) × IsFaultOf kind target bytes given f) }
 {}
 
 /// The fault that a function of the bytes names is the first fault: none exactly where the expression is good, and f exactly
 /// where f is its first fault.
 pub fn the_fault_is_the_first()
-    ensures none { (kind : Kind) (target : Target) (bytes : List ℕ) → (expression_fault kind target bytes ≡ None) ↔ IsGoodExpression kind target bytes }
-    ensures some { (kind : Kind) (target : Target) (bytes : List ℕ) (f : Fault) → (expression_fault kind target bytes ≡ Some f) ↔ IsFaultOf kind target bytes None f }
+    ensures none { (kind : Kind) (target : Target) (bytes : List ℕ)
+        → (expression_fault kind target bytes ≡ None) ↔ IsGoodExpression kind target bytes }
+    ensures some { (kind : Kind) (target : Target) (bytes : List ℕ) (f : Fault)
+        → (expression_fault kind target bytes ≡ Some f) ↔ IsFaultOf kind target bytes None f }
 {}
 
 /// There is one first fault.
 pub fn one_fault()
-    ensures { (kind : Kind) (target : Target) (bytes : List ℕ) (given : Option (List State)) (f g : Fault) → IsFaultOf kind target bytes given f → IsFaultOf kind target bytes given g → f ≡ g }
+    ensures { (kind : Kind) (target : Target) (bytes : List ℕ) (given : Option (List State))
+        (f g : Fault) → IsFaultOf kind target bytes given f → IsFaultOf kind target bytes given g
+        → f ≡ g }
 {}
 
 /// A good expression has a depth.
 pub fn each_has_a_depth()
-    ensures { (kind : Kind) (target : Target) (bytes : List ℕ) → IsGoodExpression kind target bytes → (d : ℕ) × IsDepthOf kind target bytes d }
+    ensures { (kind : Kind) (target : Target) (bytes : List ℕ) → IsGoodExpression kind target bytes
+        → (d : ℕ) × IsDepthOf kind target bytes d }
 {}
 
 /// There is one depth.
 pub fn one_depth()
-    ensures { (kind : Kind) (target : Target) (bytes : List ℕ) (d e : ℕ) → IsDepthOf kind target bytes d → IsDepthOf kind target bytes e → d ≡ e }
+    ensures { (kind : Kind) (target : Target) (bytes : List ℕ) (d e : ℕ)
+        → IsDepthOf kind target bytes d → IsDepthOf kind target bytes e → d ≡ e }
 {}
 
 /// A good expression has a list of states.
 pub fn each_has_a_certificate()
-    ensures { (kind : Kind) (target : Target) (bytes : List ℕ) → IsGoodExpression kind target bytes → (s : List State) × AreStatesOf kind target bytes s }
+    ensures { (kind : Kind) (target : Target) (bytes : List ℕ) → IsGoodExpression kind target bytes
+        → (s : List State) × AreStatesOf kind target bytes s }
 {}
 
 /// A good expression has one list of states.
 pub fn one_certificate()
-    ensures { (kind : Kind) (target : Target) (bytes : List ℕ) (s t : List State) → IsGoodExpression kind target bytes → AreStatesOf kind target bytes s → AreStatesOf kind target bytes t → s ≡ t }
+    ensures { (kind : Kind) (target : Target) (bytes : List ℕ) (s t : List State)
+        → IsGoodExpression kind target bytes → AreStatesOf kind target bytes s
+        → AreStatesOf kind target bytes t → s ≡ t }
 {}
 
 /// The operations of a good expression follow each other from its first byte to its end, and each is read at its offset.
 pub fn operations_stand_in_the_bytes()
-    ensures laid { (kind : Kind) (target : Target) (bytes : List ℕ) → IsGoodExpression kind target bytes → IsLaidOut (operations_in target bytes) (length bytes) }
-    ensures read { (kind : Kind) (target : Target) (bytes : List ℕ) → IsGoodExpression kind target bytes → (k : ℕ) (x : Placed) → slice_get (operations_in target bytes) k ≡ Some x → operation_at (reading_at target bytes x.0) ≡ Ok (x.1, reading_at target bytes (place (operations_in target bytes) (length bytes) (k + 1))) }
+    ensures laid { (kind : Kind) (target : Target) (bytes : List ℕ)
+        → IsGoodExpression kind target bytes
+        → IsLaidOut (operations_in target bytes) (length bytes) }
+    ensures read { (kind : Kind) (target : Target) (bytes : List ℕ)
+        → IsGoodExpression kind target bytes → (k : ℕ) (x : Placed)
+        → slice_get (operations_in target bytes) k ≡ Some x
+        → operation_at (reading_at target bytes x.0) ≡ Ok
+        (x.1, reading_at target bytes (place (operations_in target bytes) (length bytes) (k + 1))) }
 {}
 
 /// Operations that follow each other begin one behind the other, and the end is behind them all.
 pub fn places_ascend()
-    ensures begins { (ops : List Placed) (len k : ℕ) (x : Placed) → slice_get ops k ≡ Some x → place ops len k ≡ x.0 }
+    ensures begins { (ops : List Placed) (len k : ℕ) (x : Placed) → slice_get ops k ≡ Some x
+        → place ops len k ≡ x.0 }
     ensures ends { (ops : List Placed) (len k : ℕ) → length ops ≤ k → place ops len k ≡ len }
-    ensures ascends { (ops : List Placed) (len : ℕ) → IsLaidOut ops len → (j k : ℕ) → j < k → k ≤ length ops → place ops len j < place ops len k }
+    ensures ascends { (ops : List Placed) (len : ℕ) → IsLaidOut ops len → (j k : ℕ) → j < k
+        → k ≤ length ops → place ops len j < place ops len k }
 {}
 
 /// Where a path comes to an operation of a good expression, all that it needs is there.
 pub fn needs_are_met()
-    ensures { (kind : Kind) (target : Target) (bytes : List ℕ) → IsGoodExpression kind target bytes → (c : Configuration) (s : StackState) → Reaches kind (operations_in target bytes) (length bytes) c.offset s → Agrees s c → (k : ℕ) (x : Placed) → slice_get (operations_in target bytes) k ≡ Some x → x.0 ≡ c.offset → Meets (operations_in target bytes) c }
+    ensures { (kind : Kind) (target : Target) (bytes : List ℕ) → IsGoodExpression kind target bytes
+        → (c : Configuration) (s : StackState)
+        → Reaches kind (operations_in target bytes) (length bytes) c.offset s → Agrees s c
+        → (k : ℕ) (x : Placed) → slice_get (operations_in target bytes) k ≡ Some x → x.0 ≡ c.offset
+        → Meets (operations_in target bytes) c }
 {}

@@ -11,6 +11,7 @@ pub mod laws;
 mod pass;
 mod state;
 mod step;
+mod straight;
 mod target;
 mod verify;
 
@@ -19,10 +20,3 @@ pub use checked::CheckedExpression;
 pub use judge::{MAX_HEIGHT, MAX_PIECES};
 pub use state::{Kind, Mode, State};
 pub use verify::{CertFault, certify, check_expression, recheck};
-
-#[cfg(test)]
-mod given_tests;
-#[cfg(test)]
-mod hostile_tests;
-#[cfg(test)]
-mod tests;

@@ -43,7 +43,8 @@ fn first_arrivals(
     start: StackState,
 ) -> Result<SmallVec<InState, 17>, Fault>
     requires { count < 2 ^ 63 }
-    ensures ok { IfOk result (λ v. v.items ≡ slice_set (replicate (count + 1) InState.Unreached) 0 (InState.Known start)) }
+    ensures ok { IfOk result (λ v. v.items ≡ slice_set (replicate (count + 1) InState.Unreached) 0
+        (InState.Known start)) }
     ensures err { IfErr result (λ f. f ≡ memory) }
 {
     match SmallVec::from_elem(alloc, InState::Unreached, count + 1) {
@@ -70,8 +71,10 @@ pub fn pass(
     ensures good { OnOk result (IsGood kind (listed operations.now) end) }
     ensures states { IfOk result (λ p. AreStates kind (listed operations.now) end p.states.items) }
     ensures depth { IfOk result (λ p. IsDepth kind (listed operations.now) end p.depth) }
-    ensures known { OnOk result (KnowsOnly kind (listed operations.now) end (given_of given.entry)) }
-    ensures first { IfErr result (λ f. (f ≡ memory) ⊎ IsFirstFault kind (listed operations.now) end (given_of given.entry) f.kind f.at) }
+    ensures known { OnOk result (KnowsOnly kind (listed operations.now) end
+        (given_of given.entry)) }
+    ensures first { IfErr result (λ f. (f ≡ memory) ⊎ IsFirstFault kind (listed operations.now) end
+        (given_of given.entry) f.kind f.at) }
     ensures inside { IfErr result (λ f. f.at ≤ end) }
 {
     let start = start(kind);

@@ -48,8 +48,10 @@ pub fn step(
     requires i { i < length operations.now }
     requires wide { length in_states.old ≡ length operations.now + 1 }
     requires given { IfSome given (λ states. length states.now ≡ length operations.now) }
-    ensures ok { IfOk result (λ done. Stepped kind (listed operations.now) end (given_of given.entry) i pieces in_states.old done in_states.new) }
-    ensures err { IfErr result (StepObjects kind (listed operations.now) end (given_of given.entry) i pieces in_states.old) }
+    ensures ok { IfOk result (λ done. Stepped kind (listed operations.now) end
+        (given_of given.entry) i pieces in_states.old done in_states.new) }
+    ensures err { IfErr result (StepObjects kind (listed operations.now) end
+        (given_of given.entry) i pieces in_states.old) }
 {
     let state = state_at(in_states, i)?;
     if !is_given(given, i, state.at(place_of(operations, end, i))) {

@@ -44,8 +44,10 @@ fn place_at(
     requires laid { IsLaidOut (listed operations.now) end }
     requires from { from < length operations.now }
     requires ahead { place (listed operations.now) end (from + 1) ≤ target }
-    ensures ok { IfOk result (λ j. (from < j) × (j ≤ length operations.now) × (place (listed operations.now) end j ≡ target)) }
-    ensures err { IfErr result (λ e. (e ≡ FaultKind.TargetNotStart) × ((j : ℕ) → j ≤ length operations.now → place (listed operations.now) end j ≢ target)) }
+    ensures ok { IfOk result (λ j. (from < j) × (j ≤ length operations.now)
+        × (place (listed operations.now) end j ≡ target)) }
+    ensures err { IfErr result (λ e. (e ≡ FaultKind.TargetNotStart)
+        × ((j : ℕ) → j ≤ length operations.now → place (listed operations.now) end j ≢ target)) }
 {
     let mut low = from + 1;
     let mut high = operations.len();

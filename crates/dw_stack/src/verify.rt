@@ -12,6 +12,7 @@ use crate::certificate::Certificate;
 use crate::checked::CheckedExpression;
 use crate::pass::pass;
 use crate::state::{Kind, State};
+use crate::straight::check_straight;
 use dw_bytes::{Fault, FaultKind};
 use dw_ops::{Expression, operations};
 use std::alloc::Global;
@@ -37,10 +38,14 @@ fn check<'a>(
     given: Option<&[State]>,
 ) -> Result<Certificate<'a>, Fault>
     ensures checked { IfOk result (λ c. IsChecked (checked_in c)) }
-    ensures same { IfOk result (λ c. IsOf kind (target_of expression.entry) (bytes_of expression.entry) (checked_in c)) }
-    ensures states { IfOk result (λ c. AreStatesOf kind (target_of expression.entry) (bytes_of expression.entry) (states_in c)) }
-    ensures known { OnOk result (Knows kind (target_of expression.entry) (bytes_of expression.entry) (given_of given.entry)) }
-    ensures fault { IfErr result (λ f. (f ≡ memory) ⊎ IsFaultOf kind (target_of expression.entry) (bytes_of expression.entry) (given_of given.entry) f) }
+    ensures same { IfOk result (λ c. IsOf kind (target_of expression.entry)
+        (bytes_of expression.entry) (checked_in c)) }
+    ensures states { IfOk result (λ c. AreStatesOf kind (target_of expression.entry)
+        (bytes_of expression.entry) (states_in c)) }
+    ensures known { OnOk result (Knows kind (target_of expression.entry) (bytes_of expression.entry)
+        (given_of given.entry)) }
+    ensures fault { IfErr result (λ f. (f ≡ memory) ⊎ IsFaultOf kind (target_of expression.entry)
+        (bytes_of expression.entry) (given_of given.entry) f) }
     ensures inside { IfErr result (λ f. f.at ≤ length (bytes_of expression.entry)) }
 {
     let operations = operations(alloc, &expression)?;
@@ -75,25 +80,34 @@ pub fn certify<'a>(
     kind: Kind,
 ) -> Result<Certificate<'a>, Fault>
     ensures checked { IfOk result (λ c. IsChecked (checked_in c)) }
-    ensures same { IfOk result (λ c. IsOf kind (target_of expression.entry) (bytes_of expression.entry) (checked_in c)) }
-    ensures states { IfOk result (λ c. AreStatesOf kind (target_of expression.entry) (bytes_of expression.entry) (states_in c)) }
-    ensures answer { Answers (expression_fault kind (target_of expression.entry) (bytes_of expression.entry)) result }
+    ensures same { IfOk result (λ c. IsOf kind (target_of expression.entry)
+        (bytes_of expression.entry) (checked_in c)) }
+    ensures states { IfOk result (λ c. AreStatesOf kind (target_of expression.entry)
+        (bytes_of expression.entry) (states_in c)) }
+    ensures answer { Answers (expression_fault kind (target_of expression.entry)
+        (bytes_of expression.entry)) result }
     ensures inside { IfErr result (λ f. f.at ≤ length (bytes_of expression.entry)) }
 {
     check(alloc, expression, kind, None)
 }
 
-/// Certifies an expression, without the states: as `certify` and then `Certificate::into_checked`.
+/// Checks an expression: as `certify` and then `Certificate::into_checked`, but no state is kept. Where nothing branches, it
+/// is one pass over the bytes and takes no memory.
 pub fn check_expression<'a>(
     alloc: Global,
     expression: Expression<'a>,
     kind: Kind,
 ) -> Result<CheckedExpression<'a>, Fault>
     ensures checked { IfOk result (λ c. IsChecked (checked_of c)) }
-    ensures same { IfOk result (λ c. IsOf kind (target_of expression.entry) (bytes_of expression.entry) (checked_of c)) }
-    ensures answer { Answers (expression_fault kind (target_of expression.entry) (bytes_of expression.entry)) result }
+    ensures same { IfOk result (λ c. IsOf kind (target_of expression.entry)
+        (bytes_of expression.entry) (checked_of c)) }
+    ensures answer { Answers (expression_fault kind (target_of expression.entry)
+        (bytes_of expression.entry)) result }
     ensures inside { IfErr result (λ f. f.at ≤ length (bytes_of expression.entry)) }
 {
+    if let Some(checked) = check_straight(expression, kind) {
+        return Ok(checked);
+    }
     let certificate = certify(alloc, expression, kind)?;
     Ok(certificate.into_checked())
 }
@@ -112,9 +126,12 @@ pub fn recheck<'a>(
     states: &[State],
 ) -> Result<CheckedExpression<'a>, CertFault>
     ensures checked { IfOk result (λ c. IsChecked (checked_of c)) }
-    ensures same { IfOk result (λ c. IsOf kind (target_of expression.entry) (bytes_of expression.entry) (checked_of c)) }
-    ensures states { OnOk result (AreStatesOf kind (target_of expression.entry) (bytes_of expression.entry) states.now) }
-    ensures fault { IfErr result (λ f. (f ≡ memory) ⊎ IsFaultOf kind (target_of expression.entry) (bytes_of expression.entry) (Some states.now) f) }
+    ensures same { IfOk result (λ c. IsOf kind (target_of expression.entry)
+        (bytes_of expression.entry) (checked_of c)) }
+    ensures states { OnOk result (AreStatesOf kind (target_of expression.entry)
+        (bytes_of expression.entry) states.now) }
+    ensures fault { IfErr result (λ f. (f ≡ memory) ⊎ IsFaultOf kind (target_of expression.entry)
+        (bytes_of expression.entry) (Some states.now) f) }
     ensures inside { IfErr result (λ f. f.at ≤ length (bytes_of expression.entry)) }
 {
     let certificate = check(alloc, expression, kind, Some(states))?;

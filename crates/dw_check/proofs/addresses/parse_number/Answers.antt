@@ -1,13 +1,14 @@
 use Rattle.std.proofs.Common.{◌≡◌, rules, length, ◌<◌, ◌≤◌, arith}
 use Rattle.std.specs.Str.Parse.{without_leading_plus}
-use Rattle.dw_check.proofs.Parsed.{no_plus, read_ok, read_none, digits_fit, digits_are_text, radix_small}
+use Rattle.dw_check.proofs.Digits.{no_plus, read_ok, read_none, digits_fit, digits_are_text, radix_small}
 use Rattle.dw_check.proofs.addresses.parse_number.Goals as goal
 
 pub returns-in_default : goal.returns-in_default
 returns-in_default c =
     let ds = c.args.digits.now in
     let r = radix_small c.args.radix c.requires.radix in
-    read_none c.args.radix c.args.most ds (search rules) (search rules) (λ all. c.in_default.ensures.cases.0 (digits_are_text c.args.radix ds r.1 all))
+    read_none c.args.radix c.args.most ds (search rules) (search rules)
+    (λ all. c.in_default.ensures.cases.0 (digits_are_text c.args.radix ds r.1 all))
 
 pub returns-in-Ok-from_str_radix : goal.returns-in-Ok-from_str_radix
 returns-in-Ok-from_str_radix c =

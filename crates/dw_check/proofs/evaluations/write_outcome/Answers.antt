@@ -2,7 +2,7 @@ use Rattle.std.proofs.Common.{length, sym}
 use Rattle.dw_stack.specs.Certificates.{checked_of}
 use Rattle.dw_eval.specs.Views.{outcome_of}
 use Rattle.dw_check.specs.Outcomes.{evaluation_text}
-use Rattle.dw_check.specs.StateViews.{known_of}
+use Rattle.dw_check.specs.StateViews.{known_state_of}
 use Rattle.dw_check.proofs.Evaluated.{same_bound, evaluates}
 use Rattle.dw_check.proofs.evaluations.write_outcome.Goals as goal
 
@@ -18,5 +18,7 @@ returns-clause-written g c = λ gs given.
     let outcome = outcome_of c.evaluate-evaluation.result.outcome in
     let steps = c.evaluate-evaluation.result.steps in
     let size = c.requires.size in
-    let shown = evaluates checked (known_of c.args.state.now) gs outcome steps c.depth.result c.requires.short c.requires.good given c.evaluate-evaluation.ensures.run c.depth.ensures.depth in
+    let shown = evaluates checked
+    (known_state_of c.args.state.now) gs outcome steps c.depth.result c.requires.short c.requires.good given
+    c.evaluate-evaluation.ensures.run c.depth.ensures.depth in
     (evaluation_text checked.target.address_size outcome steps c.depth.result, shown, rw (← size) c.write_evaluation.ensures.written)

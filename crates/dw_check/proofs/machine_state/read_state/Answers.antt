@@ -1,6 +1,6 @@
 use Rattle.std.proofs.Common.{rules, refl, arith, ap, ◌≡◌, ◌∷◌, ◌++◌, ◌<◌, ◌+◌, [], length, subst}
 use Rattle.dw_check.specs.Parts.{parts_of}
-use Rattle.dw_check.specs.StateViews.{given_of}
+use Rattle.dw_check.specs.StateViews.{fact_of}
 use Rattle.dw_check.proofs.StateLines.{Reading, few_parts, reads_line}
 use Rattle.dw_check.proofs.machine_state.read_state.Goals as goal
 
@@ -19,7 +19,7 @@ loop-line-preserved c =
     let was = c.loop-line.invariant.given in
     let gs = was.0 in
     let line = c.in-Some.line.now in
-    let g = given_of c.in-Some-2.given in
+    let g = fact_of c.in-Some-2.given in
     let steps : c.loop-line.line-iterator ≡ line ∷ c.next.new.self = c.in-Some.ensures.steps in
     let long = ap length steps in
     let some : 0 < length line = search rules in

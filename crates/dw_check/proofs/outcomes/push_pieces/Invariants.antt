@@ -6,4 +6,5 @@ use Rattle.dw_check.specs.Outcomes.{piece_line}
 use Rattle.dw_check.proofs.outcomes.push_pieces.Given as goal
 
 abbrev pub invariant-loop-piece : goal.invariant-loop-piece
-invariant-loop-piece l = string_bytes l.line ≡ string_bytes l.fn.line ++ flat_map (piece_line l.size) (map piece_in (take l.piece-index l.pieces))
+invariant-loop-piece l = string_bytes l.line ≡ string_bytes l.fn.line
+    ++ flat_map (piece_line l.size) (map piece_in (take l.piece-index l.pieces))

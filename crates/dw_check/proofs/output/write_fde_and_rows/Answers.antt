@@ -19,16 +19,18 @@ write_fde-requires-clause-fits g c = below_top c.args.frame.now.target _ _ c.req
 pub write_rows-requires-clause-fit : goal.write_rows-requires-clause-fit
 write_rows-requires-clause-fit g c =
     let size = c.args.out.now.size in
-    let fit = subst (λ rows. All (λ row. Fits size row) rows) (sym (behind c.args.frame.now _ _ _ c.cie_of-cie.ensures.cie c.rows_into.ensures))
-    (good_rows_fit c.args.frame.now.target _ _ _ c.requires.size c.cie_of-cie.ensures.fde_program c.requires.fits) in
+    let fit = subst (λ rows. All (λ row. Fits size row) rows)
+    (sym (behind c.args.frame.now _ _ _ c.rows_into-cie.ensures.cie c.rows_into-cie.ensures.rows))
+    (good_rows_fit c.args.frame.now.target _ _ _ c.requires.size c.rows_into-cie.ensures.fde_program c.requires.fits) in
     rw c.in_ok-write_fde.ensures.same.1 fit
 
 pub returns-in_err-write_fde-clause-written : goal.returns-in_err-write_fde-clause-written
 returns-in_err-write_fde-clause-written g c =
-    fde_front c.args.frame.now _ _ _ _ _ _ c.requires.size c.cie_of-cie.ensures.cie c.from_residual.ensures.0
+    fde_front c.args.frame.now _ _ _ _ _ _ c.requires.size c.rows_into-cie.ensures.cie c.from_residual.ensures.0
     c.in_err-write_fde.ensures.written
 
 pub returns-clause-written : goal.returns-clause-written
 returns-clause-written g c =
-    fde_then c.args.frame.now _ _ _ _ _ _ _ _ c.requires.size c.cie_of-cie.ensures.cie (behind c.args.frame.now _ _ _ c.cie_of-cie.ensures.cie c.rows_into.ensures)
+    fde_then c.args.frame.now _ _ _ _ _ _ _ _ c.requires.size c.rows_into-cie.ensures.cie
+    (behind c.args.frame.now _ _ _ c.rows_into-cie.ensures.cie c.rows_into-cie.ensures.rows)
     c.in_ok-write_fde.ensures.written (rw c.in_ok-write_fde.ensures.same.1 at c.write_rows.ensures.written)

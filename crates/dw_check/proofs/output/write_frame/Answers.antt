@@ -17,18 +17,21 @@ pub loop-fde-preserved : goal.loop-fde-preserved
 loop-fde-preserved g c = record {
   same = search rules;
   runs = search rules;
-  sent = sent_next _ _ _ _ _ _ _ _ (next_seen fde_of c.fdes-fdes.result.now c.loop-fde.fde-index c.fde-item.result (omega arith) c.fde-item.is)
+  sent = sent_next _ _ _ _ _ _ _ _ (next_seen fde_of c.fdes-fdes.result.now c.loop-fde.fde-index c.fde-item.result
+      (omega arith) c.fde-item.is)
       c.loop-fde.invariant.sent c.in_ok-write_fde_and_rows.ensures.written;
 }
 
 pub write_fde_and_rows-requires-clause-inside : goal.write_fde_and_rows-requires-clause-inside
 write_fde_and_rows-requires-clause-inside g c =
-    sent_place _ _ _ _ _ _ _ (next_seen fde_of c.fdes-fdes.result.now c.loop-fde.fde-index c.fde-item.result (omega arith) c.fde-item.is) c.loop-fde.invariant.sent
+    sent_place _ _ _ _ _ _ _ (next_seen fde_of c.fdes-fdes.result.now c.loop-fde.fde-index c.fde-item.result
+    (omega arith) c.fde-item.is) c.loop-fde.invariant.sent
 
 pub write_fde_and_rows-requires-clause-fits : goal.write_fde_and_rows-requires-clause-fits
 write_fde_and_rows-requires-clause-fits g c =
     c.fdes-fdes.ensures.fit (fde_of c.fde-item.result)
-    (sent_place _ _ _ _ _ _ _ (next_seen fde_of c.fdes-fdes.result.now c.loop-fde.fde-index c.fde-item.result (omega arith) c.fde-item.is) c.loop-fde.invariant.sent)
+    (sent_place _ _ _ _ _ _ _ (next_seen fde_of c.fdes-fdes.result.now c.loop-fde.fde-index c.fde-item.result
+    (omega arith) c.fde-item.is) c.loop-fde.invariant.sent)
 
 pub returns-in_err-write_fde_and_rows-clause-written : goal.returns-in_err-write_fde_and_rows-clause-written
 unfolding frame_text

@@ -1,6 +1,6 @@
 use Rattle.std.proofs.Common.{◌≡◌, rules, subst, codes}
 use Rattle.std.specs.String.{string_bytes}
-use Rattle.dw_check.specs.Written.{Writes}
+use Rattle.dw_check.specs.WriteResults.{Writes}
 use Rattle.dw_check.proofs.Within.{below_top}
 use Rattle.dw_check.proofs.Writing.{row_written, none_text, writes_whole}
 use Rattle.dw_check.proofs.output.write_lookup.Goals as goal

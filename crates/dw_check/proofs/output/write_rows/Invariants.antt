@@ -1,6 +1,6 @@
 use Rattle.std.proofs.Common.{◌≡◌, false, length}
 use Rattle.dw_check.specs.Text.{row_line}
-use Rattle.dw_check.specs.Written.{IsSame}
+use Rattle.dw_check.specs.WriteResults.{IsSame}
 use Rattle.dw_check.proofs.Sent.{Sent}
 use Rattle.dw_check.proofs.output.write_rows.Given as goal
 

@@ -9,5 +9,6 @@ pub returns-in-Err-clause-stop : goal.returns-in-Err-clause-stop
 returns-in-Err-clause-stop c =
     let section = c.args.section.now in
     let short : length section < 2 ^ 32 = omega arith in
-    let own = subst (λ first. (c.in-Err.fault ≡ memory) ⊎ (first ≡ Some c.in-Err.fault)) (sym (short_fault section _ _ short)) c.in-Err.ensures.answer in
+    let own = subst (λ first. (c.in-Err.fault ≡ memory) ⊎ (first ≡ Some c.in-Err.fault))
+    (sym (short_fault section _ _ short)) c.in-Err.ensures.answer in
     c.of_fault.ensures (frame_refusal c.args.target section) own

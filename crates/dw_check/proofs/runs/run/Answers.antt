@@ -1,7 +1,7 @@
 use Rattle.std.proofs.Common.{[], map, rules}
 use Rattle.std.specs.Io.KnownBytes.{Appends}
 use Rattle.dw_check.specs.Runs.{refusal, IsReply}
-use Rattle.dw_check.specs.Taken.{AppendsFront}
+use Rattle.dw_check.specs.SinkBytes.{AppendsFront}
 use Rattle.dw_check.specs.Text.{refused_line}
 use Rattle.dw_check.proofs.Growth.{front_more}
 use Rattle.dw_check.proofs.runs.run.Goals as goal

@@ -16,7 +16,9 @@ loop-at-preserved c =
     record {
       within = c.in-Ok.ensures.forward.1;
       fault = c.loop-at.invariant.fault ∙ ap fault_in step;
-      list = c.loop-at.invariant.list ∙ (ap (λ l. map located_of c.loop-at.list.items ++ values_in l) step ∙ (grown located_of c.loop-at.list.items (c.loop-at.at, c.in-Ok.operation) rest ∙ ap (λ (l : List (ℕ × coded.Operation)). map located_of l ++ rest) (sym pushed)));
+      list = c.loop-at.invariant.list ∙ (ap (λ l. map located_of c.loop-at.list.items ++ values_in l) step
+          ∙ (grown located_of c.loop-at.list.items (c.loop-at.at, c.in-Ok.operation) rest
+          ∙ ap (λ (l : List (ℕ × coded.Operation)). map located_of l ++ rest) (sym pushed)));
     }
 
 pub returns-in-Err-clause-answer : goal.returns-in-Err-clause-answer

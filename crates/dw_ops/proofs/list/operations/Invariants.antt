@@ -8,7 +8,8 @@ abbrev pub invariant-loop-at : goal.invariant-loop-at
 invariant-loop-at l = record {
   within : l.at ≤ length (bytes_of l.expression);
   fault : fault_in (operations_of (reading_from l.expression 0)) ≡ fault_in (operations_of (reading_from l.expression l.at));
-  list : values_in (operations_of (reading_from l.expression 0)) ≡ map located_of l.list.items ++ values_in (operations_of (reading_from l.expression l.at));
+  list : values_in (operations_of (reading_from l.expression 0)) ≡ map located_of l.list.items
+      ++ values_in (operations_of (reading_from l.expression l.at));
 }
 
 abbrev pub decreases-loop-at : goal.decreases-loop-at

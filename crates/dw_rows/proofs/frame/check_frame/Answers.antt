@@ -4,7 +4,7 @@ use Rattle.dw_frame.specs.declared.entry.CommonInformationEntry.{CommonInformati
 use Rattle.dw_frame.specs.declared.entry.FrameDescriptionEntry.{FrameDescriptionEntry}
 use Rattle.dw_rows.specs.Section.{parts_fault, section_fault, frame_of}
 use Rattle.dw_rows.specs.Initial.{AreLeftBy}
-use Rattle.dw_rows.specs.Overlap.{cie_offset, fde_offset, IsIndexOf}
+use Rattle.dw_rows.specs.Overlap.{cie_offset, fde_offset, IsAddressIndex}
 use Rattle.dw_frame.specs.Bounds.{Ascends}
 use Rattle.dw_rows.proofs.Standing.{section-answered}
 use Rattle.dw_rows.proofs.SectionOrder.{cies-ascend, fdes-ascend}
@@ -13,12 +13,14 @@ use Rattle.dw_rows.proofs.frame.check_frame.Goals as goal
 
 pub check_parts-requires-clause-cies : goal.check_parts-requires-clause-cies
 check_parts-requires-clause-cies c =
-    let cies : map cie_of c.deref.result.now ≡ (frame_of c.args.target c.args.section.now).cies = ap (λ (l : List CommonInformationEntry). map cie_of l) c.deref.ensures.value ∙ c.in_ok-cies.ensures.cies in
+    let cies : map cie_of c.deref.result.now ≡ (frame_of c.args.target c.args.section.now).cies =
+    ap (λ (l : List CommonInformationEntry). map cie_of l) c.deref.ensures.value ∙ c.in_ok-cies.ensures.cies in
     subst (Ascends cie_offset) (sym cies) (cies-ascend c.args.target c.args.section.now c.in_ok-cies.ensures.read)
 
 pub check_parts-requires-clause-fdes : goal.check_parts-requires-clause-fdes
 check_parts-requires-clause-fdes c =
-    let fdes : map fde_of c.deref-2.result.now ≡ (frame_of c.args.target c.args.section.now).fdes = ap (λ (l : List FrameDescriptionEntry). map fde_of l) c.deref-2.ensures.value ∙ c.in_ok-cies.ensures.fdes in
+    let fdes : map fde_of c.deref-2.result.now ≡ (frame_of c.args.target c.args.section.now).fdes =
+    ap (λ (l : List FrameDescriptionEntry). map fde_of l) c.deref-2.ensures.value ∙ c.in_ok-cies.ensures.fdes in
     subst (Ascends fde_offset) (sym fdes) (fdes-ascend c.args.target c.args.section.now c.in_ok-cies.ensures.read)
 
 pub invariant_of-result : goal.invariant_of-result
@@ -26,13 +28,18 @@ invariant_of-result c =
     let cies = c.in_ok-cies.cies.items in
     let fdes = c.in_ok-cies.fdes.items in
     let left = c.in_ok-initial.initial in
-    let index = map fde_of c.in_ok-initial.index.items in
+    let index = c.in_ok-initial.index.items in
     let answer : parts_fault (map cie_of cies) (map fde_of fdes) ≡ None =
     subst (λ (l : List CommonInformationEntry). parts_fault (map cie_of l) (map fde_of fdes) ≡ None) c.deref.ensures.value
-    (subst (λ (l : List FrameDescriptionEntry). parts_fault (map cie_of c.deref.result.now) (map fde_of l) ≡ None) c.deref-2.ensures.value c.in_ok-initial.ensures.answer) in
-    let left_by : AreLeftBy (map cie_of cies) left = subst (λ (l : List CommonInformationEntry). AreLeftBy (map cie_of l) left) c.deref.ensures.value c.in_ok-initial.ensures.left in
-    let index_of : IsIndexOf (map fde_of fdes) index = subst (λ (l : List FrameDescriptionEntry). IsIndexOf (map fde_of l) index) c.deref-2.ensures.value c.in_ok-initial.ensures.index in
-    kept c.args.target c.args.section.now (map cie_of cies) left (map fde_of fdes) index c.in_ok-cies.ensures.read c.in_ok-cies.ensures.cies c.in_ok-cies.ensures.fdes answer left_by index_of
+    (subst (λ (l : List FrameDescriptionEntry). parts_fault (map cie_of c.deref.result.now) (map fde_of l)
+    ≡ None) c.deref-2.ensures.value c.in_ok-initial.ensures.answer) in
+    let left_by : AreLeftBy (map cie_of cies) left =
+    subst (λ (l : List CommonInformationEntry). AreLeftBy (map cie_of l) left) c.deref.ensures.value c.in_ok-initial.ensures.left in
+    let index_of : IsAddressIndex (map fde_of fdes) index =
+    subst (λ (l : List FrameDescriptionEntry). IsAddressIndex
+    (map fde_of l) index) c.deref-2.ensures.value c.in_ok-initial.ensures.index in
+    kept c.args.target c.args.section.now (map cie_of cies) left
+    (map fde_of fdes) index c.in_ok-cies.ensures.read c.in_ok-cies.ensures.cies c.in_ok-cies.ensures.fdes answer left_by index_of
 
 pub returns-in_err-cies-clause-inside : goal.returns-in_err-cies-clause-inside
 unfolding section_fault
@@ -40,4 +47,5 @@ returns-in_err-cies-clause-inside c = section-answered c.args.target c.args.sect
 
 pub returns-in_err-initial-clause-inside : goal.returns-in_err-initial-clause-inside
 unfolding section_fault
-returns-in_err-initial-clause-inside c = section-answered c.args.target c.args.section.now c.from_residual-in_err-initial.result (search rules)
+returns-in_err-initial-clause-inside c = section-answered c.args.target c.args.section.now c.from_residual-in_err-initial.result
+    (search rules)

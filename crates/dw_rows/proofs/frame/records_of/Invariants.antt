@@ -9,6 +9,8 @@ use Rattle.dw_rows.proofs.frame.records_of.Given as goal
 abbrev pub invariant-loop-entry : goal.invariant-loop-entry
 invariant-loop-entry l = record {
   fault : fault_in (entries_of l.fn.target l.fn.section) ≡ fault_in l.entry-iterator;
-  cies : filter_map cie_in_record (values_in (entries_of l.fn.target l.fn.section)) ≡ map cie_of l.cies.items ++ filter_map cie_in_record (values_in l.entry-iterator);
-  fdes : filter_map fde_in_record (values_in (entries_of l.fn.target l.fn.section)) ≡ map fde_of l.fdes.items ++ filter_map fde_in_record (values_in l.entry-iterator);
+  cies : filter_map cie_in_record (values_in (entries_of l.fn.target l.fn.section)) ≡ map cie_of l.cies.items
+      ++ filter_map cie_in_record (values_in l.entry-iterator);
+  fdes : filter_map fde_in_record (values_in (entries_of l.fn.target l.fn.section)) ≡ map fde_of l.fdes.items
+      ++ filter_map fde_in_record (values_in l.entry-iterator);
 }

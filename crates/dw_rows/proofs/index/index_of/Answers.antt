@@ -1,17 +1,26 @@
-use Rattle.std.proofs.Common.{rules, subst, map}
-use Rattle.std.specs.List.Sorted.{IsPermutation}
-use Rattle.std.proofs.lemmas.List.Sorted.{IsNonDecreasingBy-from_sort_by_key, IsPermutation-map}
+use Rattle.std.proofs.Common.{rules, subst, map, List}
+use Rattle.std.specs.List.Sorted.{IsPermutation, IsNonDecreasingBy}
+use Rattle.std.proofs.lemmas.List.Sorted.{IsNonDecreasingBy-from_sort_by_key, IsPermutation-map, All-permutation}
+use Rattle.dw_frame.specs.Records.{Fde}
 use Rattle.dw_frame.specs.Views.{fde_of}
-use Rattle.dw_frame.specs.declared.entry.FrameDescriptionEntry.{FrameDescriptionEntry}
-use Rattle.dw_rows.specs.Overlap.{initial_of}
-use Rattle.dw_rows.proofs.Indexes.{indexed, is_some_fde}
-use Rattle.dw_rows.proofs.Elements.{filter-map, sorted-map}
+use Rattle.dw_rows.specs.Overlap.{fde_at, IsEntry}
+use Rattle.dw_rows.specs.declared.index.IndexEntry.{IndexEntry}
+use Rattle.dw_rows.proofs.Indexes.{indexed, sorted-entries}
 use Rattle.dw_rows.proofs.index.index_of.Goals as goal
 
 pub returns : goal.returns
 returns c =
-    let sorted = c.sort_unstable_by_key.new.self.items in
-    let moved = IsPermutation-map fde_of _ sorted (subst (λ xs. IsPermutation xs sorted) c.in_ok-index.ensures c.sort_unstable_by_key.ensures.permutation) in
-    indexed (map fde_of c.args.fdes.now) (map fde_of sorted) c.requires
-    (subst (λ xs. IsPermutation xs (map fde_of sorted)) (filter-map fde_of is_some_fde c.args.fdes.now) moved)
-    (sorted-map fde_of initial_of sorted (IsNonDecreasingBy-from_sort_by_key (λ (f : FrameDescriptionEntry). f.initial_location) _ c.sort_unstable_by_key.ensures.sorted (λ a r q k. search rules)))
+    let fdes = map fde_of c.args.fdes.now in
+    let entries = c.sort_unstable_by_key.new.self.items in
+    let moved = c.sort_unstable_by_key.ensures.permutation in
+    let sorted : IsNonDecreasingBy (λ (e : IndexEntry). e.start) entries =
+    IsNonDecreasingBy-from_sort_by_key (λ (e : IndexEntry). e.start) _ c.sort_unstable_by_key.ensures.sorted
+    (λ a r q k. search rules) in
+    let each = All-permutation (IsEntry fdes) _ entries moved c.in_ok-index.ensures.entries in
+    record {
+      each = each;
+      index_of = indexed fdes (map (fde_at fdes) entries) c.requires
+          (subst (λ (xs : List Fde). IsPermutation xs (map (fde_at fdes) entries)) c.in_ok-index.ensures.fdes
+          (IsPermutation-map (fde_at fdes) _ entries moved))
+          (sorted-entries fdes entries each sorted);
+    }

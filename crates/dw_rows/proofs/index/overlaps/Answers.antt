@@ -1,30 +1,46 @@
-use Rattle.std.proofs.Common.{arith, sym, map}
+use Rattle.std.proofs.Common.{arith, map}
 use Rattle.std.proofs.lemmas.List.{length-map}
 use Rattle.dw_frame.specs.Views.{fde_of}
+use Rattle.dw_rows.specs.Overlap.{fde_at}
 use Rattle.dw_rows.proofs.Sweeps.{swept-none, swept-skip, swept-more, swept-all, clash-at}
-use Rattle.dw_rows.proofs.Elements.{placed-map}
+use Rattle.dw_rows.proofs.Indexes.{entry-within, entry-placed}
 use Rattle.dw_rows.proofs.index.overlaps.Goals as goal
 use Rattle.dw_rows.proofs.index.overlaps.Goals.{then-fde-last+else-fde-end, else-fde-last}
 
-pub loop-fde-init : goal.loop-fde-init
-loop-fde-init c = swept-none (map fde_of c.args.index.now) c.args.last
+pub loop-entry-init : goal.loop-entry-init
+loop-entry-init c = swept-none (map (fde_at (map fde_of c.args.fdes.now)) c.args.index.now) c.args.last
+
+pub bounds-fdes-entry : goal.bounds-fdes-entry
+bounds-fdes-entry c = entry-within c.args.fdes.now c.args.index.now c.loop-entry.entry-index _ c.requires.each c.loop-entry-test.true
 
 pub returns-then-fde-end : goal.returns-then-fde-end
 returns-then-fde-end c =
-    let long = length-map c.args.index.now fde_of in
-    let placed = placed-map fde_of c.args.index.now c.loop-fde.fde-index c.fde-item.result (sym c.fde-item.is) in
-    clash-at (map fde_of c.args.index.now) c.args.last c.loop-fde.fde-index c.loop-fde.end (fde_of c.fde-item.result) c.requires c.loop-fde.invariant (omega arith) placed (omega arith) (omega arith)
+    let view = fde_at (map fde_of c.args.fdes.now) in
+    let long = length-map c.args.index.now view in
+    let placed =
+    entry-placed c.args.fdes.now c.args.index.now c.loop-entry.entry-index _ c.index-fdes-entry.result c.requires.each
+    c.loop-entry-test.true c.index-fdes-entry.is in
+    clash-at (map view c.args.index.now) c.args.last c.loop-entry.entry-index c.loop-entry.end
+    (fde_of c.index-fdes-entry.result) c.requires.index_of.ordered c.loop-entry.invariant (omega arith) placed (omega arith)
+    (omega arith)
 
-pub loop-fde-preserved : goal.loop-fde-preserved
-loop-fde-preserved c =
-    let long = length-map c.args.index.now fde_of in
-    let placed = placed-map fde_of c.args.index.now c.loop-fde.fde-index c.fde-item.result (sym c.fde-item.is) in
+pub loop-entry-preserved : goal.loop-entry-preserved
+loop-entry-preserved c =
+    let view = fde_at (map fde_of c.args.fdes.now) in
+    let long = length-map c.args.index.now view in
+    let placed =
+    entry-placed c.args.fdes.now c.args.index.now c.loop-entry.entry-index _ c.index-fdes-entry.result c.requires.each
+    c.loop-entry-test.true c.index-fdes-entry.is in
     elim c.if-fde-last.branch [
-      | then-fde-last+else-fde-end w ↦ rw w.end-is (swept-more (map fde_of c.args.index.now) c.args.last c.loop-fde.fde-index c.loop-fde.end (fde_of c.fde-item.result) c.loop-fde.invariant (omega arith) placed (omega arith) (omega arith))
-      | else-fde-last w ↦ rw w.end-is (swept-skip (map fde_of c.args.index.now) c.args.last c.loop-fde.fde-index c.loop-fde.end (fde_of c.fde-item.result) c.loop-fde.invariant (omega arith) placed (omega arith))
+      | then-fde-last+else-fde-end w ↦ rw w.end-is
+          (swept-more (map view c.args.index.now) c.args.last c.loop-entry.entry-index c.loop-entry.end
+          (fde_of c.index-fdes-entry.result) c.loop-entry.invariant (omega arith) placed (omega arith) (omega arith))
+      | else-fde-last w ↦ rw w.end-is (swept-skip (map view c.args.index.now) c.args.last c.loop-entry.entry-index c.loop-entry.end
+          (fde_of c.index-fdes-entry.result) c.loop-entry.invariant (omega arith) placed (omega arith))
     ]
 
 pub returns : goal.returns
 returns c =
-    let long = length-map c.args.index.now fde_of in
-    swept-all (map fde_of c.args.index.now) c.args.last c.loop-fde.fde-index c.loop-fde.end c.loop-fde.invariant (omega arith)
+    let view = fde_at (map fde_of c.args.fdes.now) in
+    let long = length-map c.args.index.now view in
+    swept-all (map view c.args.index.now) c.args.last c.loop-entry.entry-index c.loop-entry.end c.loop-entry.invariant (omega arith)

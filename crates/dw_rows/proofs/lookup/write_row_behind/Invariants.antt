@@ -7,7 +7,8 @@ use Rattle.dw_rows.proofs.lookup.write_row_behind.Given as goal
 abbrev pub invariant-loop-start : goal.invariant-loop-start
 invariant-loop-start l = record {
   cursor : IsRowCursor (record { cie = cie_of l.cie; end = l.limit; context = l.context; instructions = l.instructions });
-  seeks : Seeks (cie_of l.cie) (fde_of l.fde) l.address (record { cie = cie_of l.cie; end = l.limit; context = l.context; instructions = l.instructions });
+  seeks : Seeks (cie_of l.cie) (fde_of l.fde) l.address
+      (record { cie = cie_of l.cie; end = l.limit; context = l.context; instructions = l.instructions });
 }
 
 abbrev pub decreases-loop-start : goal.decreases-loop-start

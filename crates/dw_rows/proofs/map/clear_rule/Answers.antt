@@ -1,7 +1,7 @@
 use Rattle.std.proofs.Common.{arith, ◌≡◌}
 use Rattle.dw_rows.specs.RememberStack.{place_in}
 use Rattle.dw_rows.specs.Views.{entries_of}
-use Rattle.dw_rows.proofs.Edits.{clears-removed, clears-nothing, clears-end}
+use Rattle.dw_rows.proofs.Edits.{length-entries_of, clears-removed, clears-nothing, clears-end}
 use Rattle.dw_rows.proofs.map.clear_rule.Goals as goal
 use Rattle.dw_rows.proofs.map.clear_rule.Goals.{else-place-len-via-then-place-len+else-as_slice-place, else-place-len-via-else-place-len}
 
@@ -9,12 +9,18 @@ pub returns-then-as_slice-place : goal.returns-then-as_slice-place
 returns-then-as_slice-place c =
     let place : c.place_of-place.result ≡ place_in c.args.register (entries_of c.args.table.now.items) = cc in
     let k = clears-removed c.args.table.now.items _ c.remove.new.self.items c.args.register _ _ c.as_slice-then-place-len.ensures.value place (omega arith) c.if-as_slice-place.true c.remove.ensures.items c.requires in
-    record { table = k.table; rules = k.rules }
+    record { table = k.table; rules = k.rules; few = omega (arith, c.len.ensures.value, c.len.ensures.fits, c.remove.ensures.len, length-entries_of c.remove.new.self.items) }
 
 pub returns-else-place-len-clause-rules : goal.returns-else-place-len-clause-rules
 returns-else-place-len-clause-rules c =
     let place : c.place_of-place.result ≡ place_in c.args.register (entries_of c.args.table.now.items) = cc in
     elim c.else-place-len.branch [
-      | else-place-len-via-then-place-len+else-as_slice-place w ↦ (clears-nothing c.args.table.now.items _ c.args.register _ _ w.as_slice-then-place-len.ensures.value place (omega arith) w.if-as_slice-place.false c.requires).rules
-      | else-place-len-via-else-place-len w ↦ (clears-end c.args.table.now.items c.args.register c.place_of-place.result place (omega arith) c.requires).rules
+      | else-place-len-via-then-place-len+else-as_slice-place w ↦
+          (clears-nothing c.args.table.now.items _ c.args.register _ _ w.as_slice-then-place-len.ensures.value place
+          (omega arith) w.if-as_slice-place.false c.requires).rules
+      | else-place-len-via-else-place-len w ↦ (clears-end c.args.table.now.items c.args.register c.place_of-place.result place
+          (omega arith) c.requires).rules
     ]
+
+pub returns-else-place-len-clause-few : goal.returns-else-place-len-clause-few
+returns-else-place-len-clause-few c = omega (arith, c.len.ensures.value, c.len.ensures.fits, length-entries_of c.args.table.now.items)

@@ -13,9 +13,12 @@ set_initial_rules-requires c =
 pub returns-clause-cie : goal.returns-clause-cie
 returns-clause-cie c =
     let x = c.index-cies-place.result in
-    sym (c.in_ok-place.ensures.1 ∙ read-map cie_of c.args.cies.now c.in_ok-place.place x c.in_ok-place.ensures.0 (sym c.index-cies-place.is))
+    sym (c.in_ok-place.ensures.1 ∙ read-map cie_of c.args.cies.now c.in_ok-place.place x c.in_ok-place.ensures.0
+    (sym c.index-cies-place.is))
 
 pub returns-clause-first : goal.returns-clause-first
 returns-clause-first c =
     let x = c.index-cies-place.result in
-    left-at (map cie_of c.args.cies.now) c.args.initial.now c.in_ok-place.place (cie_of x) _ c.requires.left (read-map cie_of c.args.cies.now c.in_ok-place.place x c.in_ok-place.ensures.0 (sym c.index-cies-place.is)) c.set_initial_rules.ensures.first
+    left-at (map cie_of c.args.cies.now) c.args.initial.now c.in_ok-place.place (cie_of x) _ c.requires.left
+    (read-map cie_of c.args.cies.now c.in_ok-place.place x c.in_ok-place.ensures.0
+    (sym c.index-cies-place.is)) c.set_initial_rules.ensures.first

@@ -32,5 +32,7 @@ returns-in-Err c =
     let cies = c.args.cies.now in
     let facts = c.in-Err.ensures in
     let by_key = facts.position offset_in (answers_always _ _ _ (λ f a r g called. search rules)) in
-    let none = searched-none offset_in cies (ascending-back cie_of cie_offset cies c.requires) c.args.offset c.in-Err.field-0 facts.bound by_key in
-    (absent-at (map cie_of cies) c.args.offset (λ d d_in same. let e = contained-map cie_of cies d d_in in none e.0 e.1 (ap cie_offset e.2 ∙ same)))
+    let none = searched-none offset_in cies
+    (ascending-back cie_of cie_offset cies c.requires) c.args.offset c.in-Err.field-0 facts.bound by_key in
+    (absent-at (map cie_of cies) c.args.offset (λ d d_in same. let e = contained-map cie_of cies d d_in in
+    none e.0 e.1 (ap cie_offset e.2 ∙ same)))

@@ -4,4 +4,5 @@ use Rattle.dw_stack.proofs.Unique.{one_certificate}
 use Rattle.dw_stack.proofs.laws.one_certificate.Goals as goal
 
 pub returns : goal.returns
-returns c = λ kind target bytes s t good first second. one_certificate kind (operations_in target bytes) (length bytes) s t good.good first second
+returns c = λ kind target bytes s t good first second. one_certificate kind (operations_in target bytes)
+    (length bytes) s t good.good first second

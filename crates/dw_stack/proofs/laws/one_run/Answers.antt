@@ -5,4 +5,5 @@ use Rattle.dw_stack.proofs.Encoded.{laid_out}
 use Rattle.dw_stack.proofs.laws.one_run.Goals as goal
 
 pub returns : goal.returns
-returns c = λ kind target bytes good m. one_run m (operations_in target bytes) (length bytes) (laid_out target bytes (operations_in target bytes) good.encoded) kind
+returns c = λ kind target bytes good m. one_run m (operations_in target bytes) (length bytes)
+    (laid_out target bytes (operations_in target bytes) good.encoded) kind

@@ -11,22 +11,28 @@ use Rattle.dw_stack.proofs.verify.check.Goals as goal
 pub pass-requires-clause-laid : goal.pass-requires-clause-laid
 pass-requires-clause-laid c =
     let e = c.args.expression in
-    laid_for c.args.kind (target_of e) (bytes_of e) (listed c.as_slice.result.now) (length c.bytes.result.now) c.in_ok-operations.ensures.answer (ap listed c.as_slice.ensures ∙ c.in_ok-operations.ensures.list) (ap length c.bytes.ensures)
+    laid_for c.args.kind (target_of e) (bytes_of e) (listed c.as_slice.result.now)
+    (length c.bytes.result.now) c.in_ok-operations.ensures.answer (ap listed c.as_slice.ensures ∙ c.in_ok-operations.ensures.list)
+    (ap length c.bytes.ensures)
 
 pub returns-in_err-passed-clause-fault : goal.returns-in_err-passed-clause-fault
 returns-in_err-passed-clause-fault c =
     let e = c.args.expression in
     let are = ap listed c.as_slice.ensures ∙ c.in_ok-operations.ensures.list in
-    let counted = c.len.ensures.value ∙ (sym (ap length c.as_slice.ensures) ∙ (sym (listed_length c.as_slice.result.now) ∙ ap length are)) in
+    let counted = c.len.ensures.value ∙ (sym (ap length c.as_slice.ensures)
+    ∙ (sym (listed_length c.as_slice.result.now) ∙ ap length are)) in
     let same = same_count (target_of e) (bytes_of e) c.args.given c.len.result counted (c.has_count.ensures.0 c.if-not-has_count.false) in
-    let fault = fault_for c.args.kind (target_of e) (bytes_of e) (listed c.as_slice.result.now) (length c.bytes.result.now) c.in_ok-operations.ensures.answer are (ap length c.bytes.ensures) (given_of c.args.given) c.in_err-passed.field-0.0 same c.in_err-passed.ensures.first in
+    let fault = fault_for c.args.kind (target_of e) (bytes_of e) (listed c.as_slice.result.now)
+    (length c.bytes.result.now) c.in_ok-operations.ensures.answer are (ap length c.bytes.ensures)
+    (given_of c.args.given) c.in_err-passed.field-0.0 same c.in_err-passed.ensures.first in
     search rules
 
 pub overflow_cast-count : goal.overflow_cast-count
 overflow_cast-count c =
     let e = c.args.expression in
     let are = ap listed c.as_slice.ensures ∙ c.in_ok-operations.ensures.list in
-    let laid = laid_for c.args.kind (target_of e) (bytes_of e) (listed c.as_slice.result.now) (length c.bytes.result.now) c.in_ok-operations.ensures.answer are (ap length c.bytes.ensures) in
+    let laid = laid_for c.args.kind (target_of e) (bytes_of e) (listed c.as_slice.result.now)
+    (length c.bytes.result.now) c.in_ok-operations.ensures.answer are (ap length c.bytes.ensures) in
     let few = count_le (listed c.as_slice.result.now) (length c.bytes.result.now) laid in
     let short = e.short in
     let long = ap length c.bytes.ensures in
@@ -39,17 +45,26 @@ pub new-requires : goal.new-requires
 new-requires c =
     let e = c.args.expression in
     let are = ap listed c.as_slice.ensures ∙ c.in_ok-operations.ensures.list in
-    checked_for c.args.kind (target_of e) (bytes_of e) (listed c.as_slice.result.now) (length c.bytes.result.now) c.in_ok-operations.ensures.answer are (ap length c.bytes.ensures) c.in_ok-passed.passed.depth c.len-count.result c.in_ok-passed.ensures.good c.in_ok-passed.ensures.depth (c.len-count.ensures.value ∙ (sym (ap length c.as_slice.ensures) ∙ sym (listed_length c.as_slice.result.now)))
+    checked_for c.args.kind (target_of e) (bytes_of e) (listed c.as_slice.result.now)
+    (length c.bytes.result.now) c.in_ok-operations.ensures.answer are
+    (ap length c.bytes.ensures) c.in_ok-passed.passed.depth c.len-count.result c.in_ok-passed.ensures.good c.in_ok-passed.ensures.depth
+    (c.len-count.ensures.value ∙ (sym (ap length c.as_slice.ensures) ∙ sym (listed_length c.as_slice.result.now)))
 
 pub returns-clause-known : goal.returns-clause-known
 returns-clause-known c =
     let e = c.args.expression in
     let are = ap listed c.as_slice.ensures ∙ c.in_ok-operations.ensures.list in
-    knows_for c.args.kind (target_of e) (bytes_of e) (listed c.as_slice.result.now) (length c.bytes.result.now) c.args.given c.len.result are (ap length c.bytes.ensures) (c.len.ensures.value ∙ (sym (ap length c.as_slice.ensures) ∙ sym (listed_length c.as_slice.result.now))) (c.has_count.ensures.0 c.if-not-has_count.false) c.in_ok-passed.ensures.known
+    knows_for c.args.kind (target_of e) (bytes_of e) (listed c.as_slice.result.now)
+    (length c.bytes.result.now) c.args.given c.len.result are (ap length c.bytes.ensures)
+    (c.len.ensures.value ∙ (sym (ap length c.as_slice.ensures) ∙ sym (listed_length c.as_slice.result.now)))
+    (c.has_count.ensures.0 c.if-not-has_count.false) c.in_ok-passed.ensures.known
 
 pub returns-clause-checked : goal.returns-clause-checked
 returns-clause-checked c =
     let e = c.args.expression in
     let are = ap listed c.as_slice.ensures ∙ c.in_ok-operations.ensures.list in
-    let checked = checked_for c.args.kind (target_of e) (bytes_of e) (listed c.as_slice.result.now) (length c.bytes.result.now) c.in_ok-operations.ensures.answer are (ap length c.bytes.ensures) c.in_ok-passed.passed.depth c.len-count.result c.in_ok-passed.ensures.good c.in_ok-passed.ensures.depth (c.len-count.ensures.value ∙ (sym (ap length c.as_slice.ensures) ∙ sym (listed_length c.as_slice.result.now))) in
+    let checked = checked_for c.args.kind (target_of e) (bytes_of e) (listed c.as_slice.result.now)
+    (length c.bytes.result.now) c.in_ok-operations.ensures.answer are
+    (ap length c.bytes.ensures) c.in_ok-passed.passed.depth c.len-count.result c.in_ok-passed.ensures.good c.in_ok-passed.ensures.depth
+    (c.len-count.ensures.value ∙ (sym (ap length c.as_slice.ensures) ∙ sym (listed_length c.as_slice.result.now))) in
     subst (λ (x : Checked). IsChecked x) (sym c.new.ensures) checked

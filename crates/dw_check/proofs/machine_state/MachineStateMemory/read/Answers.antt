@@ -12,7 +12,8 @@ pub returns-in_err-bytes : goal.returns-in_err-bytes
 returns-in_err-bytes c =
     let memory = get nat_cmp c.args.self.now.memory in
     let none : memory (c.args.address + c.loop-index.index) ≡ None = search (rules, c.in_err-bytes.ensures.value) in
-    let stops = gathered_stops memory c.args.address c.args.size c.loop-index.index (take c.loop-index.index c.loop-index.bytes) (omega arith) c.loop-index.invariant.gathered none in
+    let stops = gathered_stops memory c.args.address c.args.size c.loop-index.index (take c.loop-index.index c.loop-index.bytes)
+    (omega arith) c.loop-index.invariant.gathered none in
     search (rules, ap (option_map (number c.args.order c.args.size)) stops)
 
 pub loop-index-preserved : goal.loop-index-preserved
@@ -22,10 +23,12 @@ loop-index-preserved c =
     let b = c.in_ok-bytes.field-0.now in
     let some : memory (c.args.address + i) ≡ Some b = search (rules, c.in_ok-bytes.ensures.value) in
     let place : c.from-in-loop-index.result ≡ i = search rules in
-    let more = gathered_more memory c.args.address c.args.size i b (take i c.loop-index.bytes) (omega arith) c.loop-index.invariant.gathered some in
+    let more = gathered_more memory c.args.address c.args.size i b (take i c.loop-index.bytes)
+    (omega arith) c.loop-index.invariant.gathered some in
     rw place (record {
       long = search rules;
-      gathered = subst (λ bytes. Gathered memory c.args.address c.args.size (i + 1) bytes) (sym (take_more_set c.loop-index.bytes i b (omega (arith, c.loop-index.invariant.long)))) more;
+      gathered = subst (λ bytes. Gathered memory c.args.address c.args.size (i + 1) bytes)
+          (sym (take_more_set c.loop-index.bytes i b (omega (arith, c.loop-index.invariant.long)))) more;
     })
 
 pub returns-in-Little : goal.returns-in-Little

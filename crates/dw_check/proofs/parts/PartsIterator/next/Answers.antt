@@ -6,7 +6,8 @@ use Rattle.dw_check.proofs.parts.PartsIterator.next.Goals as goal
 pub returns-in-Some-clause-steps : goal.returns-in-Some-clause-steps
 returns-in-Some-clause-steps c =
     let rest = c.in_ok-rest.rest.now in
-    let cut = cut_at c.self.inside.separator rest c.in-Some.at c.in-Some.ensures.0.high c.in-Some.ensures.1 (λ i l. c.in-Some.ensures.0.before i (omega arith) l) in
+    let cut = cut_at c.self.inside.separator rest c.in-Some.at c.in-Some.ensures.0.high c.in-Some.ensures.1
+    (λ i l. c.in-Some.ensures.0.before i (omega arith) l) in
     rw (all_behind rest (c.in-Some.at + 1)) (search (rules, cut, c.in_ok-rest.was, c.self.view_is))
 
 pub returns-in-None-clause-steps : goal.returns-in-None-clause-steps
@@ -17,7 +18,9 @@ returns-in-None-clause-steps c =
 pub returns-in-Some-clause-goes : goal.returns-in-Some-clause-goes
 returns-in-Some-clause-goes c =
     let rest = c.in_ok-rest.rest.now in
-    let cut = cut_at c.self.inside.separator rest c.in-Some.at c.in-Some.ensures.0.high c.in-Some.ensures.1 (λ i l. c.in-Some.ensures.0.before i (omega arith) l) in
-    let steps : c.args.self.now ≡ take c.in-Some.at rest ∷ parts_of c.self.inside.separator (drop (c.in-Some.at + 1) rest) = search (rules, cut, c.in_ok-rest.was, c.self.view_is) in
+    let cut = cut_at c.self.inside.separator rest c.in-Some.at c.in-Some.ensures.0.high c.in-Some.ensures.1
+    (λ i l. c.in-Some.ensures.0.before i (omega arith) l) in
+    let steps : c.args.self.now ≡ take c.in-Some.at rest ∷ parts_of c.self.inside.separator (drop (c.in-Some.at + 1) rest) =
+    search (rules, cut, c.in_ok-rest.was, c.self.view_is) in
     let long = ap length steps in
     rw (all_behind rest (c.in-Some.at + 1)) (search rules)

@@ -26,13 +26,16 @@ returns-in-Ok-clause-goes c =
 pub returns-in-Err-clause-steps : goal.returns-in-Err-clause-steps
 returns-in-Err-clause-steps c =
     let it = c.self.inside in
-    sym c.self.view_is ∙ at-fault it.target it.section.now it.at c.in-Err.fault (omega arith) c.in-Err.ensures.exact ∙ ap (λ rest. Err c.in-Err.fault ∷ rest) (sym (at-end it.target it.section.now (length it.section.now) (omega arith)))
+    sym c.self.view_is ∙ at-fault it.target it.section.now it.at c.in-Err.fault (omega arith) c.in-Err.ensures.exact
+    ∙ ap (λ rest. Err c.in-Err.fault ∷ rest) (sym (at-end it.target it.section.now (length it.section.now) (omega arith)))
 
 pub returns-in-Err-clause-goes : goal.returns-in-Err-clause-goes
 returns-in-Err-clause-goes c =
     let it = c.self.inside in
-    let steps : c.args.self.now ≡ Err c.in-Err.fault ∷ [] = sym c.self.view_is ∙ at-fault it.target it.section.now it.at c.in-Err.fault (omega arith) c.in-Err.ensures.exact in
+    let steps : c.args.self.now ≡ Err c.in-Err.fault ∷ [] = sym c.self.view_is ∙ at-fault it.target it.section.now it.at c.in-Err.fault
+    (omega arith) c.in-Err.ensures.exact in
     let long = ap length steps in
-    let ended : entries_from it.target it.section.now (length it.section.now) ≡ [] = at-end it.target it.section.now (length it.section.now) (omega arith) in
+    let ended : entries_from it.target it.section.now (length it.section.now) ≡ [] =
+    at-end it.target it.section.now (length it.section.now) (omega arith) in
     let none = ap length ended in
     search rules

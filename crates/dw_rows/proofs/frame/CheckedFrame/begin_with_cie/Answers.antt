@@ -11,7 +11,8 @@ use Rattle.dw_rows.proofs.frame.CheckedFrame.begin_with_cie.Goals as goal
 
 pub begin_with_cie-requires-clause-order : goal.begin_with_cie-requires-clause-order
 begin_with_cie-requires-clause-order c =
-    subst (λ (l : List CommonInformationEntry). Ascends cie_offset (map cie_of l)) (sym c.deref.ensures.value) (checked-cies-ascend _ c.self.invariant.checked)
+    subst (λ (l : List CommonInformationEntry). Ascends cie_offset (map cie_of l)) (sym c.deref.ensures.value)
+    (checked-cies-ascend _ c.self.invariant.checked)
 
 pub unreachable-requires : goal.unreachable-requires
 unreachable-requires c =
@@ -20,7 +21,8 @@ unreachable-requires c =
     let fdes = map fde_of c.self.inside.fdes.items in
     let among : Contains fdes fde = subst (λ (s : Frame). Contains s.fdes fde) (sym c.self.view_is) c.requires in
     let pointed = pointed-in cies fdes (checked-parts _ c.self.invariant.checked) fde among in
-    let same : cie_at (map cie_of c.deref.result.now) fde.cie_pointer ≡ cie_at cies fde.cie_pointer = ap (λ (l : List CommonInformationEntry). cie_at (map cie_of l) fde.cie_pointer) c.deref.ensures.value in
+    let same : cie_at (map cie_of c.deref.result.now) fde.cie_pointer ≡ cie_at cies fde.cie_pointer =
+    ap (λ (l : List CommonInformationEntry). cie_at (map cie_of l) fde.cie_pointer) c.deref.ensures.value in
     let nothing : Option Cie = None in
     let clash : nothing ≡ Some pointed.0 = c.in-None.ensures.cie ∙ (same ∙ pointed.1) in
     cc
@@ -31,5 +33,7 @@ returns-clause-fde_program c =
     let cies = map cie_of c.self.inside.cies.items in
     let fdes = map fde_of c.self.inside.fdes.items in
     let among : Contains fdes fde = subst (λ (s : Frame). Contains s.fdes fde) (sym c.self.view_is) c.requires in
-    let same : cie_at (map cie_of c.deref.result.now) fde.cie_pointer ≡ cie_at cies fde.cie_pointer = ap (λ (l : List CommonInformationEntry). cie_at (map cie_of l) fde.cie_pointer) c.deref.ensures.value in
-    (good-behind cies fdes (checked-parts _ c.self.invariant.checked) fde among (cie_of c.in-Some.cie) (sym same ∙ sym c.in-Some.ensures.cie)).1
+    let same : cie_at (map cie_of c.deref.result.now) fde.cie_pointer ≡ cie_at cies fde.cie_pointer =
+    ap (λ (l : List CommonInformationEntry). cie_at (map cie_of l) fde.cie_pointer) c.deref.ensures.value in
+    (good-behind cies fdes (checked-parts _ c.self.invariant.checked) fde among (cie_of c.in-Some.cie)
+    (sym same ∙ sym c.in-Some.ensures.cie)).1

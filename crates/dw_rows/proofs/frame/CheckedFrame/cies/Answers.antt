@@ -7,4 +7,5 @@ use Rattle.dw_rows.proofs.frame.CheckedFrame.cies.Goals as goal
 
 pub returns-clause-good : goal.returns-clause-good
 returns-clause-good c =
-    subst (λ (s : Frame). (cie : Cie) → Contains s.cies cie → cie_fault cie ≡ None) c.self.view_is (checked-cies-good _ c.self.invariant.checked)
+    subst (λ (s : Frame). (cie : Cie) → Contains s.cies cie → cie_fault cie ≡ None) c.self.view_is
+    (checked-cies-good _ c.self.invariant.checked)

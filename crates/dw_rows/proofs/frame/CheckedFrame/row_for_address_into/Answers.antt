@@ -1,29 +1,31 @@
-use Rattle.std.proofs.Common.{◌+◌, arith, refl, ap, ◌∙◌}
+use Rattle.std.proofs.Common.{◌≡◌, ◌+◌, Some, arith, refl, ap, sym, ◌∙◌}
 use Rattle.std.specs.Prelude.{find}
 use Rattle.dw_frame.specs.Views.{cie_of, fde_of}
 use Rattle.dw_rows.specs.Section.{rows_behind}
-use Rattle.dw_rows.specs.UnwindRows.{has_address}
+use Rattle.dw_rows.specs.UnwindRows.{rows_of, has_address}
 use Rattle.dw_rows.proofs.Covering.{cover-rows, found-by}
 use Rattle.dw_rows.proofs.Lookups.{row-found, row-none}
 use Rattle.dw_rows.proofs.frame.CheckedFrame.row_for_address_into.Goals as goal
 
-pub write_row_at-requires-clause-low : goal.write_row_at-requires-clause-low
-write_row_at-requires-clause-low c = c.in_ok-fde.ensures.only.1.0
+pub write_row_of-cie-requires-clause-low : goal.write_row_of-cie-requires-clause-low
+write_row_of-cie-requires-clause-low c = c.in_ok-fde.ensures.only.1.0
 
-pub write_row_at-requires-clause-high : goal.write_row_at-requires-clause-high
-write_row_at-requires-clause-high c = c.in_ok-fde.ensures.only.1.1
+pub write_row_of-cie-requires-clause-high : goal.write_row_of-cie-requires-clause-high
+write_row_of-cie-requires-clause-high c = c.in_ok-fde.ensures.only.1.1
 
 pub returns-clause-row : goal.returns-clause-row
-returns-clause-row c =
-    row-found c.args.self.now c.args.address (fde_of c.in_ok-fde.fde) c.write_row_at.new.row c.in_ok-fde.ensures.only
-    (ap (λ o. find (has_address c.args.address) (rows_behind o (fde_of c.in_ok-fde.fde))) c.begin_with_cie-cie.ensures.cie ∙ c.write_row_at.ensures)
+returns-clause-row c = row-found c.args.self.now c.args.address
+    (fde_of c.in_ok-fde.fde) c.write_row_of-cie.new.row c.in_ok-fde.ensures.only c.write_row_of-cie.ensures.row
 
 -- a row that is found among rows up to an address has no addresses above it
 pub returns-clause-fit : goal.returns-clause-fit
 returns-clause-fit c =
-    let cie = cie_of c.begin_with_cie-cie.result in
+    let cie = cie_of c.write_row_of-cie.result in
     let fde = fde_of c.in_ok-fde.fde in
-    let by = found-by (has_address c.args.address) fde.initial (fde.initial + fde.range) _ _ (cover-rows cie fde c.begin_with_cie-cie.ensures.fde_program) c.write_row_at.ensures in
+    let found : find (has_address c.args.address) (rows_of cie fde) ≡ Some c.write_row_of-cie.new.row =
+    ap (λ o. find (has_address c.args.address) (rows_behind o fde)) (sym c.write_row_of-cie.ensures.cie) ∙ c.write_row_of-cie.ensures.row in
+    let by = found-by (has_address c.args.address) fde.initial (fde.initial + fde.range) _ _
+    (cover-rows cie fde c.write_row_of-cie.ensures.fde_program) found in
     (omega (arith, by.0, c.in_ok-fde.ensures.fit), omega (arith, by.1, c.in_ok-fde.ensures.fit))
 
 pub returns-in_err-fde-clause-none : goal.returns-in_err-fde-clause-none

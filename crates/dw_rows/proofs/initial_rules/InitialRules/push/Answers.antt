@@ -9,15 +9,18 @@ use Rattle.dw_rows.proofs.initial_rules.InitialRules.push.Goals as goal
 
 pub invariant_of-self-then-is_err : goal.invariant_of-self-then-is_err
 invariant_of-self-then-is_err c =
-    let entries : c.extend_from_slice.new.self.items ≡ c.self.inside.entries.items ++ c.as_slice.result.now = c.in_ok-extend_from_slice.ensures.items in
+    let entries : c.extend_from_slice.new.self.items ≡ c.self.inside.entries.items ++ c.as_slice.result.now =
+    c.in_ok-extend_from_slice.ensures.items in
     let spans : c.push.new.self.items ≡ c.self.inside.spans.items = rw c.if-is_err.ensures.negation at c.push.ensures.items in
     rw (entries, spans) (spans-grown c.self.inside.entries.items c.as_slice.result.now c.self.inside.spans.items c.self.invariant)
 
 pub returns-then-is_err : goal.returns-then-is_err
 returns-then-is_err c =
-    let entries : c.extend_from_slice.new.self.items ≡ c.self.inside.entries.items ++ c.as_slice.result.now = c.in_ok-extend_from_slice.ensures.items in
+    let entries : c.extend_from_slice.new.self.items ≡ c.self.inside.entries.items ++ c.as_slice.result.now =
+    c.in_ok-extend_from_slice.ensures.items in
     let spans : c.push.new.self.items ≡ c.self.inside.spans.items = rw c.if-is_err.ensures.negation at c.push.ensures.items in
-    rw (entries, spans) (kept-grown c.self.inside.entries.items c.as_slice.result.now c.self.inside.spans.items c.self.invariant ∙ c.self.view_is)
+    rw (entries, spans) (kept-grown c.self.inside.entries.items c.as_slice.result.now c.self.inside.spans.items c.self.invariant
+    ∙ c.self.view_is)
 
 -- the span that is pushed
 abbrev span : goal.Else-is_err → RuleSpan
@@ -25,21 +28,31 @@ span c = record { cfa = c.cfa.result; start = c.len-start.result; end = c.len.re
 
 one_more : (c : goal.Else-is_err) → Pushed c.self.inside.entries.items c.as_slice.result.now c.self.inside.spans.items (span c)
 one_more c =
-    let entries : c.extend_from_slice.new.self.items ≡ c.self.inside.entries.items ++ c.as_slice.result.now = c.in_ok-extend_from_slice.ensures.items in
+    let entries : c.extend_from_slice.new.self.items ≡ c.self.inside.entries.items ++ c.as_slice.result.now =
+    c.in_ok-extend_from_slice.ensures.items in
     let start : c.len-start.result ≡ length c.self.inside.entries.items = omega (arith, c.self.inside.entries.ok.0, c.len-start.ensures) in
     let all : c.len.result ≡ length c.extend_from_slice.new.self.items = omega (arith, c.extend_from_slice.new.self.ok.0, c.len.ensures) in
-    pushed c.self.inside.entries.items c.as_slice.result.now c.self.inside.spans.items (span c) c.self.invariant start (all ∙ ap (λ (l : List RuleEntry). length l) entries) c.as_slice.ensures.few c.as_slice.ensures.table
+    pushed c.self.inside.entries.items c.as_slice.result.now c.self.inside.spans.items (span c) c.self.invariant start
+    (all ∙ ap (λ (l : List RuleEntry). length l) entries) c.as_slice.ensures.few c.as_slice.ensures.table
 
 pub invariant_of-self-2 : goal.invariant_of-self-2
 invariant_of-self-2 c =
-    let entries : c.extend_from_slice.new.self.items ≡ c.self.inside.entries.items ++ c.as_slice.result.now = c.in_ok-extend_from_slice.ensures.items in
-    let spans : c.push.new.self.items ≡ c.self.inside.spans.items ++ span c ∷ [] = rw c.if-is_err.ensures.negation at c.push.ensures.items in
+    let entries : c.extend_from_slice.new.self.items ≡ c.self.inside.entries.items ++ c.as_slice.result.now =
+    c.in_ok-extend_from_slice.ensures.items in
+    let spans : c.push.new.self.items ≡ c.self.inside.spans.items ++ span c ∷ [] =
+    rw c.if-is_err.ensures.negation at c.push.ensures.items in
     rw (entries, spans) (one_more c).are
 
 pub returns : goal.returns
 returns c =
-    let entries : c.extend_from_slice.new.self.items ≡ c.self.inside.entries.items ++ c.as_slice.result.now = c.in_ok-extend_from_slice.ensures.items in
-    let spans : c.push.new.self.items ≡ c.self.inside.spans.items ++ span c ∷ [] = rw c.if-is_err.ensures.negation at c.push.ensures.items in
+    let entries : c.extend_from_slice.new.self.items ≡ c.self.inside.entries.items ++ c.as_slice.result.now =
+    c.in_ok-extend_from_slice.ensures.items in
+    let spans : c.push.new.self.items ≡ c.self.inside.spans.items ++ span c ∷ [] =
+    rw c.if-is_err.ensures.negation at c.push.ensures.items in
     let rules : entries_of c.as_slice.result.now ≡ c.args.rules.now.rules = c.as_slice.ensures.entries ∙ c.register_rules.ensures in
-    let same : record { cfa = option_map cfa_rule_of c.cfa.result; rules = entries_of c.as_slice.result.now } ≡ c.args.rules.now = λ i. record { cfa = sym c.cfa.ensures i; rules = rules i } in
-    rw (entries, spans) ((one_more c).kept ∙ (ap (λ (l : List KeptRules). l ++ record { cfa = option_map cfa_rule_of c.cfa.result; rules = entries_of c.as_slice.result.now } ∷ []) c.self.view_is ∙ ap (λ (k : KeptRules). c.args.self.now ++ k ∷ []) same))
+    let same : record { cfa = option_map cfa_rule_of c.cfa.result; rules = entries_of c.as_slice.result.now } ≡ c.args.rules.now =
+    λ i. record { cfa = sym c.cfa.ensures i; rules = rules i } in
+    rw (entries, spans)
+    ((one_more c).kept
+    ∙ (ap (λ (l : List KeptRules). l ++ record { cfa = option_map cfa_rule_of c.cfa.result; rules = entries_of c.as_slice.result.now }
+    ∷ []) c.self.view_is ∙ ap (λ (k : KeptRules). c.args.self.now ++ k ∷ []) same))

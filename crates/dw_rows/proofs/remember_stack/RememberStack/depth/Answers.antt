@@ -4,4 +4,5 @@ use Rattle.dw_rows.proofs.Stacks.{stack-length}
 use Rattle.dw_rows.proofs.remember_stack.RememberStack.depth.Goals as goal
 
 pub returns : goal.returns
-returns c = sym (stack-length c.self.inside.depth c.self.inside.rows c.self.invariant) ∙ ap (λ (l : List KeptRules). length l) c.self.view_is
+returns c = sym (stack-length c.self.inside.depth c.self.inside.rows c.self.invariant)
+    ∙ ap (λ (l : List KeptRules). length l) c.self.view_is

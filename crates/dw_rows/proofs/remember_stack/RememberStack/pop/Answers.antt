@@ -8,8 +8,11 @@ pub offset_bounds-self-inside-self-inside : goal.offset_bounds-self-inside-self-
 offset_bounds-self-inside-self-inside c = omega (arith, c.self.invariant.within)
 
 pub unreachable-requires : goal.unreachable-requires
-unreachable-requires c = not-empty c.self.inside.depth c.self.inside.rows c.index-self-self.result c.if-self-eq0.false c.self.invariant c.in-None.is
+unreachable-requires c =
+    not-empty c.self.inside.depth c.self.inside.rows c.index-self-self.result c.if-self-eq0.false c.self.invariant c.in-None.is
 
 pub returns-clause-some : goal.returns-clause-some
 returns-clause-some c =
-    sym c.self.view_is ∙ kept-popped c.self.inside.depth c.self.inside.rows c.index-self-self.result c.in-Some.row c.if-self-eq0.false c.self.invariant c.in-Some.is ∙ ap (λ (k : KeptRules). k ∷ kept_in (c.self.inside.depth - 1) c.self.inside.rows) (sym c.copy_from.ensures)
+    sym c.self.view_is
+    ∙ kept-popped c.self.inside.depth c.self.inside.rows c.index-self-self.result c.in-Some.row c.if-self-eq0.false c.self.invariant
+    c.in-Some.is ∙ ap (λ (k : KeptRules). k ∷ kept_in (c.self.inside.depth - 1) c.self.inside.rows) (sym c.copy_from.ensures)

@@ -1,7 +1,6 @@
 use Rattle.std.proofs.Common.{arith, ◌<◌, length, List, ap, ◌∙◌, ◌∷◌}
 use Rattle.dw_rows.specs.declared.remember_stack.TheConstants.{MAX_REMEMBERED}
 use Rattle.dw_rows.specs.RuleSet.{KeptRules}
-use Rattle.dw_rows.specs.RememberStack.{kept_in}
 use Rattle.dw_rows.proofs.Stacks.{stack-length, stack-pushed, kept-pushed}
 use Rattle.dw_rows.proofs.remember_stack.RememberStack.push.Goals as goal
 
@@ -9,17 +8,41 @@ pub offset_bounds-self-inside-self-inside : goal.offset_bounds-self-inside-self-
 offset_bounds-self-inside-self-inside c = omega (arith, c.self.invariant.within)
 
 pub listed : goal.listed
-listed c = omega (arith, stack-length c.self.inside.depth c.self.inside.rows c.self.invariant, ap (λ (l : List KeptRules). length l) c.self.view_is, c.requires, c.self.invariant.full)
+listed c = omega (
+  arith,
+  stack-length c.self.inside.depth c.self.inside.rows c.self.invariant,
+  ap (λ (l : List KeptRules). length l) c.self.view_is,
+  c.requires,
+  c.self.invariant.full,
+)
 
 pub bounds-self-inside-self-inside : goal.bounds-self-inside-self-inside
-bounds-self-inside-self-inside c = omega (arith, stack-length c.self.inside.depth c.self.inside.rows c.self.invariant, ap (λ (l : List KeptRules). length l) c.self.view_is, c.requires)
+bounds-self-inside-self-inside c = omega (
+  arith,
+  stack-length c.self.inside.depth c.self.inside.rows c.self.invariant,
+  ap (λ (l : List KeptRules). length l) c.self.view_is,
+  c.requires,
+)
 
 pub invariant_of-self : goal.invariant_of-self
 invariant_of-self c =
-    let room : c.self.inside.depth < MAX_REMEMBERED = omega (arith, stack-length c.self.inside.depth c.self.inside.rows c.self.invariant, ap (λ (l : List KeptRules). length l) c.self.view_is, c.requires) in
-    stack-pushed c.self.inside.depth c.self.inside.rows c.copy.result room c.self.invariant
+    let room : c.self.inside.depth < MAX_REMEMBERED =
+    omega (
+      arith,
+      stack-length c.self.inside.depth c.self.inside.rows c.self.invariant,
+      ap (λ (l : List KeptRules). length l) c.self.view_is,
+      c.requires,
+    ) in
+    rw c.write_into.ensures (stack-pushed c.self.inside.depth c.self.inside.rows c.args.rules.now room c.self.invariant)
 
 pub returns : goal.returns
 returns c =
-    let room : c.self.inside.depth < MAX_REMEMBERED = omega (arith, stack-length c.self.inside.depth c.self.inside.rows c.self.invariant, ap (λ (l : List KeptRules). length l) c.self.view_is, c.requires) in
-    kept-pushed c.self.inside.depth c.self.inside.rows c.copy.result room c.self.invariant ∙ ap (λ (k : KeptRules). k ∷ kept_in c.self.inside.depth c.self.inside.rows) c.copy.ensures ∙ ap (λ (l : List KeptRules). c.args.rules.now ∷ l) c.self.view_is
+    let room : c.self.inside.depth < MAX_REMEMBERED =
+    omega (
+      arith,
+      stack-length c.self.inside.depth c.self.inside.rows c.self.invariant,
+      ap (λ (l : List KeptRules). length l) c.self.view_is,
+      c.requires,
+    ) in
+    rw c.write_into.ensures (kept-pushed c.self.inside.depth c.self.inside.rows c.args.rules.now room c.self.invariant
+    ∙ ap (λ (l : List KeptRules). c.args.rules.now ∷ l) c.self.view_is)

@@ -4,26 +4,104 @@ use Rattle.dw_rows.proofs.Coming.{ready-rests, ready-comes}
 use Rattle.dw_rows.proofs.row_iter.Rows.next_into.Goals as goal
 
 pub invariant_of-self-in-None : goal.invariant_of-self-in-None
-invariant_of-self-in-None c = (ready-rests (cie_of c.self.inside.cie) (fde_of c.self.inside.fde) (record { cie = cie_of c.self.inside.cie; end = c.self.inside.fde.initial_location + c.self.inside.fde.address_range; context = c.self.inside.context; instructions = c.self.inside.instructions }) (record { cie = cie_of c.self.inside.cie; end = c.self.inside.fde.initial_location + c.self.inside.fde.address_range; context = c.next_range.new.context; instructions = c.next_range.new.instructions }) c.self.inside.given c.self.invariant c.in-None.ensures).ready
+invariant_of-self-in-None c = (ready-rests (cie_of c.self.inside.cie) (fde_of c.self.inside.fde)
+    (record {
+      cie = cie_of c.self.inside.cie;
+      end = c.self.inside.fde.initial_location + c.self.inside.fde.address_range;
+      context = c.self.inside.context;
+      instructions = c.self.inside.instructions;
+    })
+    (record {
+      cie = cie_of c.self.inside.cie;
+      end = c.self.inside.fde.initial_location + c.self.inside.fde.address_range;
+      context = c.next_range.new.context;
+      instructions =
+          c.next_range.new.instructions;
+    }) c.self.inside.given c.self.invariant c.in-None.ensures).ready
 
 pub returns-in-None-clause-none : goal.returns-in-None-clause-none
 returns-in-None-clause-none c =
-    let k = ready-rests (cie_of c.self.inside.cie) (fde_of c.self.inside.fde) (record { cie = cie_of c.self.inside.cie; end = c.self.inside.fde.initial_location + c.self.inside.fde.address_range; context = c.self.inside.context; instructions = c.self.inside.instructions }) (record { cie = cie_of c.self.inside.cie; end = c.self.inside.fde.initial_location + c.self.inside.fde.address_range; context = c.next_range.new.context; instructions = c.next_range.new.instructions }) c.self.inside.given c.self.invariant c.in-None.ensures in
+    let k = ready-rests (cie_of c.self.inside.cie) (fde_of c.self.inside.fde)
+    (record {
+      cie = cie_of c.self.inside.cie;
+      end = c.self.inside.fde.initial_location + c.self.inside.fde.address_range;
+      context = c.self.inside.context;
+      instructions = c.self.inside.instructions;
+    })
+    (record {
+      cie = cie_of c.self.inside.cie;
+      end = c.self.inside.fde.initial_location + c.self.inside.fde.address_range;
+      context = c.next_range.new.context;
+      instructions =
+          c.next_range.new.instructions;
+    }) c.self.inside.given c.self.invariant c.in-None.ensures in
     rw (← c.self.view_is) (k.none, k.still, refl)
 
 pub overflow_add-self : goal.overflow_add-self
 overflow_add-self c =
-    let k = ready-comes (cie_of c.self.inside.cie) (fde_of c.self.inside.fde) (record { cie = cie_of c.self.inside.cie; end = c.self.inside.fde.initial_location + c.self.inside.fde.address_range; context = c.self.inside.context; instructions = c.self.inside.instructions }) (record { cie = cie_of c.self.inside.cie; end = c.self.inside.fde.initial_location + c.self.inside.fde.address_range; context = c.next_range.new.context; instructions = c.next_range.new.instructions }) c.self.inside.given c.in-Some.start c.in-Some.end c.self.invariant c.in-Some.ensures in
+    let k = ready-comes (cie_of c.self.inside.cie) (fde_of c.self.inside.fde)
+    (record {
+      cie = cie_of c.self.inside.cie;
+      end = c.self.inside.fde.initial_location + c.self.inside.fde.address_range;
+      context = c.self.inside.context;
+      instructions = c.self.inside.instructions;
+    })
+    (record {
+      cie = cie_of c.self.inside.cie;
+      end = c.self.inside.fde.initial_location + c.self.inside.fde.address_range;
+      context = c.next_range.new.context;
+      instructions =
+          c.next_range.new.instructions;
+    }) c.self.inside.given c.in-Some.start c.in-Some.end c.self.invariant c.in-Some.ensures in
     let top : c.in-Some.end < 2 ^ 64 = search rules in
     omega (arith, k.room)
 
 pub write_row-requires : goal.write_row-requires
-write_row-requires c = (ready-comes (cie_of c.self.inside.cie) (fde_of c.self.inside.fde) (record { cie = cie_of c.self.inside.cie; end = c.self.inside.fde.initial_location + c.self.inside.fde.address_range; context = c.self.inside.context; instructions = c.self.inside.instructions }) (record { cie = cie_of c.self.inside.cie; end = c.self.inside.fde.initial_location + c.self.inside.fde.address_range; context = c.next_range.new.context; instructions = c.next_range.new.instructions }) c.self.inside.given c.in-Some.start c.in-Some.end c.self.invariant c.in-Some.ensures).cfa
+write_row-requires c = (ready-comes (cie_of c.self.inside.cie) (fde_of c.self.inside.fde)
+    (record {
+      cie = cie_of c.self.inside.cie;
+      end = c.self.inside.fde.initial_location + c.self.inside.fde.address_range;
+      context = c.self.inside.context;
+      instructions = c.self.inside.instructions;
+    })
+    (record {
+      cie = cie_of c.self.inside.cie;
+      end = c.self.inside.fde.initial_location + c.self.inside.fde.address_range;
+      context = c.next_range.new.context;
+      instructions =
+          c.next_range.new.instructions;
+    }) c.self.inside.given c.in-Some.start c.in-Some.end c.self.invariant c.in-Some.ensures).cfa
 
 pub invariant_of-self : goal.invariant_of-self
-invariant_of-self c = (ready-comes (cie_of c.self.inside.cie) (fde_of c.self.inside.fde) (record { cie = cie_of c.self.inside.cie; end = c.self.inside.fde.initial_location + c.self.inside.fde.address_range; context = c.self.inside.context; instructions = c.self.inside.instructions }) (record { cie = cie_of c.self.inside.cie; end = c.self.inside.fde.initial_location + c.self.inside.fde.address_range; context = c.next_range.new.context; instructions = c.next_range.new.instructions }) c.self.inside.given c.in-Some.start c.in-Some.end c.self.invariant c.in-Some.ensures).ready
+invariant_of-self c = (ready-comes (cie_of c.self.inside.cie) (fde_of c.self.inside.fde)
+    (record {
+      cie = cie_of c.self.inside.cie;
+      end = c.self.inside.fde.initial_location + c.self.inside.fde.address_range;
+      context = c.self.inside.context;
+      instructions = c.self.inside.instructions;
+    })
+    (record {
+      cie = cie_of c.self.inside.cie;
+      end = c.self.inside.fde.initial_location + c.self.inside.fde.address_range;
+      context = c.next_range.new.context;
+      instructions =
+          c.next_range.new.instructions;
+    }) c.self.inside.given c.in-Some.start c.in-Some.end c.self.invariant c.in-Some.ensures).ready
 
 pub returns-in-Some-clause-some : goal.returns-in-Some-clause-some
 returns-in-Some-clause-some c =
-    let k = ready-comes (cie_of c.self.inside.cie) (fde_of c.self.inside.fde) (record { cie = cie_of c.self.inside.cie; end = c.self.inside.fde.initial_location + c.self.inside.fde.address_range; context = c.self.inside.context; instructions = c.self.inside.instructions }) (record { cie = cie_of c.self.inside.cie; end = c.self.inside.fde.initial_location + c.self.inside.fde.address_range; context = c.next_range.new.context; instructions = c.next_range.new.instructions }) c.self.inside.given c.in-Some.start c.in-Some.end c.self.invariant c.in-Some.ensures in
+    let k = ready-comes (cie_of c.self.inside.cie) (fde_of c.self.inside.fde)
+    (record {
+      cie = cie_of c.self.inside.cie;
+      end = c.self.inside.fde.initial_location + c.self.inside.fde.address_range;
+      context = c.self.inside.context;
+      instructions = c.self.inside.instructions;
+    })
+    (record {
+      cie = cie_of c.self.inside.cie;
+      end = c.self.inside.fde.initial_location + c.self.inside.fde.address_range;
+      context = c.next_range.new.context;
+      instructions =
+          c.next_range.new.instructions;
+    }) c.self.inside.given c.in-Some.start c.in-Some.end c.self.invariant c.in-Some.ensures in
     rw (c.write_row.ensures, ← c.self.view_is) k.rows

@@ -3,4 +3,6 @@ use Rattle.dw_rows.proofs.Coming.{ready-begun}
 use Rattle.dw_rows.proofs.row_iter.Rows.of.Goals as goal
 
 pub invariant_of-result : goal.invariant_of-result
-invariant_of-result c = ready-begun (cie_of c.begin_with_cie-cie.result) (fde_of c.args.fde.now) _ (c.begin-instructions.ensures (cie_of c.begin_with_cie-cie.result) c.begin_with_cie-cie.ensures.left c.begin_with_cie-cie.ensures.fde_program)
+invariant_of-result c = ready-begun (cie_of c.begin_with_cie-cie.result) (fde_of c.args.fde.now) _
+    (c.begin-instructions.ensures
+    (cie_of c.begin_with_cie-cie.result) c.begin_with_cie-cie.ensures.left c.begin_with_cie-cie.ensures.fde_program)

@@ -18,4 +18,5 @@ returns-clause-limit c =
 pub returns-clause-runs : goal.returns-clause-runs
 returns-clause-runs c =
     let it = checked_of c.args.self.now in
-    runs_for it.kind it.target it.bytes it (checked_stable it c.args.self.now.checked) (record { kind_is = refl; target_is = refl; bytes_are = refl })
+    runs_for it.kind it.target it.bytes it (checked_stable it c.args.self.now.checked)
+    (record { kind_is = refl; target_is = refl; bytes_are = refl })

@@ -1,0 +1,53 @@
+-- What the flags and the words of a command say.
+use Rattle.std.specs.Prelude.{◌≡◌, Bool, false, if◌then◌else◌, List, ℕ, Option, Some, None, option_and_then, codes}
+use Rattle.std.specs.Option.{option_map_or, IsSomeAnd}
+use Rattle.std.specs.Str.{bytes_eq}
+use Rattle.clap.specs.Words.{Row, Text, first_of}
+use Rattle.dw_bytes.specs.declared.target.Target.{Target}
+use Rattle.dw_bytes.specs.declared.target.Order.TheVariants.{Little, Big}
+use Rattle.dw_bytes.specs.declared.target.AddressSize.TheVariants.{Four, Eight}
+use Rattle.dw_stack.specs.declared.state.Kind.{Kind}
+use Rattle.dw_stack.specs.declared.state.Kind.TheVariants.{FrameCfa, FrameRegister, Location}
+use Rattle.dw_check.specs.Addresses.{address_of}
+
+-- a flag was given
+abbrev pub flag_of : Text → List Row → Bool
+flag_of name rows = option_map_or (λ text. bytes_eq text (codes "true")) (first_of name rows) false
+
+-- little-endian with addresses of eight bytes, unless flags say otherwise
+abbrev pub target_of : List Row → Target
+target_of rows = record {
+  order = (if flag_of (codes "big") rows then Big else Little);
+  address_size = (if flag_of (codes "addr4") rows then Four else Eight);
+}
+
+-- the kind that a word names
+abbrev pub kind_of : Text → Option Kind
+kind_of name =
+    if bytes_eq name (codes "cfa") then Some FrameCfa
+    else (if bytes_eq name (codes "register") then Some FrameRegister
+    else (if bytes_eq name (codes "location") then Some Location
+    else None))
+
+-- What a word is: a file's name, an address of the target, or a kind of expressions.
+pub data Word : Type 0 where
+  file : Word
+  address : Word
+  kind : Word
+
+-- the file, the address and the kind at the word of this name
+abbrev pub file_at : List Row → Text × Word → Option Text
+file_at rows (name, file) = first_of name rows
+file_at rows (name, _) = None
+
+abbrev pub address_at : Text → List Row → Option ℕ
+address_at name rows = option_and_then (address_of (target_of rows)) (first_of name rows)
+
+abbrev pub kind_at : Text → List Row → Option Kind
+kind_at name rows = option_and_then kind_of (first_of name rows)
+
+-- a word is there, and is none of those that its place takes
+abbrev pub IsBad : List Row → Text × Word → Type 0
+IsBad rows (name, file) = ⊥
+IsBad rows (name, address) = IsSomeAnd (first_of name rows) (λ text. address_of (target_of rows) text ≡ None)
+IsBad rows (name, kind) = IsSomeAnd (first_of name rows) (λ text. kind_of text ≡ None)

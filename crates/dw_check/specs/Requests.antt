@@ -1,0 +1,70 @@
+-- What a command line asks for.
+use Rattle.std.specs.Prelude.{◌≡◌, ◌⊎◌, Bool, true, false, List, [], ◌∷◌, ◌++◌, Option, Some, None, option_map, option_and_then, Result, Ok, Err, codes}
+use Rattle.std.specs.Option.{IsSomeAnd, option_to_list}
+use Rattle.std.specs.List.{filter_map, find}
+use Rattle.std.specs.Str.{bytes_eq}
+use Rattle.clap.specs.declared.error.ErrorKind.{ErrorKind}
+use Rattle.clap.specs.declared.error.ErrorKind.TheVariants.{OutOfMemory}
+use Rattle.clap.specs.Words.{Kinds, Row, Text, fault_of, first_of, subcommand_of}
+use Rattle.dw_bytes.specs.declared.target.Target.{Target}
+use Rattle.dw_check.specs.Arguments.{Word, flag_of, target_of, file_at, IsBad}
+use Rattle.dw_check.specs.Commands.{Command, commands, dwcheck}
+use Rattle.dw_check.specs.declared.requests.Task.{Task}
+use Rattle.dw_check.specs.declared.requests.Usage.{Usage}
+use Rattle.dw_check.specs.declared.requests.Usage.TheVariants.{Line, BadArgument, Memory}
+
+-- A task, what its numbers are read under, whether its sections and expressions are hex text, and the names of the files.
+pub record Asked : Type 0 where
+  pub task : Task
+  pub target : Target
+  pub hex : Bool
+  pub files : List Text
+
+-- the state file's name, if one was given
+abbrev pub state_at : Bool → List Row → Option Text
+state_at false rows = None
+state_at true rows = first_of (codes "state") rows
+
+-- the files that a command's words name, in their order, and the state file behind them
+abbrev pub files_of : Command → List Row → List Text
+files_of c rows = filter_map (file_at rows) c.words ++ option_to_list (state_at c.has_state rows)
+
+-- the request of a command with these arguments
+abbrev pub asked_of : Command → List Row → Option Asked
+asked_of c rows = option_map
+    (λ task. record { task = task; target = target_of rows; hex = flag_of (codes "hex") rows; files = files_of c rows })
+    (c.task rows)
+
+-- the command of a name
+abbrev pub command_of : Text → Option Command
+command_of name = find (λ c. bytes_eq name c.name) commands
+
+abbrev pub asked_by : Text → List Row → Option Asked
+asked_by name rows = option_and_then (λ c. asked_of c rows) (command_of name)
+
+-- one of these words is bad
+abbrev pub HasBad : List Row → List (Text × Word) → Type 0
+HasBad rows [] = ⊥
+HasBad rows (word ∷ words) = IsBad rows word ⊎ HasBad rows words
+
+abbrev pub HasBadWord : Text → List Row → Type 0
+HasBadWord name rows = IsSomeAnd (command_of name) (λ c. HasBad rows c.words)
+
+-- ---- what an answer has to be
+
+-- What an answer has to be where the words have these faults and these matches.
+abbrev pub AsksBy : Kinds → Option (Text × List Row) → Result Asked Usage → Type 0
+AsksBy faults matches (Ok asked) = (faults ≡ []) × IsSomeAnd matches (λ (name, rows). asked_by name rows ≡ Some asked)
+AsksBy faults matches (Err BadArgument) = (faults ≡ []) × IsSomeAnd matches (λ (name, rows). HasBadWord name rows)
+AsksBy faults matches (Err (Line _)) = faults ≡ [] → ⊥
+AsksBy faults matches (Err Memory) = Unit {0}
+
+-- what an answer to these words has to be, by what clap promises of them
+abbrev pub AsksFor : List Text → Result Asked Usage → Type 0
+AsksFor words r = AsksBy (fault_of dwcheck words) (subcommand_of dwcheck words) r
+
+-- want of memory, or the text of an error that is none
+abbrev pub IsUsageOf : ErrorKind → Usage → Type 0
+IsUsageOf kind (Line _) = kind ≡ OutOfMemory → ⊥
+IsUsageOf kind BadArgument = ⊥
+IsUsageOf kind Memory = Unit {0}

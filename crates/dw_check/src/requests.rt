@@ -1,0 +1,127 @@
+//! What a command line asks for, and how that ends.
+
+ghost use Rattle.std.specs.Prelude.{◌≡◌, length, map};
+ghost use Rattle.std.specs.String.{string_bytes};
+ghost use Rattle.dw_check.specs.Requests.{Asked};
+ghost use Rattle.dw_check.specs.Statuses.{status_of_usage, status_of_end};
+ghost use Rattle.dw_check.specs.declared.requests.Usage.TheVariants.{Memory};
+
+use dw_bytes::Target;
+use dw_stack::Kind;
+use std::alloc::{AllocError, AllocFailed};
+use std::marker::Model;
+
+/// What is done with the files of a request.
+#[derive(Clone, Copy, Debug, PartialEq, Eq)]
+pub enum Task {
+    /// Each FDE of a frame section and its rows.
+    Rows,
+    /// The row of an address in a frame section.
+    Row { address: u64 },
+    /// What an expression of this kind comes to.
+    Eval { kind: Kind },
+}
+
+/// What a command line asks for.
+#[derive(Debug, Drop)]
+pub struct Request {
+    /// What is done.
+    pub(crate) task: Task,
+    /// What the numbers in sections, expressions and state files are read under.
+    pub(crate) target: Target,
+    /// Whether the section or the expression is hex text; a state file never is.
+    pub(crate) hex: bool,
+    /// The names of the files, in the order in which the command takes them, a state file's last.
+    pub(crate) files: Vec<String>,
+}
+
+impl Model for Request {
+    ghost Value = { Asked };
+
+    ghost view = { λ r. record {
+      task = r.task;
+      target = r.target;
+      hex = r.hex;
+      files = map (λ s. string_bytes s) r.files.items;
+    } };
+}
+
+impl Request {
+    /// The names of the files that `run` wants the contents of, in that order.
+    pub fn files(&self) -> &[String]
+        ensures names { map (λ s. string_bytes s) result.now ≡ self.now.files }
+        ensures count { length result.now ≡ length self.now.files }
+    {
+        self.files.as_slice()
+    }
+}
+
+/// Why a command line asks for nothing.
+#[derive(Debug, Drop)]
+pub enum Usage {
+    /// The words are no command line. This is clap's text.
+    Line(String),
+    /// A word is none of those that its place takes.
+    BadArgument,
+    /// Memory ran out.
+    Memory,
+}
+
+impl Usage {
+    /// The exit status.
+    pub fn status(&self) -> u8
+        ensures { result ≡ status_of_usage self.now }
+    {
+        match self {
+            Usage::Line(_) | Usage::BadArgument => 2,
+            Usage::Memory => 3,
+        }
+    }
+}
+
+impl From<AllocError> for Usage {
+    ghost from_gives = { λ _ e. e ≡ Memory };
+
+    fn from(_: AllocError) -> Self {
+        Usage::Memory
+    }
+}
+
+impl<T: Drop> From<AllocFailed<T>> for Usage {
+    ghost from_gives = { λ _ e. e ≡ Memory };
+
+    fn from(_: AllocFailed<T>) -> Self {
+        Usage::Memory
+    }
+}
+
+/// How a run ends.
+#[derive(Clone, Copy, Debug, PartialEq, Eq)]
+pub enum End {
+    /// All of the text was written.
+    Done,
+    /// The text is the line of a refusal, and was written.
+    Refused,
+    /// The file at this place of `Request::files` is to be hex text and isn't.
+    BadHex(usize),
+    /// This line of the state file is none, lines counted from 1.
+    StateLine(u64),
+    /// Memory ran out.
+    Memory,
+    /// The sink stopped.
+    Output,
+}
+
+impl End {
+    /// The exit status.
+    pub fn status(&self) -> u8
+        ensures { result ≡ status_of_end self.now }
+    {
+        match self {
+            End::Done => 0,
+            End::Refused => 1,
+            End::StateLine(_) => 2,
+            End::BadHex(_) | End::Memory | End::Output => 3,
+        }
+    }
+}

@@ -1,0 +1,102 @@
+//! The runs of location descriptions.
+
+ghost use Rattle.std.specs.Prelude.{◌<◌, ◌∷◌, [], length};
+ghost use Rattle.dw_ops.specs.Views.{bytes_of};
+ghost use Rattle.dw_eval.specs.UnderWay.{CanRun, IsUnderWay, RunsTo};
+ghost use Rattle.dw_eval.specs.Steps.{configured};
+ghost use Rattle.dw_eval.specs.Views.{piece_in};
+ghost use Rattle.dw_eval.specs.Handed.{world_in};
+
+use crate::context::{Memory, Registers};
+use crate::environment::Environment;
+use crate::execution::{read, unanswered};
+use crate::location::{Evaluation, Outcome, Piece};
+use crate::run::{Run, Step};
+use arrayvec::ArrayVec;
+use dw_ops::Expression;
+use dw_stack::Kind;
+
+/// Runs a location on behind its first piece, at this offset and after so many steps.
+fn run_on<'a, R: Registers, M: Memory>(
+    expression: &Expression<'a>,
+    environment: &Environment<'_, R, M>,
+    run: &mut Run<'a>,
+    first: Piece<'a>,
+    from: u32,
+    before: u32,
+) -> Evaluation<'a>
+    requires can { CanRun Kind.Location
+        (world_in R.contents M.bytes environment.now) expression.now }
+    requires some { 0 < length (bytes_of expression.now) }
+    requires under_way { IsUnderWay (world_in R.contents M.bytes environment.now)
+        (bytes_of expression.now) [] (configured from run.old (piece_in first ∷ [])) before }
+    ensures { RunsTo Kind.Location
+        (world_in R.contents M.bytes environment.now) expression.now result }
+{
+    let end = expression.bytes().len() as u32;
+    let mut pieces = ArrayVec::new();
+    pieces.push(first);
+    let mut at = from;
+    let mut steps = before;
+    while at < end {
+        let (operation, next) = read(expression, at);
+        steps += 1;
+        match run.apply(environment, &operation, next) {
+            Ok(step) => match step {
+                Step::To(to) => at = to,
+                Step::Ends(piece, to) => {
+                    pieces.push(piece);
+                    at = to;
+                }
+            },
+            Err(why) => {
+                return Evaluation {
+                    outcome: unanswered(why, at),
+                    steps,
+                };
+            }
+        }
+    }
+    Evaluation {
+        outcome: Outcome::Pieces(pieces),
+        steps,
+    }
+}
+
+/// Runs a location from its start. The places of its pieces are made with the first: most have none, and the places take
+/// longer to make than their steps.
+pub fn run_location<'a, R: Registers, M: Memory>(
+    expression: &Expression<'a>,
+    environment: &Environment<'_, R, M>,
+) -> Evaluation<'a>
+    requires can { CanRun Kind.Location
+        (world_in R.contents M.bytes environment.now) expression.now }
+    ensures { RunsTo Kind.Location
+        (world_in R.contents M.bytes environment.now) expression.now result }
+{
+    let end = expression.bytes().len() as u32;
+    let mut run = Run::new();
+    let mut at = 0;
+    let mut steps = 0;
+    while at < end {
+        steps += 1;
+        match run.step(environment, expression, at) {
+            Ok(step) => match step {
+                Step::To(to) => at = to,
+                Step::Ends(piece, to) => {
+                    return run_on(expression, environment, &mut run, piece, to, steps);
+                }
+            },
+            Err(why) => {
+                return Evaluation {
+                    outcome: unanswered(why, at),
+                    steps,
+                };
+            }
+        }
+    }
+    Evaluation {
+        outcome: Outcome::Single(run.result(end == 0)),
+        steps,
+    }
+}

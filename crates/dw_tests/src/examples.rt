@@ -1,0 +1,59 @@
+//! Callers that are proved: what a caller learns from the contracts of `dw_rows` and `dw_eval`.
+
+ghost use Rattle.std.specs.Prelude.{◌≡◌, ◌<◌, ◌^◌, ℕ, None, Some, IfSome};
+ghost use Rattle.dw_eval.specs.Numbers.{width_of};
+ghost use Rattle.dw_eval.specs.Results.{IsEvaluation, value};
+ghost use Rattle.dw_rows.specs.Rules.{Row, offset, rule_in};
+ghost use Rattle.dw_rows.specs.Section.{row_of};
+ghost use Rattle.dw_stack.specs.Certificates.{checked_of};
+
+use dw_eval::{Context, Memory, Outcome, Registers, evaluate};
+use dw_rows::{CheckedFrame, RegisterRule};
+use dw_stack::CheckedExpression;
+
+/// Where a function has saved a register at an address: so many bytes from the CFA.
+///
+/// It is the rule of the one row that has the address (`dw_rows::laws::exact_rows`): the look-up can't fail, so `None` says
+/// that no FDE covers the address, or that the register has another rule.
+pub fn saved_offset(frame: &CheckedFrame<'_>, address: u64, register: u16) -> Option<i64>
+    ensures { IfSome result (λ n. (row : Row) × (row_of frame.now address ≡ Some row)
+        × (rule_in row.rules register ≡ offset n)) }
+{
+    let row = frame.row_for_address(address)?;
+    match row.register(register) {
+        RegisterRule::Offset(offset) => Some(offset),
+        _ => None,
+    }
+}
+
+/// What a checked expression gives over some registers and memory, if it gives a value.
+///
+/// That a run ends, within its number of operations and with the standard's value, needs no test here: it is what
+/// `CheckedExpression` promises. `None` says that something isn't known, or that the expression is a location.
+pub fn computed_value<R: Registers, M: Memory>(
+    expression: &CheckedExpression<'_>,
+    registers: &R,
+    memory: &M,
+) -> Option<u64>
+    ensures value { IfSome result (λ v. let c = checked_of expression.now in
+        (steps : ℕ) × IsEvaluation c (record {
+          target = c.target;
+          registers = R.contents registers.now;
+          memory = M.bytes memory.now;
+          cfa = None;
+          frame_base = None;
+          object = None;
+        }) (value v) steps) }
+    ensures fits { IfSome result
+        (λ v. v < 2 ^ width_of (checked_of expression.now).target.address_size) }
+{
+    let context = Context {
+        cfa: None,
+        frame_base: None,
+        object: None,
+    };
+    match evaluate(expression, &context, registers, memory).outcome {
+        Outcome::Value(value) => Some(value),
+        _ => None,
+    }
+}

@@ -1,0 +1,325 @@
+ghost use Rattle.std.specs.Prelude.{◌<◌, ◌^◌, length};
+
+use dw_bytes::{AddressSize, Fault, FaultKind, Format, Order, Target};
+use dw_frame::{CallFrameInstruction, Entry, cie_at, entries};
+use std::test::Fail;
+
+const LITTLE: Target = Target {
+    order: Order::Little,
+    address_size: AddressSize::Eight,
+};
+
+const BIG: Target = Target {
+    order: Order::Big,
+    address_size: AddressSize::Four,
+};
+
+/// A CIE and an FDE of a small function: the first of the worked examples.
+const FUNCTION: [u8; 56] = [
+    0x14, 0, 0, 0, 0xff, 0xff, 0xff, 0xff, 4, 0, 8, 0, 1, 0x78, 0x10, 0x0c, 7, 8, 0x90, 1, 0, 0, 0,
+    0, 0x1c, 0, 0, 0, 0, 0, 0, 0, 0, 0x10, 0, 0, 0, 0, 0, 0, 0x20, 0, 0, 0, 0, 0, 0, 0, 0x41, 0x0e,
+    0x10, 0x86, 2, 0x43, 0x0d, 6,
+];
+
+/// The first fault of the records of a section, and where it stands.
+fn first_fault(section: &[u8], target: Target) -> Option<(FaultKind, u32)>
+    requires { length section.now < 2 ^ 32 }
+{
+    for entry in entries(section, target) {
+        if let Err(fault) = entry {
+            return Some((fault.kind, fault.at));
+        }
+    }
+    None
+}
+
+/// The first fault of the programs of the FDEs of a section.
+fn first_program_fault(section: &[u8], target: Target) -> Option<(FaultKind, u32)>
+    requires { length section.now < 2 ^ 32 }
+{
+    for entry in entries(section, target) {
+        if let Ok(Entry::Fde(fde)) = entry {
+            for item in fde.program.instructions() {
+                if let Err(fault) = item {
+                    return Some((fault.kind, fault.at));
+                }
+            }
+        }
+    }
+    None
+}
+
+#[test]
+fn where_expressions_stand(rt: HostRuntime) -> Result<(), Fail> {
+    // The program, and where its expression begins: behind a count of one byte, and of two.
+    let programs: [([u8; 8], u32); 2] = [
+        ([0x0f, 3, 0x77, 8, 6, 0, 0, 0], 50),
+        ([0x0f, 0x83, 0, 0x77, 8, 6, 0, 0], 51),
+    ];
+    for (program, wanted) in programs {
+        let mut section = FUNCTION;
+        section[48..].copy_from_slice(&program);
+        let entry = entries(&section, LITTLE).nth(1).ok_or("a record")?;
+        let Ok(Entry::Fde(fde)) = entry else {
+            return Err(Fail::from("no FDE"));
+        };
+        let item = fde.program.instructions().next().ok_or("an instruction")?;
+        let (at, instruction) = item.ok().ok_or("no fault")?;
+        let CallFrameInstruction::DefCfaExpression { expression } = instruction else {
+            return Err(Fail::from("another instruction"));
+        };
+        assert_eq!(rt; (at, expression.offset), (48, wanted));
+        assert_eq!(rt; expression.expression.bytes(), [0x77, 8, 6].as_slice());
+    }
+    Ok(())
+}
+
+/// A CIE and an FDE in the 64-bit format, of little order.
+const LONG: [u8; 80] = [
+    0xff, 0xff, 0xff, 0xff, 0x14, 0, 0, 0, 0, 0, 0, 0, 0xff, 0xff, 0xff, 0xff, 0xff, 0xff, 0xff,
+    0xff, 4, 0, 8, 0, 1, 0x78, 0x10, 0x0c, 7, 8, 0x90, 1, 0xff, 0xff, 0xff, 0xff, 0x24, 0, 0, 0, 0,
+    0, 0, 0, 0, 0, 0, 0, 0, 0, 0, 0, 0, 0x10, 0, 0, 0, 0, 0, 0, 0x20, 0, 0, 0, 0, 0, 0, 0, 0x41,
+    0x0e, 0x10, 0x86, 2, 0x43, 0x0d, 6, 0, 0, 0, 0,
+];
+
+/// A CIE and an FDE of big order and with addresses of four bytes.
+const SMALL: [u8; 44] = [
+    0, 0, 0, 0x10, 0xff, 0xff, 0xff, 0xff, 4, 0, 4, 0, 4, 0x7c, 0x0e, 0x0c, 0x0d, 0, 0, 0, 0, 0, 0,
+    0x14, 0, 0, 0, 0, 0, 0, 0x80, 0, 0, 0, 0, 0x10, 0x42, 0x0e, 8, 0x8e, 1, 0, 0, 0,
+];
+
+/// What a record's header says, and where its program begins and ends.
+fn header_of(entry: &Entry<'_>) -> (u32, Format, u64, i64, u64, u32, u32) {
+    match entry {
+        Entry::Cie(cie) => (
+            cie.offset,
+            cie.format,
+            cie.code_alignment_factor,
+            cie.data_alignment_factor,
+            u64::from(cie.return_address_register),
+            cie.program.start(),
+            cie.program.end(),
+        ),
+        Entry::Fde(fde) => (
+            fde.offset,
+            fde.format,
+            fde.cie_pointer,
+            i64::from(fde.cie_pointer_offset),
+            fde.initial_location + fde.address_range,
+            fde.program.start(),
+            fde.program.end(),
+        ),
+    }
+}
+
+#[test]
+fn records_of_both_formats_and_orders(rt: HostRuntime) -> Result<(), Fail> {
+    let cases: [(&[u8], Target, Format, [(u32, u64, i64, u64, u32, u32); 2]); 3] = [
+        (
+            &FUNCTION,
+            LITTLE,
+            Format::Dwarf32,
+            [(0, 1, -8, 16, 15, 24), (24, 0, 28, 0x1020, 48, 56)],
+        ),
+        (
+            &LONG,
+            LITTLE,
+            Format::Dwarf64,
+            [(0, 1, -8, 16, 27, 32), (32, 0, 44, 0x1020, 68, 80)],
+        ),
+        (
+            &SMALL,
+            BIG,
+            Format::Dwarf32,
+            [(0, 4, -4, 14, 15, 20), (20, 0, 24, 0x8010, 36, 44)],
+        ),
+    ];
+    for (section, target, format, wanted) in cases {
+        let mut records = entries(section, target);
+        for (offset, first, second, third, start, end) in wanted {
+            let entry = records.next().ok_or("a record")?.ok().ok_or("no fault")?;
+            assert_eq!(rt;
+                header_of(&entry),
+                (offset, format, first, second, third, start, end)
+            );
+        }
+        assert!(rt; records.next().is_none());
+        assert_eq!(rt; first_program_fault(section, target), None);
+    }
+    Ok(())
+}
+
+#[test]
+fn a_register_above_the_last(rt: HostRuntime) {
+    let mut section = FUNCTION;
+    section[48..].copy_from_slice(&[5, 0x80, 0x80, 4, 1, 0, 0, 0]);
+    assert_eq!(rt; first_fault(&section, LITTLE), None);
+    assert_eq!(rt;
+        first_program_fault(&section, LITTLE),
+        Some((FaultKind::RegisterNumber, 48))
+    );
+}
+
+#[test]
+fn sizes_of_any_number_of_bytes(rt: HostRuntime) {
+    let mut section = [0; 25];
+    section[..24].copy_from_slice(&FUNCTION[..24]);
+    section[0] = 0x15;
+    let mut records = entries(&section, LITTLE);
+    assert!(rt; matches!(records.next(), Some(Ok(Entry::Cie(_)))));
+    assert!(rt; records.next().is_none());
+}
+
+/// An FDE in the 32-bit format behind a CIE in the 64-bit one.
+#[test]
+fn formats_side_by_side(rt: HostRuntime) -> Result<(), Fail> {
+    let mut section = [0; 64];
+    section[..32].copy_from_slice(&LONG[..32]);
+    section[32..].copy_from_slice(&FUNCTION[24..]);
+    let entry = entries(&section, LITTLE).nth(1).ok_or("a record")?;
+    let entry = entry.ok().ok_or("no fault")?;
+    assert_eq!(rt;
+        header_of(&entry),
+        (32, Format::Dwarf32, 0, 36, 0x1020, 56, 64)
+    );
+    Ok(())
+}
+
+#[test]
+fn sections_cut_short(rt: HostRuntime) {
+    for end in 0..=FUNCTION.len() {
+        let wanted = match end {
+            0 | 24 | 56 => None,
+            1..=3 => Some((FaultKind::Truncated, 0)),
+            4..=23 => Some((FaultKind::Truncated, 4)),
+            25..=27 => Some((FaultKind::Truncated, 24)),
+            _ => Some((FaultKind::Truncated, 28)),
+        };
+        assert_eq!(rt; first_fault(&FUNCTION[..end], LITTLE), wanted, "{end}");
+    }
+}
+
+/// A CIE and an FDE in the 64-bit format, of big order and with addresses of four bytes.
+const LONG_BIG: [u8; 55] = [
+    0xff, 0xff, 0xff, 0xff, 0, 0, 0, 0, 0, 0, 0, 0x0f, 0xff, 0xff, 0xff, 0xff, 0xff, 0xff, 0xff,
+    0xff, 4, 0, 4, 0, 4, 0x7c, 0x0e, 0xff, 0xff, 0xff, 0xff, 0, 0, 0, 0, 0, 0, 0, 0x10, 0, 0, 0, 0,
+    0, 0, 0, 0, 0, 0, 0x80, 0, 0, 0, 0, 0x10,
+];
+
+#[test]
+fn bodies_cut_short(rt: HostRuntime) -> Result<(), Fail> {
+    // The section, its target, where the record begins, where the last byte of its length stands in
+    // it, and where the length and each field of its header end.
+    let headers: [(&[u8], Target, usize, usize, &[usize]); 8] = [
+        (&FUNCTION, LITTLE, 0, 0, &[4, 8, 9, 10, 11, 12, 13, 14, 15]),
+        (&FUNCTION, LITTLE, 24, 0, &[4, 8, 16, 24]),
+        (&LONG, LITTLE, 0, 4, &[12, 20, 21, 22, 23, 24, 25, 26, 27]),
+        (&LONG, LITTLE, 32, 4, &[12, 20, 28, 36]),
+        (&SMALL, BIG, 0, 3, &[4, 8, 9, 10, 11, 12, 13, 14, 15]),
+        (&SMALL, BIG, 20, 3, &[4, 8, 12, 16]),
+        (&LONG_BIG, BIG, 0, 11, &[12, 20, 21, 22, 23, 24, 25, 26, 27]),
+        (&LONG_BIG, BIG, 27, 11, &[12, 20, 24, 28]),
+    ];
+    for (section, target, start, low, fields) in headers {
+        let head = *fields.first().ok_or("a field")?;
+        let mut field = head;
+        for next in fields {
+            for end in field..*next {
+                let mut bytes = [0; 40];
+                for (byte, given) in bytes.iter_mut().zip(&section[start..]) {
+                    *byte = *given;
+                }
+                let size = u8::try_from(end.saturating_sub(head));
+                if let (Some(byte), Ok(size)) = (bytes.get_mut(low), size) {
+                    *byte = size;
+                }
+                let cut = bytes.get(..end).ok_or("a record")?;
+                let wanted = Some((FaultKind::Truncated, field as u32));
+                assert_eq!(rt; first_fault(cut, target), wanted, "{end}");
+            }
+            field = *next;
+        }
+    }
+    Ok(())
+}
+
+#[test]
+fn headers_out_of_range(rt: HostRuntime) {
+    let changes: [(usize, u8, FaultKind, u32); 8] = [
+        (0, 0x15, FaultKind::Truncated, 29),
+        (0, 0xff, FaultKind::Truncated, 4),
+        (8, 5, FaultKind::Version, 8),
+        (9, 0x7a, FaultKind::Augmentation, 9),
+        (10, 4, FaultKind::AddressSize, 10),
+        (11, 1, FaultKind::SegmentSize, 11),
+        (3, 0xff, FaultKind::Truncated, 4),
+        (27, 0xff, FaultKind::Truncated, 28),
+    ];
+    for (place, value, kind, at) in changes {
+        let mut bytes = FUNCTION;
+        bytes[place] = value;
+        assert_eq!(rt; first_fault(&bytes, LITTLE), Some((kind, at)), "{place}");
+    }
+    let sections: [(&[u8], Target, FaultKind, u32); 5] = [
+        (
+            &[0xf0, 0xff, 0xff, 0xff],
+            LITTLE,
+            FaultKind::ReservedLength,
+            0,
+        ),
+        (&[0xff, 0xff, 0xff, 0xfe], BIG, FaultKind::ReservedLength, 0),
+        (
+            &[
+                13, 0, 0, 0, 0xff, 0xff, 0xff, 0xff, 4, 0, 8, 0, 1, 0x78, 0x80, 0x80, 4,
+            ],
+            LITTLE,
+            FaultKind::RegisterNumber,
+            14,
+        ),
+        (
+            &[
+                0, 0, 0, 12, 0, 0, 0, 0, 0xff, 0xff, 0xff, 0xf0, 0, 0, 0, 0x10,
+            ],
+            BIG,
+            FaultKind::RangePastTop,
+            12,
+        ),
+        (
+            &[
+                20, 0, 0, 0, 0, 0, 0, 0, 0xf0, 0xff, 0xff, 0xff, 0xff, 0xff, 0xff, 0xff, 0x10, 0,
+                0, 0, 0, 0, 0, 0,
+            ],
+            LITTLE,
+            FaultKind::RangePastTop,
+            16,
+        ),
+    ];
+    for (section, target, kind, at) in sections {
+        assert_eq!(rt; first_fault(section, target), Some((kind, at)));
+    }
+}
+
+#[test]
+fn the_last_address(rt: HostRuntime) {
+    let section = [
+        0, 0, 0, 12, 0, 0, 0, 0, 0xff, 0xff, 0xff, 0xf0, 0, 0, 0, 0x0f,
+    ];
+    assert_eq!(rt; first_fault(&section, BIG), None);
+}
+
+#[test]
+fn cies_by_offset(rt: HostRuntime) {
+    // What has the CIE's offset, no CIE, or where the fault stands.
+    let cases: [(usize, u64, Result<Option<u32>, u32>); 5] = [
+        (56, 0, Ok(Some(0))),
+        (56, 24, Ok(None)),
+        (56, 1 << 32, Ok(None)),
+        (40, 0, Ok(Some(0))),
+        (40, 24, Err(28)),
+    ];
+    for (end, offset, wanted) in cases {
+        let found = cie_at(&FUNCTION[..end], LITTLE, offset);
+        let found = found.map(|cie| cie.map(|cie| cie.offset));
+        assert_eq!(rt; found.map_err(|fault| fault.at), wanted);
+    }
+}

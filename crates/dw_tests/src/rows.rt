@@ -1,0 +1,282 @@
+ghost use Rattle.std.specs.Prelude.{◌<◌, ◌^◌, length};
+
+use dw_bytes::{AddressSize, FaultKind, Order, Target};
+use dw_frame::{CommonInformationEntry, Entry, FrameDescriptionEntry, entries};
+use dw_rows::{
+    CfaRule, CheckedFrame, RegisterRule, UnwindTableRow, check_fde, check_frame, row_at, rows,
+};
+use std::alloc::Global;
+use std::test::Fail;
+
+const LITTLE: Target = Target {
+    order: Order::Little,
+    address_size: AddressSize::Eight,
+};
+
+/// A CIE and the header of an FDE, and a program of eight bytes: the first of the worked examples.
+const FUNCTION: [u8; 56] = [
+    0x14, 0, 0, 0, 0xff, 0xff, 0xff, 0xff, 4, 0, 8, 0, 1, 0x78, 0x10, 0x0c, 7, 8, 0x90, 1, 0, 0, 0,
+    0, 0x1c, 0, 0, 0, 0, 0, 0, 0, 0, 0x10, 0, 0, 0, 0, 0, 0, 0x20, 0, 0, 0, 0, 0, 0, 0, 0x41, 0x0e,
+    0x10, 0x86, 2, 0x43, 0x0d, 6,
+];
+
+/// The same with another program.
+const fn with(program: [u8; 8]) -> [u8; 56] {
+    let mut section = FUNCTION;
+    section[48] = program[0];
+    section[49] = program[1];
+    section[50] = program[2];
+    section[51] = program[3];
+    section[52] = program[4];
+    section[53] = program[5];
+    section[54] = program[6];
+    section[55] = program[7];
+    section
+}
+
+/// The last CIE and the last FDE of a section.
+fn records(section: &[u8]) -> Result<(CommonInformationEntry<'_>, FrameDescriptionEntry<'_>), Fail>
+    requires { length section.now < 2 ^ 32 }
+{
+    let mut cie = None;
+    let mut fde = None;
+    for entry in entries(section, LITTLE) {
+        match entry {
+            Ok(Entry::Cie(found)) => cie = Some(found),
+            Ok(Entry::Fde(found)) => fde = Some(found),
+            Err(_) => return Err(Fail::from("a bad record")),
+        }
+    }
+    Ok((cie.ok_or("a CIE")?, fde.ok_or("an FDE")?))
+}
+
+/// The first fault of a program, and where it stands.
+fn first_fault(alloc: Global, program: [u8; 8]) -> Result<Option<(FaultKind, u32)>, Fail> {
+    let section = with(program);
+    let (cie, fde) = records(&section)?;
+    Ok(
+        check_fde(alloc, &cie, &fde)
+            .err()
+            .map(|fault| (fault.kind, fault.at)),
+    )
+}
+
+/// The rows of a program as text.
+fn shown(alloc: Global, section: &[u8]) -> Result<String, Fail>
+    requires { length section.now < 2 ^ 32 }
+{
+    let (cie, fde) = records(section)?;
+    let mut text = String::new(alloc);
+    match check_fde(alloc, &cie, &fde) {
+        Ok(()) => {
+            for row in rows(&cie, &fde) {
+                let start = row.start_address();
+                let end = row.end_address();
+                let cfa = row.cfa();
+                text.push_str(&format!(in alloc; "{start:x}..{end:x} {cfa:?}")?)?;
+                for (register, rule) in row.rules() {
+                    text.push_str(&format!(in alloc; " r{register} {rule:?}")?)?;
+                }
+                text.push_str("\n")?;
+            }
+        }
+        Err(_) => return Err(Fail::from("a bad program")),
+    }
+    Ok(text)
+}
+
+#[test]
+fn gives_the_rows_of_a_function(rt: HostRuntime) -> Result<(), Fail> {
+    let text = shown(rt.alloc(), &FUNCTION)?;
+    assert_eq!(rt;
+        text.as_str(),
+        "1000..1001 RegisterAndOffset { register: 7, offset: 8 } r16 Offset(-8)\n1001..1004 RegisterAndOffset { register: 7, offset: 16 } r6 Offset(-16) r16 Offset(-8)\n1004..1020 RegisterAndOffset { register: 6, offset: 16 } r6 Offset(-16) r16 Offset(-8)\n"
+    );
+    Ok(())
+}
+
+#[test]
+fn gives_the_rows_of_a_remembered_state(rt: HostRuntime) -> Result<(), Fail> {
+    let text = shown(rt.alloc(), &with([0x0a, 0x0e, 0x10, 0x41, 0x0b, 0, 0, 0]))?;
+    assert_eq!(rt;
+        text.as_str(),
+        "1000..1001 RegisterAndOffset { register: 7, offset: 16 } r16 Offset(-8)\n1001..1020 RegisterAndOffset { register: 7, offset: 8 } r16 Offset(-8)\n"
+    );
+    Ok(())
+}
+
+#[test]
+fn names_the_first_fault(rt: HostRuntime) -> Result<(), Fail> {
+    assert_eq!(rt; first_fault(rt.alloc(), [0x60, 0, 0, 0, 0, 0, 0, 0])?, None);
+    assert_eq!(rt;
+        first_fault(rt.alloc(), [0x61, 0, 0, 0, 0, 0, 0, 0])?,
+        Some((FaultKind::LocationPastEnd, 48))
+    );
+    assert_eq!(rt;
+        first_fault(rt.alloc(), [0x0b, 0, 0, 0, 0, 0, 0, 0])?,
+        Some((FaultKind::RestoreWithoutRemember, 48))
+    );
+    assert_eq!(rt;
+        first_fault(rt.alloc(), [0x0a, 0, 0, 0, 0, 0, 0, 0])?,
+        Some((FaultKind::Unrestored, 56))
+    );
+    assert_eq!(rt;
+        first_fault(rt.alloc(), [0, 0x0f, 1, 0x30, 0, 0, 0, 0])?,
+        Some((FaultKind::NotYet, 49))
+    );
+    Ok(())
+}
+
+#[test]
+fn finds_the_row_of_an_address(rt: HostRuntime) -> Result<(), Fail> {
+    let section = with([0x41, 0x0a, 0x0e, 0x10, 0x41, 0x0b, 0, 0]);
+    let (cie, fde) = records(&section)?;
+    match check_fde(rt.alloc(), &cie, &fde) {
+        Ok(()) => {
+            assert!(rt; row_at(&cie, &fde, 0xfff).is_none());
+            assert_eq!(rt;
+                row_at(&cie, &fde, 0x1000).ok_or("first")?.end_address(),
+                0x1001
+            );
+            let row = row_at(&cie, &fde, 0x1001).ok_or("second")?;
+            assert!(rt;
+                matches!(
+                    row.cfa(),
+                    CfaRule::RegisterAndOffset {
+                        register: 7,
+                        offset: 16
+                    }
+                )
+            );
+            let row = row_at(&cie, &fde, 0x101f).ok_or("third")?;
+            assert_eq!(rt; row.start_address(), 0x1002);
+            assert!(rt;
+                matches!(
+                    row.cfa(),
+                    CfaRule::RegisterAndOffset {
+                        register: 7,
+                        offset: 8
+                    }
+                )
+            );
+            assert!(rt; matches!(row.register(16), RegisterRule::Offset(-8)));
+            assert!(rt; matches!(row.register(6), RegisterRule::Default));
+            assert!(rt; row_at(&cie, &fde, 0x1020).is_none());
+        }
+        Err(_) => return Err(Fail::from("a bad program")),
+    }
+    Ok(())
+}
+
+/// The CIE of `FUNCTION`, and 1,000 FDEs of eight nops, the highest addresses first. Each covers 16 addresses of 32.
+fn descending(alloc: Global) -> Result<Vec<u8>, Fail> {
+    let mut section = FUNCTION[..24].to_vec(alloc)?;
+    for i in (0..1000u64).rev() {
+        push_fde(&mut section, 0x1000 + 0x20 * i, 0x10)?;
+    }
+    Ok(section)
+}
+
+/// One more FDE of eight nops, of the first CIE.
+fn push_fde(section: &mut Vec<u8>, initial: u64, range: u64) -> Result<(), Fail> {
+    section.extend_from_slice(&[0x1c, 0, 0, 0, 0, 0, 0, 0])?;
+    section.extend_from_slice(&initial.to_le_bytes())?;
+    section.extend_from_slice(&range.to_le_bytes())?;
+    section.extend_from_slice(&[0; 8])?;
+    Ok(())
+}
+
+/// Where the row of an address begins and ends.
+fn range_at(frame: &CheckedFrame<'_>, address: u64) -> Option<(u64, u64)> {
+    let row = frame.row_for_address(address)?;
+    Some((row.start_address(), row.end_address()))
+}
+
+/// How many rows the FDE of an address has.
+fn row_count(frame: &CheckedFrame<'_>, address: u64) -> Option<u32> {
+    let fde = frame.fde_for_address(address)?;
+    let mut count = 0u32;
+    for _ in frame.rows(&fde) {
+        count = count.saturating_add(1);
+    }
+    Some(count)
+}
+
+#[test]
+fn checks_a_section(rt: HostRuntime) -> Result<(), Fail> {
+    let frame = check_frame(rt.alloc(), &FUNCTION, LITTLE)?;
+    assert_eq!(rt; frame.cies().len(), 1);
+    assert_eq!(rt; frame.fdes().len(), 1);
+    assert_eq!(rt; range_at(&frame, 0xfff), None);
+    assert_eq!(rt; range_at(&frame, 0x1000), Some((0x1000, 0x1001)));
+    assert_eq!(rt; range_at(&frame, 0x101f), Some((0x1004, 0x1020)));
+    assert_eq!(rt; range_at(&frame, 0x1020), None);
+    let fde = frame.fde_for_address(0x1000).ok_or("an FDE")?;
+    let mut rows = frame.rows(&fde);
+    assert_eq!(rt; rows.next().ok_or("a row")?.end_address(), 0x1001);
+    assert_eq!(rt; rows.next().ok_or("a row")?.end_address(), 0x1004);
+    frame.rows_into(&fde, &mut rows);
+    let mut row = UnwindTableRow::empty();
+    assert!(rt; rows.next_into(&mut row));
+    assert_eq!(rt; row.end_address(), 0x1001);
+    let (cie, fde) = frame
+        .row_for_address_into(0x1001, &mut row)
+        .ok_or("the second row")?;
+    assert_eq!(rt; (cie.offset, fde.offset), (0, 24));
+    assert_eq!(rt; row.end_address(), 0x1004);
+    assert!(rt; frame.row_for_address_into(0x1020, &mut row).is_none());
+    assert_eq!(rt; row.end_address(), 0x1004);
+    assert_eq!(rt; frame.section(), FUNCTION.as_slice());
+    Ok(())
+}
+
+#[test]
+fn looks_up_among_many(rt: HostRuntime) -> Result<(), Fail> {
+    let section = descending(rt.alloc())?;
+    assert_eq!(rt; section.len(), 32_024);
+    let frame = check_frame(rt.alloc(), &section, LITTLE)?;
+    assert_eq!(rt; range_at(&frame, 0x100f), Some((0x1000, 0x1010)));
+    assert_eq!(rt; range_at(&frame, 0x1010), None);
+    assert_eq!(rt; range_at(&frame, 0x8cef), Some((0x8ce0, 0x8cf0)));
+    assert_eq!(rt; range_at(&frame, 0x8cf0), None);
+    Ok(())
+}
+
+#[test]
+fn names_an_overlap_among_many(rt: HostRuntime) -> Result<(), Fail> {
+    let mut section = descending(rt.alloc())?;
+    push_fde(&mut section, 0x100f, 1)?;
+    assert_eq!(rt; section.len(), 32_056);
+    let fault = check_frame(rt.alloc(), &section, LITTLE)
+        .err()
+        .ok_or("an overlap")?;
+    assert_eq!(rt; (fault.kind, fault.at), (FaultKind::Overlap, 32_024));
+    Ok(())
+}
+
+/// The CIE of `FUNCTION`, and an FDE of 4,096 addresses whose program is 1,000 times the same byte.
+fn repeated(alloc: Global, instruction: u8) -> Result<Vec<u8>, Fail> {
+    let mut section = FUNCTION[..24].to_vec(alloc)?;
+    section.extend_from_slice(&[0xfc, 3, 0, 0, 0, 0, 0, 0])?;
+    section.extend_from_slice(&[0, 0x10, 0, 0, 0, 0, 0, 0, 0, 0x10, 0, 0, 0, 0, 0, 0])?;
+    section.resize(1048, instruction)?;
+    Ok(section)
+}
+
+#[test]
+fn checks_one_row(rt: HostRuntime) -> Result<(), Fail> {
+    let section = repeated(rt.alloc(), 0)?;
+    assert_eq!(rt; section.len(), 1048);
+    let frame = check_frame(rt.alloc(), &section, LITTLE)?;
+    assert_eq!(rt; row_count(&frame, 0x1000), Some(1));
+    Ok(())
+}
+
+#[test]
+fn checks_many_rows(rt: HostRuntime) -> Result<(), Fail> {
+    let section = repeated(rt.alloc(), 0x41)?;
+    assert_eq!(rt; section.len(), 1048);
+    let frame = check_frame(rt.alloc(), &section, LITTLE)?;
+    assert_eq!(rt; row_count(&frame, 0x1000), Some(1001));
+    Ok(())
+}

@@ -1,0 +1,191 @@
+//! The libraries as `bench/beside_gimli/driver.c` times them: each export does one kind of work, and answers a number that all of it goes into.
+#![tactic(auto)]
+
+ghost use Rattle.std.specs.Prelude.{◌<◌, ◌^◌, length, Some, None};
+
+use dw_bytes::{AddressSize, Order, Target};
+use dw_eval::{Context, Memory, Outcome, Registers, evaluate};
+use dw_ops::Expression;
+use dw_rows::{CheckedFrame, Rows, UnwindTableRow, check_frame};
+use dw_stack::{CheckedExpression, Kind, certify, check_expression};
+use std::alloc::Global;
+
+/// What is timed is little-endian, with addresses of eight bytes.
+const TARGET: Target = Target {
+    order: Order::Little,
+    address_size: AddressSize::Eight,
+};
+
+/// A machine whose registers all have 7, and whose memory isn't known.
+struct Sevens {}
+
+impl Registers for Sevens {
+    ghost contents = { λ _ _. Some 7 };
+
+    fn register(&self, number: u16) -> Option<u64> {
+        let _ = number;
+        Some(7)
+    }
+}
+
+impl Memory for Sevens {
+    ghost bytes = { λ _ _. None };
+
+    #[tactic(auto, unfolding(dw_eval::specs::World::bytes_from))]
+    fn read(&self, address: u64, size: u8, order: Order) -> Option<u64> {
+        let _ = (address, order);
+        match size {
+            1 => None,
+            2 => None,
+            4 => None,
+            8 => None,
+            _ => unreachable!(),
+        }
+    }
+}
+
+/// The section, where it is short enough and accepted.
+fn checked<'a>(alloc: Global, section: &'a [u8]) -> Option<CheckedFrame<'a>> {
+    if section.len() >= 1 << 32 {
+        return None;
+    }
+    check_frame(alloc, section, TARGET).ok()
+}
+
+/// The check of a section.
+#[unsafe(no_mangle)]
+pub extern "C" fn bench_check(alloc: Global, section: &[u8]) -> usize {
+    match checked(alloc, section) {
+        Some(frame) => frame.fdes().len(),
+        None => 0,
+    }
+}
+
+/// The check, and all rows by the iterator.
+#[unsafe(no_mangle)]
+pub extern "C" fn bench_rows(alloc: Global, section: &[u8]) -> u64 {
+    let Some(frame) = checked(alloc, section) else {
+        return 0;
+    };
+    let mut sum = 0u64;
+    for fde in frame.fdes() {
+        for row in frame.rows(fde) {
+            sum = sum.wrapping_add(row.end_address());
+        }
+    }
+    sum
+}
+
+/// The ends of the rows that are to come, added up.
+fn sum_of(rows: &mut Rows<'_>, row: &mut UnwindTableRow) -> u64 {
+    let mut sum = 0u64;
+    'rows: while rows.next_into(row) {
+        sum = sum.wrapping_add(row.end_address());
+    }
+    sum
+}
+
+/// The check, and all rows in the place of one.
+#[unsafe(no_mangle)]
+pub extern "C" fn bench_rows_into(alloc: Global, section: &[u8]) -> u64 {
+    let Some(frame) = checked(alloc, section) else {
+        return 0;
+    };
+    let Some(first) = frame.fdes().first() else {
+        return 0;
+    };
+    let mut rows = frame.rows(first);
+    let mut row = UnwindTableRow::empty();
+    let mut sum = 0u64;
+    for fde in frame.fdes() {
+        frame.rows_into(fde, &mut rows);
+        sum = sum.wrapping_add(sum_of(&mut rows, &mut row));
+    }
+    sum
+}
+
+/// The check, and so many times the rows of all these addresses.
+#[unsafe(no_mangle)]
+pub extern "C" fn bench_look_up(
+    alloc: Global,
+    section: &[u8],
+    addresses: &[u64],
+    times: u32,
+) -> u64 {
+    let Some(frame) = checked(alloc, section) else {
+        return 0;
+    };
+    let mut row = UnwindTableRow::empty();
+    let mut sum = 0u64;
+    for _ in 0..times {
+        for address in addresses {
+            if frame.row_for_address_into(*address, &mut row).is_some() {
+                sum = sum.wrapping_add(row.end_address());
+            }
+        }
+    }
+    sum
+}
+
+fn value_of(expression: &CheckedExpression<'_>) -> u64 {
+    let context = Context {
+        cfa: Some(1),
+        frame_base: None,
+        object: None,
+    };
+    let evaluation = evaluate(expression, &context, &Sevens {}, &Sevens {});
+    match evaluation.outcome {
+        Outcome::Value(value) => value,
+        _ => u64::from(evaluation.steps),
+    }
+}
+
+/// One judgement of a register's expression, and so many evaluations.
+#[unsafe(no_mangle)]
+pub extern "C" fn bench_evaluate(alloc: Global, bytes: &[u8], times: u32) -> u64 {
+    if bytes.len() >= 1 << 32 {
+        return 0;
+    }
+    match check_expression(alloc, Expression::new(bytes, TARGET), Kind::FrameRegister) {
+        Ok(expression) => {
+            let mut sum = 0u64;
+            for _ in 0..times {
+                sum = sum.wrapping_add(value_of(&expression));
+            }
+            sum
+        }
+        Err(_) => 0,
+    }
+}
+
+/// So many judgements without states.
+#[unsafe(no_mangle)]
+pub extern "C" fn bench_check_expression(alloc: Global, bytes: &[u8], times: u32) -> u64 {
+    if bytes.len() >= 1 << 32 {
+        return 0;
+    }
+    let mut sum = 0u64;
+    for _ in 0..times {
+        let judged = check_expression(alloc, Expression::new(bytes, TARGET), Kind::FrameRegister);
+        if let Ok(expression) = judged {
+            sum = sum.wrapping_add(u64::from(expression.depth()));
+        }
+    }
+    sum
+}
+
+/// So many certificates.
+#[unsafe(no_mangle)]
+pub extern "C" fn bench_certify(alloc: Global, bytes: &[u8], times: u32) -> u64 {
+    if bytes.len() >= 1 << 32 {
+        return 0;
+    }
+    let mut sum = 0u64;
+    for _ in 0..times {
+        let judged = certify(alloc, Expression::new(bytes, TARGET), Kind::FrameRegister);
+        if let Ok(certificate) = judged {
+            sum = sum.wrapping_add(u64::from(certificate.into_checked().depth()));
+        }
+    }
+    sum
+}
