@@ -49,7 +49,8 @@ impl<'a> Model for CheckedLists<'a> {
 /// (53, where it is one), that its range doesn't end before it begins (52), and its expression, as `dw_stack` judges it,
 /// with offsets of the section. `Memory` stands at 0.
 ///
-/// One pass over the bytes. For n offsets of an array and m lists it takes time n log m besides.
+/// One pass over the bytes judges; a quick one before it counts, so that lists and expressions find room at once. For n offsets
+/// of an array and m lists it takes time n log m besides.
 pub fn check_lists<'a>(
     alloc: Global,
     section: &'a [u8],
