@@ -2,6 +2,7 @@
 
 ghost use Rattle.std.specs.Prelude.{◌<◌, ◌^◌};
 
+use crate::count::Counts;
 use dw_stack::CheckedExpression;
 use std::alloc::{AllocError, Global};
 
@@ -44,14 +45,14 @@ impl<'a> Contents<'a> {
     ghost use Rattle.std.specs.Prelude.{◌≡◌, IfOk};
     ghost use Rattle.dw_loclists.specs.Kept.{kept_of, nothing_kept};
 
-    /// Of no table yet, with room for so many expressions.
-    pub fn with_room(alloc: Global, expressions: u32) -> Result<Self, AllocError>
+    /// Of no table yet, with room for so many lists and expressions.
+    pub fn with_room(alloc: Global, counts: Counts) -> Result<Self, AllocError>
         ensures { IfOk result (λ contents. kept_of contents ≡ nothing_kept) }
     {
         Ok(Contents {
             tables: Vec::new(alloc),
-            lists: Vec::new(alloc),
-            expressions: Vec::with_capacity(alloc, expressions as usize)?,
+            lists: Vec::with_capacity(alloc, counts.lists as usize)?,
+            expressions: Vec::with_capacity(alloc, counts.expressions as usize)?,
         })
     }
 }

@@ -8,7 +8,7 @@ ghost use Rattle.dw_loclists.specs.Reading.{lists_fault, IsChecked, tables_in, l
 ghost use Rattle.dw_loclists.specs.Views.{start_of, all_located};
 
 use crate::contents::{Contents, LocationList};
-use crate::count::count_expressions;
+use crate::count::count;
 use crate::find::find_list;
 use crate::list::MEMORY;
 use crate::locations::LocationsAt;
@@ -49,7 +49,8 @@ impl<'a> Model for CheckedLists<'a> {
 /// (53, where it is one), that its range doesn't end before it begins (52), and its expression, as `dw_stack` judges it,
 /// with offsets of the section. `Memory` stands at 0.
 ///
-/// One pass over the bytes. For n offsets of an array and m lists it takes time n log m besides.
+/// One pass over the bytes judges; a quick one before it counts, so that lists and expressions find room at once. For n offsets
+/// of an array and m lists it takes time n log m besides.
 pub fn check_lists<'a>(
     alloc: Global,
     section: &'a [u8],
@@ -61,7 +62,7 @@ pub fn check_lists<'a>(
     ensures lists { IfOk result (λ lists.
         lists ≡ record { target = target; section = section.now }) }
 {
-    let Ok(mut contents) = Contents::with_room(alloc, count_expressions(section, target)) else {
+    let Ok(mut contents) = Contents::with_room(alloc, count(section, target)) else {
         return Err(MEMORY);
     };
     let end = section.len() as u32;

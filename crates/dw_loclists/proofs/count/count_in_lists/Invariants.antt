@@ -4,7 +4,7 @@ use Rattle.dw_loclists.proofs.count.count_in_lists.Given as goal
 
 abbrev pub invariant-entries : goal.invariant-entries
 invariant-entries l = record {
-  few : l.count + l.fn.cursor.position ≤ l.cursor.position;
+  few : l.lists + l.expressions + l.fn.cursor.position ≤ l.cursor.position;
   goes : MovesForward l.fn.cursor l.cursor;
 }
 

@@ -1,9 +1,9 @@
-use Rattle.std.proofs.Common.{◌≤◌, ◌-◌, length}
-use Rattle.dw_loclists.proofs.count.count_expressions.Given as goal
+use Rattle.std.proofs.Common.{◌+◌, ◌≤◌, ◌-◌, length}
+use Rattle.dw_loclists.proofs.count.count.Given as goal
 
 abbrev pub invariant-tables : goal.invariant-tables
 invariant-tables l = record {
-  few : l.count ≤ l.at;
+  few : l.lists + l.expressions ≤ l.at;
   inside : l.at ≤ length l.section;
 }
 
