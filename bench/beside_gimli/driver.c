@@ -1,12 +1,15 @@
 /* Times the exports of crates/dw_times: the least of several runs. Each line is a name and nanoseconds.
- *   driver SECTION ADDRESSES    a section, and addresses to look up, one in hex a line
- *   driver                      expressions */
+ *   driver frame SECTION ADDRESSES    a section of frames, and addresses to look up, one in hex a line
+ *   driver lists SECTION              a section of location lists
+ *   driver expressions */
 #include <stdint.h>
 #include <stdio.h>
 #include <stdlib.h>
+#include <string.h>
 #include <time.h>
 
 size_t bench_check(const uint8_t *section, size_t n);
+size_t bench_check_lists(const uint8_t *section, size_t n);
 uint64_t bench_rows(const uint8_t *section, size_t n);
 uint64_t bench_rows_into(const uint8_t *section, size_t n);
 uint64_t bench_look_up(const uint8_t *section, size_t n, const uint64_t *addresses, size_t m, uint32_t times);
@@ -77,26 +80,40 @@ static uint8_t *contents(const char *name, size_t *n) {
     return bytes;
 }
 
-int main(int count, char **words) {
-    if (count < 3) {
-        expressions();
-        return 0;
-    }
+static int refused(const char *name) {
+    fprintf(stderr, "%s is refused, or nothing is in it\n", name);
+    return 1;
+}
+
+static int frame(const char *name, const char *addresses_name) {
     size_t n, m = 0;
-    uint8_t *section = contents(words[1], &n);
-    if (!bench_check(section, n)) {
-        fprintf(stderr, "%s is refused, or has no FDE\n", words[1]);
-        return 1;
-    }
+    uint8_t *section = contents(name, &n);
+    if (!bench_check(section, n)) return refused(name);
     double check = LEAST(15, bench_check(section, n));
     printf("check %.0f\n", check);
     printf("rows-into %.0f\n", LEAST(15, bench_rows_into(section, n)) - check);
     printf("rows %.0f\n", LEAST(9, bench_rows(section, n)) - check);
     static uint64_t addresses[100000];
-    FILE *file = fopen(words[2], "r");
+    FILE *file = fopen(addresses_name, "r");
     if (!file) return 3;
     while (m < 100000 && fscanf(file, "%lx", &addresses[m]) == 1) m++;
     double five = LEAST(7, bench_look_up(section, n, addresses, m, 5)), once = LEAST(7, bench_look_up(section, n, addresses, m, 1));
     printf("look-up %.1f\n", (five - once) / 4 / m);
+    return 0;
+}
+
+static int lists(const char *name) {
+    size_t n;
+    uint8_t *section = contents(name, &n);
+    if (!bench_check_lists(section, n)) return refused(name);
+    printf("check-lists %.0f\n", LEAST(25, bench_check_lists(section, n)));
+    return 0;
+}
+
+int main(int count, char **words) {
+    if (count == 4 && !strcmp(words[1], "frame")) return frame(words[2], words[3]);
+    if (count == 3 && !strcmp(words[1], "lists")) return lists(words[2]);
+    if (count != 2 || strcmp(words[1], "expressions")) return 2;
+    expressions();
     return 0;
 }

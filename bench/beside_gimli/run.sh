@@ -1,6 +1,7 @@
 #!/usr/bin/env bash
 # Times the libraries beside gimli 0.27 in one run, and prints both and their ratio. Nothing is written into the checkout.
-#   bench/beside_gimli/run.sh [SECTION ..]    raw little-endian .debug_frame sections with addresses of 8 bytes
+#   bench/beside_gimli/run.sh [SECTION ..]    raw little-endian sections with addresses of 8 bytes: .debug_loclists
+#                                             where the name ends with .lists, else .debug_frame
 # WORK=FOLDER keeps what was built. It needs gcc, cargo and Debian's librust-gimli-dev (apt-get install librust-gimli-dev).
 set -eu
 here=$(cd "$(dirname "$0")" && pwd)
@@ -30,15 +31,21 @@ of() { awk -v name="$1" '$1 == name { print $2 }' "$2"; }
 printf '%-52s %14s %14s %6s\n' 'nanoseconds' dwcheck gimli ratio
 for section in "$@"; do
   name=$(basename "$section")
+  case $name in *.lists)
+    "$work/driver" lists "$section" >"$work/ours"
+    "$gimli" lists "$section" >"$work/theirs"
+    line "$name: check; gimli reads entries and operations" "$(of check-lists "$work/ours")" "$(of read-lists "$work/theirs")"
+    continue
+  esac
   "$gimli" addresses "$section" >"$work/addresses"
-  "$work/driver" "$section" "$work/addresses" >"$work/ours"
+  "$work/driver" frame "$section" "$work/addresses" >"$work/ours"
   "$gimli" section "$section" "$work/addresses" >"$work/theirs"
   line "$name: check; gimli runs all rows" "$(of check "$work/ours")" "$(of rows "$work/theirs")"
   line "$name: all rows into one place" "$(of rows-into "$work/ours")" "$(of rows "$work/theirs")"
   line "$name: all rows by the iterator" "$(of rows "$work/ours")" "$(of rows "$work/theirs")"
   line "$name: look-up; gimli with an index of its user's" "$(of look-up "$work/ours")" "$(of look-up "$work/theirs")"
 done
-"$work/driver" >"$work/ours"
+"$work/driver" expressions >"$work/ours"
 "$gimli" expressions >"$work/theirs"
 for name in 7708 plt sixty; do
   line "evaluate $name; gimli with fixed places" "$(of "evaluate-$name" "$work/ours")" "$(of "evaluate-$name" "$work/theirs")"

@@ -1,12 +1,14 @@
 //! The same work as `driver.c` times, done with gimli, which judges nothing. Each line is a name and nanoseconds.
 //!   beside addresses SECTION    10,000 addresses of the section, one in hex a line
 //!   beside section SECTION ADDRESSES
+//!   beside lists SECTION    a `.debug_loclists`
 //!   beside expressions
 
 use gimli::{
-    BaseAddresses, CommonInformationEntry, CieOrFde, DebugFrame, EndianSlice, Encoding, Evaluation,
-    EvaluationResult, EvaluationStorage, Format, FrameDescriptionEntry, LittleEndian, Location,
-    Reader, UnwindContext, UnwindSection, Value,
+    BaseAddresses, CommonInformationEntry, CieOrFde, DebugFrame, DebugLoc, DebugLocLists,
+    EndianSlice, Encoding, Evaluation, EvaluationResult, EvaluationStorage, Expression, Format,
+    FrameDescriptionEntry, LittleEndian, Location, LocationLists, LocationListsOffset,
+    RawLocListEntry, Reader, UnwindContext, UnwindSection, Value,
 };
 use std::collections::HashMap;
 use std::hint::black_box;
@@ -123,6 +125,64 @@ fn addresses(bytes: &[u8]) {
     }
 }
 
+/// How many operations an expression has, each of which is read.
+fn operations(expression: Expression<Bytes<'_>>, encoding: Encoding) -> u64 {
+    let mut operations = expression.operations(encoding);
+    let mut count = 0;
+    while let Some(operation) = operations.next().expect("an operation") {
+        black_box(&operation);
+        count += 1;
+    }
+    count
+}
+
+/// Reads a list, and each operation of its expressions. Gives the offset behind it and the count of operations.
+fn list(lists: &LocationLists<Bytes<'_>>, section: Bytes<'_>, at: usize, encoding: Encoding) -> (usize, u64) {
+    let mut entries = lists.raw_locations(LocationListsOffset(at), encoding).expect("a list");
+    let (mut at, mut count) = (at, 0);
+    while let Some(entry) = entries.next().expect("an entry") {
+        black_box(&entry);
+        let expression = match entry {
+            RawLocListEntry::BaseAddress { .. } => {
+                at += 9;
+                continue;
+            }
+            RawLocListEntry::OffsetPair { data, .. }
+            | RawLocListEntry::DefaultLocation { data }
+            | RawLocListEntry::StartEnd { data, .. }
+            | RawLocListEntry::StartLength { data, .. } => data,
+            _ => panic!("an entry of another kind"),
+        };
+        at = expression.0.offset_from(section) + expression.0.len();
+        count += operations(expression, encoding);
+    }
+    (at + 1, count)
+}
+
+/// All lists of all tables: how many operations there are.
+fn all_lists(bytes: &[u8]) -> u64 {
+    let section = EndianSlice::new(bytes, LittleEndian);
+    let lists = LocationLists::new(DebugLoc::new(&[], LittleEndian), DebugLocLists::new(bytes, LittleEndian));
+    let mut rest = section;
+    let mut count = 0;
+    while !rest.is_empty() {
+        let (length, format) = rest.read_initial_length().expect("a length");
+        let mut table = rest.split(length).expect("a table");
+        table.skip(4).expect("a header");
+        let offsets = table.read_u32().expect("a count");
+        table.skip(offsets as usize * format.word_size() as usize).expect("offsets");
+        let encoding = Encoding { address_size: 8, format, version: 5 };
+        let mut at = table.offset_from(section);
+        let end = at + table.len();
+        while at < end {
+            let (next, operations) = list(&lists, section, at, encoding);
+            at = next;
+            count += operations;
+        }
+    }
+    count
+}
+
 /// Places of fixed size: nothing is allocated.
 struct Fixed;
 
@@ -177,7 +237,11 @@ fn main() {
             let number = |line: &str| u64::from_str_radix(&line[2..], 16).expect("an address");
             section(&read(2), &lines.lines().map(number).collect::<Vec<_>>());
         }
+        Some("lists") => {
+            let bytes = read(2);
+            println!("read-lists {:.0}", least(25, || all_lists(&bytes)));
+        }
         Some("expressions") => expressions(),
-        _ => panic!("beside addresses|section|expressions"),
+        _ => panic!("beside addresses|section|lists|expressions"),
     }
 }

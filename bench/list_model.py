@@ -1,0 +1,127 @@
+"""Location lists judged and looked up by docs/PROFILE.md alone, in plain Python: nothing here was taken from the program.
+
+answer(section, offset, base, address, big, size, state) gives the text that `dwcheck locs` has to write.
+"""
+from expression_model import NAMES as EXPRESSION_NAMES
+from expression_model import Fault, Machine, Reader, certify, outcome_text
+
+NAMES = EXPRESSION_NAMES | {
+    3: "ReservedLength", 6: "AddressSize", 7: "SegmentSize", 50: "ListVersion", 51: "UnknownEntry", 52: "BackRange",
+    53: "SecondDefault", 54: "NoEnd", 55: "BadOffsetEntry",
+}
+
+END, PAIR, DEFAULT, BASE, START_END, START_LENGTH = 0, 4, 5, 6, 7, 8
+
+
+def reader(data, at, big, size):
+    made = Reader(data, big, size)
+    made.at = at
+    return made
+
+
+def located(operations, length):
+    return {"operations": operations, "length": length, "depth": certify(operations, length, "location")}
+
+
+def entry(fields, has_default, big, size):
+    """Its code, two numbers, and its expression with its place."""
+    at, code = fields.at, fields.fixed(1)
+    if code not in (END, PAIR, DEFAULT, BASE, START_END, START_LENGTH):
+        raise Fault(51, at)
+    first = second = expression = None
+    if code == PAIR:
+        first, second = fields.leb(False), fields.leb(False)
+    if code in (BASE, START_END, START_LENGTH):
+        first = fields.fixed(size)
+    if code == START_END:
+        second = fields.fixed(size)
+    if code == START_LENGTH:
+        second = fields.leb(False)
+    if code not in (END, BASE):
+        count = fields.leb(False)
+        place, held = fields.at, fields.take(count)
+    if code == DEFAULT and has_default:
+        raise Fault(53, at)
+    if code in (PAIR, START_END) and second < first:
+        raise Fault(52, at)
+    if code not in (END, BASE):
+        try:
+            expression = (place, located(Reader(held, big, size).operations(), count))
+        except Fault as fault:
+            raise Fault(fault.number, place + fault.at) from None
+    return code, first, second, expression
+
+
+def body(section, at, big, size):
+    """Where the body of a table begins and ends, and the size of its offsets."""
+    fields = reader(section, at, big, size)
+    length, wide = fields.fixed(4), 4
+    if 0xfffffff0 <= length < 0xffffffff:
+        raise Fault(3, at)
+    if length == 0xffffffff:
+        if at + 12 > len(section):
+            raise Fault(1, at)
+        length, wide = fields.fixed(8), 8
+    if fields.at + length > len(section):
+        raise Fault(1, fields.at)
+    return fields.at, fields.at + length, wide
+
+
+def table(section, at, big, size):
+    """The lists of the table at an offset, by their own, and where it ends."""
+    begin, end, wide = body(section, at, big, size)
+    fields, lists = reader(section[:end], begin, big, size), {}
+    for number, count, value in [(50, 2, 5), (6, 1, size), (7, 1, 0)]:
+        place = fields.at
+        if fields.fixed(count) != value:
+            raise Fault(number, place)
+    count, array = fields.fixed(4), fields.at
+    offsets = []
+    for _ in range(count):
+        offsets.append((fields.at, fields.fixed(wide)))
+    while fields.at < end:
+        start, entries = fields.at, []
+        while not entries or entries[-1][0] != END:
+            if fields.at == end:
+                raise Fault(54, end)
+            has_default = any(other[0] == DEFAULT for other in entries)
+            entries.append(entry(fields, has_default, big, size))
+        lists[start] = entries
+    for place, offset in offsets:
+        if array + offset not in lists:
+            raise Fault(55, place)
+    return lists, end
+
+
+def holding(entries, base, address):
+    """The expressions that hold, in order."""
+    found, otherwise = [], []
+    for code, first, second, expression in entries:
+        if code == BASE:
+            base = first
+        if code == DEFAULT:
+            otherwise = [expression]
+        if code == PAIR and base + first <= address < base + second:
+            found.append(expression)
+        if code == START_END and first <= address < second:
+            found.append(expression)
+        if code == START_LENGTH and first <= address < first + second:
+            found.append(expression)
+    return found or otherwise
+
+
+def answer(section, offset, base, address, big, size, state):
+    at, lists = 0, {}
+    try:
+        while at < len(section):
+            more, at = table(section, at, big, size)
+            lists |= more
+    except Fault as fault:
+        return f"refused {fault.number} {NAMES[fault.number]} lists 0x{fault.at:08x}\n"
+    if offset not in lists:
+        return "no list\n"
+    text = ""
+    for place, found in holding(lists[offset], base, address):
+        outcome, steps = Machine(state, big, size).run(found["operations"], found["length"], "location")
+        text += f"expr 0x{place:08x}\n" + outcome_text(outcome, size) + f"steps {steps} depth {found['depth']}\n"
+    return text or "none\n"
