@@ -1,5 +1,6 @@
 -- What is read goes forward towards the same end, and is refused between where it began and that end.
-use Rattle.std.proofs.Common.{◌≡◌, ℕ, zero, suc, ◌+◌, ◌≤◌, Bool, true, false, cond, ltb, List, [], length, take, Result, Ok, Err, refl, ap, subst, arith}
+use Rattle.std.proofs.Common.{◌≡◌, ℕ, zero, suc, ◌+◌, ◌≤◌, Bool, true, false, cond, ltb, List, [], length, take, Result, Ok, Err, refl, ap}
+use Rattle.std.proofs.Common.{subst, arith}
 use Rattle.std.specs.Prelude.{Contains}
 use Rattle.std.specs.List.{AllByRecursion}
 use Rattle.std.proofs.lemmas.List.{length-append}
@@ -8,7 +9,8 @@ use Rattle.dw_bytes.specs.declared.target.Format.{Format}
 use Rattle.dw_bytes.specs.declared.fault.Fault.{Fault}
 use Rattle.dw_bytes.specs.declared.fault.FaultKind.TheVariants.{Truncated}
 use Rattle.dw_bytes.specs.Encoding.{Bytes, Fixed, Length, Uleb, Sleb, bytes_of_address, bytes_of_offset}
-use Rattle.dw_bytes.specs.Reading.{ReadPosition, IsExact, IsRefusedAt, ◌>>=◌, placed, take_at, fixed_at, address_at, offset_at, initial_length_at, uleb_at, sleb_at}
+use Rattle.dw_bytes.specs.Reading.{ReadPosition, IsExact, IsRefusedAt, ◌>>=◌, placed, take_at, fixed_at, address_at, offset_at}
+use Rattle.dw_bytes.specs.Reading.{initial_length_at, uleb_at, sleb_at}
 use Rattle.dw_bytes.specs.Sequence.{located_read, and_then, at_most_of, sequence_of}
 use Rattle.dw_bytes.proofs.Fields.{take_exact, fixed_exact, initial_length_exact, uleb_exact, sleb_exact}
 use Rattle.dw_bytes.proofs.Refused.{fixed_refused, initial_length_refused, uleb_refused, sleb_refused}

@@ -5,8 +5,11 @@ use Rattle.dw_bytes.specs.declared.target.Target.{Target}
 use Rattle.dw_bytes.specs.declared.fault.Fault.{Fault}
 use Rattle.dw_bytes.specs.declared.fault.FaultKind.{FaultKind}
 use Rattle.dw_bytes.specs.Reading.{ReadPosition, ◌>>=◌, take_at, fixed_at, uleb_at}
-use Rattle.dw_bytes.specs.Operands.{Kind, address, fixed, signed_fixed, unsigned, signed, register_number, read_size, piece_size, block, Block, operand_at, fits, range_fault, Operands, values_at, in_range, in_ranges, given_at, Line, line, operands_at, coded_at}
-use Rattle.dw_bytes.proofs.Bounds.{Stays, AlwaysStays, bind-stays, made-stays, fixed-stays, address-stays, uleb-stays, sleb-stays, take-stays}
+use Rattle.dw_bytes.specs.Operands.{Kind, address, fixed, signed_fixed, unsigned, signed, register_number, read_size, piece_size, block}
+use Rattle.dw_bytes.specs.Operands.{Block, operand_at, fits, range_fault, Operands, values_at, in_range, in_ranges, given_at, Line, line}
+use Rattle.dw_bytes.specs.Operands.{operands_at, coded_at}
+use Rattle.dw_bytes.proofs.Bounds.{Stays, AlwaysStays, bind-stays, made-stays, fixed-stays, address-stays, uleb-stays, sleb-stays}
+use Rattle.dw_bytes.proofs.Bounds.{take-stays}
 
 abbrev block-of : ℕ → Target → List ℕ → Block
 block-of offset target bytes = record { offset = offset; target = target; bytes = bytes }

@@ -1,5 +1,6 @@
 -- Codes and operands are read exactly where they are encoded.
-use Rattle.std.proofs.Common.{◌≡◌, ℕ, ◌+◌, ◌<◌, Bool, true, false, cond, List, [], ◌∷◌, ◌++◌, length, Option, Some, None, Result, Ok, Err, refl, sym, ap, subst, ◌∙◌, append_assoc, arith}
+use Rattle.std.proofs.Common.{◌≡◌, ℕ, ◌+◌, ◌<◌, Bool, true, false, cond, List, [], ◌∷◌, ◌++◌, length, Option, Some, None, Result, Ok, Err}
+use Rattle.std.proofs.Common.{refl, sym, ap, subst, ◌∙◌, append_assoc, arith}
 use Rattle.std.specs.Prelude.{ℤ}
 use Rattle.std.specs.Int.{Width, byte_len, cast_signed}
 use Rattle.std.proofs.lemmas.List.{length-append}
@@ -8,7 +9,10 @@ use Rattle.dw_bytes.specs.declared.fault.Fault.{Fault}
 use Rattle.dw_bytes.specs.declared.fault.FaultKind.{FaultKind}
 use Rattle.dw_bytes.specs.Encoding.{Uleb}
 use Rattle.dw_bytes.specs.Reading.{ReadPosition, Next, IsExact, ◌>>=◌, take_at, fixed_at, uleb_at}
-use Rattle.dw_bytes.specs.Operands.{Kind, address, fixed, signed_fixed, unsigned, signed, register_number, read_size, piece_size, block, Block, Operand, IsOperand, IsBlock, SignedFixed, signed_fixed_at, block_at, operand_at, fits, range_fault, Operands, AreEncoded, Fit, values_at, in_range, in_ranges, given_at, Line, line, AreOperands, Coded, operands_at, coded_at}
+use Rattle.dw_bytes.specs.Operands.{Kind, address, fixed, signed_fixed, unsigned, signed, register_number, read_size, piece_size, block}
+use Rattle.dw_bytes.specs.Operands.{Block, Operand, IsOperand, IsBlock, SignedFixed, signed_fixed_at, block_at, operand_at, fits}
+use Rattle.dw_bytes.specs.Operands.{range_fault, Operands, AreEncoded, Fit, values_at, in_range, in_ranges, given_at, Line, line}
+use Rattle.dw_bytes.specs.Operands.{AreOperands, Coded, operands_at, coded_at}
 use Rattle.dw_bytes.proofs.Fields.{take_exact, fixed_exact, uleb_exact}
 use Rattle.dw_bytes.proofs.Readers.{ExactAt, bind-ok, ok-is, same-reading, fixed-exact, uleb-exact, sleb-exact, address-exact}
 

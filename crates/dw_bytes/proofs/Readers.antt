@@ -6,7 +6,8 @@ use Rattle.dw_bytes.specs.declared.target.Target.{Target}
 use Rattle.dw_bytes.specs.declared.target.Format.{Format}
 use Rattle.dw_bytes.specs.declared.fault.Fault.{Fault}
 use Rattle.dw_bytes.specs.Encoding.{Bytes, Fixed, Offset, Address, Length, Uleb, Sleb, bytes_of_address, bytes_of_offset}
-use Rattle.dw_bytes.specs.Reading.{ReadPosition, Next, IsExact, ◌>>=◌, take_at as taken_at, fixed_at, offset_at, address_at, initial_length_at, uleb_at, sleb_at}
+use Rattle.dw_bytes.specs.Reading.{ReadPosition, Next, IsExact, ◌>>=◌, take_at as taken_at, fixed_at, offset_at, address_at}
+use Rattle.dw_bytes.specs.Reading.{initial_length_at, uleb_at, sleb_at}
 use Rattle.dw_bytes.proofs.Fields.{take_exact, fixed_exact, initial_length_exact, uleb_exact, sleb_exact}
 
 -- a reader that is exact wherever the target is this one

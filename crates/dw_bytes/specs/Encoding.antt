@@ -1,5 +1,6 @@
 -- Which bytes encode which number. A byte is a number below 256, and a list of bytes is a list of such numbers.
-use Rattle.std.specs.Prelude.{◌≡◌, ◌<◌, ◌≤◌, ◌+◌, ◌*◌, ◌^◌, ◌%◌, ◌-◌, ℕ, ℤ, pos, ◌-ℤ◌, Bool, slice_index, nat_le, if◌then◌else◌, List, [], ◌∷◌, ◌++◌, length, FitsSigned}
+use Rattle.std.specs.Prelude.{◌≡◌, ◌<◌, ◌≤◌, ◌+◌, ◌*◌, ◌^◌, ◌%◌, ◌-◌, ℕ, ℤ, pos, ◌-ℤ◌, Bool, slice_index, nat_le, if◌then◌else◌, List, []}
+use Rattle.std.specs.Prelude.{◌∷◌, ◌++◌, length, FitsSigned}
 use Rattle.std.specs.Int.{w64}
 use Rattle.byteorder.specs.Endian.{big_number, little_number}
 use Rattle.dw_bytes.specs.declared.target.Target.{Target}

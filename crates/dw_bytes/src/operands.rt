@@ -4,7 +4,8 @@
 ghost use Rattle.std.specs.Prelude.{◌≡◌, ◌≤◌, [], ◌∷◌};
 ghost use Rattle.dw_bytes.specs.Reading.{MovesForward, ReadsBy};
 ghost use Rattle.dw_bytes.specs.Readers.{IsRefusedWithin};
-ghost use Rattle.dw_bytes.specs.Operands.{unsigned, signed, register_number, read_size, piece_size, block, in_range, given_at, one_value, two_values, block_of};
+ghost use Rattle.dw_bytes.specs.Operands.{unsigned, signed, register_number, read_size, piece_size, block, in_range, given_at, one_value};
+ghost use Rattle.dw_bytes.specs.Operands.{two_values, block_of};
 
 use crate::block::Block;
 use crate::cursor::Cursor;
@@ -12,7 +13,7 @@ use crate::fault::{Fault, FaultKind};
 use crate::target::{AddressSize, Target};
 
 #[inline(always)]
-fn number_of_register(number: u64, at: u32, target: Target) -> Result<u16, Fault>
+fn register_in_range(number: u64, at: u32, target: Target) -> Result<u16, Fault>
     ensures { result ≡ in_range target at register_number number }
 {
     let _ = target;
@@ -25,7 +26,7 @@ fn number_of_register(number: u64, at: u32, target: Target) -> Result<u16, Fault
     }
 }
 
-fn size_of_piece(number: u64, at: u32, target: Target) -> Result<u32, Fault>
+fn piece_size_in_range(number: u64, at: u32, target: Target) -> Result<u32, Fault>
     ensures { result ≡ in_range target at piece_size number }
 {
     let _ = target;
@@ -38,7 +39,7 @@ fn size_of_piece(number: u64, at: u32, target: Target) -> Result<u32, Fault>
     }
 }
 
-fn size_of_read(size: u8, at: u32, target: Target) -> Result<u8, Fault>
+fn read_size_in_range(size: u8, at: u32, target: Target) -> Result<u8, Fault>
     ensures { result ≡ in_range target at read_size size }
 {
     let is_size = match target.address_size {
@@ -65,7 +66,7 @@ pub fn register(cursor: &mut Cursor<'_>, at: u32) -> Result<u16, Fault>
     ensures goes_on { MovesForward cursor.old cursor.new }
 {
     let mut ahead = cursor.copy();
-    let register = number_of_register(ahead.uleb()?, at, cursor.target())?;
+    let register = register_in_range(ahead.uleb()?, at, cursor.target())?;
     *cursor = ahead;
     Ok(register)
 }
@@ -83,8 +84,8 @@ pub fn two_registers(cursor: &mut Cursor<'_>, at: u32) -> Result<(u16, u16), Fau
     let first = ahead.uleb()?;
     let second = ahead.uleb()?;
     let registers = (
-        number_of_register(first, at, target)?,
-        number_of_register(second, at, target)?,
+        register_in_range(first, at, target)?,
+        register_in_range(second, at, target)?,
     );
     *cursor = ahead;
     Ok(registers)
@@ -102,7 +103,7 @@ pub fn register_and_unsigned(cursor: &mut Cursor<'_>, at: u32) -> Result<(u16, u
     let mut ahead = cursor.copy();
     let number = ahead.uleb()?;
     let value = ahead.uleb()?;
-    let register = number_of_register(number, at, cursor.target())?;
+    let register = register_in_range(number, at, cursor.target())?;
     *cursor = ahead;
     Ok((register, value))
 }
@@ -118,7 +119,7 @@ pub fn register_and_signed(cursor: &mut Cursor<'_>, at: u32) -> Result<(u16, i64
     let mut ahead = cursor.copy();
     let number = ahead.uleb()?;
     let value = ahead.sleb()?;
-    let register = number_of_register(number, at, cursor.target())?;
+    let register = register_in_range(number, at, cursor.target())?;
     *cursor = ahead;
     Ok((register, value))
 }
@@ -134,7 +135,7 @@ pub fn register_and_block<'a>(cursor: &mut Cursor<'a>, at: u32) -> Result<(u16, 
     let mut ahead = cursor.copy();
     let number = ahead.uleb()?;
     let block = block(&mut ahead, at)?;
-    let register = number_of_register(number, at, cursor.target())?;
+    let register = register_in_range(number, at, cursor.target())?;
     *cursor = ahead;
     Ok((register, block))
 }
@@ -168,7 +169,7 @@ pub fn piece_size(cursor: &mut Cursor<'_>, at: u32) -> Result<u32, Fault>
 {
     let mut ahead = cursor.copy();
     let number = ahead.uleb()?;
-    let size = size_of_piece(number, at, cursor.target())?;
+    let size = piece_size_in_range(number, at, cursor.target())?;
     *cursor = ahead;
     Ok(size)
 }
@@ -186,8 +187,8 @@ pub fn two_piece_sizes(cursor: &mut Cursor<'_>, at: u32) -> Result<(u32, u32), F
     let size = ahead.uleb()?;
     let offset = ahead.uleb()?;
     let sizes = (
-        size_of_piece(size, at, target)?,
-        size_of_piece(offset, at, target)?,
+        piece_size_in_range(size, at, target)?,
+        piece_size_in_range(offset, at, target)?,
     );
     *cursor = ahead;
     Ok(sizes)
@@ -202,7 +203,7 @@ pub fn read_size(cursor: &mut Cursor<'_>, at: u32) -> Result<u8, Fault>
 {
     let mut ahead = cursor.copy();
     let number = ahead.u8()?;
-    let size = size_of_read(number, at, cursor.target())?;
+    let size = read_size_in_range(number, at, cursor.target())?;
     *cursor = ahead;
     Ok(size)
 }

@@ -5,44 +5,24 @@ use Rattle.dw_bytes.specs.declared.target.Target.{Target}
 use Rattle.dw_bytes.specs.declared.fault.Fault.{Fault}
 use Rattle.dw_bytes.specs.declared.fault.FaultKind.TheVariants.{SectionTooLong}
 use Rattle.dw_stack.specs.declared.state.Kind.{Kind}
-use Rattle.dw_stack.specs.Expressions.{Checked, IsGoodExpression, operations_in}
+use Rattle.dw_stack.specs.Expressions.{IsGoodExpression}
 use Rattle.dw_stack.specs.FirstFault.{expression_fault}
-use Rattle.dw_stack.proofs.Existing.{each_has_a_depth}
 use Rattle.dw_stack.proofs.Named.{good_if_none}
-use Rattle.dw_eval.proofs.Determined.{each_evaluation}
 use Rattle.dw_check.specs.Requests.{Asked}
 use Rattle.dw_check.specs.StateFile.{StateFact}
-use Rattle.dw_check.specs.Outcomes.{evaluation_text}
-use Rattle.dw_check.specs.Evaluations.{world_of}
-use Rattle.dw_check.specs.Runs.{Reply, text, refusal, not_hex, bad_line, frame_reply, IsOutcome, OfSection, OfState, IsRowsReply, IsEvalReply, IsReplyTo, IsReply}
+use Rattle.dw_check.specs.Runs.{Reply, text, refusal, not_hex, bad_line, frame_reply, IsOutcome, OfSection, OfState, IsRowsReply, IsFound, IsLocsReply, IsEvalReply, IsReplyTo, IsReply}
 use Rattle.dw_check.specs.Files.{section_bytes, state_facts}
 use Rattle.std.specs.Prelude.{slice_get}
 use Rattle.dw_check.specs.declared.stop.Section.TheVariants.{Expression}
+use Rattle.dw_check.specs.declared.requests.ListLookup.{ListLookup}
 use Rattle.dw_check.specs.declared.requests.Task.{Task}
-use Rattle.dw_check.specs.declared.requests.Task.TheVariants.{Rows, Row, Eval}
-use Rattle.dw_check.proofs.Evaluated.{refused_short, refused_long}
+use Rattle.dw_check.specs.declared.requests.Task.TheVariants.{Rows, Row, Locs, Eval}
+use Rattle.dw_check.proofs.Evaluated.{each_text, refused_short, refused_long}
+use Rattle.dw_check.proofs.Found.{each_found}
 
 module _ (kind : Kind) (target : Target) (bytes : List ℕ) (gs : List StateFact) where
   good_outcome : length bytes < 2 ^ 32 → IsGoodExpression kind target bytes → (r : Reply) × IsOutcome kind target bytes gs r
-  good_outcome short good =
-      let deep = each_has_a_depth kind target bytes good in
-      let c : Checked = record {
-        kind = kind;
-        target = target;
-        bytes = bytes;
-        depth = deep.0;
-        count = length (operations_in target bytes);
-      } in
-      let run = each_evaluation c (world_of target gs) (record { good = good; depth = deep.1; count = refl }) in (
-        text (evaluation_text target.address_size run.0 run.1 deep.0),
-        record {
-          outcome = run.0;
-          steps = run.1;
-          depth = deep.0;
-          comes = record { short = short; good = good; run = run.2; deepest = deep.1 };
-          text = refl;
-        },
-      )
+  good_outcome short good = let found = each_text kind target bytes gs short good in (text found.0, found.1)
 
   by_fault : (f : Option Fault) → expression_fault kind target bytes ≡ f → length bytes < 2 ^ 32
       → (r : Reply) × IsOutcome kind target bytes gs r
@@ -81,9 +61,17 @@ each_eval kind target hex files =
     (λ bytes. OfState (state_facts target (slice_get files 1)) (IsOutcome kind target bytes))
     (λ bytes. each_of_state (state_facts target (slice_get files 1)) (IsOutcome kind target bytes) (each_outcome kind target bytes))
 
+each_locs : (lookup : ListLookup) (target : Target) (hex : Bool) (files : List (List ℕ))
+    → (r : Reply) × IsLocsReply lookup target hex files r
+each_locs lookup target hex files =
+    each_of_section 0 (section_bytes hex (slice_get files 0))
+    (λ section. OfState (state_facts target (slice_get files 1)) (IsFound lookup target section))
+    (λ section. each_of_state (state_facts target (slice_get files 1)) (IsFound lookup target section) (each_found lookup target section))
+
 each_to : (task : Task) (target : Target) (hex : Bool) (files : List (List ℕ)) → (r : Reply) × IsReplyTo task target hex files r
 each_to Rows target hex files = each_rows None target hex files
 each_to (Row a) target hex files = each_rows (Some a) target hex files
+each_to (Locs lookup) target hex files = each_locs lookup target hex files
 each_to (Eval kind) target hex files = each_eval kind target hex files
 
 pub each_reply : (asked : Asked) (files : List (List ℕ)) → (r : Reply) × IsReply asked files r

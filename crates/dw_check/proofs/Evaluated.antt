@@ -1,5 +1,5 @@
 -- What evaluating a checked expression comes to.
-use Rattle.std.proofs.Common.{◌≡◌, ℕ, ◌^◌, ◌<◌, ◌≤◌, List, length, refl, ◌∙◌, subst}
+use Rattle.std.proofs.Common.{◌≡◌, ℕ, ◌^◌, ◌<◌, ◌≤◌, List, length, refl, sym, ap, ◌∙◌, subst}
 use Rattle.std.specs.Prelude.{Some}
 use Rattle.dw_bytes.specs.declared.target.Target.{Target}
 use Rattle.dw_bytes.specs.declared.target.AddressSize.{AddressSize}
@@ -8,12 +8,15 @@ use Rattle.dw_bytes.specs.declared.fault.Fault.{Fault}
 use Rattle.dw_bytes.specs.declared.fault.FaultKind.TheVariants.{SectionTooLong}
 use Rattle.dw_check.proofs.Lengths.{short_fault, long_fault}
 use Rattle.dw_stack.specs.declared.state.Kind.{Kind}
-use Rattle.dw_stack.specs.Expressions.{Checked, IsOf, IsGoodExpression, IsDepthOf}
+use Rattle.dw_stack.specs.Expressions.{Checked, IsOf, IsGoodExpression, IsDepthOf, operations_in}
 use Rattle.dw_stack.specs.FirstFault.{expression_fault}
+use Rattle.dw_stack.proofs.Existing.{each_has_a_depth}
+use Rattle.dw_stack.proofs.Unique.{one_depth}
 use Rattle.dw_eval.specs.Numbers.{width_of}
 use Rattle.std.proofs.Math.Path.{fun_ext}
 use Rattle.dw_eval.specs.World.{World}
 use Rattle.dw_eval.specs.Results.{Outcome, IsEvaluation}
+use Rattle.dw_eval.proofs.Determined.{each_evaluation, one_evaluation}
 use Rattle.dw_check.specs.Text.{digits_of}
 use Rattle.dw_check.specs.Outcomes.{evaluation_text}
 use Rattle.dw_check.specs.Evaluations.{world_of, Evaluates}
@@ -82,3 +85,39 @@ written_same kind target bytes c gs W same h = (
       (subst (λ t. Evaluates c.kind t bytes gs h.0) same.target_is (subst (λ b. Evaluates c.kind c.target b gs h.0) same.bytes_are h.1)),
   h.2,
 )
+
+-- a good expression has a text
+pub each_text : (kind : Kind) (target : Target) (bytes : List ℕ) (gs : List StateFact) → length bytes < 2 ^ 32
+    → IsGoodExpression kind target bytes → (t : List ℕ) × Evaluates kind target bytes gs t
+each_text kind target bytes gs short good =
+    let deep = each_has_a_depth kind target bytes good in
+    let c : Checked = record {
+      kind = kind;
+      target = target;
+      bytes = bytes;
+      depth = deep.0;
+      count = length (operations_in target bytes);
+    } in
+    let run = each_evaluation c (world_of target gs) (record { good = good; depth = deep.1; count = refl }) in (
+      evaluation_text target.address_size run.0 run.1 deep.0,
+      record {
+        outcome = run.0;
+        steps = run.1;
+        depth = deep.0;
+        comes = record { short = short; good = good; run = run.2; deepest = deep.1 };
+        text = refl;
+      },
+    )
+
+-- and one alone
+pub same_text : (kind : Kind) (target : Target) (bytes : List ℕ) (gs : List StateFact) (a b : List ℕ) → Evaluates kind target bytes gs a
+    → Evaluates kind target bytes gs b → a ≡ b
+same_text kind target bytes gs a b h k =
+    let c : Checked = record { kind = kind; target = target; bytes = bytes; depth = h.depth; count = 0 } in
+    let runs = one_evaluation c (world_of target gs) h.outcome k.outcome h.steps k.steps h.comes.good h.comes.run k.comes.run in
+    let deep = one_depth kind (operations_in target bytes) (length bytes) h.depth k.depth h.comes.deepest k.comes.deepest in
+    h.text
+    ∙ ap (λ o. evaluation_text target.address_size o h.steps h.depth) runs.0
+    ∙ ap (λ n. evaluation_text target.address_size k.outcome n h.depth) runs.1
+    ∙ ap (λ d. evaluation_text target.address_size k.outcome k.steps d) deep
+    ∙ sym k.text

@@ -4,32 +4,19 @@ use borrow.Author.Tests.{lt-ltb}
 use Rattle.dw_bytes.specs.declared.target.Target.{Target}
 use Rattle.dw_bytes.specs.declared.fault.Fault.{Fault}
 use Rattle.dw_stack.specs.declared.state.Kind.{Kind}
-use Rattle.dw_stack.specs.Expressions.{operations_in, Checked}
 use Rattle.dw_stack.specs.FirstFault.{expression_fault}
-use Rattle.dw_stack.proofs.Unique.{one_depth}
 use Rattle.dw_stack.proofs.Named.{none_if_good}
-use Rattle.dw_eval.proofs.Determined.{one_evaluation}
 use Rattle.dw_check.specs.Requests.{Asked}
 use Rattle.dw_check.specs.StateFile.{StateFact}
-use Rattle.dw_check.specs.Outcomes.{evaluation_text}
-use Rattle.dw_check.specs.Evaluations.{world_of, Evaluates}
-use Rattle.dw_check.specs.Runs.{Reply, text, refusal, not_hex, bad_line, frame_reply, expression_refusal, IsOutcome, OfSection, OfState, IsRowsReply, IsEvalReply, IsReplyTo, IsReply}
+use Rattle.dw_check.specs.Evaluations.{Evaluates}
+use Rattle.dw_check.specs.Runs.{Reply, text, refusal, not_hex, bad_line, frame_reply, expression_refusal, IsOutcome, OfSection, OfState, IsRowsReply, IsFound, IsLocsReply, IsEvalReply, IsReplyTo, IsReply}
 use Rattle.dw_check.specs.Files.{section_bytes, state_facts}
 use Rattle.std.specs.Prelude.{slice_get, Bool}
+use Rattle.dw_check.specs.declared.requests.ListLookup.{ListLookup}
 use Rattle.dw_check.specs.declared.requests.Task.{Task}
-use Rattle.dw_check.specs.declared.requests.Task.TheVariants.{Rows, Row, Eval}
-
-same_text : (kind : Kind) (target : Target) (bytes : List ℕ) (gs : List StateFact) (a b : List ℕ) → Evaluates kind target bytes gs a
-    → Evaluates kind target bytes gs b → a ≡ b
-same_text kind target bytes gs a b h k =
-    let c : Checked = record { kind = kind; target = target; bytes = bytes; depth = h.depth; count = 0 } in
-    let runs = one_evaluation c (world_of target gs) h.outcome k.outcome h.steps k.steps h.comes.good h.comes.run k.comes.run in
-    let deep = one_depth kind (operations_in target bytes) (length bytes) h.depth k.depth h.comes.deepest k.comes.deepest in
-    h.text
-    ∙ ap (λ o. evaluation_text target.address_size o h.steps h.depth) runs.0
-    ∙ ap (λ n. evaluation_text target.address_size k.outcome n h.depth) runs.1
-    ∙ ap (λ d. evaluation_text target.address_size k.outcome k.steps d) deep
-    ∙ sym k.text
+use Rattle.dw_check.specs.declared.requests.Task.TheVariants.{Rows, Row, Locs, Eval}
+use Rattle.dw_check.proofs.Evaluated.{same_text}
+use Rattle.dw_check.proofs.Found.{one_found}
 
 not_both : (kind : Kind) (target : Target) (bytes : List ℕ) (gs : List StateFact) (a : List ℕ) (f : Fault)
     → Evaluates kind target bytes gs a → expression_refusal kind target bytes ≡ Some f → ⊥
@@ -80,10 +67,19 @@ one_eval kind target hex files r s h k =
     (λ bytes. OfState (state_facts target (slice_get files 1)) (IsOutcome kind target bytes))
     (λ bytes. one_of_state (state_facts target (slice_get files 1)) (IsOutcome kind target bytes) (one_outcome kind target bytes)) r s h k
 
+one_locs : (lookup : ListLookup) (target : Target) (hex : Bool) (files : List (List ℕ)) (r s : Reply)
+    → IsLocsReply lookup target hex files r → IsLocsReply lookup target hex files s → r ≡ s
+one_locs lookup target hex files r s h k =
+    one_of_section 0 (section_bytes hex (slice_get files 0))
+    (λ section. OfState (state_facts target (slice_get files 1)) (IsFound lookup target section))
+    (λ section. one_of_state (state_facts target (slice_get files 1)) (IsFound lookup target section) (one_found lookup target section)) r s
+    h k
+
 one_to : (task : Task) (target : Target) (hex : Bool) (files : List (List ℕ)) (r s : Reply) → IsReplyTo task target hex files r
     → IsReplyTo task target hex files s → r ≡ s
 one_to Rows target hex files r s h k = one_rows None target hex files r s h k
 one_to (Row a) target hex files r s h k = one_rows (Some a) target hex files r s h k
+one_to (Locs lookup) target hex files r s h k = one_locs lookup target hex files r s h k
 one_to (Eval kind) target hex files r s h k = one_eval kind target hex files r s h k
 
 pub one_reply : (asked : Asked) (files : List (List ℕ)) (r s : Reply) → IsReply asked files r → IsReply asked files s → r ≡ s

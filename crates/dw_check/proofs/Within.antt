@@ -1,5 +1,5 @@
 -- The addresses of a checked section are ones of its target.
-use Rattle.std.proofs.Common.{◌≡◌, ℕ, ◌+◌, ◌*◌, ◌-◌, ◌^◌, ◌<◌, ◌≤◌, List, [], ◌∷◌, sym, subst, arith}
+use Rattle.std.proofs.Common.{◌≡◌, ℕ, ◌+◌, ◌*◌, ◌-◌, ◌^◌, ◌<◌, ◌≤◌, List, [], ◌∷◌, map, sym, subst, arith}
 use Rattle.std.specs.Prelude.{None}
 use Rattle.std.specs.List.{All}
 use Rattle.std.proofs.lemmas.List.Elements.{All-nil, All-cons}
@@ -10,6 +10,9 @@ use Rattle.dw_bytes.specs.Encoding.{bytes_of_address}
 use Rattle.dw_frame.specs.Records.{Cie, Fde}
 use Rattle.dw_frame.specs.Sections.{top_of}
 use Rattle.dw_rows.specs.Rules.{Row}
+use Rattle.dw_stack.specs.Located.{LocatedExpression}
+use Rattle.dw_rows.specs.GivenRows.{row_with}
+use Rattle.dw_rows.proofs.GivenRows.{cover-with}
 use Rattle.dw_rows.specs.Judgement.{fde_fault}
 use Rattle.dw_rows.specs.UnwindRows.{Cover, rows_of}
 use Rattle.dw_rows.proofs.Covering.{cover-rows}
@@ -34,7 +37,9 @@ cover_fits size from to (row ∷ rows) h k =
 
 -- the rows of an FDE whose program is good
 pub good_rows_fit : (target : Target) (size : AddressSize) (cie : Cie) (fde : Fde) → size ≡ target.address_size → fde_fault cie fde ≡ None
-    → fde.initial + fde.range ≤ top_of target → All (λ row. Fits size row) (rows_of cie fde)
-good_rows_fit target size cie fde z none h =
-    (cover_fits size fde.initial (fde.initial + fde.range) (rows_of cie fde) (cover-rows cie fde none)
+    → fde.initial + fde.range ≤ top_of target → (es : List LocatedExpression)
+    → All (λ row. Fits size row) (map (row_with es) (rows_of cie fde))
+good_rows_fit target size cie fde z none h es =
+    (cover_fits size fde.initial (fde.initial + fde.range) (map (row_with es) (rows_of cie fde))
+    (cover-with es fde.initial (rows_of cie fde) (fde.initial + fde.range) (cover-rows cie fde none))
     (below_top target size (fde.initial + fde.range) z h)).1

@@ -20,7 +20,15 @@ hex_of ds = number_of 16 16 ds
 abbrev pub at_most : ℕ → ℕ → Option ℕ
 at_most top n = if nat_le n top then Some n else None
 
--- the address of a target that `0x` and hex digits spell
-abbrev pub address_of : Target → List ℕ → Option ℕ
-address_of target text = if bytes_eq (take 2 text) (codes "0x") then option_and_then (at_most (top_of target)) (hex_of (drop 2 text))
+-- the number that `0x` and hex digits spell, if it is at most another
+abbrev pub hex_up_to : ℕ → List ℕ → Option ℕ
+hex_up_to top text = if bytes_eq (take 2 text) (codes "0x") then option_and_then (at_most top) (hex_of (drop 2 text))
     else None
+
+-- an address of a target
+abbrev pub address_of : Target → List ℕ → Option ℕ
+address_of target text = hex_up_to (top_of target) text
+
+-- an offset in a section
+abbrev pub offset_of : List ℕ → Option ℕ
+offset_of text = hex_up_to 0xffffffff text

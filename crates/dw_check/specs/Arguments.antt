@@ -8,7 +8,7 @@ use Rattle.dw_bytes.specs.declared.target.Order.TheVariants.{Little, Big}
 use Rattle.dw_bytes.specs.declared.target.AddressSize.TheVariants.{Four, Eight}
 use Rattle.dw_stack.specs.declared.state.Kind.{Kind}
 use Rattle.dw_stack.specs.declared.state.Kind.TheVariants.{FrameCfa, FrameRegister, Location}
-use Rattle.dw_check.specs.Addresses.{address_of}
+use Rattle.dw_check.specs.Addresses.{address_of, offset_of}
 
 -- a flag was given
 abbrev pub flag_of : Text → List Row → Bool
@@ -29,19 +29,23 @@ kind_of name =
     else (if bytes_eq name (codes "location") then Some Location
     else None))
 
--- What a word is: a file's name, an address of the target, or a kind of expressions.
+-- What a word is: a file's name, an address of the target, an offset in a section, or a kind of expressions.
 pub data Word : Type 0 where
   file : Word
   address : Word
+  offset : Word
   kind : Word
 
--- the file, the address and the kind at the word of this name
+-- the file, the address, the offset and the kind at the word of this name
 abbrev pub file_at : List Row → Text × Word → Option Text
 file_at rows (name, file) = first_of name rows
 file_at rows (name, _) = None
 
 abbrev pub address_at : Text → List Row → Option ℕ
 address_at name rows = option_and_then (address_of (target_of rows)) (first_of name rows)
+
+abbrev pub offset_at : Text → List Row → Option ℕ
+offset_at name rows = option_and_then offset_of (first_of name rows)
 
 abbrev pub kind_at : Text → List Row → Option Kind
 kind_at name rows = option_and_then kind_of (first_of name rows)
@@ -50,4 +54,5 @@ kind_at name rows = option_and_then kind_of (first_of name rows)
 abbrev pub IsBad : List Row → Text × Word → Type 0
 IsBad rows (name, file) = ⊥
 IsBad rows (name, address) = IsSomeAnd (first_of name rows) (λ text. address_of (target_of rows) text ≡ None)
+IsBad rows (name, offset) = IsSomeAnd (first_of name rows) (λ text. offset_of text ≡ None)
 IsBad rows (name, kind) = IsSomeAnd (first_of name rows) (λ text. kind_of text ≡ None)

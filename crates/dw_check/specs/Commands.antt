@@ -1,9 +1,10 @@
 -- The command line: a table of commands, and the app in clap's words that it makes.
-use Rattle.std.specs.Prelude.{Bool, true, false, List, [], ◌∷◌, Option, Some, option_map, codes}
+use Rattle.std.specs.Prelude.{ℕ, Bool, true, false, List, [], ◌∷◌, Option, Some, None, option_map, codes}
 use Rattle.clap.specs.declared.builder.ArgAction.TheVariants.{Set, SetTrue}
 use Rattle.clap.specs.Simple.{on_top}
 use Rattle.clap.specs.Words.{App, Row, Rule, Text, new_app, new_rule, with_rule, with_subcommand}
-use Rattle.dw_check.specs.Arguments.{Word, file, address, kind, address_at, kind_at}
+use Rattle.dw_check.specs.Arguments.{Word, file, address, offset, kind, address_at, offset_at, kind_at}
+use Rattle.dw_check.specs.declared.requests.ListLookup.{ListLookup}
 use Rattle.dw_check.specs.declared.requests.Task.{Task}
 use Rattle.dw_check.specs.declared.requests.Task.TheVariants as tasks
 
@@ -31,6 +32,22 @@ row_command = record {
   task = λ rows. option_map tasks.Row (address_at (codes "ADDRESS") rows);
 }
 
+-- what `locs` looks up: the list at an offset, by the base of a unit, at an address
+abbrev pub lookup_of : Option ℕ → Option ℕ → Option ℕ → Option ListLookup
+lookup_of (Some l) (Some b) (Some a) = Some (record { list = l; base = b; address = a })
+lookup_of _ _ _ = None
+
+abbrev pub lookup_in : List Row → Option ListLookup
+lookup_in rows = lookup_of (offset_at (codes "LIST") rows) (address_at (codes "BASE") rows) (address_at (codes "ADDRESS") rows)
+
+abbrev pub locs_command : Command
+locs_command = record {
+  name = codes "locs";
+  words = (codes "LISTS", file) ∷ (codes "LIST", offset) ∷ (codes "BASE", address) ∷ (codes "ADDRESS", address) ∷ [];
+  has_state = true;
+  task = λ rows. option_map tasks.Locs (lookup_in rows);
+}
+
 abbrev pub eval_command : Command
 eval_command = record {
   name = codes "eval";
@@ -40,7 +57,7 @@ eval_command = record {
 }
 
 abbrev pub commands : List Command
-commands = rows_command ∷ row_command ∷ eval_command ∷ []
+commands = rows_command ∷ row_command ∷ locs_command ∷ eval_command ∷ []
 
 -- ---- in clap's words
 

@@ -1,4 +1,12 @@
 -- ---- To be believed: the standard's words. Who checks the headline against DWARF 5 reads these.
+-- two sections that are right, and their first fault
+pub mod Checked
+-- the text of a report
+pub mod Report
+-- what holds of sections that are accepted
+pub mod Headline
+-- the frame that called (6.4.1)
+pub mod Caller
 -- the lines of sections and rows
 pub mod Text
 -- the text of an outcome
@@ -21,11 +29,17 @@ pub mod Files
 pub mod StateFile
 -- what an expression comes to
 pub mod Evaluations
+-- what a location list says of an address
+pub mod Lookups
 -- exit statuses
 pub mod Statuses
 -- what a run writes, and how it ends
 pub mod Runs
 -- ---- What the code's own values stand for, and what its calls answer.
+-- lines of expressions of the code
+pub mod ReportViews
+-- answers and callers of the code
+pub mod CallerViews
 -- why a run stops
 pub mod Stops
 -- what a sink has taken

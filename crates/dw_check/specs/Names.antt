@@ -1,7 +1,7 @@
 -- The names of faults.
 use Rattle.std.specs.Prelude.{ℕ, List, codes}
 use Rattle.dw_bytes.specs.declared.fault.FaultKind.{FaultKind}
-use Rattle.dw_bytes.specs.declared.fault.FaultKind.TheVariants.{Truncated, LebRange, ReservedLength, Version, Augmentation, AddressSize, SegmentSize, NoSuchCie, RegisterNumber, RangePastTop, UnknownInstruction, NotInCie, LocationBack, LocationPastEnd, RestoreWithoutRemember, Unrestored, RememberTooDeep, CfaNotRegister, OffsetRange, TooManyRules, NoCfa, Overlap, NotYet, UnknownOperation, NotInFrame, BadSize, Backward, TargetNotStart, Underflow, TooDeep, Mismatch, Unreachable, NotAlone, EndsEmpty, TooManyPieces, PieceSize, ListVersion, UnknownEntry, BackRange, SecondDefault, NoEnd, BadOffsetEntry, Memory, SectionTooLong, CertLength, CertState}
+use Rattle.dw_bytes.specs.declared.fault.FaultKind.TheVariants.{Truncated, LebRange, ReservedLength, Version, Augmentation, AddressSize, SegmentSize, NoSuchCie, RegisterNumber, RangePastTop, UnknownInstruction, NotInCie, LocationBack, LocationPastEnd, RestoreWithoutRemember, Unrestored, RememberTooDeep, CfaNotRegister, OffsetRange, TooManyRules, NoCfa, Overlap, UnknownOperation, NotInFrame, BadSize, Backward, TargetNotStart, Underflow, TooDeep, Mismatch, Unreachable, NotAlone, EndsEmpty, TooManyPieces, PieceSize, ListVersion, UnknownEntry, BackRange, SecondDefault, NoEnd, BadOffsetEntry, Memory, SectionTooLong, CertLength, CertState}
 
 abbrev pub name_of : FaultKind → List ℕ
 name_of Truncated = codes "Truncated"
@@ -26,7 +26,6 @@ name_of OffsetRange = codes "OffsetRange"
 name_of TooManyRules = codes "TooManyRules"
 name_of NoCfa = codes "NoCfa"
 name_of Overlap = codes "Overlap"
-name_of NotYet = codes "NotYet"
 name_of UnknownOperation = codes "UnknownOperation"
 name_of NotInFrame = codes "NotInFrame"
 name_of BadSize = codes "BadSize"

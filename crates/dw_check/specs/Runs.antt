@@ -5,11 +5,13 @@ use Rattle.dw_bytes.specs.declared.target.Target.{Target}
 use Rattle.dw_bytes.specs.declared.fault.Fault.{Fault}
 use Rattle.dw_bytes.specs.declared.fault.FaultKind.TheVariants.{SectionTooLong}
 use Rattle.dw_rows.specs.Section.{Frame, section_fault, frame_of}
+use Rattle.dw_loclists.specs.Reading.{lists_fault}
 use Rattle.dw_stack.specs.declared.state.Kind.{Kind}
 use Rattle.dw_stack.specs.FirstFault.{expression_fault}
 use Rattle.dw_check.specs.Requests.{Asked}
 use Rattle.dw_check.specs.Evaluations.{Evaluates}
 use Rattle.dw_check.specs.Files.{section_bytes, state_facts}
+use Rattle.dw_check.specs.Lookups.{ShowsList, list_at}
 use Rattle.dw_check.specs.StateFile.{StateFact}
 use Rattle.dw_check.specs.SinkBytes.{AppendsFront}
 use Rattle.dw_check.specs.Text.{refused_line, frame_text, lookup_text}
@@ -17,8 +19,9 @@ use Rattle.dw_check.specs.declared.stop.Section.{Section}
 use Rattle.dw_check.specs.declared.stop.Section.TheVariants as sections
 use Rattle.dw_check.specs.declared.stop.Stop.{Stop}
 use Rattle.dw_check.specs.declared.stop.Stop.TheVariants as stops
+use Rattle.dw_check.specs.declared.requests.ListLookup.{ListLookup}
 use Rattle.dw_check.specs.declared.requests.Task.{Task}
-use Rattle.dw_check.specs.declared.requests.Task.TheVariants.{Rows, Row, Eval}
+use Rattle.dw_check.specs.declared.requests.Task.TheVariants.{Rows, Row, Locs, Eval}
 use Rattle.dw_check.specs.declared.requests.End.{End}
 use Rattle.dw_check.specs.declared.requests.End.TheVariants.{Done, Refused, BadHex, StateLine, Memory, Output}
 
@@ -89,6 +92,20 @@ IsOutcome kind target bytes gs (refusal section fault) = (section ≡ sections.E
     × (expression_refusal kind target bytes ≡ Some fault)
 IsOutcome kind target bytes gs _ = ⊥
 
+-- ---- sections of location lists
+
+-- the first fault of a section of lists
+abbrev pub lists_refusal : Target → List ℕ → Option Fault
+lists_refusal target section = if nat_lt (length section) (2 ^ 32) then lists_fault target section
+    else Some (record { kind = SectionTooLong; at = 0 })
+
+-- what a look-up in a section comes to, on a machine of which this was given
+abbrev pub IsFound : ListLookup → Target → List ℕ → List StateFact → Reply → Type 0
+IsFound lookup target section gs (text written) = (lists_refusal target section ≡ None)
+    × ShowsList gs (list_at (record { target = target; section = section }) lookup.list) lookup.base lookup.address written
+IsFound lookup target section gs (refusal refused fault) = (refused ≡ sections.Lists) × (lists_refusal target section ≡ Some fault)
+IsFound lookup target section gs _ = ⊥
+
 -- ---- requests: a definition for each command
 
 -- `rows`, and `row` with its address
@@ -102,9 +119,16 @@ IsEvalReply kind target hex files reply =
     OfSection 0 (section_bytes hex (slice_get files 0))
     (λ bytes. OfState (state_facts target (slice_get files 1)) (IsOutcome kind target bytes)) reply
 
+-- `locs`
+abbrev pub IsLocsReply : ListLookup → Target → Bool → List (List ℕ) → Reply → Type 0
+IsLocsReply lookup target hex files reply =
+    OfSection 0 (section_bytes hex (slice_get files 0))
+    (λ section. OfState (state_facts target (slice_get files 1)) (IsFound lookup target section)) reply
+
 abbrev pub IsReplyTo : Task → Target → Bool → List (List ℕ) → Reply → Type 0
 IsReplyTo Rows target hex files reply = IsRowsReply None target hex files reply
 IsReplyTo (Row address) target hex files reply = IsRowsReply (Some address) target hex files reply
+IsReplyTo (Locs lookup) target hex files reply = IsLocsReply lookup target hex files reply
 IsReplyTo (Eval kind) target hex files reply = IsEvalReply kind target hex files reply
 
 -- The reply to a request with one content for each of its files.

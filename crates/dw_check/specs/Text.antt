@@ -77,7 +77,7 @@ expression_text bytes = codes "expr(" ++ encode_lower bytes ++ codes ")"
 -- A row that is shown has a rule for the CFA.
 abbrev pub cfa_text : Option Cfa → List ℕ
 cfa_text (Some (register_and_offset r n)) = codes "r" ++ decimal r ++ signed_text n
-cfa_text (Some (cfa_expression bytes)) = expression_text bytes
+cfa_text (Some (cfa_expression e)) = expression_text e.bytes
 cfa_text None = []
 
 -- what the caller's register is; default isn't shown
@@ -88,8 +88,8 @@ rule_text same_value = codes "s"
 rule_text (offset n) = codes "[c" ++ signed_text n ++ codes "]"
 rule_text (val_offset n) = codes "c" ++ signed_text n
 rule_text (register r) = codes "r" ++ decimal r
-rule_text (expression bytes) = codes "[" ++ expression_text bytes ++ codes "]"
-rule_text (val_expression bytes) = expression_text bytes
+rule_text (expression e) = codes "[" ++ expression_text e.bytes ++ codes "]"
+rule_text (val_expression e) = expression_text e.bytes
 
 abbrev pub register_text : ℕ × Rule → List ℕ
 register_text (r, rule) = codes " r" ++ decimal r ++ codes "=" ++ rule_text rule
@@ -118,6 +118,11 @@ fde_text frame fde = lines_of frame.target.address_size (cie_in frame fde) fde (
 -- the FDEs of a section and their rows, in the order of the section
 unfoldable pub frame_text : Frame → List ℕ
 frame_text frame = flat_map (fde_text frame) frame.fdes
+
+-- ---- an expression of a section, before what it comes to
+
+unfoldable pub expression_line : ℕ → List ℕ
+expression_line at = codes "expr " ++ offset_text at ++ codes "\n"
 
 -- ---- the row of an address
 

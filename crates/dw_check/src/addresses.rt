@@ -2,7 +2,7 @@
 
 ghost use Rattle.std.specs.Prelude.{◌≡◌, ◌≤◌, ◌⊎◌, option_and_then};
 ghost use Rattle.dw_frame.specs.Sections.{top_of};
-ghost use Rattle.dw_check.specs.Addresses.{number_of, at_most, address_of};
+ghost use Rattle.dw_check.specs.Addresses.{number_of, at_most, hex_up_to, address_of, offset_of};
 
 use dw_bytes::Target;
 
@@ -28,19 +28,36 @@ pub(crate) fn parse_number(digits: &[u8], radix: u32, most: usize) -> Option<u64
     }
 }
 
-/// The number, if it is an address of the target.
-fn address_within(number: Option<u64>, target: Target) -> Option<u64>
-    ensures { result ≡ option_and_then (at_most (top_of target)) number }
+/// The number, if it is at most another.
+fn number_within(number: Option<u64>, top: u64) -> Option<u64>
+    ensures { result ≡ option_and_then (at_most top) number }
 {
-    number.filter(|value| *value <= target.address_size.max_address())
+    number.filter(|value| *value <= top)
 }
 
-/// The address of the target that `0x` and 1 to 16 hex digits of either case spell.
+/// The number that `0x` and 1 to 16 hex digits of either case spell, if it is at most another.
+fn parse_hex(text: &[u8], top: u64) -> Option<u64>
+    ensures { result ≡ hex_up_to top text.now }
+{
+    match text.strip_prefix(b"0x") {
+        Some(digits) => number_within(parse_number(digits, 16, 16), top),
+        None => None,
+    }
+}
+
+/// The address of the target that a word spells.
 pub(crate) fn parse_address(text: &[u8], target: Target) -> Option<u64>
     ensures { result ≡ address_of target text.now }
 {
-    match text.strip_prefix(b"0x") {
-        Some(digits) => address_within(parse_number(digits, 16, 16), target),
+    parse_hex(text, target.address_size.max_address())
+}
+
+/// The offset in a section that a word spells.
+pub(crate) fn parse_offset(text: &[u8]) -> Option<u32>
+    ensures { result ≡ offset_of text.now }
+{
+    match parse_hex(text, u64::from(u32::MAX)) {
+        Some(offset) => Some(offset as u32),
         None => None,
     }
 }

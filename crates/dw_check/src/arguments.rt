@@ -4,16 +4,17 @@ ghost use Rattle.std.specs.Prelude.{◌≡◌, ◌⊎◌, ◌∷◌, [], IfOk, I
 ghost use Rattle.std.specs.Option.{IsSomeAnd, option_to_list};
 ghost use Rattle.std.specs.String.{string_bytes};
 ghost use Rattle.clap.specs.Words.{found_of, rows_of, first_of, kind_of, subcommand_rows_of};
-ghost use Rattle.dw_check.specs.Arguments.{flag_of, target_of, kind_of as kind_named, IsBad, address, kind};
-ghost use Rattle.dw_check.specs.Commands.{rows_command, row_command, eval_command};
-ghost use Rattle.dw_check.specs.Requests.{asked_of, asked_by, HasBadWord, IsUsageOf, AsksFor};
+ghost use Rattle.dw_check.specs.Arguments.{flag_of, target_of, kind_of as kind_named, address_at, offset_at, IsBad, address, offset, kind};
+ghost use Rattle.dw_check.specs.Commands.{rows_command, row_command, locs_command, eval_command, lookup_in};
+ghost use Rattle.dw_check.specs.Requests.{asked_of, asked_by, HasBad, HasBadWord, IsUsageOf, AsksFor};
 ghost use Rattle.dw_check.specs.declared.requests.Usage.TheVariants.{Memory, BadArgument};
 
-use crate::addresses::parse_address;
+use crate::addresses::{parse_address, parse_offset};
 use crate::command_line::{
-    ADDR4, ADDRESS, BIG, EVAL, EXPR, FRAME, HEX, KIND, ROW, ROWS, STATE, whole_command,
+    ADDR4, ADDRESS, BASE, BIG, EVAL, EXPR, FRAME, HEX, KIND, LIST, LISTS, LOCS, ROW, ROWS, STATE,
+    whole_command,
 };
-use crate::requests::{Request, Task, Usage};
+use crate::requests::{ListLookup, Request, Task, Usage};
 use clap::error::ErrorKind;
 use clap::{ArgMatches, Error};
 use dw_bytes::{AddressSize, Order, Target};
@@ -21,7 +22,7 @@ use dw_stack::Kind;
 use std::alloc::Global;
 
 /// The first value of an argument.
-fn text_of<'a>(matches: &ArgMatches<'a>, name: &str) -> Option<&'a str>
+fn word_text<'a>(matches: &ArgMatches<'a>, name: &str) -> Option<&'a str>
     ensures { option_map (λ s. s.now) result ≡ first_of name.now (rows_of (found_of matches.now)) }
 {
     matches.get_str(name)
@@ -31,7 +32,7 @@ fn text_of<'a>(matches: &ArgMatches<'a>, name: &str) -> Option<&'a str>
 fn has_flag(matches: &ArgMatches<'_>, name: &str) -> bool
     ensures { result ≡ flag_of name.now (rows_of (found_of matches.now)) }
 {
-    match text_of(matches, name) {
+    match word_text(matches, name) {
         Some(text) => text == "true",
         None => false,
     }
@@ -90,15 +91,77 @@ fn request_over(
     Ok(request_with(matches, task, files))
 }
 
+/// The names of a file and of a state file, if there is one.
+fn files_with_state(alloc: Global, file: &str, state: Option<&str>) -> Result<Vec<String>, Usage>
+    ensures ok { IfOk result (λ files. map (λ s. string_bytes s) files.items ≡ file.now
+        ∷ option_to_list (option_map (λ s. s.now) state.entry)) }
+    ensures err { IfErr result (λ e. e ≡ Memory) }
+{
+    let mut files = vec![in alloc; String::from_str(alloc, file)?]?;
+    if let Some(state) = state {
+        files.push(String::from_str(alloc, state)?)?;
+    }
+    Ok(files)
+}
+
+/// A request over one file, and over a state file if there is one.
+fn request_with_state(
+    alloc: Global,
+    matches: &ArgMatches<'_>,
+    task: Task,
+    file: &str,
+) -> Result<Request, Usage>
+    ensures task { IfOk result (λ r. r.task ≡ task) }
+    ensures target { IfOk result (λ r. r.target ≡ target_of (rows_of (found_of matches.now))) }
+    ensures hex { IfOk result (λ r. r.hex ≡ flag_of (codes "hex")
+        (rows_of (found_of matches.now))) }
+    ensures files { IfOk result (λ r. r.files ≡ file.now
+        ∷ option_to_list (first_of (codes "state") (rows_of (found_of matches.now)))) }
+    ensures err { IfErr result (λ e. e ≡ Memory) }
+{
+    let files = files_with_state(alloc, file, word_text(matches, STATE))?;
+    Ok(request_with(matches, task, files))
+}
+
 /// What `rows` asks for.
 fn rows_request(alloc: Global, matches: &ArgMatches<'_>) -> Result<Request, Usage>
     ensures ok { IfOk result (λ r. asked_of rows_command (rows_of (found_of matches.now))
         ≡ Some r) }
     ensures err { IfErr result (λ e. e ≡ Memory) }
 {
-    match text_of(matches, FRAME) {
+    match word_text(matches, FRAME) {
         Some(file) => request_over(alloc, matches, Task::Rows, file),
         None => Err(Usage::Memory),
+    }
+}
+
+/// The address that a word spells.
+fn address_word(matches: &ArgMatches<'_>, name: &str) -> Result<u64, Usage>
+    ensures ok { IfOk result (λ a. address_at name.now (rows_of (found_of matches.now)) ≡ Some a) }
+    ensures err { IfErr result (λ e. (e ≡ Memory)
+        ⊎ ((e ≡ BadArgument) × IsBad (rows_of (found_of matches.now)) (name.now, address))) }
+{
+    let Some(text) = word_text(matches, name) else {
+        return Err(Usage::Memory);
+    };
+    match parse_address(text.as_bytes(), target_of(matches)) {
+        Some(address) => Ok(address),
+        None => Err(Usage::BadArgument),
+    }
+}
+
+/// The offset in a section that a word spells.
+fn offset_word(matches: &ArgMatches<'_>, name: &str) -> Result<u32, Usage>
+    ensures ok { IfOk result (λ n. offset_at name.now (rows_of (found_of matches.now)) ≡ Some n) }
+    ensures err { IfErr result (λ e. (e ≡ Memory)
+        ⊎ ((e ≡ BadArgument) × IsBad (rows_of (found_of matches.now)) (name.now, offset))) }
+{
+    let Some(text) = word_text(matches, name) else {
+        return Err(Usage::Memory);
+    };
+    match parse_offset(text.as_bytes()) {
+        Some(offset) => Ok(offset),
+        None => Err(Usage::BadArgument),
     }
 }
 
@@ -108,13 +171,41 @@ fn row_request(alloc: Global, matches: &ArgMatches<'_>) -> Result<Request, Usage
     ensures err { IfErr result (λ e. (e ≡ Memory)
         ⊎ ((e ≡ BadArgument) × IsBad (rows_of (found_of matches.now)) (codes "ADDRESS", address))) }
 {
-    let (Some(file), Some(text)) = (text_of(matches, FRAME), text_of(matches, ADDRESS)) else {
+    let Some(file) = word_text(matches, FRAME) else {
         return Err(Usage::Memory);
     };
-    match parse_address(text.as_bytes(), target_of(matches)) {
-        Some(address) => request_over(alloc, matches, Task::Row { address }, file),
-        None => Err(Usage::BadArgument),
-    }
+    let address = address_word(matches, ADDRESS)?;
+    request_over(alloc, matches, Task::Row { address }, file)
+}
+
+/// What `locs` looks up.
+fn lookup_of(matches: &ArgMatches<'_>) -> Result<ListLookup, Usage>
+    ensures ok { IfOk result (λ l. lookup_in (rows_of (found_of matches.now)) ≡ Some l) }
+    ensures err { IfErr result (λ e. (e ≡ Memory)
+        ⊎ ((e ≡ BadArgument) × HasBad (rows_of (found_of matches.now)) locs_command.words)) }
+{
+    let list = offset_word(matches, LIST)?;
+    let base = address_word(matches, BASE)?;
+    let address = address_word(matches, ADDRESS)?;
+    Ok(ListLookup {
+        list,
+        base,
+        address,
+    })
+}
+
+/// What `locs` asks for.
+fn locs_request(alloc: Global, matches: &ArgMatches<'_>) -> Result<Request, Usage>
+    ensures ok { IfOk result (λ r. asked_of locs_command (rows_of (found_of matches.now))
+        ≡ Some r) }
+    ensures err { IfErr result (λ e. (e ≡ Memory)
+        ⊎ ((e ≡ BadArgument) × HasBad (rows_of (found_of matches.now)) locs_command.words)) }
+{
+    let Some(file) = word_text(matches, LISTS) else {
+        return Err(Usage::Memory);
+    };
+    let lookup = lookup_of(matches)?;
+    request_with_state(alloc, matches, Task::Locs { lookup }, file)
 }
 
 /// The kind of expressions that a word names.
@@ -133,19 +224,6 @@ fn parse_kind(name: &str) -> Option<Kind>
     None
 }
 
-/// The names of an expression's file and of a state file, if there is one.
-fn files_with_state(alloc: Global, file: &str, state: Option<&str>) -> Result<Vec<String>, Usage>
-    ensures ok { IfOk result (λ files. map (λ s. string_bytes s) files.items ≡ file.now
-        ∷ option_to_list (option_map (λ s. s.now) state.entry)) }
-    ensures err { IfErr result (λ e. e ≡ Memory) }
-{
-    let mut files = vec![in alloc; String::from_str(alloc, file)?]?;
-    if let Some(state) = state {
-        files.push(String::from_str(alloc, state)?)?;
-    }
-    Ok(files)
-}
-
 /// What `eval` asks for.
 fn eval_request(alloc: Global, matches: &ArgMatches<'_>) -> Result<Request, Usage>
     ensures ok { IfOk result (λ r. asked_of eval_command (rows_of (found_of matches.now))
@@ -153,14 +231,13 @@ fn eval_request(alloc: Global, matches: &ArgMatches<'_>) -> Result<Request, Usag
     ensures err { IfErr result (λ e. (e ≡ Memory)
         ⊎ ((e ≡ BadArgument) × IsBad (rows_of (found_of matches.now)) (codes "KIND", kind))) }
 {
-    let (Some(file), Some(name)) = (text_of(matches, EXPR), text_of(matches, KIND)) else {
+    let (Some(file), Some(name)) = (word_text(matches, EXPR), word_text(matches, KIND)) else {
         return Err(Usage::Memory);
     };
     let Some(kind) = parse_kind(name) else {
         return Err(Usage::BadArgument);
     };
-    let files = files_with_state(alloc, file, text_of(matches, STATE))?;
-    Ok(request_with(matches, Task::Eval { kind }, files))
+    request_with_state(alloc, matches, Task::Eval { kind }, file)
 }
 
 /// The request of a subcommand. The arms that answer `Memory` without asking for any are never reached:
@@ -175,6 +252,9 @@ fn request_of(alloc: Global, name: &str, matches: &ArgMatches<'_>) -> Result<Req
     }
     if name == ROW {
         return row_request(alloc, matches);
+    }
+    if name == LOCS {
+        return locs_request(alloc, matches);
     }
     if name == EVAL {
         return eval_request(alloc, matches);

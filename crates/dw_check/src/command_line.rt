@@ -1,9 +1,10 @@
 //! The command line as clap sees it: a subcommand for each task.
 
-ghost use Rattle.std.specs.Prelude.{◌≡◌, IfOk, false, codes};
+ghost use Rattle.std.specs.Prelude.{◌≡◌, ◌∷◌, [], IfOk, true, false, codes};
 ghost use Rattle.clap.specs.Words.{with_rule, with_subcommand, app_of, rule_of};
 ghost use Rattle.clap.specs.declared.builder.Command.TheViews.{out-Command as fields_of};
-ghost use Rattle.dw_check.specs.Commands.{flag_rule, option_rule, word_rule, with_flags, app_of_command, rows_command, row_command, eval_command, dwcheck};
+ghost use Rattle.dw_check.specs.Arguments.{file, offset};
+ghost use Rattle.dw_check.specs.Commands.{flag_rule, option_rule, word_rule, with_flags, with_words, with_state, app_of_command, rows_command, row_command, locs_command, eval_command, dwcheck};
 
 use clap::{Arg, ArgAction, Command};
 use std::alloc::{AllocError, Global};
@@ -13,11 +14,19 @@ pub(crate) const ROWS: &str = "rows";
 
 pub(crate) const ROW: &str = "row";
 
+pub(crate) const LOCS: &str = "locs";
+
 pub(crate) const EVAL: &str = "eval";
 
 pub(crate) const FRAME: &str = "FRAME";
 
 pub(crate) const ADDRESS: &str = "ADDRESS";
+
+pub(crate) const LISTS: &str = "LISTS";
+
+pub(crate) const LIST: &str = "LIST";
+
+pub(crate) const BASE: &str = "BASE";
 
 pub(crate) const KIND: &str = "KIND";
 
@@ -32,6 +41,8 @@ pub(crate) const ADDR4: &str = "addr4";
 pub(crate) const HEX: &str = "hex";
 
 const FRAME_HELP: &str = "A file with the raw bytes of a .debug_frame section";
+
+const LISTS_HELP: &str = "A file with the raw bytes of a .debug_loclists section";
 
 const STATE_HELP: &str = "A file with what registers, memory and the context have";
 
@@ -87,6 +98,14 @@ fn with_word<'a>(
     command.arg(word(alloc, name, help))
 }
 
+fn with_state<'a>(alloc: Global, command: Command<'a>) -> Result<Command<'a>, AllocError>
+    requires { (fields_of command).has_globals ≡ false }
+    ensures app { IfOk result (λ c. app_of c ≡ with_state (app_of command.entry) true) }
+    ensures local { IfOk result (λ c. (fields_of c).has_globals ≡ false) }
+{
+    command.arg(option(alloc, STATE, STATE_HELP))
+}
+
 fn with_command<'a>(command: Command<'a>, inner: Command<'a>) -> Result<Command<'a>, AllocError>
     requires local { (fields_of command).has_globals ≡ false }
     requires inner_local { (fields_of inner).has_globals ≡ false }
@@ -120,6 +139,31 @@ fn row_command<'a>(alloc: Global) -> Result<Command<'a>, AllocError>
     with_word(alloc, command, ADDRESS, "0x and 1 to 16 hex digits")
 }
 
+/// With the words that name a list: its section, and its offset there.
+fn with_list<'a>(alloc: Global, command: Command<'a>) -> Result<Command<'a>, AllocError>
+    requires { (fields_of command).has_globals ≡ false }
+    ensures app { IfOk result (λ c. app_of c ≡ with_words (app_of command.entry)
+        ((codes "LISTS", file) ∷ (codes "LIST", offset) ∷ [])) }
+    ensures local { IfOk result (λ c. (fields_of c).has_globals ≡ false) }
+{
+    let command = with_word(alloc, command, LISTS, LISTS_HELP)?;
+    with_word(alloc, command, LIST, "The offset of a list in the section")
+}
+
+fn locs_command<'a>(alloc: Global) -> Result<Command<'a>, AllocError>
+    ensures app { IfOk result (λ c. app_of c ≡ app_of_command locs_command) }
+    ensures local { IfOk result (λ c. (fields_of c).has_globals ≡ false) }
+{
+    let command = with_flags(
+        alloc,
+        Command::new(alloc, LOCS).about("Show what a location list says of an address"),
+    )?;
+    let command = with_list(alloc, command)?;
+    let command = with_word(alloc, command, BASE, "The base address of the unit")?;
+    let command = with_word(alloc, command, ADDRESS, "The address to look up")?;
+    with_state(alloc, command)
+}
+
 fn eval_command<'a>(alloc: Global) -> Result<Command<'a>, AllocError>
     ensures app { IfOk result (λ c. app_of c ≡ app_of_command eval_command) }
     ensures local { IfOk result (λ c. (fields_of c).has_globals ≡ false) }
@@ -135,7 +179,7 @@ fn eval_command<'a>(alloc: Global) -> Result<Command<'a>, AllocError>
         EXPR,
         "A file with the bytes of an expression",
     )?;
-    command.arg(option(alloc, STATE, STATE_HELP))
+    with_state(alloc, command)
 }
 
 /// The whole command line. One of its subcommands has to be named.
@@ -144,10 +188,11 @@ pub(crate) fn whole_command<'a>(alloc: Global) -> Result<Command<'a>, AllocError
     ensures local { IfOk result (λ c. (fields_of c).has_globals ≡ false) }
 {
     let command = Command::new(alloc, "dwcheck").about(
-        "Check DWARF 5 unwind tables, and evaluate expressions",
+        "Check DWARF 5 unwind tables and location lists, and evaluate expressions",
     );
     let command = with_command(command, rows_command(alloc)?)?;
     let command = with_command(command, row_command(alloc)?)?;
+    let command = with_command(command, locs_command(alloc)?)?;
     let command = with_command(command, eval_command(alloc)?)?;
     Ok(command.subcommand_required(true))
 }

@@ -1,6 +1,16 @@
-//! Laws of requests: functions that do nothing, each with the law as its contract.
+//! Laws of checks and of requests: functions that do nothing, each with the law as its contract.
 
-ghost use Rattle.std.specs.Prelude.{◌≡◌, ℕ, List};
+ghost use Rattle.std.specs.Prelude.{◌≡◌, ◌↔◌, ℕ, List, Option, None};
+ghost use Rattle.dw_bytes.specs.declared.target.Target.{Target};
+ghost use Rattle.dw_check.specs.Checked.{AreWellFormed, check_fault};
+ghost use Rattle.dw_check.specs.Headline.{AreSound};
+ghost use Rattle.dw_check.specs.Report.{IsReport};
+ghost use Rattle.dw_loclists.specs.Reading.{IsChecked, ListSection};
+ghost use Rattle.dw_eval.specs.World.{World};
+ghost use Rattle.dw_rows.specs.Rules.{Row};
+ghost use Rattle.dw_rows.specs.Section.{Frame};
+ghost use Rattle.dw_rows.specs.Section as rows;
+ghost use Rattle.dw_check.specs.Caller.{Caller, HasGoodExpressions, HasGoodRow, IsCaller, Unwinds};
 ghost use Rattle.dw_check.specs.Requests.{Asked};
 ghost use Rattle.dw_check.specs.Runs.{Reply, IsReply};
 
@@ -14,3 +24,64 @@ pub fn one_reply()
 pub fn each_has_a_reply()
     ensures { (asked : Asked) (files : List (List ℕ)) → (r : Reply) × IsReply asked files r }
 {}
+
+/// Two sections have no fault exactly where they are well formed.
+pub fn sections_without_fault_are_well_formed()
+    ensures { (target : Target) (frame lists : List ℕ)
+        → (check_fault target frame lists ≡ None) ↔ AreWellFormed target frame lists }
+{
+    dw_rows::laws::sections_without_fault_are_well_formed();
+    dw_loclists::laws::sections_without_fault_are_well_formed();
+}
+
+/// What holds of two sections without a fault, which are those that `check` accepts. Each address that an FDE covers has
+/// exactly one row, the standard's, and any other address has none. Each expression of a rule and each of a list, for all
+/// registers and memory, ends within its number of operations, is never stuck, stays within its depth, and comes to one outcome.
+pub fn accepted_sections_are_sound()
+    ensures { (target : Target) (frame lists : List ℕ) → check_fault target frame lists ≡ None
+        → AreSound target frame lists }
+{
+    dw_rows::laws::exact_rows();
+    dw_rows::laws::checked_sections();
+    dw_loclists::laws::checked_sections();
+    dw_stack::laws::each_has_a_depth();
+    dw_stack::laws::good_expressions_run_well();
+    dw_eval::laws::each_has_an_evaluation();
+    dw_eval::laws::evaluations_are_determined();
+}
+
+/// An unwinding has one answer: none, or one caller.
+pub fn one_caller()
+    ensures { (e : World) (frame : Frame) (address : ℕ) (c d : Option Caller)
+        → HasGoodRow frame address → Unwinds e frame address c
+        → Unwinds e frame address d → c ≡ d }
+{
+    dw_eval::laws::evaluations_are_determined();
+}
+
+/// Over each row there is a caller.
+pub fn each_row_has_a_caller()
+    ensures { (e : World) (return_register : ℕ) (row : Row) → HasGoodExpressions row
+        → (c : Caller) × IsCaller e return_register row c }
+{
+    dw_stack::laws::each_has_a_depth();
+    dw_eval::laws::each_has_an_evaluation();
+}
+
+/// There is one report on two sections.
+pub fn one_report()
+    ensures { (frame : Frame) (lists : ListSection) (s t : List ℕ) → IsReport frame lists s
+        → IsReport frame lists t → s ≡ t }
+{
+    dw_stack::laws::depths_are_unique();
+}
+
+/// And there is one on each two sections that are accepted.
+pub fn each_has_a_report()
+    ensures { (frame : Frame) (lists : ListSection) → rows.IsChecked frame → IsChecked lists
+        → (t : List ℕ) × IsReport frame lists t }
+{
+    dw_loclists::laws::checked_sections();
+    dw_rows::laws::checked_sections();
+    dw_stack::laws::each_has_a_depth();
+}

@@ -4,8 +4,9 @@ ghost use Rattle.std.specs.Prelude.{◌≡◌, ◌++◌, ◌+◌, ◌^◌, ◌<�
 ghost use Rattle.std.specs.List.{flat_map};
 ghost use Rattle.std.specs.String.{string_bytes};
 ghost use Rattle.dw_frame.specs.Views.{cie_of, fde_of};
+ghost use Rattle.dw_stack.specs.Certificates.{checked_of};
 ghost use Rattle.dw_rows.specs.Views.{rule_of, cfa_rule_of};
-ghost use Rattle.dw_check.specs.Text.{kind_text, refused_line, records_text, fde_line, cfa_text, rule_text, register_text, row_line, digits_of, Fits};
+ghost use Rattle.dw_check.specs.Text.{kind_text, refused_line, expression_text, expression_line, records_text, fde_line, cfa_text, rule_text, register_text, row_line, digits_of, Fits};
 
 use crate::names::name;
 use crate::numbers::{push_decimal, push_offset, push_range, push_signed};
@@ -13,6 +14,7 @@ use crate::stop::Section;
 use dw_bytes::{AddressSize, Fault, FaultKind};
 use dw_frame::{CommonInformationEntry, FrameDescriptionEntry};
 use dw_rows::{CfaRule, RegisterRule, RegisterRules, UnwindTableRow};
+use dw_stack::CheckedExpression;
 use std::alloc::AllocError;
 
 #[tactic(auto, unfolding(crate::specs::Text::kind_text))]
@@ -40,6 +42,17 @@ pub(crate) fn push_refused(
     line.push_str(section.text())?;
     line.push_str(" ")?;
     push_offset(line, fault.at)?;
+    line.push_str("\n")
+}
+
+/// The line of an expression before what it comes to: its offset in the section.
+#[tactic(auto, unfolding(crate::specs::Text::expression_line))]
+pub(crate) fn push_expression(line: &mut String, offset: u32) -> Result<(), AllocError>
+    ensures { OnOk result (string_bytes line.new ≡ string_bytes line.old
+        ++ expression_line offset) }
+{
+    line.push_str("expr ")?;
+    push_offset(line, offset)?;
     line.push_str("\n")
 }
 
@@ -79,9 +92,21 @@ pub(crate) fn push_fde(
     line.push_str("\n")
 }
 
-fn push_cfa(line: &mut String, rule: CfaRule) -> Result<(), AllocError>
+/// An expression of a rule, as its bytes.
+#[tactic(auto, unfolding(crate::specs::Text::expression_text))]
+fn push_bytes_of(line: &mut String, checked: &CheckedExpression<'_>) -> Result<(), AllocError>
     ensures { OnOk result (string_bytes line.new ≡ string_bytes line.old
-        ++ cfa_text (Some (cfa_rule_of rule))) }
+        ++ expression_text (checked_of checked.now).bytes) }
+{
+    let text = hex::encode(*line.allocator(), checked.expression().bytes())?;
+    line.push_str("expr(")?;
+    line.push_str(&text)?;
+    line.push_str(")")
+}
+
+fn push_cfa(line: &mut String, rule: CfaRule<'_>) -> Result<(), AllocError>
+    ensures { OnOk result (string_bytes line.new ≡ string_bytes line.old
+        ++ cfa_text (Some (cfa_rule_of rule.entry))) }
 {
     match rule {
         CfaRule::RegisterAndOffset { register, offset } => {
@@ -89,12 +114,13 @@ fn push_cfa(line: &mut String, rule: CfaRule) -> Result<(), AllocError>
             push_decimal(line, register)?;
             push_signed(line, offset)
         }
+        CfaRule::Expression { expression, .. } => push_bytes_of(line, &expression),
     }
 }
 
-fn push_rule(line: &mut String, rule: RegisterRule) -> Result<(), AllocError>
+fn push_rule(line: &mut String, rule: RegisterRule<'_>) -> Result<(), AllocError>
     ensures { OnOk result (string_bytes line.new ≡ string_bytes line.old
-        ++ rule_text (rule_of rule)) }
+        ++ rule_text (rule_of rule.entry)) }
 {
     match rule {
         RegisterRule::Default => Ok(()),
@@ -113,12 +139,18 @@ fn push_rule(line: &mut String, rule: RegisterRule) -> Result<(), AllocError>
             line.push_str("r")?;
             push_decimal(line, register)
         }
+        RegisterRule::Expression { expression, .. } => {
+            line.push_str("[")?;
+            push_bytes_of(line, &expression)?;
+            line.push_str("]")
+        }
+        RegisterRule::ValExpression { expression, .. } => push_bytes_of(line, &expression),
     }
 }
 
-fn push_register(line: &mut String, register: u16, rule: RegisterRule) -> Result<(), AllocError>
+fn push_register(line: &mut String, register: u16, rule: RegisterRule<'_>) -> Result<(), AllocError>
     ensures { OnOk result (string_bytes line.new ≡ string_bytes line.old
-        ++ register_text (register, rule_of rule)) }
+        ++ register_text (register, rule_of rule.entry)) }
 {
     line.push_str(" r")?;
     push_decimal(line, register)?;
@@ -141,7 +173,7 @@ fn push_rules(line: &mut String, rules: RegisterRules<'_>) -> Result<(), AllocEr
 pub(crate) fn push_row(
     line: &mut String,
     size: AddressSize,
-    row: &UnwindTableRow,
+    row: &UnwindTableRow<'_>,
 ) -> Result<(), AllocError>
     requires { Fits size row.now }
     ensures { OnOk result (string_bytes line.new ≡ string_bytes line.old ++ row_line size row.now) }

@@ -32,7 +32,6 @@ pub(crate) fn name(kind: FaultKind) -> &'static str
         FaultKind::TooManyRules => "TooManyRules",
         FaultKind::NoCfa => "NoCfa",
         FaultKind::Overlap => "Overlap",
-        FaultKind::NotYet => "NotYet",
         FaultKind::UnknownOperation => "UnknownOperation",
         FaultKind::NotInFrame => "NotInFrame",
         FaultKind::BadSize => "BadSize",

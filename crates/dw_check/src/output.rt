@@ -51,7 +51,7 @@ fn write_fde<S: Sink>(
 }
 
 /// Writes the line of a row.
-fn write_row<S: Sink>(out: &mut Writer<'_, S>, row: &UnwindTableRow) -> Result<(), ReportFault>
+fn write_row<S: Sink>(out: &mut Writer<'_, S>, row: &UnwindTableRow<'_>) -> Result<(), ReportFault>
     requires fits { Fits out.old.size row.now }
     requires runs { S.has_stopped out.old.sink.now ≡ false }
     ensures same { IsSame out.old out.new }
@@ -65,10 +65,10 @@ fn write_row<S: Sink>(out: &mut Writer<'_, S>, row: &UnwindTableRow) -> Result<(
 }
 
 /// Writes the lines of the rows that are to come, each read into the same place.
-fn write_rows<S: Sink>(
+fn write_rows<'a, S: Sink>(
     out: &mut Writer<'_, S>,
-    rows: &mut Rows<'_>,
-    row: &mut UnwindTableRow,
+    rows: &mut Rows<'a>,
+    row: &mut UnwindTableRow<'a>,
 ) -> Result<(), ReportFault>
     requires fit { All (λ row. Fits out.old.size row) rows.old }
     requires runs { S.has_stopped out.old.sink.now ≡ false }
@@ -86,10 +86,10 @@ fn write_rows<S: Sink>(
 /// Writes the lines of an FDE of a section and of its rows, which are made in the places of others.
 fn write_fde_and_rows<'a, S: Sink>(
     out: &mut Writer<'_, S>,
-    frame: &CheckedFrame<'a>,
+    frame: &'a CheckedFrame<'a>,
     fde: &FrameDescriptionEntry<'a>,
     rows: &mut Rows<'a>,
-    row: &mut UnwindTableRow,
+    row: &mut UnwindTableRow<'a>,
 ) -> Result<(), ReportFault>
     requires inside { Contains frame.now.fdes (fde_of fde.now) }
     requires fits { (fde_of fde.now).initial + (fde_of fde.now).range ≤ top_of frame.now.target }
@@ -106,9 +106,9 @@ fn write_fde_and_rows<'a, S: Sink>(
 }
 
 /// Writes the lines of the FDEs of a section and of their rows, in the order of the section.
-pub(crate) fn write_frame<S: Sink>(
+pub(crate) fn write_frame<'a, S: Sink>(
     out: &mut Writer<'_, S>,
-    frame: &CheckedFrame<'_>,
+    frame: &'a CheckedFrame<'a>,
 ) -> Result<(), ReportFault>
     requires size { out.old.size ≡ frame.now.target.address_size }
     requires runs { S.has_stopped out.old.sink.now ≡ false }
@@ -130,9 +130,9 @@ pub(crate) fn write_frame<S: Sink>(
 }
 
 /// Writes the line of the row of an address, or that there is none.
-pub(crate) fn write_lookup<S: Sink>(
+pub(crate) fn write_lookup<'a, S: Sink>(
     out: &mut Writer<'_, S>,
-    frame: &CheckedFrame<'_>,
+    frame: &'a CheckedFrame<'a>,
     address: u64,
 ) -> Result<(), ReportFault>
     requires size { out.old.size ≡ frame.now.target.address_size }

@@ -11,6 +11,17 @@ use dw_stack::Kind;
 use std::alloc::{AllocError, AllocFailed};
 use std::marker::Model;
 
+/// What is looked up in a section of location lists.
+#[derive(Clone, Copy, Debug, PartialEq, Eq)]
+pub struct ListLookup {
+    /// The offset of the list's first byte in the section.
+    pub list: u32,
+    /// The base address of the unit.
+    pub base: u64,
+    /// The address.
+    pub address: u64,
+}
+
 /// What is done with the files of a request.
 #[derive(Clone, Copy, Debug, PartialEq, Eq)]
 pub enum Task {
@@ -18,6 +29,8 @@ pub enum Task {
     Rows,
     /// The row of an address in a frame section.
     Row { address: u64 },
+    /// What holds at an address by a location list, and what it comes to.
+    Locs { lookup: ListLookup },
     /// What an expression of this kind comes to.
     Eval { kind: Kind },
 }

@@ -4,19 +4,21 @@ ghost use Rattle.std.specs.Prelude.{◌≡◌, ◌<◌, ◌^◌, false, None, If
 ghost use Rattle.dw_rows.specs.Section.{frame_of};
 ghost use Rattle.dw_stack.specs.Certificates.{checked_of};
 ghost use Rattle.dw_stack.specs.Expressions.{IsOf};
-ghost use Rattle.dw_check.specs.Runs.{Ends, Goes, IsPlaceIn, IsReply, IsReplyTo, IsRowsReply, IsEvalReply, frame_refusal, expression_refusal, rows_text};
+ghost use Rattle.dw_check.specs.Runs.{Ends, Goes, IsPlaceIn, IsReply, IsReplyTo, IsRowsReply, IsLocsReply, IsEvalReply, frame_refusal, lists_refusal, expression_refusal, rows_text};
 ghost use Rattle.dw_check.specs.Stops.{IsRefusal, ended_by, is_output};
 ghost use Rattle.dw_check.specs.WriteResults.{IsSame, Writes, is_write};
 ghost use Rattle.dw_check.specs.declared.stop.Section.TheVariants as sections;
 
 use crate::evaluations::write_outcome;
 use crate::files::{Files, section_at, state_at};
+use crate::locations::write_found;
 use crate::output::{write_frame, write_lookup, write_refused};
-use crate::requests::{End, Request, Task};
+use crate::requests::{End, ListLookup, Request, Task};
 use crate::sink::Sink;
 use crate::stop::{ReportFault, Section, Stop};
 use crate::writer::Writer;
 use dw_bytes::{Fault, FaultKind, Target};
+use dw_loclists::{CheckedLists, check_lists};
 use dw_ops::Expression;
 use dw_rows::{CheckedFrame, check_frame};
 use dw_stack::{CheckedExpression, Kind, check_expression};
@@ -48,6 +50,28 @@ fn checked_frame<'a>(
     match check_frame(alloc, section, target) {
         Ok(frame) => Ok(frame),
         Err(fault) => Err(Stop::of_fault(Section::Frame, fault)),
+    }
+}
+
+/// The section of location lists of these bytes, if it has no fault.
+fn checked_lists<'a>(
+    alloc: Global,
+    target: Target,
+    section: &'a [u8],
+) -> Result<CheckedLists<'a>, Stop>
+    ensures short { IfOk result (λ _. length section.entry.now < 2 ^ 32) }
+    ensures lists { IfOk result
+        (λ lists. lists ≡ record { target = target; section = section.entry.now }) }
+    ensures whole { IfOk result (λ _. lists_refusal target section.entry.now ≡ None) }
+    ensures stop { IfErr result (IsRefusal sections.Lists
+        (lists_refusal target section.entry.now)) }
+{
+    if section.len() >= SECTION_LIMIT {
+        return Err(Stop::Refused(Section::Lists, TOO_LONG));
+    }
+    match check_lists(alloc, section, target) {
+        Ok(lists) => Ok(lists),
+        Err(fault) => Err(Stop::of_fault(Section::Lists, fault)),
     }
 }
 
@@ -121,6 +145,28 @@ fn show_rows<S: Sink>(
     ended(write_rows_of(out, address, &frame))
 }
 
+/// Shows what a location list says of an address, on a machine of which a state file says something, if there is one.
+fn show_locations<S: Sink>(
+    alloc: Global,
+    lookup: ListLookup,
+    files: &Files<'_>,
+    out: &mut Writer<'_, S>,
+) -> Result<(), Stop>
+    requires size { out.old.size ≡ files.now.target.address_size }
+    requires runs { S.has_stopped out.old.sink.now ≡ false }
+    ensures same { IsSame out.old out.new }
+    ensures goes { Goes (length files.now.contents.now)
+        (IsLocsReply lookup files.now.target files.now.hex
+        (map (λ file. file.items) files.now.contents.now))
+        (S.taken out.old.sink.now) (S.taken out.new.sink.now) result }
+    ensures stops { S.has_stopped out.new.sink.now ≡ is_output result }
+{
+    let section = section_at(alloc, files.hex, files.contents, 0)?;
+    let state = state_at(alloc, files.target, files.contents, 1)?;
+    let lists = checked_lists(alloc, files.target, section.as_slice())?;
+    ended(write_found(out, &lists, lookup, &state))
+}
+
 /// Shows what an expression comes to, on a machine of which a state file says something, if there is one.
 fn show_outcome<S: Sink>(
     alloc: Global,
@@ -162,6 +208,7 @@ fn show<S: Sink>(
     match task {
         Task::Rows => show_rows(alloc, None, files, out),
         Task::Row { address } => show_rows(alloc, Some(address), files, out),
+        Task::Locs { lookup } => show_locations(alloc, lookup, files, out),
         Task::Eval { kind } => show_outcome(alloc, kind, files, out),
     }
 }

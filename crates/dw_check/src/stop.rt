@@ -10,21 +10,27 @@ ghost use Rattle.dw_check.specs.declared.stop.Stop.TheVariants as stops;
 use crate::sink::Stopped;
 use dw_bytes::{Fault, FaultKind};
 use std::alloc::AllocError;
+use thiserror::Error;
 
 /// What the offset of a refusal counts in.
 #[derive(Clone, Copy, Debug, PartialEq, Eq)]
-pub(crate) enum Section {
+pub enum Section {
+    /// A `.debug_frame` section.
     Frame,
+    /// A `.debug_loclists` section.
     Lists,
+    /// An expression that is handled alone.
     Expression,
 }
 
 /// Why a text isn't written whole.
-#[derive(Clone, Copy, Debug, PartialEq, Eq)]
-pub(crate) enum ReportFault {
+#[derive(Clone, Copy, Debug, PartialEq, Eq, Error)]
+pub enum ReportFault {
     /// Memory ran out.
+    #[error("out of memory")]
     Memory,
     /// The sink stopped.
+    #[error("cannot write")]
     Write,
 }
 

@@ -24,7 +24,7 @@ pub fn operations_use_the_top_alone()
 {}
 
 /// An evaluation of a good expression comes to one outcome, after one number of steps.
-pub fn one_evaluation()
+pub fn evaluations_are_determined()
     ensures { (c : Checked) (e : World) (o p : Outcome) (n k : ℕ)
         → IsGoodExpression c.kind c.target c.bytes → IsEvaluation c e o n → IsEvaluation c e p k
         → (o ≡ p) × (n ≡ k) }

@@ -1,6 +1,7 @@
 //! Arithmetic on the entries of the stack.
 
-ghost use Rattle.std.specs.Prelude.{◌≡◌, ◌<◌, ◌+◌, ◌-◌, ◌*◌, ◌/◌, ◌%◌, ◌^◌, ◌==◌, pos, ◌+ℤ◌, ◌-ℤ◌, unsigned_abs, int_div, int_lt, int_le, bit_and, bit_or, bit_xor};
+ghost use Rattle.std.specs.Prelude.{◌≡◌, ◌<◌, ◌+◌, ◌-◌, ◌*◌, ◌/◌, ◌%◌, ◌^◌, ◌==◌, pos, ◌+ℤ◌, ◌-ℤ◌, unsigned_abs, int_div, int_lt, int_le};
+ghost use Rattle.std.specs.Prelude.{bit_and, bit_or, bit_xor};
 ghost use Rattle.std.specs.Int.{int_shr};
 ghost use Rattle.dw_eval.specs.Numbers.{width_of, reduced, signed, truth};
 

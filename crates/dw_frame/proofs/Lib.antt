@@ -5,4 +5,5 @@ pub mod Headers
 pub mod Framed
 pub mod EachRecord
 pub mod RecordBounds
+pub mod Blocks
 pub mod CieAmong

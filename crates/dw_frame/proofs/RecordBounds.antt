@@ -1,5 +1,6 @@
 -- Records and their faults stand in their section.
-use Rattle.std.proofs.Common.{◌≡◌, ℕ, ◌+◌, ◌<◌, ◌≤◌, Bool, true, false, cond, List, [], ◌∷◌, ◌++◌, length, Result, Ok, Err, refl, sym, ap, subst, ◌∙◌, arith, inl, inr}
+use Rattle.std.proofs.Common.{◌≡◌, ℕ, ◌+◌, ◌<◌, ◌≤◌, Bool, true, false, cond, List, [], ◌∷◌, ◌++◌, length, Result, Ok, Err, refl, sym, ap}
+use Rattle.std.proofs.Common.{subst, ◌∙◌, arith, inl, inr}
 use Rattle.std.specs.Prelude.{Contains, ◌==◌}
 use Rattle.std.specs.List.{AllByRecursion}
 use Rattle.std.proofs.lemmas.Bool.{leb-true}
@@ -17,7 +18,9 @@ use Rattle.dw_bytes.proofs.Bounds.{Stays, AlwaysStays, end-of, each-along}
 use Rattle.dw_bytes.proofs.FieldsOf.{passed, fields-stay}
 use Rattle.dw_bytes.proofs.Bodies.{bind-err, not-err, framed-found, framed-refused}
 use Rattle.dw_frame.specs.Records.{Record}
-use Rattle.dw_frame.specs.Sections.{Header, cie_fields, fde_fields, cie_id, top_of, ends_by, is_register, cie_header, fde_header, header_fields, header_at, IsHeader, record_from, IsRecord, AreRecords, record_at, entries_from, entries_of, cie_among}
+use Rattle.dw_frame.specs.Sections.{Header, cie_fields, fde_fields, cie_id, top_of, ends_by, is_register, cie_header, fde_header}
+use Rattle.dw_frame.specs.Sections.{header_fields, header_at, IsHeader, record_from, IsRecord, AreRecords, record_at, entries_from}
+use Rattle.dw_frame.specs.Sections.{entries_of, cie_among}
 use Rattle.dw_frame.specs.Bounds.{IsSoundRecord, IsSound, offset_of, Ascends}
 use Rattle.dw_frame.proofs.CieAmong.{cie-fault}
 use Rattle.dw_frame.proofs.EachRecord.{record-found, some-bytes, some-length}
@@ -94,7 +97,7 @@ sound-from target size at body format (fde_fields h) program range before behind
       range = range;
     }
 
-sound-record : (target : Target) (size at : ℕ) (bytes : List ℕ) (x : Record) → IsRecord target at bytes x → at + length bytes ≤ size
+pub sound-record : (target : Target) (size at : ℕ) (bytes : List ℕ) (x : Record) → IsRecord target at bytes x → at + length bytes ≤ size
     → IsSoundRecord target size x
 sound-record target size at bytes x s inside =
     let program : ReadPosition = record { target = target; position = at + length s.front + length s.fields; rest = s.program } in
@@ -142,7 +145,7 @@ from-offset : (at body : ℕ) (format : Format) (h : Header) (program : ReadPosi
 from-offset at body format (cie_fields h) program = refl
 from-offset at body format (fde_fields h) program = refl
 
-record-offset : (target : Target) (at : ℕ) (bytes : List ℕ) (x : Record) → IsRecord target at bytes x → offset_of x ≡ at
+pub record-offset : (target : Target) (at : ℕ) (bytes : List ℕ) (x : Record) → IsRecord target at bytes x → offset_of x ≡ at
 record-offset target at bytes x s = ap offset_of s.record_is ∙ from-offset at (at + length s.front) s.format s.header
     (record { target = target; position = at + length s.front + length s.fields; rest = s.program })
 

@@ -3,6 +3,7 @@ use Rattle.std.specs.Prelude.{◌≤◌, ◌<◌, ◌+◌, ◌≡◌, ℕ, List,
 use Rattle.std.specs.List.{AllByRecursion}
 use Rattle.dw_bytes.specs.declared.target.Target.{Target}
 use Rattle.dw_bytes.specs.declared.fault.Fault.{Fault}
+use Rattle.dw_bytes.specs.Operands.{Block}
 use Rattle.dw_bytes.specs.Reading.{ReadPosition, section_from}
 use Rattle.dw_frame.specs.Instructions.{Instruction}
 use Rattle.dw_frame.specs.Records.{Cie, Fde, Record, cie_record, fde_record}
@@ -12,6 +13,19 @@ use Rattle.dw_frame.specs.Sections.{top_of}
 abbrev pub StandsIn : ReadPosition → Result (ℕ × Instruction) Fault → Type 0
 StandsIn r (Ok item) = (r.position ≤ item.0) × (item.0 < r.position + length r.rest)
 StandsIn r (Err fault) = (r.position ≤ fault.at) × (fault.at ≤ r.position + length r.rest)
+
+-- A block of a target that stands behind an offset, and ends at another.
+pub record EndsWith (target : Target) (at end : ℕ) (b : Block) : Type 0 where
+  pub behind : at < b.offset
+  pub ends : b.offset + length b.bytes ≡ end
+  pub target_is : b.target ≡ target
+
+-- The expression of an instruction, if it has one, is its last part, and it stands behind the instruction's first byte.
+abbrev pub EndsWithItsBlock : Target → ℕ → ℕ → Instruction → Type 0
+EndsWithItsBlock target at end (Instruction.def_cfa_expression b) = EndsWith target at end b
+EndsWithItsBlock target at end (Instruction.expression r b) = EndsWith target at end b
+EndsWithItsBlock target at end (Instruction.val_expression r b) = EndsWith target at end b
+EndsWithItsBlock target at end _ = Unit {0}
 
 -- What is left behind something of a section, which begins at an offset.
 pub record IsBehind (target : Target) (section : List ℕ) (at : ℕ) (after : ReadPosition) : Type 0 where

@@ -1,5 +1,8 @@
 //! Call frame instructions.
 
+ghost use Rattle.std.specs.Prelude.{◌+◌, ◌<◌, ◌^◌, length};
+ghost use Rattle.dw_ops.specs.Views.{bytes_of};
+
 use dw_ops::Expression;
 
 /// The expression of an instruction, and where it stands.
@@ -9,6 +12,7 @@ pub struct UnwindExpression<'a> {
     pub offset: u32,
     /// Its bytes and the target of the section.
     pub expression: Expression<'a>,
+    pub ghost inside: { offset + length (bytes_of expression) < 2 ^ 32 },
 }
 
 /// A call frame instruction, its operands as they are encoded (DWARF 5, sections 6.4.2 and 7.24): a

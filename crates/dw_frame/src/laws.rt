@@ -1,6 +1,6 @@
 //! Laws of the records and instructions: functions that do nothing, each with the law as its contract.
 
-ghost use Rattle.std.specs.Prelude.{◌≡◌, ◌<◌, ◌≤◌, ◌↔◌, ℕ, List, [], ◌∷◌, ◌++◌, length, map, Contains, Result, Ok, Err, Some, None};
+ghost use Rattle.std.specs.Prelude.{◌≡◌, ◌+◌, ◌<◌, ◌≤◌, ◌↔◌, ℕ, List, [], ◌∷◌, ◌++◌, length, map, Contains, Result, Ok, Err, Some, None};
 ghost use Rattle.dw_bytes.specs.declared.target.Target.{Target};
 ghost use Rattle.dw_bytes.specs.declared.fault.Fault.{Fault};
 ghost use Rattle.dw_bytes.specs.Reading.{ReadPosition, IsExact, section_from};
@@ -8,10 +8,10 @@ ghost use Rattle.dw_frame.specs.Instructions.{Instruction};
 ghost use Rattle.dw_frame.specs.Records.{Cie, Record, cie_record};
 ghost use Rattle.dw_frame.specs.Codes.{EncodesInstruction, AreInstructions, instruction_at, instructions_of};
 ghost use Rattle.dw_frame.specs.Sections.{IsRecord, AreRecords, record_at, entries_from, entries_of, cie_among};
-ghost use Rattle.dw_frame.specs.Bounds.{StandsIn, IsBehind, offset_of, Ascends, IsSound};
+ghost use Rattle.dw_frame.specs.Bounds.{StandsIn, EndsWithItsBlock, IsBehind, offset_of, Ascends, IsSound, IsSoundRecord};
 
 /// No encoding of an instruction begins another, and bytes encode one instruction.
-pub fn one_instruction()
+pub fn instructions_are_unambiguous()
     ensures { (target : Target) (at : ℕ) (a b x y : List ℕ) (i j : Instruction)
         → EncodesInstruction target at a i → EncodesInstruction target at b j → a ++ x ≡ b ++ y
         → (a ≡ b) × (i ≡ j) }
@@ -59,6 +59,13 @@ pub fn sections_are_records()
         → (entries_of target section ≡ map Ok records) ↔ AreRecords target 0 section records }
 {}
 
+/// An instruction that has an expression ends with it, and the expression stands behind its first byte.
+pub fn instructions_end_with_their_expressions()
+    ensures { (target : Target) (at : ℕ) (bytes : List ℕ) (i : Instruction)
+        → EncodesInstruction target at bytes i
+        → EndsWithItsBlock target at (at + length bytes) i }
+{}
+
 /// What a section gives from an offset on: the record there and then what is behind it, or the fault
 /// there alone, or nothing at its end.
 pub fn records_come_in_order()
@@ -83,6 +90,13 @@ pub fn records_lie_behind_each_other()
 pub fn records_ascend()
     ensures { (target : Target) (at : ℕ) (section : List ℕ) (records : List Record)
         → AreRecords target at section records → Ascends offset_of records }
+{}
+
+/// A record begins at its first byte, and its program lies behind that and inside its bytes.
+pub fn programs_lie_in_their_records()
+    ensures { (target : Target) (at : ℕ) (bytes : List ℕ) (x : Record)
+        → IsRecord target at bytes x
+        → (offset_of x ≡ at) × IsSoundRecord target (at + length bytes) x }
 {}
 
 /// Each record that a section gives, and so its program, lies inside it, an FDE's addresses are

@@ -2,6 +2,7 @@
 
 ghost use Rattle.std.specs.Prelude.{◌≡◌, ◌≤◌, ◌<◌, ◌+◌, ◌^◌, length};
 
+use crate::instructions::Instructions;
 use dw_bytes::{Cursor, Target};
 
 /// A call frame program: the bytes from an offset of its section up to another (DWARF 5, section 6.4.2).
@@ -18,6 +19,7 @@ pub struct Program<'a> {
 
 impl<'a> Program<'a> {
     ghost use Rattle.std.specs.Prelude.{take};
+    ghost use Rattle.dw_frame.specs.Codes.{instructions_of};
     ghost use Rattle.dw_frame.specs.Views.{start_of, end_of, target_of, reading_of, reading_from};
 
     /// The bytes of a section from an offset up to another.
@@ -58,6 +60,13 @@ impl<'a> Program<'a> {
         ensures { result ≡ target_of self.now }
     {
         self.target
+    }
+
+    /// Its instructions.
+    pub fn instructions(&self) -> Instructions<'a>
+        ensures { result ≡ instructions_of (reading_of self.now) }
+    {
+        Instructions::new(*self)
     }
 
     /// What is left of it from one of its offsets on.

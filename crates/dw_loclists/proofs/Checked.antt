@@ -7,7 +7,8 @@ use Rattle.dw_bytes.proofs.Sequences.{all-read}
 use Rattle.dw_loclists.specs.Lists.{Table, AreTables, starts_of}
 use Rattle.dw_loclists.specs.Bounds.{Ascends}
 use Rattle.dw_bytes.specs.Reading.{section_from}
-use Rattle.dw_loclists.specs.Reading.{table_at, tables_from, tables_of, lists_fault, ListSection, IsChecked, tables_in, lists_in, located_in}
+use Rattle.dw_loclists.specs.Reading.{table_at, tables_from, tables_of, lists_fault, ListSection, IsChecked, tables_in, lists_in}
+use Rattle.dw_loclists.specs.Reading.{located_in}
 use Rattle.dw_loclists.proofs.EachTable.{sections-are-tables, at-end, at-table}
 use Rattle.dw_loclists.proofs.KeptLists.{nothing}
 use Rattle.dw_loclists.proofs.Order.{tables-start, tables-rise, offsets-of}

@@ -1,5 +1,6 @@
 -- Entries are read exactly where they are encoded, and judged by what they say.
-use Rattle.std.proofs.Common.{◌≡◌, ℕ, ◌+◌, ◌<◌, ◌≤◌, Bool, true, false, cond, List, [], ◌∷◌, length, Option, Some, None, Result, Ok, Err, refl, sym, ap, subst, ◌∙◌, arith, inl, inr}
+use Rattle.std.proofs.Common.{◌≡◌, ℕ, ◌+◌, ◌<◌, ◌≤◌, Bool, true, false, cond, List, [], ◌∷◌, length, Option, Some, None, Result, Ok, Err}
+use Rattle.std.proofs.Common.{refl, sym, ap, subst, ◌∙◌, arith, inl, inr}
 use Rattle.std.specs.Prelude.{◌==◌, ◌&&◌}
 use Rattle.std.proofs.lemmas.Bool.{le-ltb, ltb-false}
 use Rattle.std.proofs.lemmas.List.{length-append}
@@ -13,9 +14,11 @@ use Rattle.dw_bytes.proofs.Codes.{coded-exact, coded-some}
 use Rattle.dw_stack.specs.declared.state.Kind.TheVariants.{Location}
 use Rattle.dw_stack.specs.FirstFault.{expression_fault}
 use Rattle.dw_stack.proofs.Named.{none_if_good, good_if_none}
-use Rattle.dw_loclists.specs.Entries.{Entry, end_of_list, offset_pair, default_location, base_address, start_end, start_length, entry_line, IsEntry, is_default, expression_in, IsRange, IsGoodLocation}
+use Rattle.dw_loclists.specs.Entries.{Entry, end_of_list, offset_pair, default_location, base_address, start_end, start_length, entry_line}
+use Rattle.dw_loclists.specs.Entries.{IsEntry, is_default, expression_in, IsRange, IsGoodLocation}
 use Rattle.dw_loclists.specs.Bounds.{IsUpTo, IsBefore}
-use Rattle.dw_loclists.specs.Reading.{entry_at, is_back_range, moved_by, location_fault, entry_fault, unless_fault, checked_entry_at}
+use Rattle.dw_loclists.specs.Reading.{entry_at, is_back_range, location_fault, entry_fault, unless_fault, checked_entry_at}
+use Rattle.dw_stack.specs.Located.{moved_by}
 
 pub entry-exact : (target : Target) → ExactAt target entry_at (IsEntry target)
 unfolding entry_at

@@ -1,5 +1,6 @@
 -- Lists are read exactly where they are encoded.
-use Rattle.std.proofs.Common.{◌≡◌, ℕ, zero, suc, ◌+◌, ◌-◌, ◌<◌, ◌≤◌, Bool, true, false, cond, ltb, List, [], ◌∷◌, ◌++◌, length, Result, Ok, Err, refl, sym, ap, subst, ◌∙◌, append_assoc, arith, inl, inr}
+use Rattle.std.proofs.Common.{◌≡◌, ℕ, zero, suc, ◌+◌, ◌-◌, ◌<◌, ◌≤◌, Bool, true, false, cond, ltb, List, [], ◌∷◌, ◌++◌, length, Result, Ok}
+use Rattle.std.proofs.Common.{Err, refl, sym, ap, subst, ◌∙◌, append_assoc, arith, inl, inr}
 use Rattle.std.specs.Prelude.{map, filter_map, ◌&&◌, ◌||◌, ◌⊎◌, count_by}
 use Rattle.std.specs.List.{AllByRecursion}
 use Rattle.std.proofs.lemmas.Bool.{lt-ltb, le-ltb, cases_lt}
@@ -11,9 +12,11 @@ use Rattle.dw_bytes.specs.declared.fault.Fault.{Fault}
 use Rattle.dw_bytes.specs.Reading.{ReadPosition, Next, ◌>>=◌}
 use Rattle.dw_bytes.specs.Sequence.{Sequence}
 use Rattle.dw_bytes.proofs.Readers.{bind-ok, ok-is}
-use Rattle.dw_loclists.specs.Entries.{Entry, end_of_list, offset_pair, default_location, base_address, start_end, start_length, IsEntry, is_end, is_default, expression_in, IsRange, IsGoodLocation}
+use Rattle.dw_loclists.specs.Entries.{Entry, end_of_list, offset_pair, default_location, base_address, start_end, start_length, IsEntry}
+use Rattle.dw_loclists.specs.Entries.{is_end, is_default, expression_in, IsRange, IsGoodLocation}
 use Rattle.dw_loclists.specs.Lists.{Loclist, IsList}
-use Rattle.dw_loclists.specs.Locations.{LocatedExpression, location_of, expressions_of}
+use Rattle.dw_loclists.specs.Locations.{location_of, expressions_of}
+use Rattle.dw_stack.specs.Located.{LocatedExpression}
 use Rattle.dw_loclists.specs.Reading.{checked_entry_at, no_end, at_most_entries, entries_at, list_at}
 use Rattle.dw_loclists.proofs.EachEntry.{IsFine, entry-some, checked-found, checked-only}
 

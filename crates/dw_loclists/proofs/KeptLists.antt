@@ -3,7 +3,8 @@ use Rattle.std.proofs.Common.{◌≡◌, ℕ, List, [], ◌∷◌, ◌++◌, map
 use Rattle.std.proofs.lemmas.List.{map-append}
 use Rattle.std.proofs.lemmas.Grind.{flat_map-append}
 use Rattle.dw_loclists.specs.Lists.{Loclist, Table, lists_of, starts_of}
-use Rattle.dw_loclists.specs.Locations.{LocatedExpression, expressions_of, expressions_in}
+use Rattle.dw_loclists.specs.Locations.{expressions_of, expressions_in}
+use Rattle.dw_stack.specs.Located.{LocatedExpression}
 use Rattle.dw_loclists.specs.Kept.{Kept, with_lists, with_table, kept_from}
 
 pub nothing : {X : Type 0} (xs : List X) → xs ++ [] ≡ xs

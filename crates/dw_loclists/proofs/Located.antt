@@ -1,5 +1,6 @@
 -- Where the lists of a checked section stand, and what their expressions are among.
-use Rattle.std.proofs.Common.{◌≡◌, ℕ, zero, suc, ◌+◌, ◌≤◌, Bool, true, false, cond, List, [], ◌∷◌, ◌++◌, length, drop, Contains, Ok, refl, sym, ap, subst, ◌∙◌, append_assoc, arith, inl, inr}
+use Rattle.std.proofs.Common.{◌≡◌, ℕ, zero, suc, ◌+◌, ◌≤◌, Bool, true, false, cond, List, [], ◌∷◌, ◌++◌, length, drop, Contains, Ok, refl}
+use Rattle.std.proofs.Common.{sym, ap, subst, ◌∙◌, append_assoc, arith, inl, inr}
 use Rattle.std.specs.Prelude.{◌⊎◌}
 use Rattle.std.proofs.Math.Seq.{drop-append_seam}
 use Rattle.std.proofs.lemmas.List.{length-append}
@@ -9,7 +10,9 @@ use Rattle.dw_bytes.specs.Reading.{ReadPosition, section_from}
 use Rattle.dw_bytes.specs.Sequence.{Sequence}
 use Rattle.dw_loclists.specs.Entries.{Entry, is_default}
 use Rattle.dw_loclists.specs.Lists.{Loclist, IsList, Table, IsTable, AreTables, lists_of}
-use Rattle.dw_loclists.specs.Locations.{LocatedExpression, expressions_of, expressions_in, base_after, holds, held_by, bounded_at, default_of, defaults_in}
+use Rattle.dw_loclists.specs.Locations.{expressions_of, expressions_in, base_after, holds, held_by, bounded_at}
+use Rattle.dw_stack.specs.Located.{LocatedExpression}
+use Rattle.dw_loclists.specs.Locations.{default_of, defaults_in}
 use Rattle.dw_loclists.specs.Reading.{entries_at, ListSection, IsChecked, tables_in, lists_in, located_in}
 use Rattle.dw_loclists.proofs.EachList.{entries-read}
 use Rattle.dw_loclists.proofs.Order.{entries-front}

@@ -1,5 +1,6 @@
 -- Lists and expressions come in order of their offsets.
-use Rattle.std.proofs.Common.{◌≡◌, ℕ, ◌+◌, ◌<◌, ◌≤◌, List, [], ◌∷◌, ◌++◌, length, map, refl, sym, ap, subst, ◌∙◌, arith, Option, Some, None, Bool}
+use Rattle.std.proofs.Common.{◌≡◌, ℕ, ◌+◌, ◌<◌, ◌≤◌, List, [], ◌∷◌, ◌++◌, length, map, refl, sym, ap, subst, ◌∙◌, arith, Option, Some, None}
+use Rattle.std.proofs.Common.{Bool}
 use Rattle.std.specs.List.{cons_option}
 use Rattle.std.specs.Prelude.{filter_map, ◌||◌, false}
 use Rattle.std.proofs.lemmas.List.{length-append, map-append}
@@ -10,7 +11,8 @@ use Rattle.dw_bytes.specs.Operands.{Block}
 use Rattle.dw_bytes.specs.Sequence.{Sequence}
 use Rattle.dw_loclists.specs.Entries.{Entry, IsEntry, is_default, expression_in}
 use Rattle.dw_loclists.specs.Lists.{Loclist, IsList, Table, IsTable, AreTables, lists_of, starts_of}
-use Rattle.dw_loclists.specs.Locations.{LocatedExpression, location_of, expressions_of, expressions_in}
+use Rattle.dw_loclists.specs.Locations.{location_of, expressions_of, expressions_in}
+use Rattle.dw_stack.specs.Located.{LocatedExpression}
 use Rattle.dw_loclists.specs.Bounds.{RiseWithin}
 use Rattle.dw_loclists.proofs.EachEntry.{AllWithin, entry-within, entry-some}
 use Rattle.dw_loclists.proofs.EachList.{AreEntries, entries-in}

@@ -1,5 +1,6 @@
 -- What the laws say of sections that are right, where no other file has it.
-use Rattle.std.proofs.Common.{◌≡◌, ℕ, zero, suc, ◌≤◌, ◌↔◌, cond, List, [], ◌∷◌, ◌++◌, length, Contains, Some, None, refl, sym, ap, subst, ◌∙◌, append_assoc, arith}
+use Rattle.std.proofs.Common.{◌≡◌, ℕ, zero, suc, ◌≤◌, ◌↔◌, cond, List, [], ◌∷◌, ◌++◌, length, Contains, Some, None, refl, sym, ap, subst}
+use Rattle.std.proofs.Common.{◌∙◌, append_assoc, arith}
 use Rattle.std.specs.Prelude.{count_by}
 use Rattle.std.specs.List.{AllByRecursion}
 use Rattle.std.proofs.lemmas.List.{length-append}
@@ -9,9 +10,11 @@ use Rattle.dw_bytes.specs.Reading.{ReadPosition, IsExact}
 use Rattle.dw_bytes.proofs.Readers.{one-encoding}
 use Rattle.dw_stack.specs.declared.state.Kind.TheVariants.{Location}
 use Rattle.dw_stack.specs.Expressions.{IsGoodExpression}
-use Rattle.dw_loclists.specs.Entries.{Entry, end_of_list, offset_pair, default_location, base_address, start_end, start_length, IsEntry, is_default, expression_in, IsGoodLocation}
+use Rattle.dw_loclists.specs.Entries.{Entry, end_of_list, offset_pair, default_location, base_address, start_end, start_length, IsEntry}
+use Rattle.dw_loclists.specs.Entries.{is_default, expression_in, IsGoodLocation}
 use Rattle.dw_loclists.specs.Lists.{Loclist, IsList, IsWellFormed}
-use Rattle.dw_loclists.specs.Locations.{LocatedExpression, base_after, held_by, bounded_at, default_of, defaults_in}
+use Rattle.dw_loclists.specs.Locations.{base_after, held_by, bounded_at, default_of, defaults_in}
+use Rattle.dw_stack.specs.Located.{LocatedExpression}
 use Rattle.dw_loclists.specs.Reading.{entry_at, list_at, lists_fault, ListSection, IsChecked, tables_in, lists_in, located_in}
 use Rattle.dw_loclists.specs.Bounds.{Ascends}
 use Rattle.dw_loclists.proofs.EachEntry.{entry-exact}

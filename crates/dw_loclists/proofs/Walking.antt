@@ -1,13 +1,17 @@
 -- Walking a list that can be read.
-use Rattle.std.proofs.Common.{◌≡◌, ℕ, ◌<◌, Bool, true, false, cond, List, [], ◌∷◌, ◌++◌, length, Option, Some, None, Result, Ok, Err, refl, ap, subst, ◌∙◌, arith, inl, inr}
+use Rattle.std.proofs.Common.{◌≡◌, ℕ, ◌<◌, Bool, true, false, cond, List, [], ◌∷◌, ◌++◌, length, Option, Some, None, Result, Ok, Err, refl}
+use Rattle.std.proofs.Common.{ap, subst, ◌∙◌, arith, inl, inr}
 use Rattle.std.specs.Prelude.{◌&&◌, ◌||◌, IsOk, is_some}
 use Rattle.std.proofs.lemmas.Bool.{cases_lt}
 use Rattle.dw_bytes.specs.declared.block.Block as declared
 use Rattle.dw_bytes.specs.declared.fault.Fault.{Fault}
 use Rattle.dw_bytes.specs.Operands.{Block, block_of}
 use Rattle.dw_bytes.specs.Reading.{ReadPosition}
-use Rattle.dw_loclists.specs.Entries.{Entry, end_of_list, offset_pair, default_location, base_address, start_end, start_length, is_end, is_default, expression_in}
-use Rattle.dw_loclists.specs.Locations.{LocatedExpression, location_of, expressions_of, base_after, holds, held_by, bounded_at, default_of, defaults_in}
+use Rattle.dw_loclists.specs.Entries.{Entry, end_of_list, offset_pair, default_location, base_address, start_end, start_length, is_end}
+use Rattle.dw_loclists.specs.Entries.{is_default, expression_in}
+use Rattle.dw_loclists.specs.Locations.{location_of, expressions_of, base_after, holds, held_by, bounded_at, default_of}
+use Rattle.dw_stack.specs.Located.{LocatedExpression}
+use Rattle.dw_loclists.specs.Locations.{defaults_in}
 use Rattle.dw_loclists.specs.Reading.{entry_at, entry_fault, entries_at, no_end}
 use Rattle.dw_loclists.specs.Walks.{default_located, entries_in}
 use Rattle.dw_loclists.proofs.EachEntry.{fine-if-none, checked-none, checked-fault, checked-refused}

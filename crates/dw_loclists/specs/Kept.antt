@@ -2,9 +2,10 @@
 use Rattle.std.specs.Prelude.{◌≡◌, ◌<◌, ◌^◌, length, ℕ, List, [], ◌∷◌, ◌++◌, map}
 use Rattle.dw_loclists.specs.declared.contents.Contents.{Contents}
 use Rattle.dw_loclists.specs.Lists.{Loclist, Table, lists_of, starts_of}
-use Rattle.dw_loclists.specs.Locations.{LocatedExpression, expressions_in}
+use Rattle.dw_loclists.specs.Locations.{expressions_in}
+use Rattle.dw_stack.specs.Located.{LocatedExpression, all_located}
 use Rattle.dw_loclists.specs.Reading.{ListSection, IsChecked, tables_in}
-use Rattle.dw_loclists.specs.Views.{start_of, all_located}
+use Rattle.dw_loclists.specs.Views.{start_of}
 
 -- where tables and lists begin, and the expressions
 pub record Kept : Type 0 where

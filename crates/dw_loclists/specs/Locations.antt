@@ -4,16 +4,10 @@ use Rattle.dw_bytes.specs.declared.target.Target.{Target}
 use Rattle.dw_bytes.specs.Operands.{Block}
 use Rattle.dw_stack.specs.declared.state.Kind.{Kind}
 use Rattle.dw_stack.specs.declared.state.Kind.TheVariants.{Location}
-use Rattle.dw_loclists.specs.Entries.{Entry, end_of_list, offset_pair, default_location, base_address, start_end, start_length, expression_in, is_default}
+use Rattle.dw_stack.specs.Located.{LocatedExpression}
+use Rattle.dw_loclists.specs.Entries.{Entry, end_of_list, offset_pair, default_location, base_address, start_end, start_length}
+use Rattle.dw_loclists.specs.Entries.{expression_in, is_default}
 use Rattle.dw_loclists.specs.Lists.{Loclist}
-
--- An expression where it stands: the offset of its first byte, the kind that it was judged as, what it is read under, and its
--- bytes.
-pub record LocatedExpression : Type 0 where
-  pub offset : ℕ
-  pub kind : Kind
-  pub target : Target
-  pub bytes : List ℕ
 
 -- every expression of a list is a location
 abbrev pub location_of : Block → LocatedExpression

@@ -1,6 +1,7 @@
 -- Reading a `.debug_loclists` section from left to right, with the first fault. Each entry is judged as soon as it is read: one
 -- default a list, its range, its expression.
-use Rattle.std.specs.Prelude.{◌≡◌, ℕ, zero, suc, ◌+◌, ◌==◌, ◌&&◌, ◌||◌, nat_lt, Bool, false, if◌then◌else◌, List, [], ◌∷◌, length, Option, Some, None, Result, Ok, Err}
+use Rattle.std.specs.Prelude.{◌≡◌, ℕ, zero, suc, ◌+◌, ◌==◌, ◌&&◌, ◌||◌, nat_lt, Bool, false, if◌then◌else◌, List, [], ◌∷◌, length, Option}
+use Rattle.std.specs.Prelude.{Some, None, Result, Ok, Err}
 use Rattle.std.specs.List.{list_any}
 use Rattle.dw_bytes.specs.declared.target.Target.{Target}
 use Rattle.dw_bytes.specs.declared.target.Format.{Format}
@@ -14,9 +15,11 @@ use Rattle.dw_bytes.specs.Sequence.{sequence_of, exactly_of}
 use Rattle.dw_bytes.specs.Answers.{fault_in, values_in}
 use Rattle.dw_stack.specs.declared.state.Kind.TheVariants.{Location}
 use Rattle.dw_stack.specs.FirstFault.{expression_fault}
-use Rattle.dw_loclists.specs.Entries.{Entry, end_of_list, offset_pair, default_location, base_address, start_end, start_length, entry_line, is_end, is_default, expression_in}
+use Rattle.dw_loclists.specs.Entries.{Entry, end_of_list, offset_pair, default_location, base_address, start_end, start_length, entry_line}
+use Rattle.dw_loclists.specs.Entries.{is_end, is_default, expression_in}
 use Rattle.dw_loclists.specs.Lists.{Loclist, Table, table_header, starts_of, lists_of}
-use Rattle.dw_loclists.specs.Locations.{LocatedExpression, expressions_in}
+use Rattle.dw_loclists.specs.Locations.{expressions_in}
+use Rattle.dw_stack.specs.Located.{LocatedExpression, moved_by}
 
 -- ---- entries
 
@@ -32,11 +35,6 @@ is_back_range (default_location e) = false
 is_back_range (base_address base) = false
 is_back_range (start_end begin end e) = nat_lt end begin
 is_back_range (start_length begin count e) = false
-
--- a fault of an expression, which counts from its first byte, as one of the section
-abbrev pub moved_by : ℕ → Option Fault → Option Fault
-moved_by offset None = None
-moved_by offset (Some f) = Some (record { kind = f.kind; at = offset + f.at })
 
 abbrev pub location_fault : Option Block → Option Fault
 location_fault None = None

@@ -7,7 +7,6 @@ use Rattle.dw_loclists.specs.declared.entry.Entry as declared
 use Rattle.dw_loclists.specs.declared.contents.LocationList as declared_list
 use Rattle.dw_loclists.specs.declared.entry.Entry.TheVariants as entries
 use Rattle.dw_loclists.specs.Entries.{Entry}
-use Rattle.dw_loclists.specs.Locations.{LocatedExpression}
 
 abbrev pub entry_of : declared.Entry → Entry
 entry_of entries.EndOfList = Entry.end_of_list
@@ -17,16 +16,9 @@ entry_of (entries.BaseAddress base) = Entry.base_address base
 entry_of (entries.StartEnd begin end e) = Entry.start_end begin end (block_of e)
 entry_of (entries.StartLength begin count e) = Entry.start_length begin count (block_of e)
 
--- a checked expression with its offset in the section
-abbrev pub located_of : ℕ × CheckedExpression → LocatedExpression
-located_of x = record { offset = x.0; kind = (checked_of x.1).kind; target = (checked_of x.1).target; bytes = (checked_of x.1).bytes }
-
 -- where a list begins
 abbrev pub start_of : declared_list.LocationList → ℕ
 start_of l = l.offset
-
-abbrev pub all_located : List (ℕ × CheckedExpression) → List LocatedExpression
-all_located xs = map located_of xs
 
 -- where an expression begins
 abbrev pub offset_of : ℕ × CheckedExpression → ℕ

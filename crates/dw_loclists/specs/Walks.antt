@@ -1,5 +1,6 @@
 -- How a list is walked for an address. No contract of a public call speaks of these.
-use Rattle.std.specs.Prelude.{◌≡◌, ℕ, Bool, false, Contains, List, [], ◌∷◌, ◌++◌, if◌then◌else◌, is_some, Option, Some, None, Result, Ok, Err, IsOk}
+use Rattle.std.specs.Prelude.{◌≡◌, ℕ, Bool, false, Contains, List, [], ◌∷◌, ◌++◌, if◌then◌else◌, is_some, Option, Some, None, Result, Ok}
+use Rattle.std.specs.Prelude.{Err, IsOk}
 use Rattle.dw_bytes.specs.declared.block.Block as declared
 use Rattle.dw_bytes.specs.declared.fault.Fault.{Fault}
 use Rattle.dw_bytes.specs.Operands.{block_of}
@@ -8,9 +9,10 @@ use Rattle.dw_loclists.specs.declared.walk.ListWalk.{ListWalk}
 use Rattle.dw_stack.specs.declared.checked.CheckedExpression.{CheckedExpression}
 use Rattle.dw_loclists.specs.Bounds.{Ascends}
 use Rattle.dw_loclists.specs.Entries.{Entry}
-use Rattle.dw_loclists.specs.Locations.{LocatedExpression, location_of, bounded_at, defaults_in, or_else_all}
+use Rattle.dw_loclists.specs.Locations.{location_of, bounded_at, defaults_in, or_else_all}
+use Rattle.dw_stack.specs.Located.{LocatedExpression, all_located}
 use Rattle.dw_loclists.specs.Reading.{entries_at}
-use Rattle.dw_loclists.specs.Views.{offset_of, all_located}
+use Rattle.dw_loclists.specs.Views.{offset_of}
 
 -- the default that came, if one did
 abbrev pub default_located : Option declared.Block → List LocatedExpression

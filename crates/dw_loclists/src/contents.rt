@@ -2,9 +2,8 @@
 
 ghost use Rattle.std.specs.Prelude.{◌<◌, ◌^◌};
 
-use crate::count::Counts;
 use dw_stack::CheckedExpression;
-use std::alloc::{AllocError, Global};
+use std::alloc::Global;
 
 /// A location list of a section (DWARF 5, section 7.7.3), named by where it begins.
 #[derive(Clone, Copy, Debug, PartialEq, Eq)]
@@ -42,17 +41,17 @@ pub struct Contents<'a> {
 }
 
 impl<'a> Contents<'a> {
-    ghost use Rattle.std.specs.Prelude.{◌≡◌, IfOk};
+    ghost use Rattle.std.specs.Prelude.{◌≡◌};
     ghost use Rattle.dw_loclists.specs.Kept.{kept_of, nothing_kept};
 
-    /// Of no table yet, with room for so many lists and expressions.
-    pub fn with_room(alloc: Global, counts: Counts) -> Result<Self, AllocError>
-        ensures { IfOk result (λ contents. kept_of contents ≡ nothing_kept) }
+    /// Of no table yet.
+    pub fn new(alloc: Global) -> Self
+        ensures { kept_of result ≡ nothing_kept }
     {
-        Ok(Contents {
+        Contents {
             tables: Vec::new(alloc),
-            lists: Vec::with_capacity(alloc, counts.lists as usize)?,
-            expressions: Vec::with_capacity(alloc, counts.expressions as usize)?,
-        })
+            lists: Vec::new(alloc),
+            expressions: Vec::new(alloc),
+        }
     }
 }

@@ -4,7 +4,8 @@ ghost use Rattle.std.specs.Prelude.{◌≡◌, ◌<◌, ℕ, Contains, length, m
 ghost use Rattle.dw_loclists.specs.Bounds.{Ascends};
 ghost use Rattle.dw_bytes.specs.Operands.{block_of};
 ghost use Rattle.dw_loclists.specs.Locations.{location_of};
-ghost use Rattle.dw_loclists.specs.Views.{start_of, offset_of, located_of, all_located};
+ghost use Rattle.dw_loclists.specs.Views.{start_of, offset_of};
+ghost use Rattle.dw_stack.specs.Located.{located_of, all_located};
 
 use crate::contents::LocationList;
 use dw_bytes::Block;

@@ -9,12 +9,14 @@ ghost use Rattle.dw_stack.specs.declared.state.Kind.TheVariants.{Location};
 ghost use Rattle.dw_stack.specs.Expressions.{IsGoodExpression};
 ghost use Rattle.dw_loclists.specs.Entries.{Entry, IsEntry, expression_in};
 ghost use Rattle.dw_loclists.specs.Lists.{Loclist, IsList, Table, IsTable, AreTables, starts_of, IsWellFormed};
-ghost use Rattle.dw_loclists.specs.Locations.{LocatedExpression, base_after, held_by, bounded_at, defaults_in};
-ghost use Rattle.dw_loclists.specs.Reading.{entry_at, list_at, table_at, tables_from, tables_of, lists_fault, ListSection, IsChecked, tables_in, lists_in, located_in};
+ghost use Rattle.dw_loclists.specs.Locations.{base_after, held_by, bounded_at, defaults_in};
+ghost use Rattle.dw_stack.specs.Located.{LocatedExpression};
+ghost use Rattle.dw_loclists.specs.Reading.{entry_at, list_at, table_at, tables_from, tables_of, lists_fault, ListSection, IsChecked};
+ghost use Rattle.dw_loclists.specs.Reading.{tables_in, lists_in, located_in};
 ghost use Rattle.dw_loclists.specs.Bounds.{Ascends};
 
 /// No encoding of an entry begins another, and bytes encode one entry.
-pub fn one_entry()
+pub fn entries_are_unambiguous()
     ensures { (target : Target) (at : ℕ) (a b x y : List ℕ) (d e : Entry) →
         IsEntry target at a d → IsEntry target at b e → a ++ x ≡ b ++ y → (a ≡ b) × (d ≡ e) }
 {}

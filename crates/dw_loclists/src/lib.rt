@@ -2,7 +2,6 @@
 #![tactic(auto)]
 
 mod contents;
-mod count;
 mod entry;
 mod find;
 pub mod laws;
@@ -15,6 +14,3 @@ mod walk;
 pub use contents::LocationList;
 pub use lists::{CheckedLists, check_lists};
 pub use locations::LocationsAt;
-
-#[cfg(test)]
-mod tests;

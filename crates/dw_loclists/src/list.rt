@@ -1,6 +1,7 @@
 //! Reading and judging lists.
 
-ghost use Rattle.std.specs.Prelude.{◌≡◌, ◌⊎◌, ◌<◌, ◌≤◌, ◌+◌, [], ◌∷◌, ◌++◌, length, map, IfErr, IfOk, OnOk, Ok, Err, Some, MatchResult, IsTrue, ◌↔◌};
+ghost use Rattle.std.specs.Prelude.{◌≡◌, ◌⊎◌, ◌<◌, ◌≤◌, ◌+◌, [], ◌∷◌, ◌++◌, length, map, IfErr, IfOk, OnOk, Ok, Err, Some, MatchResult};
+ghost use Rattle.std.specs.Prelude.{IsTrue, ◌↔◌};
 ghost use Rattle.dw_bytes.specs.Reading.{MovesForward};
 ghost use Rattle.dw_bytes.specs.Readers.{IsRefusedWithin};
 ghost use Rattle.dw_bytes.specs.Answers.{memory, Answers};
@@ -9,7 +10,8 @@ ghost use Rattle.dw_loclists.specs.Bounds.{IsBefore};
 ghost use Rattle.dw_loclists.specs.Lists.{Loclist};
 ghost use Rattle.dw_loclists.specs.Locations.{location_of, expressions_of};
 ghost use Rattle.dw_loclists.specs.Reading.{entry_fault, location_fault, list_at};
-ghost use Rattle.dw_loclists.specs.Views.{entry_of, all_located};
+ghost use Rattle.dw_loclists.specs.Views.{entry_of};
+ghost use Rattle.dw_stack.specs.Located.{all_located};
 
 use crate::entry::Entry;
 use dw_bytes::{Block, Cursor, Fault, FaultKind};

@@ -5,12 +5,11 @@ ghost use Rattle.dw_bytes.specs.Answers.{Answers};
 ghost use Rattle.dw_loclists.specs.Lists.{Loclist, Table, starts_of};
 ghost use Rattle.dw_loclists.specs.Locations.{locations_of};
 ghost use Rattle.dw_loclists.specs.Reading.{lists_fault, IsChecked, tables_in, lists_in, located_in};
-ghost use Rattle.dw_loclists.specs.Views.{start_of, all_located};
+ghost use Rattle.dw_loclists.specs.Views.{start_of};
+ghost use Rattle.dw_stack.specs.Located.{all_located};
 
 use crate::contents::{Contents, LocationList};
-use crate::count::count;
 use crate::find::find_list;
-use crate::list::MEMORY;
 use crate::locations::LocationsAt;
 use crate::table::read_table;
 use crate::walk::ListWalk;
@@ -49,8 +48,8 @@ impl<'a> Model for CheckedLists<'a> {
 /// (53, where it is one), that its range doesn't end before it begins (52), and its expression, as `dw_stack` judges it,
 /// with offsets of the section. `Memory` stands at 0.
 ///
-/// One pass over the bytes judges; a quick one before it counts, so that lists and expressions find room at once. For n offsets
-/// of an array and m lists it takes time n log m besides.
+/// One pass over the bytes judges, and keeps what it has judged: a refused section takes room for no more than what lies before
+/// its fault. For n offsets of an array and m lists it takes time n log m besides.
 pub fn check_lists<'a>(
     alloc: Global,
     section: &'a [u8],
@@ -62,9 +61,7 @@ pub fn check_lists<'a>(
     ensures lists { IfOk result (λ lists.
         lists ≡ record { target = target; section = section.now }) }
 {
-    let Ok(mut contents) = Contents::with_room(alloc, count(section, target)) else {
-        return Err(MEMORY);
-    };
+    let mut contents = Contents::new(alloc);
     let end = section.len() as u32;
     let mut at = 0;
     'tables: while at < end {

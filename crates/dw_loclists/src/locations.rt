@@ -1,7 +1,7 @@
 //! The expressions of a list that hold at an address.
 
 ghost use Rattle.std.specs.Iterator.{YieldsFirstBy, item_count};
-ghost use Rattle.dw_loclists.specs.Views.{located_of};
+ghost use Rattle.dw_stack.specs.Located.{located_of};
 
 use crate::find::find_expression;
 use crate::walk::ListWalk;
@@ -24,7 +24,7 @@ pub struct LocationsAt<'c, 'a> {
 
 impl<'c, 'a> Model for LocationsAt<'c, 'a> {
     ghost use Rattle.std.specs.Prelude.{List, [], if◌then◌else◌};
-    ghost use Rattle.dw_loclists.specs.Locations.{LocatedExpression};
+    ghost use Rattle.dw_stack.specs.Located.{LocatedExpression};
 
     ghost Value = { List LocatedExpression };
 

@@ -8,7 +8,7 @@ ghost use Rattle.dw_ops.specs.Operations.{Operation};
 ghost use Rattle.dw_ops.specs.Opcodes.{EncodesOperation, AreOperations, operation_at, operations_of};
 
 /// No encoding of an operation begins another, and bytes encode one operation.
-pub fn one_operation()
+pub fn operations_are_unambiguous()
     ensures { (target : Target) (at : ℕ) (a b x y : List ℕ) (i j : Operation)
         → EncodesOperation target at a i → EncodesOperation target at b j → a ++ x ≡ b ++ y
         → (a ≡ b) × (i ≡ j) }

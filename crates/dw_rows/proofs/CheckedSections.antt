@@ -1,10 +1,12 @@
 -- What a checked section is known to be.
-use Rattle.std.proofs.Common.{◌≡◌, ℕ, ◌+◌, ◌≤◌, List, length, None, Contains, sym, subst}
+use Rattle.std.proofs.Common.{◌≡◌, ℕ, ◌+◌, ◌≤◌, List, length, None, Contains, sym, subst, ap, ◌∙◌}
 use Rattle.dw_bytes.specs.declared.target.Target.{Target}
 use Rattle.dw_bytes.specs.Answers.{fault_in}
 use Rattle.dw_frame.specs.Records.{Cie, Fde}
 use Rattle.dw_frame.specs.Sections.{entries_of, top_of}
 use Rattle.dw_frame.specs.Bounds.{Ascends, IsSoundCie, IsSoundFde}
+use Rattle.dw_stack.specs.Located.{LocatedExpression}
+use Rattle.dw_rows.specs.Expressions.{cie_expressions, frame_expressions}
 use Rattle.dw_rows.specs.Judgement.{cie_fault}
 use Rattle.dw_rows.specs.Section.{Frame, CoversOnce, IsChecked, section_fault, frame_of, parts_fault}
 use Rattle.dw_rows.specs.RuleSet.{KeptRules}
@@ -54,12 +56,16 @@ checked-fits s k f among = (checked-fdes-sound s k f among).range
 -- what a section without a fault keeps
 pub kept : (target : Target) (section : List ℕ) (cies : List Cie) (left : List KeptRules) (fdes : List Fde) (index : List IndexEntry)
     → fault_in (entries_of target section) ≡ None → cies ≡ (frame_of target section).cies → fdes ≡ (frame_of target section).fdes
-    → parts_fault cies fdes ≡ None → AreLeftBy cies left → IsAddressIndex fdes index
-    → IsKept (record { target = target; section = section; cies = cies; fdes = fdes }) left index
+    → parts_fault cies fdes ≡ None → AreLeftBy cies left → IsAddressIndex fdes index → (expressions : List LocatedExpression)
+    → expressions ≡ frame_expressions cies fdes → (count : ℕ) → count ≡ length (cie_expressions cies)
+    → IsKept (record { target = target; section = section; cies = cies; fdes = fdes; expressions = expressions }) left index count
 unfolding section_fault
-kept target section cies left fdes index read cies_is fdes_is none left_by index_of = record {
+kept target section cies left fdes index read cies_is fdes_is none left_by index_of expressions all count in_cies = record {
   checked = record {
-    whole = λ i. record { target = target; section = section; cies = cies_is i; fdes = fdes_is i };
+    whole =
+        let same : expressions ≡ (frame_of target section).expressions = all ∙ ap (λ l. frame_expressions l fdes) cies_is
+        ∙ ap (frame_expressions (frame_of target section).cies) fdes_is in
+        λ i. record { target = target; section = section; cies = cies_is i; fdes = fdes_is i; expressions = same i };
     faultless =
         let parts : parts_fault (frame_of target section).cies (frame_of target section).fdes ≡ None =
         subst (λ l. parts_fault l (frame_of target section).fdes ≡ None) cies_is (subst (λ l. parts_fault cies l ≡ None) fdes_is none) in
@@ -67,4 +73,5 @@ kept target section cies left fdes index read cies_is fdes_is none left_by index
   };
   left_by = left_by;
   index_of = index_of;
+  in_cies = in_cies;
 }

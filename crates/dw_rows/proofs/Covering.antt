@@ -7,15 +7,15 @@ use Rattle.dw_bytes.specs.declared.fault.Fault.{Fault}
 use Rattle.dw_frame.specs.Instructions.{Instruction}
 use Rattle.dw_frame.specs.Records.{Cie, Fde}
 use Rattle.dw_frame.specs.Codes.{instructions_of}
-use Rattle.dw_rows.specs.Rules.{Row}
+use Rattle.dw_rows.specs.Rules.{PlacedRow, RowOver}
 use Rattle.dw_rows.specs.Effects.{Effect, effect_of, effects_of}
 use Rattle.dw_rows.specs.InForce.{Start, location_of}
-use Rattle.dw_rows.specs.Judgement.{refusal_at, standing_at, fde_start, fde_fault_from, fde_fault}
+use Rattle.dw_rows.specs.Judgement.{refusal_at, item_fault, fde_start, fde_fault_from, fde_fault}
 use Rattle.dw_rows.specs.UnwindRows.{rows_up_to, rows_after, rows_of, has_address, Cover}
 use Rattle.dw_rows.proofs.Judging.{passed-from}
-use Rattle.dw_rows.proofs.RowCursors.{or_else-none, standing_at-none, forward}
+use Rattle.dw_rows.proofs.RowCursors.{or_else-none, item-passes, forward}
 
-cover-up : (s : Start) (before : List Effect) (to : ℕ) (rows : List Row) (end : ℕ) → location_of s before ≤ to → Cover to rows end
+cover-up : (s : Start) (before : List Effect) (to : ℕ) (rows : List PlacedRow) (end : ℕ) → location_of s before ≤ to → Cover to rows end
     → Cover (location_of s before) (rows_up_to s before to ++ rows) end
 cover-up s before to rows end le h = elim (cases_lt (location_of s before) to) [
   | inl lt ↦ rw (lt-ltb (location_of s before) to lt) (refl, lt, h)
@@ -36,8 +36,8 @@ cover-after c f before (Err fault ∷ items) le none = let no : Some fault ≡ N
 cover-after c f before (Ok item ∷ items) le none =
     let s = fde_start c f in
     let x = effect_of c item.1 in
-    let both = or_else-none (standing_at item.0 (refusal_at s before x)) (fde_fault_from c f (x ∷ before) items) none in
-    let fine : refusal_at s before x ≡ None = standing_at-none item.0 _ both.0 in
+    let both = or_else-none (item_fault (refusal_at s) c before item) (fde_fault_from c f (x ∷ before) items) none in
+    let fine : refusal_at s before x ≡ None = (item-passes (refusal_at s) c before item both.0).1 in
     let past = (passed-from s before x fine).past in
     let within : location_of s (x ∷ before) ≤ s.end = grind (arith, nat_tests) in
     cover-up s before (location_of s (x ∷ before)) _ (f.initial + f.range) (forward s before x fine)
@@ -49,34 +49,34 @@ cover-rows c f none = cover-after c f [] (instructions_of f.program) (omega arit
 
 -- ---- which row has an address
 
-pub cover-le : (from to : ℕ) (rows : List Row) → Cover from rows to → from ≤ to
+pub cover-le : {E : Type 0} (from to : ℕ) (rows : List (RowOver E)) → Cover from rows to → from ≤ to
 cover-le from to [] h = omega (arith, h)
 cover-le from to (row ∷ rows) h = let k : row.end ≤ to = cover-le row.end to rows h.2 in omega (arith, h.0, h.1)
 
-pub not-here-below : (a : ℕ) (row : Row) → a < row.start → has_address a row ≡ false
+pub not-here-below : (a : ℕ) (row : PlacedRow) → a < row.start → has_address a row ≡ false
 not-here-below a row h = let no : leb row.start a ≡ false = grind (arith, nat_tests) in rw no refl
 
-pub not-here-above : (a : ℕ) (row : Row) → row.end ≤ a → has_address a row ≡ false
+pub not-here-above : (a : ℕ) (row : PlacedRow) → row.end ≤ a → has_address a row ≡ false
 not-here-above a row h = let no : ltb a row.end ≡ false = le-ltb a row.end h in
     elim (leb row.start a) as (λ b. (b && ltb a row.end) ≡ false) [ true ↦ no | false ↦ refl ]
 
-pub here : (a : ℕ) (row : Row) → row.start ≤ a → a < row.end → has_address a row ≡ true
+pub here : (a : ℕ) (row : PlacedRow) → row.start ≤ a → a < row.end → has_address a row ≡ true
 here a row h k = let yes : leb row.start a ≡ true = grind (arith, nat_tests) in rw (yes, lt-ltb a row.end k) refl
 
-pub find-below : (a from to : ℕ) (rows : List Row) → Cover from rows to → a < from → find (has_address a) rows ≡ None
+pub find-below : (a from to : ℕ) (rows : List PlacedRow) → Cover from rows to → a < from → find (has_address a) rows ≡ None
 find-below a from to [] h l = refl
 find-below a from to (row ∷ rows) h l =
     let k : find (has_address a) rows ≡ None = find-below a row.end to rows h.2 (omega (arith, h.0, h.1)) in
     rw (not-here-below a row (omega (arith, h.0))) k
 
-pub find-above : (a from to : ℕ) (rows : List Row) → Cover from rows to → to ≤ a → find (has_address a) rows ≡ None
+pub find-above : (a from to : ℕ) (rows : List PlacedRow) → Cover from rows to → to ≤ a → find (has_address a) rows ≡ None
 find-above a from to [] h l = refl
 find-above a from to (row ∷ rows) h l =
     let k : find (has_address a) rows ≡ None = find-above a row.end to rows h.2 l in
     let le : row.end ≤ to = cover-le row.end to rows h.2 in
     rw (not-here-above a row (omega arith)) k
 
-pub find-some : (a from to : ℕ) (rows : List Row) → Cover from rows to → from ≤ a → a < to → IsSome (find (has_address a) rows)
+pub find-some : (a from to : ℕ) (rows : List PlacedRow) → Cover from rows to → from ≤ a → a < to → IsSome (find (has_address a) rows)
 find-some a from to [] h l g = absurd (omega (arith, h))
 find-some a from to (row ∷ rows) h l g = elim (cases_lt a row.end) [
   | inl in_row ↦ rw (here a row (omega (arith, h.0)) in_row) refl
@@ -87,7 +87,7 @@ none-some : {A : Type 0} (o : Option A) → o ≡ None → IsSome o → ⊥
 none-some None e h = cc
 none-some (Some x) e h = cc
 
-pub find-covered : (a from to : ℕ) (rows : List Row) → Cover from rows to → IsSome (find (has_address a) rows) ↔ ((from ≤ a) × (a < to))
+pub find-covered : (a from to : ℕ) (rows : List PlacedRow) → Cover from rows to → IsSome (find (has_address a) rows) ↔ ((from ≤ a) × (a < to))
 find-covered a from to rows h = (
   (λ some. (
     elim (cases_lt a from) [ inl below ↦ absurd (none-some _ (find-below a from to rows h below) some) | inr ok ↦ ok ],
@@ -97,7 +97,7 @@ find-covered a from to rows h = (
 )
 
 -- the same of what was found
-pub covered-found : (c : Cie) (f : Fde) (a : ℕ) (found : Option Row) → fde_fault c f ≡ None → found ≡ find (has_address a) (rows_of c f)
+pub covered-found : (c : Cie) (f : Fde) (a : ℕ) (found : Option PlacedRow) → fde_fault c f ≡ None → found ≡ find (has_address a) (rows_of c f)
     → IsSome found ↔ ((f.initial ≤ a) × (a < f.initial + f.range))
 covered-found c f a found none e = rw e (find-covered a f.initial (f.initial + f.range) (rows_of c f) (cover-rows c f none))
 
@@ -115,14 +115,14 @@ not-missed c f a none low high missed = none-some _ missed
     (find-some a f.initial (f.initial + f.range) (rows_of c f) (cover-rows c f none) low high)
 
 -- a row that is found among rows up to an address begins and ends by it
-pub found-by : (p : Row → Bool) (from to : ℕ) (rows : List Row) (row : Row) → Cover from rows to → find p rows ≡ Some row
+pub found-by : {E : Type 0} (p : RowOver E → Bool) (from to : ℕ) (rows : List (RowOver E)) (row : RowOver E) → Cover from rows to → find p rows ≡ Some row
     → (row.start ≤ to) × (row.end ≤ to)
-found-by p from to [] row covered found = cc
-found-by p from to (first ∷ rows) row covered found =
+found-by {E = E} p from to [] row covered found = cc
+found-by {E = E} p from to (first ∷ rows) row covered found =
     go (λ later. found-by p first.end to rows row covered.2 later) (p first) found
   where
     here : first ≡ row → (row.start ≤ to) × (row.end ≤ to)
-    here e = subst (λ (r : Row). (r.start ≤ to) × (r.end ≤ to)) e
+    here e = subst (λ (r : RowOver E). (r.start ≤ to) × (r.end ≤ to)) e
         (let end = cover-le first.end to rows covered.2 in (omega (arith, covered.1, end), end))
 
     go : (find p rows ≡ Some row → (row.start ≤ to) × (row.end ≤ to)) → (b : Bool) → cond b (Some first) (find p rows) ≡ Some row

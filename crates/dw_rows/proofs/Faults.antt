@@ -12,12 +12,15 @@ use Rattle.dw_frame.specs.Bounds.{Ascends}
 use Rattle.dw_rows.proofs.Search.{ascending-same}
 
 -- what is left of a list begins with the element at the place
+pub drop-at : {X : Type 0} (xs : List X) (i : ℕ) (x : X) → i < length xs → get_or xs i x ≡ x → drop i xs ≡ x ∷ drop (i + 1) xs
+drop-at xs i x lt is =
+    let next : suc i ≡ i + 1 = omega arith in
+    drop-cons xs i x lt ∙ (ap (λ y. y ∷ drop (suc i) xs) is ∙ ap (λ k. x ∷ drop k xs) next)
+
 from-here : {X Y : Type 0} (view : X → Y) (t : Y → Option Fault) (xs : List X) (i : ℕ) (x : X) → i < length xs → get_or xs i x ≡ x
     → first_fault t (map view (drop i xs)) ≡ or_else (t (view x)) (first_fault t (map view (drop (i + 1) xs)))
 from-here view t xs i x lt is =
-    let next : suc i ≡ i + 1 = omega arith in
-    let split : drop i xs ≡ x ∷ drop (i + 1) xs = drop-cons xs i x lt ∙ (ap (λ y. y ∷ drop (suc i) xs) is ∙ ap (λ k. x ∷ drop k xs) next) in
-    ap (λ l. first_fault t (map view l)) split
+    ap (λ l. first_fault t (map view l)) (drop-at xs i x lt is)
 
 -- an element that passes
 pub passed : {X Y : Type 0} (view : X → Y) (t : Y → Option Fault) (xs : List X) (i : ℕ) (x : X) → i < length xs → get_or xs i x ≡ x

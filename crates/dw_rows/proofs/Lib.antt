@@ -10,6 +10,7 @@ mod Faults
 mod Clashes
 mod Parts
 mod SectionOrder
+pub mod ExpressionOrder
 pub mod Judging
 pub mod RowCursors
 pub mod Coming
@@ -28,3 +29,9 @@ pub mod CheckedSections
 pub mod Lookups
 mod OneMatch
 mod OneRow
+pub mod NamedExpressions
+pub mod ExpressionsAmong
+mod Lending
+pub mod GivenRows
+mod GoodExpressions
+mod JudgedInPlace

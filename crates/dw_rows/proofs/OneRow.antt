@@ -1,11 +1,12 @@
 -- Each covered address of a checked section has exactly one row, the standard's.
-use Rattle.std.proofs.Common.{◌≡◌, ℕ, ◌+◌, ◌-◌, ◌<◌, ◌≤◌, Bool, true, false, cond, List, [], ◌∷◌, refl, sym, ap, ◌∙◌, subst, arith, ltb, leb, Some, Contains}
+use Rattle.std.proofs.Common.{◌≡◌, ℕ, ◌+◌, ◌-◌, ◌<◌, ◌≤◌, Bool, true, false, cond, List, [], ◌∷◌, refl, sym, ap, ◌∙◌, subst, arith, map, ltb, leb, Some, Contains}
 use Rattle.std.proofs.lemmas.Bool.Decides.{nat_tests}
 use Rattle.std.specs.Prelude.{◌&&◌, find, filter}
 use Rattle.dw_frame.specs.Records.{Fde}
-use Rattle.dw_rows.specs.Rules.{Row, rule_in}
+use Rattle.dw_rows.specs.Rules.{PlacedRow, Row, rule_in}
 use Rattle.dw_rows.specs.Effects.{Effect}
 use Rattle.dw_rows.specs.InForce.{Start}
+use Rattle.dw_rows.specs.GivenRows.{row_with}
 use Rattle.dw_rows.specs.UnwindRows.{rows_of, has_address}
 use Rattle.dw_rows.specs.Clauses.{IsRowAt, IsRow, AreRowsFrom, start_in, program_in}
 use Rattle.dw_rows.specs.Section.{Frame, Covers, IsCoverOf, IsChecked, rows_in, rows_behind}
@@ -17,6 +18,8 @@ use Rattle.dw_rows.proofs.Programs.{good-from-cie, good-from-fde}
 use Rattle.dw_rows.proofs.Covering.{cover-rows}
 use Rattle.dw_rows.proofs.RowsOf.{rows-of-good, one-row}
 use Rattle.dw_rows.proofs.Lookups.{row-found}
+use Rattle.dw_rows.proofs.Lending.{lends-in, row-lends}
+use Rattle.dw_rows.proofs.GivenRows.{filter-with}
 use Rattle.dw_rows.proofs.CheckedSections.{checked-parts, checked-once}
 
 -- ---- the row that alone passes a test
@@ -32,7 +35,7 @@ found-alone p (x ∷ rows) row e = go (λ later. found-alone p rows row later) (
     go next false e = next e
 
 -- and it is one of the rows of the program
-row-alone : (s : Start) (program : List Effect) (p : Row → Bool) (from to : ℕ) (rows : List Row) (row : Row)
+row-alone : (s : Start) (program : List Effect) (p : PlacedRow → Bool) (from to : ℕ) (rows : List PlacedRow) (row : PlacedRow)
     → AreRowsFrom s program from rows to → filter p rows ≡ row ∷ [] → IsRow s program row × (p row ≡ true)
 row-alone s program p from to [] row are e = cc
 row-alone s program p from to (x ∷ rows) row are e = go (λ later. row-alone s program p x.end to rows row are.2 later) (p x) refl e
@@ -45,7 +48,7 @@ row-alone s program p from to (x ∷ rows) row are e = go (λ later. row-alone s
     go next true passes e = here passes cc
     go next false passes e = next e
 
-has-both : (a : ℕ) (row : Row) → has_address a row ≡ true → (row.start ≤ a) × (a < row.end)
+has-both : (a : ℕ) (row : PlacedRow) → has_address a row ≡ true → (row.start ≤ a) × (a < row.end)
 has-both a row e =
     let both : (leb row.start a && ltb a row.end) ≡ true = e in
     (grind (arith, nat_tests), grind (arith, nat_tests))
@@ -53,12 +56,12 @@ has-both a row e =
 -- ---- rows after the same instructions are one
 
 -- the first address of each is one of the other, and so is the last
-starts-by : (s : Start) (p : List Effect) (k : ℕ) (x y : Row) → IsRowAt s p k x → IsRowAt s p k y → y.start ≤ x.start
+starts-by : (s : Start) (p : List Effect) (k : ℕ) (x y : PlacedRow) → IsRowAt s p k x → IsRowAt s p k y → y.start ≤ x.start
 starts-by s p k x y r t =
     let here = (r.range x.start r.low (omega (arith, r.some, r.high))).0 ((omega arith), r.some) in
     ((t.range x.start r.low (omega (arith, r.some, r.high))).1 here).0
 
-ends-by : (s : Start) (p : List Effect) (k : ℕ) (x y : Row) → IsRowAt s p k x → IsRowAt s p k y → x.end ≤ y.end
+ends-by : (s : Start) (p : List Effect) (k : ℕ) (x y : PlacedRow) → IsRowAt s p k x → IsRowAt s p k y → x.end ≤ y.end
 ends-by s p k x y r t =
     let low : s.location ≤ x.end - 1 = omega (arith, r.some, r.low) in
     let high : x.end - 1 < s.end = omega (arith, r.some, r.high) in
@@ -66,13 +69,13 @@ ends-by s p k x y r t =
     let there = ((t.range (x.end - 1) low high).1 here).1 in
     omega (arith, r.some)
 
-same-rules : (s : Start) (p : List Effect) (k : ℕ) (x y : Row) → IsRowAt s p k x → IsRowAt s p k y → x.rules ≡ y.rules
+same-rules : (s : Start) (p : List Effect) (k : ℕ) (x y : PlacedRow) → IsRowAt s p k x → IsRowAt s p k y → x.rules ≡ y.rules
 same-rules s p k x y r t =
     sym (rule_list-table x.rules r.table)
     ∙ rule_list-same (rule_in x.rules) (rule_in y.rules) (λ q h. r.rules q h ∙ sym (t.rules q h))
     ∙ rule_list-table y.rules t.table
 
-row-same : (s : Start) (p : List Effect) (k : ℕ) (x y : Row) → IsRowAt s p k x → IsRowAt s p k y → x ≡ y
+row-same : (s : Start) (p : List Effect) (k : ℕ) (x y : PlacedRow) → IsRowAt s p k x → IsRowAt s p k y → x ≡ y
 row-same s p k x y r t =
     let start : x.start ≡ y.start = let a = starts-by s p k x y r t in let b = starts-by s p k y x t r in omega arith in
     let end : x.end ≡ y.end = let a = ends-by s p k x y r t in let b = ends-by s p k y x t r in omega arith in
@@ -94,9 +97,13 @@ has-one-row s a checked f among covers =
     let row = one.0 in
     let is = row-alone (start_in c f good) (program_in c f good) (has_address a) f.initial (f.initial + f.range) (rows_of c f) row
     (rows-of-good c f good) one.1 in
-    let rows : rows_in s f ≡ rows_of c f = ap (λ o. rows_behind o f) pointed.1 in
+    let es = s.expressions in
+    let rows : rows_in s f ≡ map (row_with es) (rows_of c f) = ap (λ o. map (row_with es) (rows_behind o f)) pointed.1 in
+    let lends = lends-in s checked c f cie_found.0 among in
+    let lent = row-lends es c f good row is.0.0 is.0.1 lends in
     let only : IsCoverOf s.fdes a (Some f) = (among, covers, λ g g_in g_covers. checked-once s checked a g f g_in among g_covers covers) in
-    let alone : filter (has_address a) (rows_in s f) ≡ row ∷ [] = ap (filter (has_address a)) rows ∙ one.1 in
+    let alone : filter (has_address a) (rows_in s f) ≡ row_with es row ∷ [] =
+    ap (filter (has_address a)) rows ∙ filter-with es a (rows_of c f) ∙ ap (map (row_with es)) one.1 in
     record {
       fde = f;
       covers = only;
@@ -104,11 +111,15 @@ has-one-row s a checked f among covers =
       among = cie_found.0;
       pointed = cie_found.1;
       good = good;
-      row = row;
+      row = row_with es row;
       one = alone;
+      placed = row;
+      given = refl;
+      cfa_lent = lent.0;
+      lent = lent.1;
       last = is.0.0;
       longest = (is.0.1.range a covers.0 covers.1).0 (has-both a row is.1);
       standard = is.0.1;
       only = λ other at. row-same (start_in c f good) (program_in c f good) is.0.0 other row at is.0.1;
-      found = row-found s a f row only (found-alone (has_address a) (rows_in s f) row alone);
+      found = row-found s a f (row_with es row) only (found-alone (has_address a) (rows_in s f) (row_with es row) alone);
     }

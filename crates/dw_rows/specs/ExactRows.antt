@@ -1,7 +1,8 @@
 -- The one row of an address in a section that is accepted, in the standard's words (DWARF 5, section 6.4.1).
-use Rattle.std.specs.Prelude.{◌≡◌, ℕ, [], ◌∷◌, Some, Contains, filter}
+use Rattle.std.specs.Prelude.{◌≡◌, ℕ, [], ◌∷◌, Some, IfSome, Contains, filter}
 use Rattle.dw_frame.specs.Records.{Cie, Fde}
-use Rattle.dw_rows.specs.Rules.{Row}
+use Rattle.dw_rows.specs.Rules.{PlacedRow, Row}
+use Rattle.dw_rows.specs.GivenRows.{row_with, LendsCfa, LendsEach}
 use Rattle.dw_rows.specs.UnwindRows.{has_address}
 use Rattle.dw_rows.specs.Good.{IsLast, IsGoodFdeProgram}
 use Rattle.dw_rows.specs.Clauses.{IsRowAt, start_in, program_in}
@@ -24,8 +25,13 @@ pub record HasOneRow (s : Frame) (a : ℕ) : Type 0 where
   -- covered addresses with that beginning.
   pub last : ℕ
   pub longest : IsLast (start_in cie fde good) (program_in cie fde good) a last
-  pub standard : IsRowAt (start_in cie fde good) (program_in cie fde good) last row
+  pub placed : PlacedRow
+  pub standard : IsRowAt (start_in cie fde good) (program_in cie fde good) last placed
   -- no other row is so
-  pub only : (other : Row) → IsRowAt (start_in cie fde good) (program_in cie fde good) last other → other ≡ row
+  pub only : (other : PlacedRow) → IsRowAt (start_in cie fde good) (program_in cie fde good) last other → other ≡ placed
+  -- in the place of each offset that its rules name is the expression of the section that begins there, of the rule's kind
+  pub given : row ≡ row_with s.expressions placed
+  pub cfa_lent : IfSome placed.cfa (LendsCfa s.expressions)
+  pub lent : LendsEach s.expressions placed.rules
   -- and it is what a look-up answers
   pub found : row_of s a ≡ Some row

@@ -8,7 +8,7 @@ use Rattle.dw_rows.specs.declared.map.TheConstants.{MAX_RULES}
 use Rattle.dw_rows.specs.declared.initial_rules.RuleSpan.{RuleSpan}
 use Rattle.dw_rows.specs.Rules.{IsTable}
 use Rattle.dw_rows.specs.RuleSet.{KeptRules}
-use Rattle.dw_rows.specs.Views.{cfa_rule_of, entries_of}
+use Rattle.dw_rows.specs.Views.{kept_cfa_of, entries_of}
 use Rattle.dw_rows.specs.ProgramState.{IsLeftBy}
 
 -- what the CIEs leave, one for each, in their order
@@ -22,7 +22,7 @@ AreLeftBy (c ∷ cies) [] = ⊥
 
 -- the rules of a span of entries
 abbrev pub kept_in_span : List RuleEntry → RuleSpan → KeptRules
-kept_in_span entries s = record { cfa = option_map cfa_rule_of s.cfa; rules = entries_of (slice_range entries s.start s.end) }
+kept_in_span entries s = record { cfa = option_map kept_cfa_of s.cfa; rules = entries_of (slice_range entries s.start s.end) }
 
 abbrev pub kept_in_spans : List RuleEntry → List RuleSpan → List KeptRules
 kept_in_spans entries spans = map (kept_in_span entries) spans

@@ -3,6 +3,8 @@
 pub mod Rules
 -- what each instruction does (6.4.2)
 pub mod Effects
+-- the expressions of programs, and where they stand (6.4.2.2, 6.4.2.3)
+pub mod Expressions
 -- location, rules and CFA after instructions (6.4.1)
 pub mod InForce
 -- the rows of a program (6.4.1)
@@ -15,6 +17,8 @@ pub mod Good
 pub mod Section
 -- sections that are right (6.4.1)
 pub mod WellFormed
+-- rows with their expressions, as they are handed out (6.4.1)
+pub mod GivenRows
 -- the one row of an address (6.4.1)
 pub mod ExactRows
 -- ---- The first fault, as a function of the bytes. Laws tie it to what is to be believed.
@@ -23,6 +27,8 @@ pub mod Judgement
 -- ---- What the code's own values stand for, and what its calls answer.
 -- rules and rows of the code
 pub mod Views
+-- the expressions that rows lend
+pub mod LentExpressions
 -- ---- Behind the contracts: no contract of a public call speaks of these.
 -- the rules of a row, as they are kept
 pub mod RuleSet
@@ -30,6 +36,10 @@ pub mod RuleSet
 pub mod RememberStack
 -- where a program stands
 pub mod ProgramState
+-- programs that are judged as they are read
+pub mod Judging
+-- expressions in order of offset
+pub mod ExpressionOrder
 -- effects of the code
 pub mod EffectViews
 -- what the initial instructions of CIEs leave

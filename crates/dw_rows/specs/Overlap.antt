@@ -8,6 +8,7 @@ use Rattle.std.specs.List.Sorted.{IsNonDecreasingBy}
 use Rattle.dw_frame.specs.Records.{Cie, Fde}
 use Rattle.dw_rows.specs.Section.{Frame, SharesAddress, IsChecked}
 use Rattle.dw_rows.specs.RuleSet.{KeptRules}
+use Rattle.dw_rows.specs.Expressions.{cie_expressions}
 use Rattle.dw_rows.specs.Initial.{AreLeftBy}
 
 abbrev pub fde_offset : Fde → ℕ
@@ -104,7 +105,8 @@ pub record IsCountUpTo (entries : List IndexEntry) (a count : ℕ) : Type 0 wher
   pub above : (k : ℕ) (d : IndexEntry) → count ≤ k → k < length entries → a < (slice_index_or entries k d).start
 
 -- what a checked section keeps: its records, what its CIEs leave, and its FDEs in order of address
-pub record IsKept (s : Frame) (left : List KeptRules) (index : List IndexEntry) : Type 0 where
+pub record IsKept (s : Frame) (left : List KeptRules) (index : List IndexEntry) (count : ℕ) : Type 0 where
   pub checked : IsChecked s
   pub left_by : AreLeftBy s.cies left
   pub index_of : IsAddressIndex s.fdes index
+  pub in_cies : count ≡ length (cie_expressions s.cies)

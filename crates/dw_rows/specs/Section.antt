@@ -1,5 +1,5 @@
 -- A whole `.debug_frame` section: what is right in it, and its first fault (DWARF 5, section 6.4.1).
-use Rattle.std.specs.Prelude.{◌≡◌, ℕ, ◌+◌, ◌<◌, ◌≤◌, ◌==◌, ◌&&◌, nat_lt, nat_le, Bool, if◌then◌else◌, Option, Some, None, is_some, List, [], ◌∷◌, Contains, find, option_and_then}
+use Rattle.std.specs.Prelude.{◌≡◌, ℕ, ◌+◌, ◌<◌, ◌≤◌, ◌==◌, ◌&&◌, nat_lt, nat_le, Bool, if◌then◌else◌, Option, Some, None, is_some, List, [], ◌∷◌, Contains, find, map, option_and_then}
 use Rattle.std.specs.List.{filter_map, list_any}
 use Rattle.dw_bytes.specs.declared.target.Target.{Target}
 use Rattle.dw_bytes.specs.declared.fault.Fault.{Fault}
@@ -7,17 +7,21 @@ use Rattle.dw_bytes.specs.declared.fault.FaultKind.TheVariants.{NoSuchCie, Overl
 use Rattle.dw_bytes.specs.Answers.{values_in, fault_in}
 use Rattle.dw_frame.specs.Records.{Cie, Fde, Record, cie_record, fde_record}
 use Rattle.dw_frame.specs.Sections.{entries_of}
-use Rattle.dw_rows.specs.Rules.{Row}
+use Rattle.dw_rows.specs.Rules.{PlacedRow, Row}
+use Rattle.dw_stack.specs.Located.{LocatedExpression}
+use Rattle.dw_rows.specs.Expressions.{frame_expressions}
 use Rattle.dw_rows.specs.Judgement.{or_else, cie_fault, fde_fault}
+use Rattle.dw_rows.specs.GivenRows.{row_with}
 use Rattle.dw_rows.specs.UnwindRows.{rows_of, has_address}
 
 -- A section under a target, and what is read of it before its first fault: the CIEs and the FDEs apart, each in the order of
--- the section.
+-- the section, and the expressions of their programs.
 pub record Frame : Type 0 where
   pub target : Target
   pub section : List ℕ
   pub cies : List Cie
   pub fdes : List Fde
+  pub expressions : List LocatedExpression
 
 abbrev pub cie_in_record : Record → Option Cie
 cie_in_record (cie_record c) = Some c
@@ -36,7 +40,13 @@ fdes_among records = filter_map fde_in_record records
 abbrev pub frame_of : Target → List ℕ → Frame
 frame_of target section =
     let records = values_in (entries_of target section) in
-    record { target = target; section = section; cies = cies_among records; fdes = fdes_among records }
+    record {
+      target = target;
+      section = section;
+      cies = cies_among records;
+      fdes = fdes_among records;
+      expressions = frame_expressions (cies_among records) (fdes_among records);
+    }
 
 -- ---- what FDEs cover
 
@@ -112,13 +122,13 @@ pub record IsChecked (s : Frame) : Type 0 where
 abbrev pub cie_in : Frame → Fde → Option Cie
 cie_in s f = cie_at s.cies f.cie_pointer
 
-abbrev pub rows_behind : Option Cie → Fde → List Row
+abbrev pub rows_behind : Option Cie → Fde → List PlacedRow
 rows_behind None f = []
 rows_behind (Some c) f = rows_of c f
 
--- the rows of an FDE
+-- the rows of an FDE, with the expressions that their rules name
 abbrev pub rows_in : Frame → Fde → List Row
-rows_in s f = rows_behind (cie_in s f) f
+rows_in s f = map (row_with s.expressions) (rows_behind (cie_in s f) f)
 
 -- ---- the row of an address
 

@@ -5,43 +5,24 @@ ghost use Rattle.dw_frame.specs.Views.{cie_of, instruction_of};
 ghost use Rattle.dw_rows.specs.Effects.{effect_of};
 ghost use Rattle.dw_rows.specs.EffectViews.{effect_by};
 
-use crate::row::RegisterRule;
-use dw_frame::{CallFrameInstruction, CommonInformationEntry, UnwindExpression};
+use crate::kept_rule::KeptRule;
+use dw_frame::{CallFrameInstruction, CommonInformationEntry};
 
 /// What an instruction does to the location, the rules and what is remembered. Its numbers are
 /// whole: an offset is not yet judged to fit.
 #[derive(Clone, Copy, Debug)]
-pub enum InstructionEffect<'a> {
+pub enum InstructionEffect {
     Stays,
     AdvanceLoc(u128),
     SetLoc(u64),
-    DefinesCfa {
-        register: u16,
-        offset: i128,
-    },
-    DefinesCfaExpression(UnwindExpression<'a>),
+    DefinesCfa { register: u16, offset: i128 },
+    /// The CFA is what the expression at that offset of the section gives.
+    DefinesCfaExpression(u32),
     ChangesRegister(u16),
     ChangesOffset(i128),
-    Sets {
-        register: u16,
-        rule: RegisterRule,
-    },
-    SetsOffset {
-        register: u16,
-        offset: i128,
-    },
-    SetsValOffset {
-        register: u16,
-        offset: i128,
-    },
-    SetsExpression {
-        register: u16,
-        expression: UnwindExpression<'a>,
-    },
-    SetsValExpression {
-        register: u16,
-        expression: UnwindExpression<'a>,
-    },
+    Sets { register: u16, rule: KeptRule },
+    SetsOffset { register: u16, offset: i128 },
+    SetsValOffset { register: u16, offset: i128 },
     Restores(u16),
     RememberState,
     RestoreState,
@@ -73,7 +54,7 @@ fn factored_sf(cie: &CommonInformationEntry<'_>, offset: i64) -> i128
 
 /// An advance by a delta times the code alignment factor.
 #[inline(always)]
-fn advance<'a>(cie: &CommonInformationEntry<'_>, delta: u32) -> InstructionEffect<'a>
+fn advance(cie: &CommonInformationEntry<'_>, delta: u32) -> InstructionEffect
     ensures { result ≡ InstructionEffect.AdvanceLoc (delta * cie.now.code_alignment_factor) }
 {
     InstructionEffect::AdvanceLoc(u128::from(delta) * u128::from(cie.code_alignment_factor))
@@ -81,10 +62,10 @@ fn advance<'a>(cie: &CommonInformationEntry<'_>, delta: u32) -> InstructionEffec
 
 /// What the instruction does, by the factors of the CIE.
 #[inline(always)]
-pub fn action_of<'a>(
+pub fn action_of(
     cie: &CommonInformationEntry<'_>,
-    instruction: CallFrameInstruction<'a>,
-) -> InstructionEffect<'a>
+    instruction: CallFrameInstruction<'_>,
+) -> InstructionEffect
     ensures { effect_by result ≡ effect_of (cie_of cie.now) (instruction_of instruction.entry) }
 {
     match instruction {
@@ -115,19 +96,19 @@ pub fn action_of<'a>(
             InstructionEffect::ChangesOffset(factored_sf(cie, factored_offset))
         }
         CallFrameInstruction::DefCfaExpression { expression } => {
-            InstructionEffect::DefinesCfaExpression(expression)
+            InstructionEffect::DefinesCfaExpression(expression.offset)
         }
         CallFrameInstruction::Undefined { register } => InstructionEffect::Sets {
             register,
-            rule: RegisterRule::Undefined,
+            rule: KeptRule::Undefined,
         },
         CallFrameInstruction::SameValue { register } => InstructionEffect::Sets {
             register,
-            rule: RegisterRule::SameValue,
+            rule: KeptRule::SameValue,
         },
         CallFrameInstruction::Register { register, source } => InstructionEffect::Sets {
             register,
-            rule: RegisterRule::Register(source),
+            rule: KeptRule::Register(source),
         },
         CallFrameInstruction::Offset {
             register,
@@ -167,16 +148,16 @@ pub fn action_of<'a>(
         CallFrameInstruction::Expression {
             register,
             expression,
-        } => InstructionEffect::SetsExpression {
+        } => InstructionEffect::Sets {
             register,
-            expression,
+            rule: KeptRule::Expression(expression.offset),
         },
         CallFrameInstruction::ValExpression {
             register,
             expression,
-        } => InstructionEffect::SetsValExpression {
+        } => InstructionEffect::Sets {
             register,
-            expression,
+            rule: KeptRule::ValExpression(expression.offset),
         },
         CallFrameInstruction::Restore { register } => InstructionEffect::Restores(register),
         CallFrameInstruction::RestoreExtended { register } => InstructionEffect::Restores(register),

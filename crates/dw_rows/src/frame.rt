@@ -12,9 +12,15 @@ ghost use Rattle.dw_rows.specs.Overlap.{cie_offset, fde_offset, IsAddressIndex};
 ghost use Rattle.dw_frame.specs.Bounds.{Ascends};
 ghost use Rattle.dw_rows.specs.ProgramState.{IsLeftBy};
 ghost use Rattle.dw_rows.specs.Initial.{AreLeftBy};
+ghost use Rattle.dw_stack.specs.Located.{all_located};
+ghost use Rattle.dw_rows.specs.Expressions.{cie_expressions, frame_expressions};
+ghost use Rattle.dw_rows.specs.LentExpressions.{lent_by};
+ghost use Rattle.dw_rows.specs.RowCursors.{Lends};
 
+use crate::expressions::LentExpressions;
 use crate::index::{IndexEntry, covering, first_overlap, index_of};
 use crate::initial_rules::InitialRules;
+use crate::judged::JudgedExpressions;
 use crate::lookup::write_row_at;
 use crate::row::UnwindTableRow;
 use crate::row_iter::Rows;
@@ -23,6 +29,7 @@ use crate::unwind_context::UnwindContext;
 use crate::unwind_state::UnwindState;
 use dw_bytes::{Fault, FaultKind, Target};
 use dw_frame::{CommonInformationEntry, Entry, FrameDescriptionEntry, entries};
+use dw_stack::CheckedExpression;
 use std::alloc::Global;
 use std::marker::Model;
 
@@ -37,6 +44,10 @@ pub struct CheckedFrame<'a> {
     fdes: Vec<FrameDescriptionEntry<'a>>,
     /// The FDEs that cover an address, in order of address.
     index: Vec<IndexEntry>,
+    /// The expressions of programs, those of the CIEs first, each with the offset where it begins.
+    expressions: Vec<(u32, CheckedExpression<'a>)>,
+    /// How many of them are the CIEs'.
+    in_cies: usize,
 }
 
 impl<'a> Model for CheckedFrame<'a> {
@@ -44,6 +55,7 @@ impl<'a> Model for CheckedFrame<'a> {
     ghost use Rattle.dw_frame.specs.Views.{cie_of, fde_of};
     ghost use Rattle.dw_rows.specs.Section.{Frame};
     ghost use Rattle.dw_rows.specs.Overlap.{IsKept};
+    ghost use Rattle.dw_stack.specs.Located.{all_located};
 
     ghost Value = { Frame };
 
@@ -52,6 +64,7 @@ impl<'a> Model for CheckedFrame<'a> {
       section = c.section.now;
       cies = map cie_of c.cies.items;
       fdes = map fde_of c.fdes.items;
+      expressions = all_located c.expressions.items;
     } };
 
     ghost invariant = { λ c. IsKept
@@ -60,7 +73,8 @@ impl<'a> Model for CheckedFrame<'a> {
           section = c.section.now;
           cies = map cie_of c.cies.items;
           fdes = map fde_of c.fdes.items;
-        }) c.initial c.index.items };
+          expressions = all_located c.expressions.items;
+        }) c.initial c.index.items c.in_cies };
 }
 
 /// An FDE of a compiler has as many bytes or more: room for so many is asked for at once, so that the list of them need
@@ -123,43 +137,68 @@ fn check_overlap(fdes: &[FrameDescriptionEntry<'_>], index: &[IndexEntry]) -> Re
     }
 }
 
-/// Judges what comes before the addresses: the CIE_pointers, and the programs. It gives what the CIEs' leave.
-fn check_programs(
+/// What is learned of the programs of a section.
+#[derive(Drop)]
+struct JudgedPrograms<'a> {
+    /// What the initial instructions of each CIE leave.
+    initial: InitialRules,
+    /// The expressions, those of the CIEs first.
+    expressions: Vec<(u32, CheckedExpression<'a>)>,
+    /// How many of them are the CIEs'.
+    in_cies: usize,
+}
+
+/// Judges what comes before the addresses: the CIE_pointers, and the programs.
+fn check_programs<'a>(
     alloc: Global,
-    cies: &[CommonInformationEntry<'_>],
-    fdes: &[FrameDescriptionEntry<'_>],
-) -> Result<InitialRules, Fault>
+    cies: &[CommonInformationEntry<'a>],
+    fdes: &[FrameDescriptionEntry<'a>],
+) -> Result<JudgedPrograms<'a>, Fault>
     requires { Ascends cie_offset (map cie_of cies.now) }
     ensures answer { Answers (programs_fault (map cie_of cies.now) (map fde_of fdes.now)) result }
-    ensures left { IfOk result (λ initial. AreLeftBy (map cie_of cies.now) initial) }
+    ensures left { IfOk result (λ programs. AreLeftBy (map cie_of cies.now) programs.initial) }
+    ensures expressions { IfOk result (λ programs. all_located programs.expressions.items
+        ≡ frame_expressions (map cie_of cies.now) (map fde_of fdes.now)) }
+    ensures in_cies { IfOk result (λ programs. programs.in_cies
+        ≡ length (cie_expressions (map cie_of cies.now))) }
 {
     check_pointers(cies, fdes)?;
     let mut context = UnwindContext::new();
-    let initial = check_cies(alloc, &mut context.state, cies)?;
-    check_fdes(&mut context, cies, &initial, fdes)?;
-    Ok(initial)
+    let mut judged = JudgedExpressions::new(alloc);
+    let initial = check_cies(alloc, &mut context.state, &mut judged, cies)?;
+    let in_cies = judged.count();
+    check_fdes(&mut context, &mut judged, cies, &initial, fdes)?;
+    Ok(JudgedPrograms {
+        initial,
+        expressions: judged.into_kept(),
+        in_cies,
+    })
 }
 
-/// Judges the records part by part, in order. It gives what the CIEs' programs leave, and the FDEs in order of address.
+/// Judges the records part by part, in order. It gives what is learned of the programs, and the FDEs in order of address.
 #[tactic(auto, unfolding(crate::specs::Section::parts_fault))]
 fn check_parts<'a>(
     alloc: Global,
     cies: &[CommonInformationEntry<'a>],
     fdes: &[FrameDescriptionEntry<'a>],
-) -> Result<(InitialRules, Vec<IndexEntry>), Fault>
+) -> Result<(JudgedPrograms<'a>, Vec<IndexEntry>), Fault>
     requires cies { Ascends cie_offset (map cie_of cies.now) }
     requires fdes { Ascends fde_offset (map fde_of fdes.now) }
     ensures answer { Answers (parts_fault (map cie_of cies.now) (map fde_of fdes.now)) result }
-    ensures left { IfOk result (λ parts. AreLeftBy (map cie_of cies.now) parts.0) }
+    ensures left { IfOk result (λ parts. AreLeftBy (map cie_of cies.now) (parts.0).initial) }
+    ensures expressions { IfOk result (λ parts. all_located (parts.0).expressions.items
+        ≡ frame_expressions (map cie_of cies.now) (map fde_of fdes.now)) }
+    ensures in_cies { IfOk result (λ parts. (parts.0).in_cies
+        ≡ length (cie_expressions (map cie_of cies.now))) }
     ensures index { IfOk result (λ parts. IsAddressIndex (map fde_of fdes.now) parts.1.items) }
 {
-    let initial = check_programs(alloc, cies, fdes)?;
+    let programs = check_programs(alloc, cies, fdes)?;
     let index = match index_of(alloc, fdes) {
         Ok(index) => index,
         Err(_) => return Err(MEMORY),
     };
     check_overlap(fdes, &index)?;
-    Ok((initial, index))
+    Ok((programs, index))
 }
 
 /// Checks a section of fewer than 2^32 bytes: its records, the CIE_pointer of each FDE, the programs of the CIEs, those of
@@ -176,7 +215,12 @@ pub fn check_frame<'a>(
     ensures frame { IfOk result (λ frame. frame ≡ frame_of target section.now) }
 {
     let (cies, fdes) = records_of(alloc, section, target)?;
-    let (initial, index) = check_parts(alloc, &cies, &fdes)?;
+    let (programs, index) = check_parts(alloc, &cies, &fdes)?;
+    let JudgedPrograms {
+        initial,
+        expressions,
+        in_cies,
+    } = programs;
     Ok(CheckedFrame {
         target,
         section,
@@ -184,6 +228,8 @@ pub fn check_frame<'a>(
         initial,
         fdes,
         index,
+        expressions,
+        in_cies,
     })
 }
 
@@ -220,6 +266,14 @@ impl<'a> CheckedFrame<'a> {
         self.fdes.as_slice()
     }
 
+    /// All expressions of the programs, each with the offset in the section where it begins: those of the CIEs' first, then those
+    /// of the FDEs', each in the order of the section. Each is checked under its kind.
+    pub fn expressions(&self) -> &[(u32, CheckedExpression<'a>)]
+        ensures { all_located result.now ≡ self.now.expressions }
+    {
+        self.expressions.as_slice()
+    }
+
     /// The FDE that covers an address: the only one that does, found by halving.
     pub fn fde_for_address(&self, address: u64) -> Option<FrameDescriptionEntry<'a>>
         ensures only { IsCoverOf self.now.fdes address (option_map fde_of result) }
@@ -252,6 +306,7 @@ impl<'a> CheckedFrame<'a> {
         ensures cie { cie_in self.now (fde_of fde.now) ≡ Some (cie_of result) }
         ensures fde_program { fde_fault (cie_of result) (fde_of fde.now) ≡ None }
         ensures left { IsLeftBy (cie_of result) state.new.first }
+        ensures lends { Lends self.now.expressions (cie_of result) (fde_of fde.now) }
     {
         match begin_with_cie(state, &self.cies, &self.initial, fde.cie_pointer) {
             Some(cie) => cie,
@@ -259,10 +314,18 @@ impl<'a> CheckedFrame<'a> {
         }
     }
 
+    /// The expressions, as rows lend them.
+    pub(crate) fn lent(&self) -> LentExpressions<'_>
+        ensures { lent_by result ≡ self.now.expressions }
+    {
+        let (cies, fdes) = self.expressions.split_at(self.in_cies);
+        LentExpressions::new(cies, fdes)
+    }
+
     /// The rows of one of the FDEs, in the order of their addresses. Each call runs the FDE's program again as the rows are
     /// asked for, behind what was kept of its CIE's, and takes no memory.
     #[inline(always)]
-    pub fn rows(&self, fde: &FrameDescriptionEntry<'a>) -> Rows<'a>
+    pub fn rows(&'a self, fde: &FrameDescriptionEntry<'a>) -> Rows<'a>
         requires { Contains self.now.fdes (fde_of fde.now) }
         ensures { result ≡ rows_in self.now (fde_of fde.now) }
     {
@@ -271,7 +334,7 @@ impl<'a> CheckedFrame<'a> {
 
     /// The rows of one of the FDEs as `rows` gives them, in the place of others. The answer is the FDE's CIE, as `cie_of`.
     pub fn rows_into(
-        &self,
+        &'a self,
         fde: &FrameDescriptionEntry<'a>,
         rows: &mut Rows<'a>,
     ) -> CommonInformationEntry<'a>
@@ -285,7 +348,7 @@ impl<'a> CheckedFrame<'a> {
 
     /// The row of an address, or none where no FDE covers it. It takes no memory: the FDE is found by halving, and its
     /// program is run up to that row, behind what was kept of its CIE's.
-    pub fn row_for_address(&self, address: u64) -> Option<UnwindTableRow>
+    pub fn row_for_address(&'a self, address: u64) -> Option<UnwindTableRow<'a>>
         ensures row { result ≡ row_of self.now address }
         ensures fit { IfSome result (λ row. (row.start ≤ top_of self.now.target)
             × (row.end ≤ top_of self.now.target)) }
@@ -298,9 +361,9 @@ impl<'a> CheckedFrame<'a> {
     /// Writes the row of an address into the place of another, and answers the FDE that covers the address and its CIE.
     /// Where none does it answers none, and the place is as before. One halving finds the FDE, and one its CIE.
     pub fn row_for_address_into(
-        &self,
+        &'a self,
         address: u64,
-        row: &mut UnwindTableRow,
+        row: &mut UnwindTableRow<'a>,
     ) -> Option<(CommonInformationEntry<'a>, FrameDescriptionEntry<'a>)>
         ensures only { IsCoverOf self.now.fdes address
             (option_map (λ found. fde_of found.1) result) }
@@ -320,10 +383,10 @@ impl<'a> CheckedFrame<'a> {
     /// room for a state is then made once, and only where an FDE is found.
     #[inline(never)]
     fn write_row_of(
-        &self,
+        &'a self,
         fde: &FrameDescriptionEntry<'a>,
         address: u64,
-        row: &mut UnwindTableRow,
+        row: &mut UnwindTableRow<'a>,
     ) -> CommonInformationEntry<'a>
         requires among { Contains self.now.fdes (fde_of fde.now) }
         requires low { fde.now.initial_location ≤ address }
@@ -335,7 +398,7 @@ impl<'a> CheckedFrame<'a> {
     {
         let mut state = UnwindState::new();
         let cie = self.begin_with_cie(&mut state, fde);
-        write_row_at(&mut state, &cie, fde, address, row);
+        write_row_at(&mut state, &cie, fde, address, self.lent(), row);
         cie
     }
 }

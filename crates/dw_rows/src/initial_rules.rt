@@ -2,8 +2,8 @@
 
 ghost use Rattle.std.specs.Prelude.{◌≡◌, ◌<◌, [], ◌∷◌, ◌++◌, length, Some, slice_get, MatchResult};
 
+use crate::kept_rule::KeptCfa;
 use crate::map::RuleEntry;
-use crate::row::CfaRule;
 use crate::rule_set::RuleSet;
 use std::alloc::{AllocError, Global};
 use std::marker::Model;
@@ -11,7 +11,7 @@ use std::marker::Model;
 /// Where the rules of one CIE lie among those of all, and the rule of its CFA.
 #[derive(Clone, Copy, Debug)]
 pub struct RuleSpan {
-    pub cfa: Option<CfaRule>,
+    pub cfa: Option<KeptCfa>,
     pub start: usize,
     pub end: usize,
 }

@@ -1,18 +1,23 @@
 //! What the definitions say, in the standard's words: functions that do nothing, each with the law as
 //! its contract.
 
-ghost use Rattle.std.specs.Prelude.{◌≡◌, ℕ, ◌+◌, ◌<◌, ◌≤◌, ◌↔◌, List, length, Option, Some, None, slice_get, filter, [], ◌∷◌, Err, Contains};
+ghost use Rattle.std.specs.Prelude.{◌≡◌, ◌⊎◌, false, ℕ, ◌+◌, ◌<◌, ◌≤◌, ◌↔◌, List, length, Option, Some, None, slice_get, filter, [], ◌∷◌, Err, Contains};
 ghost use Rattle.dw_frame.specs.Records.{Cie, Fde};
-ghost use Rattle.dw_rows.specs.Rules.{Rule, Cfa, Row, IsTable, rule_in, rule_list};
-ghost use Rattle.dw_rows.specs.Effects.{Effect, restores_state};
-ghost use Rattle.dw_rows.specs.InForce.{Start};
-ghost use Rattle.dw_rows.specs.Judgement.{cie_fault, fde_fault};
+ghost use Rattle.dw_rows.specs.Rules.{PlacedRule, PlacedCfa, PlacedRow, IsTable, rule_in, rule_list};
+ghost use Rattle.dw_bytes.specs.declared.fault.FaultKind.{FaultKind};
+ghost use Rattle.dw_frame.specs.Instructions.{Instruction};
+ghost use Rattle.dw_rows.specs.Effects.{Effect, restores_state, effect_of};
+ghost use Rattle.dw_rows.specs.Expressions.{expression_in};
+ghost use Rattle.dw_rows.specs.InForce.{Start, location_of};
+ghost use Rattle.dw_rows.specs.Judgement.{cie_fault, fde_fault, is_barred, refusal_at};
 ghost use Rattle.dw_rows.specs.UnwindRows.{rows_of, has_address, Cover};
 ghost use Rattle.dw_rows.specs.Good.{rule_after, cfa_after, Match, IsGoodCieProgram, IsGoodFdeProgram};
 ghost use Rattle.dw_rows.specs.Clauses.{AreRules, AreRowsOf};
 ghost use Rattle.dw_bytes.specs.declared.target.Target.{Target};
 ghost use Rattle.dw_bytes.specs.declared.fault.Fault.{Fault};
 ghost use Rattle.dw_frame.specs.Bounds.{StandsIn, IsSoundCie, IsSoundFde, Ascends};
+ghost use Rattle.dw_stack.specs.Expressions.{IsGoodExpression};
+ghost use Rattle.dw_stack.specs.Located.{LocatedExpression};
 ghost use Rattle.dw_rows.specs.ExactRows.{HasOneRow};
 ghost use Rattle.dw_rows.specs.Section.{Frame, Covers, row_of, IsChecked, section_fault};
 ghost use Rattle.dw_rows.specs.WellFormed.{IsWellFormed};
@@ -24,7 +29,7 @@ ghost use Rattle.dw_rows.specs.declared.remember_stack.TheConstants.{MAX_REMEMBE
 pub fn rules_by_instruction()
     ensures meet { (s : Start) (program : List Effect)
         → AreRules s program (rule_after s program) (cfa_after s program) }
-    ensures only { (s : Start) (program : List Effect) (rule : ℕ → ℕ → Rule) (cfa : ℕ → Option Cfa)
+    ensures only { (s : Start) (program : List Effect) (rule : ℕ → ℕ → PlacedRule) (cfa : ℕ → Option PlacedCfa)
         → AreRules s program rule cfa →
         ((j : ℕ) → slice_get program j ≡ Some restores_state → (i : ℕ) × Match program i j) →
         (k : ℕ) → k ≤ length program → ((r : ℕ) → rule k r ≡ rule_after s program k r)
@@ -36,6 +41,17 @@ pub fn good_programs_have_no_fault()
     ensures cie { (cie : Cie) → (cie_fault cie ≡ None) ↔ IsGoodCieProgram cie }
     ensures fde { (cie : Cie) (fde : Fde) → cie_fault cie ≡ None
         → (fde_fault cie fde ≡ None) ↔ IsGoodFdeProgram cie fde }
+{}
+
+/// An instruction with an expression is refused by none of the tests that come before its expression's, where those before it
+/// were not refused: so its expression can be judged first.
+pub fn expressions_are_judged_in_their_place()
+    ensures behind { (s : Start) (before : List Effect) (cie : Cie) (i : Instruction)
+        (e : LocatedExpression) → expression_in i ≡ Some e → location_of s before ≤ s.end
+        → (refusal_at s before (effect_of cie i) ≡ None)
+        ⊎ (refusal_at s before (effect_of cie i) ≡ Some FaultKind.TooManyRules) }
+    ensures allowed { (cie : Cie) (i : Instruction) (e : LocatedExpression)
+        → expression_in i ≡ Some e → is_barred (effect_of cie i) ≡ false }
 {}
 
 /// The rows of an FDE whose program is good are the rows of the addresses that it covers: each has the
@@ -53,15 +69,15 @@ pub fn rows_cover()
         → Cover fde.initial (rows_of cie fde) (fde.initial + fde.range) }
     ensures one { (cie : Cie) (fde : Fde) (address : ℕ) → fde_fault cie fde ≡ None
         → fde.initial ≤ address → address < fde.initial + fde.range
-        → (row : Row) × (filter (has_address address) (rows_of cie fde) ≡ row ∷ []) }
+        → (row : PlacedRow) × (filter (has_address address) (rows_of cie fde) ≡ row ∷ []) }
 {}
 
 /// A list of rules by ascending registers and the function that it stands for say the same.
 pub fn rule_lists_are_rules()
-    ensures list { (entries : List (ℕ × Rule)) → IsTable 0 entries
+    ensures list { (entries : List (ℕ × PlacedRule)) → IsTable 0 entries
         → rule_list (rule_in entries) ≡ entries }
-    ensures rules { (rules : ℕ → Rule) (r : ℕ) → r < 65536 → rule_in (rule_list rules) r ≡ rules r }
-    ensures table { (rules : ℕ → Rule) → IsTable 0 (rule_list rules) }
+    ensures rules { (rules : ℕ → PlacedRule) (r : ℕ) → r < 65536 → rule_in (rule_list rules) r ≡ rules r }
+    ensures table { (rules : ℕ → PlacedRule) → IsTable 0 (rule_list rules) }
 {}
 
 /// A section has no fault exactly where it is well formed: a concatenation of records whose CIE_pointers point to CIEs,
@@ -80,7 +96,8 @@ pub fn exact_rows()
         → row_of s a ≡ None }
 {}
 
-/// What a section that is accepted holds: good programs that lie in it and are of its target, in order of offset.
+/// What a section that is accepted holds: good programs that lie in it and are of its target, in order of offset, and good
+/// expressions, which lie in it likewise.
 pub fn checked_sections()
     ensures well_formed { (s : Frame) → IsChecked s → IsWellFormed s.target s.section }
     ensures cies { (s : Frame) → IsChecked s → (c : Cie) → Contains s.cies c
@@ -89,6 +106,9 @@ pub fn checked_sections()
         → IsSoundFde s.target (length s.section) f }
     ensures cies_ascend { (s : Frame) → IsChecked s → Ascends (λ (c : Cie). c.offset) s.cies }
     ensures fdes_ascend { (s : Frame) → IsChecked s → Ascends (λ (f : Fde). f.offset) s.fdes }
+    ensures expressions { (s : Frame) → IsChecked s → (e : LocatedExpression)
+        → Contains s.expressions e → IsGoodExpression e.kind e.target e.bytes
+        × (e.target ≡ s.target) × (e.offset + length e.bytes ≤ length s.section) }
 {}
 
 /// Each restore_state has at most one match, and so has each remember_state.

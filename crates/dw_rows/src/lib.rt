@@ -3,9 +3,12 @@
 
 mod check;
 mod effect;
+mod expressions;
 mod frame;
 mod index;
 mod initial_rules;
+mod judged;
+mod kept_rule;
 pub mod laws;
 mod lookup;
 mod map;
@@ -19,8 +22,8 @@ mod unwind_context;
 mod unwind_state;
 
 pub use check::{check_cie, check_fde};
+pub use expressions::LentExpressions;
 pub use frame::{CheckedFrame, check_frame};
-pub use lookup::{row_at, rows};
 pub use map::MAX_RULES;
 pub use remember_stack::MAX_REMEMBERED;
 pub use row::{CfaRule, RegisterRule, RegisterRules, UnwindTableRow};

@@ -1,55 +1,20 @@
 //! The rows of an FDE whose program is good.
 
-ghost use Rattle.std.specs.Prelude.{◌≡◌, ◌+◌, ◌<◌, ◌≤◌, ◌↔◌, None, Some, IsSome, find};
+ghost use Rattle.std.specs.Prelude.{◌≡◌, ◌+◌, ◌<◌, ◌≤◌, Some, find, map};
 ghost use Rattle.dw_frame.specs.Views.{cie_of, fde_of};
-ghost use Rattle.dw_rows.specs.Judgement.{cie_fault, fde_fault};
+ghost use Rattle.dw_rows.specs.Judgement.{fde_fault};
 ghost use Rattle.dw_rows.specs.UnwindRows.{rows_of, has_address};
 ghost use Rattle.dw_rows.specs.ProgramState.{IsLeftBy};
-ghost use Rattle.dw_rows.specs.RowCursors.{remembering, Seeks};
+ghost use Rattle.dw_rows.specs.RowCursors.{remembering, Seeks, Lends};
+ghost use Rattle.dw_rows.specs.GivenRows.{row_with};
+ghost use Rattle.dw_rows.specs.LentExpressions.{lent_by};
 
+use crate::expressions::LentExpressions;
 use crate::row::UnwindTableRow;
-use crate::row_cursor::{Next, begin_at, next_plain, next_range, run_good};
-use crate::row_iter::Rows;
+use crate::row_cursor::{Next, begin_at, next_plain, next_range};
 use crate::unwind_context::UnwindContext;
 use crate::unwind_state::UnwindState;
 use dw_frame::{CommonInformationEntry, FrameDescriptionEntry, Instructions};
-
-/// The rows of an FDE, in the order of their addresses (DWARF 5, section 6.4.1). Its program and its
-/// CIE's must be good. It takes no memory.
-pub fn rows<'a>(cie: &CommonInformationEntry<'a>, fde: &FrameDescriptionEntry<'a>) -> Rows<'a>
-    requires cie { cie_fault (cie_of cie.now) ≡ None }
-    requires fde { fde_fault (cie_of cie.now) (fde_of fde.now) ≡ None }
-    ensures { result ≡ rows_of (cie_of cie.now) (fde_of fde.now) }
-{
-    Rows::new(cie, fde)
-}
-
-/// The row of an FDE that has an address, if the FDE covers it. The program and its CIE's must be good.
-/// It runs the program up to that row, and takes no memory.
-pub fn row_at<'a>(
-    cie: &CommonInformationEntry<'a>,
-    fde: &FrameDescriptionEntry<'a>,
-    address: u64,
-) -> Option<UnwindTableRow>
-    requires cie { cie_fault (cie_of cie.now) ≡ None }
-    requires fde { fde_fault (cie_of cie.now) (fde_of fde.now) ≡ None }
-    ensures row { result ≡ find (has_address address) (rows_of (cie_of cie.now) (fde_of fde.now)) }
-    ensures covered { IsSome result ↔
-        ((fde.now.initial_location ≤ address)
-        × (address < fde.now.initial_location + fde.now.address_range)) }
-{
-    if address < fde.initial_location {
-        return None;
-    }
-    if address - fde.initial_location >= fde.address_range {
-        return None;
-    }
-    let mut state = UnwindState::new();
-    run_good(&mut state, cie);
-    let mut row = UnwindTableRow::empty();
-    write_row_at(&mut state, cie, fde, address, &mut row);
-    Some(row)
-}
 
 /// Writes the row that has an address into the place of another. The FDE covers the address, and the state has kept what
 /// the CIE's program leaves.
@@ -58,13 +23,16 @@ pub(crate) fn write_row_at<'a>(
     cie: &CommonInformationEntry<'a>,
     fde: &FrameDescriptionEntry<'a>,
     address: u64,
-    row: &mut UnwindTableRow,
+    expressions: LentExpressions<'a>,
+    row: &mut UnwindTableRow<'a>,
 )
+    requires lent { Lends (lent_by expressions) (cie_of cie.now) (fde_of fde.now) }
     requires left { IsLeftBy (cie_of cie.now) state.old.first }
     requires fde { fde_fault (cie_of cie.now) (fde_of fde.now) ≡ None }
     requires low { fde.now.initial_location ≤ address }
     requires high { address < fde.now.initial_location + fde.now.address_range }
-    ensures { find (has_address address) (rows_of (cie_of cie.now) (fde_of fde.now))
+    ensures { find (has_address address)
+        (map (row_with (lent_by expressions.entry)) (rows_of (cie_of cie.now) (fde_of fde.now)))
         ≡ Some row.new }
 {
     let limit = fde.initial_location + fde.address_range;
@@ -73,12 +41,12 @@ pub(crate) fn write_row_at<'a>(
         match next_plain(state, &mut instructions, cie, limit) {
             Next::Row(start, end) => {
                 if address < end {
-                    state.write_row(start, end, row);
+                    state.write_row(start, end, expressions, row);
                     return;
                 }
             }
             Next::Remembers => {
-                write_row_behind(state, instructions, cie, fde, address, row);
+                write_row_behind(state, instructions, cie, fde, address, expressions, row);
                 return;
             }
             Next::End => unreachable!(),
@@ -95,8 +63,10 @@ fn write_row_behind<'a>(
     cie: &CommonInformationEntry<'a>,
     fde: &FrameDescriptionEntry<'a>,
     address: u64,
-    row: &mut UnwindTableRow,
+    expressions: LentExpressions<'a>,
+    row: &mut UnwindTableRow<'a>,
 )
+    requires lent { Lends (lent_by expressions) (cie_of cie.now) (fde_of fde.now) }
     requires fde { fde_fault (cie_of cie.now) (fde_of fde.now) ≡ None }
     requires low { fde.now.initial_location ≤ address }
     requires high { address < fde.now.initial_location + fde.now.address_range }
@@ -108,7 +78,8 @@ fn write_row_behind<'a>(
           instructions =
               instructions;
         })) }
-    ensures { find (has_address address) (rows_of (cie_of cie.now) (fde_of fde.now))
+    ensures { find (has_address address)
+        (map (row_with (lent_by expressions.entry)) (rows_of (cie_of cie.now) (fde_of fde.now)))
         ≡ Some row.new }
 {
     let limit = fde.initial_location + fde.address_range;
@@ -116,7 +87,7 @@ fn write_row_behind<'a>(
     context.remember_at(state);
     while let Some((start, end)) = next_range(&mut context, &mut instructions, cie, limit) {
         if address < end {
-            context.write_row(start, end, row);
+            context.write_row(start, end, expressions, row);
             return;
         }
     }

@@ -4,11 +4,11 @@ ghost use Rattle.std.specs.Prelude.{◌≡◌, ◌≢◌, ℕ, ◌+◌, ◌<◌,
 ghost use Rattle.arrayvec.specs.ArrayVec.{array_vec_len};
 ghost use Rattle.dw_bytes.specs.declared.fault.FaultKind.{FaultKind};
 ghost use Rattle.std.specs.Bool.{OnTrue, OnFalse};
-ghost use Rattle.dw_rows.specs.Rules.{Rule, IsTable, rule_in, rule_list, rule_count, changed_at};
-ghost use Rattle.dw_rows.specs.Views.{rule_of, rule_by, entry_of, entries_of};
+ghost use Rattle.dw_rows.specs.Rules.{PlacedRule, RuleOver, IsTable, rule_in, rule_list, rule_count, changed_at};
+ghost use Rattle.dw_rows.specs.Views.{kept_rule_of, rule_by, entry_of, entries_of};
 ghost use Rattle.dw_rows.specs.RememberStack.{place_in};
 
-use crate::row::{RegisterRule, RegisterRules};
+use crate::kept_rule::KeptRule;
 use arrayvec::ArrayVec;
 use dw_bytes::FaultKind;
 use std::marker::Model;
@@ -25,14 +25,17 @@ pub enum RuleKind {
     Offset,
     ValOffset,
     Register,
+    Expression,
+    ValExpression,
 }
 
-/// A register and its rule, in 16 bytes: the offset and the other register are there whatever the kind.
+/// A register and its rule, in 16 bytes: an offset and a number are there whatever the kind. The number is the other register, or
+/// the offset in the section where the expression begins.
 #[derive(Clone, Copy, Debug)]
 pub struct RuleEntry {
     pub offset: i64,
     pub register: u16,
-    pub source: u16,
+    pub number: u32,
     pub kind: RuleKind,
 }
 
@@ -41,7 +44,7 @@ impl Default for RuleEntry {
         RuleEntry {
             offset: 0,
             register: 0,
-            source: 0,
+            number: 0,
             kind: RuleKind::Default,
         }
     }
@@ -49,37 +52,41 @@ impl Default for RuleEntry {
 
 /// An entry with this rule.
 #[inline(always)]
-fn entry(register: u16, rule: RegisterRule) -> RuleEntry
-    ensures { entry_of result ≡ (register, rule_of rule) }
+fn entry(register: u16, rule: KeptRule) -> RuleEntry
+    ensures { entry_of result ≡ (register, kept_rule_of rule) }
 {
-    let (kind, offset, source) = match rule {
-        RegisterRule::Default => (RuleKind::Default, 0, 0),
-        RegisterRule::Undefined => (RuleKind::Undefined, 0, 0),
-        RegisterRule::SameValue => (RuleKind::SameValue, 0, 0),
-        RegisterRule::Offset(offset) => (RuleKind::Offset, offset, 0),
-        RegisterRule::ValOffset(offset) => (RuleKind::ValOffset, offset, 0),
-        RegisterRule::Register(source) => (RuleKind::Register, 0, source),
+    let (kind, offset, number) = match rule {
+        KeptRule::Default => (RuleKind::Default, 0, 0),
+        KeptRule::Undefined => (RuleKind::Undefined, 0, 0),
+        KeptRule::SameValue => (RuleKind::SameValue, 0, 0),
+        KeptRule::Offset(offset) => (RuleKind::Offset, offset, 0),
+        KeptRule::ValOffset(offset) => (RuleKind::ValOffset, offset, 0),
+        KeptRule::Register(register) => (RuleKind::Register, 0, u32::from(register)),
+        KeptRule::Expression(at) => (RuleKind::Expression, 0, at),
+        KeptRule::ValExpression(at) => (RuleKind::ValExpression, 0, at),
     };
     RuleEntry {
         offset,
         register,
-        source,
+        number,
         kind,
     }
 }
 
 /// The rule of an entry.
 #[inline(always)]
-pub fn rule_of_entry(entry: &RuleEntry) -> RegisterRule
-    ensures { rule_of result ≡ rule_by entry.now }
+pub fn rule_of_entry(entry: &RuleEntry) -> KeptRule
+    ensures { kept_rule_of result ≡ rule_by entry.now }
 {
     match entry.kind {
-        RuleKind::Default => RegisterRule::Default,
-        RuleKind::Undefined => RegisterRule::Undefined,
-        RuleKind::SameValue => RegisterRule::SameValue,
-        RuleKind::Offset => RegisterRule::Offset(entry.offset),
-        RuleKind::ValOffset => RegisterRule::ValOffset(entry.offset),
-        RuleKind::Register => RegisterRule::Register(entry.source),
+        RuleKind::Default => KeptRule::Default,
+        RuleKind::Undefined => KeptRule::Undefined,
+        RuleKind::SameValue => KeptRule::SameValue,
+        RuleKind::Offset => KeptRule::Offset(entry.offset),
+        RuleKind::ValOffset => KeptRule::ValOffset(entry.offset),
+        RuleKind::Register => KeptRule::Register((entry.number % 65536) as u16),
+        RuleKind::Expression => KeptRule::Expression(entry.number),
+        RuleKind::ValExpression => KeptRule::ValExpression(entry.number),
     }
 }
 
@@ -91,9 +98,9 @@ pub struct RegisterRuleMap {
 
 impl Model for RegisterRuleMap {
     ghost use Rattle.std.specs.Prelude.{ℕ, List};
-    ghost use Rattle.dw_rows.specs.Rules.{Rule, IsTable};
+    ghost use Rattle.dw_rows.specs.Rules.{PlacedRule, IsTable};
 
-    ghost Value = { List (ℕ × Rule) };
+    ghost Value = { List (ℕ × PlacedRule) };
 
     ghost use Rattle.dw_rows.specs.Views.{entries_of};
 
@@ -115,8 +122,8 @@ impl RegisterRuleMap {
 
     /// The rule of a register.
     #[inline(always)]
-    pub fn register(&self, number: u16) -> RegisterRule
-        ensures { rule_of result ≡ rule_in self.now number }
+    pub fn register(&self, number: u16) -> KeptRule
+        ensures { kept_rule_of result ≡ rule_in self.now number }
     {
         rule_of_register(self.entries.as_slice(), number)
     }
@@ -166,12 +173,12 @@ impl RegisterRuleMap {
 
     /// Gives a register a rule. It is refused where there would be too many rules.
     #[inline(always)]
-    pub fn set(&mut self, number: u16, rule: RegisterRule) -> Result<(), FaultKind>
+    pub fn set(&mut self, number: u16, rule: KeptRule) -> Result<(), FaultKind>
         ensures { MatchResult result
-            (λ _. (self.new ≡ rule_list (changed_at (rule_in self.old) number (rule_of rule)))
+            (λ _. (self.new ≡ rule_list (changed_at (rule_in self.old) number (kept_rule_of rule)))
             × (length self.new ≤ MAX_RULES))
             (λ kind. (kind ≡ FaultKind.TooManyRules)
-            × (MAX_RULES < rule_count (changed_at (rule_in self.old) number (rule_of rule)))) }
+            × (MAX_RULES < rule_count (changed_at (rule_in self.old) number (kept_rule_of rule)))) }
     {
         if put_rule(&mut self.entries, number, rule) {
             Ok(())
@@ -179,28 +186,19 @@ impl RegisterRuleMap {
             Err(FaultKind::TooManyRules)
         }
     }
-
-    /// The rules other than `Default`, in ascending order of registers.
-    pub fn iter(&self) -> RegisterRules<'_>
-        ensures rules { result ≡ self.now }
-        ensures ascending { IsTable 0 self.now }
-        ensures few { length self.now ≤ MAX_RULES }
-    {
-        RegisterRules::new(self.entries.as_slice())
-    }
 }
 
 /// The rule of a register.
 #[inline(always)]
-fn rule_of_register(entries: &[RuleEntry], register: u16) -> RegisterRule
-    ensures { rule_of result ≡ rule_in (entries_of entries.now) register }
+fn rule_of_register(entries: &[RuleEntry], register: u16) -> KeptRule
+    ensures { kept_rule_of result ≡ rule_in (entries_of entries.now) register }
 {
     for entry in entries {
         if entry.register == register {
             return rule_of_entry(entry);
         }
     }
-    RegisterRule::Default
+    KeptRule::Default
 }
 
 /// How many entries are below the register.
@@ -223,7 +221,7 @@ fn clear_rule(table: &mut ArrayVec<RuleEntry, MAX_RULES>, register: u16)
     requires { IsTable 0 (entries_of table.old.items) }
     ensures table { IsTable 0 (entries_of table.new.items) }
     ensures rules { entries_of table.new.items ≡ rule_list
-        (changed_at (rule_in (entries_of table.old.items)) register Rule.default) }
+        (changed_at (rule_in (entries_of table.old.items)) register RuleOver.default) }
 {
     let place = place_of(table.as_slice(), register);
     if place < table.len() && table.as_slice()[place].register == register {
@@ -233,20 +231,20 @@ fn clear_rule(table: &mut ArrayVec<RuleEntry, MAX_RULES>, register: u16)
 
 /// Gives the register the rule. Only where there is no room for it, it answers `false`.
 #[inline(always)]
-fn put_rule(table: &mut ArrayVec<RuleEntry, MAX_RULES>, register: u16, rule: RegisterRule) -> bool
+fn put_rule(table: &mut ArrayVec<RuleEntry, MAX_RULES>, register: u16, rule: KeptRule) -> bool
     requires { IsTable 0 (entries_of table.old.items) }
     ensures table { IsTable 0 (entries_of table.new.items) }
     ensures rules { OnTrue result
         (entries_of table.new.items ≡ rule_list
-        (changed_at (rule_in (entries_of table.old.items)) register (rule_of rule))) }
+        (changed_at (rule_in (entries_of table.old.items)) register (kept_rule_of rule))) }
     ensures few { length (entries_of table.new.items) ≤ MAX_RULES }
     ensures full { OnFalse result
         (MAX_RULES < rule_count (changed_at (rule_in (entries_of table.old.items)) register
-        (rule_of rule))) }
+        (kept_rule_of rule))) }
 {
     clear_rule(table, register);
     let full = table.is_full();
-    if let RegisterRule::Default = rule {
+    if let KeptRule::Default = rule {
         return true;
     }
     if full {

@@ -1,15 +1,22 @@
 //! Rows and their rules.
 
-ghost use Rattle.std.specs.Prelude.{◌≡◌, ◌≤◌, Some, [], length, pos};
-ghost use Rattle.dw_rows.specs.Rules.{Cfa, IsTable, rule_in};
-ghost use Rattle.dw_rows.specs.Views.{rule_of, cfa_rule_of, numbered_rule_of};
+ghost use Rattle.std.specs.Prelude.{◌≡◌, ◌≤◌, Some, All, [], length, pos};
+ghost use Rattle.dw_rows.specs.Rules.{CfaOver, IsTable, rule_in};
+ghost use Rattle.dw_rows.specs.Views.{rule_of, cfa_rule_of, kept_rule_of, kept_cfa_of};
+ghost use Rattle.dw_rows.specs.Expressions.{expression_at};
+ghost use Rattle.dw_rows.specs.GivenRows.{row_with, rule_with, cfa_with, located_at, LendsRule, LendsCfa, LendsEach, IsRuleOfKind, IsCfaOfKind, IsEntryOfKind};
+ghost use Rattle.dw_rows.specs.LentExpressions.{lent_by};
+ghost use Rattle.dw_stack.specs.Located.{LocatedExpression, located_of};
 
+use crate::expressions::LentExpressions;
+use crate::kept_rule::{KeptCfa, KeptRule};
 use crate::map::{MAX_RULES, RegisterRuleMap, RuleEntry, rule_of_entry};
+use dw_stack::CheckedExpression;
 use std::marker::Model;
 
 /// What a register of the caller is (DWARF 5, section 6.4.1). An offset counts from the CFA.
 #[derive(Clone, Copy, Debug)]
-pub enum RegisterRule {
+pub enum RegisterRule<'a> {
     /// No instruction has set it, or a restore has given back that the CIE's did not.
     Default,
     /// It can't be had.
@@ -22,75 +29,166 @@ pub enum RegisterRule {
     ValOffset(i64),
     /// It is the content of that register.
     Register(u16),
+    /// It is saved at the address that an expression gives, which begins with the CFA on its stack.
+    Expression {
+        /// Where the expression begins in the section.
+        offset: u32,
+        /// It is checked as a `FrameRegister`.
+        expression: CheckedExpression<'a>,
+    },
+    /// It is what an expression gives, which begins with the CFA on its stack.
+    ValExpression {
+        /// Where the expression begins in the section.
+        offset: u32,
+        /// It is checked as a `FrameRegister`.
+        expression: CheckedExpression<'a>,
+    },
 }
 
 /// How the CFA is found (DWARF 5, section 6.4.1).
 #[derive(Clone, Copy, Debug)]
-pub enum CfaRule {
+pub enum CfaRule<'a> {
     /// It is the content of a register plus an offset.
-    RegisterAndOffset { register: u16, offset: i64 },
+    RegisterAndOffset {
+        register: u16,
+        offset: i64,
+    },
+    /// It is what an expression gives, which begins with nothing on its stack.
+    Expression {
+        /// Where the expression begins in the section.
+        offset: u32,
+        /// It is checked as a `FrameCfa`.
+        expression: CheckedExpression<'a>,
+    },
+}
+
+/// The rule of a register, with the expression that it names.
+fn given_rule<'a>(rule: KeptRule, expressions: &LentExpressions<'a>) -> RegisterRule<'a>
+    requires { LendsRule (lent_by expressions.now) (kept_rule_of rule) }
+    ensures { rule_of result ≡ rule_with (lent_by expressions.now) (kept_rule_of rule) }
+{
+    match rule {
+        KeptRule::Default => RegisterRule::Default,
+        KeptRule::Undefined => RegisterRule::Undefined,
+        KeptRule::SameValue => RegisterRule::SameValue,
+        KeptRule::Offset(offset) => RegisterRule::Offset(offset),
+        KeptRule::ValOffset(offset) => RegisterRule::ValOffset(offset),
+        KeptRule::Register(register) => RegisterRule::Register(register),
+        KeptRule::Expression(offset) => RegisterRule::Expression {
+            offset,
+            expression: given_expression(offset, expressions),
+        },
+        KeptRule::ValExpression(offset) => RegisterRule::ValExpression {
+            offset,
+            expression: given_expression(offset, expressions),
+        },
+    }
+}
+
+/// The rule of the CFA, likewise.
+fn given_cfa<'a>(cfa: KeptCfa, expressions: &LentExpressions<'a>) -> CfaRule<'a>
+    requires { LendsCfa (lent_by expressions.now) (kept_cfa_of cfa) }
+    ensures { cfa_rule_of result ≡ cfa_with (lent_by expressions.now) (kept_cfa_of cfa) }
+{
+    match cfa {
+        KeptCfa::RegisterAndOffset { register, offset } => {
+            CfaRule::RegisterAndOffset { register, offset }
+        }
+        KeptCfa::Expression(offset) => CfaRule::Expression {
+            offset,
+            expression: given_expression(offset, expressions),
+        },
+    }
+}
+
+/// The expression that a rule names, by halving.
+fn given_expression<'a>(offset: u32, expressions: &LentExpressions<'a>) -> CheckedExpression<'a>
+    requires { (e : LocatedExpression) × (expression_at (lent_by expressions.now) offset ≡ Some e) }
+    ensures { located_of (offset, result) ≡ located_at (lent_by expressions.now) offset }
+{
+    match expressions.at(offset) {
+        Some(expression) => expression,
+        None => unreachable!(),
+    }
 }
 
 /// The addresses from a start to before an end, and the rules that hold there.
 #[derive(Debug, Drop)]
-pub struct UnwindTableRow {
+pub struct UnwindTableRow<'a> {
     start: u64,
     end: u64,
-    cfa: CfaRule,
+    cfa: KeptCfa,
     rules: RegisterRuleMap,
+    expressions: LentExpressions<'a>,
 }
 
-impl Model for UnwindTableRow {
+impl<'a> Model for UnwindTableRow<'a> {
     ghost use Rattle.std.specs.Prelude.{Some};
     ghost use Rattle.dw_rows.specs.Rules.{Row};
 
     ghost Value = { Row };
 
-    ghost use Rattle.dw_rows.specs.Views.{cfa_rule_of};
+    ghost use Rattle.dw_rows.specs.Views.{kept_cfa_of};
+    ghost use Rattle.dw_rows.specs.GivenRows.{row_with, LendsCfa, LendsEach};
+    ghost use Rattle.dw_rows.specs.LentExpressions.{lent_by};
 
-    ghost view = { λ row. record {
+    ghost view = { λ row. row_with (lent_by row.expressions) (record {
       start = row.start;
       end = row.end;
-      cfa = Some (cfa_rule_of row.cfa);
+      cfa = Some (kept_cfa_of row.cfa);
       rules = row.rules;
-    } };
+    }) };
+
+    ghost invariant = { λ row. LendsCfa (lent_by row.expressions) (kept_cfa_of row.cfa)
+        × LendsEach (lent_by row.expressions) row.rules };
 }
 
-impl UnwindTableRow {
+impl<'a> UnwindTableRow<'a> {
     /// A row of no address, as a place for others: `Rows::next_into` writes a row there.
     #[inline(always)]
     pub fn empty() -> Self
         ensures { result ≡ record {
           start = 0;
           end = 0;
-          cfa = Some (Cfa.register_and_offset 0 (pos 0));
+          cfa = Some (CfaOver.register_and_offset 0 (pos 0));
           rules = [];
         } }
     {
         UnwindTableRow {
             start: 0,
             end: 0,
-            cfa: CfaRule::RegisterAndOffset {
+            cfa: KeptCfa::RegisterAndOffset {
                 register: 0,
                 offset: 0,
             },
             rules: RegisterRuleMap::new(),
+            expressions: LentExpressions::empty(),
         }
     }
 
-    /// Becomes the row of these addresses with these rules.
-    pub(crate) fn set(&mut self, start: u64, end: u64, cfa: CfaRule, rules: &RegisterRuleMap)
-        ensures { self.new ≡ record {
+    /// Becomes the row of these addresses with these rules, which name the expressions that are lent.
+    pub(crate) fn set(
+        &mut self,
+        start: u64,
+        end: u64,
+        cfa: KeptCfa,
+        rules: &RegisterRuleMap,
+        expressions: LentExpressions<'a>,
+    )
+        requires cfa { LendsCfa (lent_by expressions) (kept_cfa_of cfa) }
+        requires rules { LendsEach (lent_by expressions) rules.now }
+        ensures { self.new ≡ row_with (lent_by expressions.entry) (record {
           start = start;
           end = end;
-          cfa = Some (cfa_rule_of cfa);
+          cfa = Some (kept_cfa_of cfa);
           rules = rules.now;
-        } }
+        }) }
     {
         self.start = start;
         self.end = end;
         self.cfa = cfa;
         self.rules.copy_from(rules);
+        self.expressions = expressions;
     }
 
     /// The first address that it covers.
@@ -107,18 +205,20 @@ impl UnwindTableRow {
         self.end
     }
 
-    /// How the CFA is found.
-    pub fn cfa(&self) -> CfaRule
-        ensures { self.now.cfa ≡ Some (cfa_rule_of result) }
+    /// How the CFA is found. An expression is lent, as it was checked.
+    pub fn cfa(&self) -> CfaRule<'a>
+        ensures cfa { self.now.cfa ≡ Some (cfa_rule_of result) }
+        ensures kind { IsCfaOfKind (cfa_rule_of result) }
     {
-        self.cfa
+        given_cfa(self.cfa, &self.expressions)
     }
 
-    /// The rule of a register: `Default` where none is in force.
-    pub fn register(&self, number: u16) -> RegisterRule
-        ensures { rule_of result ≡ rule_in self.now.rules number }
+    /// The rule of a register: `Default` where none is in force. An expression is lent, as it was checked.
+    pub fn register(&self, number: u16) -> RegisterRule<'a>
+        ensures rule { rule_of result ≡ rule_in self.now.rules number }
+        ensures kind { IsRuleOfKind (rule_of result) }
     {
-        self.rules.register(number)
+        given_rule(self.rules.register(number), &self.expressions)
     }
 
     /// The rules other than `Default`, each with its register, in ascending order of registers: at most `MAX_RULES`.
@@ -126,8 +226,12 @@ impl UnwindTableRow {
         ensures rules { result ≡ self.now.rules }
         ensures ascending { IsTable 0 self.now.rules }
         ensures few { length self.now.rules ≤ MAX_RULES }
+        ensures kinds { All IsEntryOfKind self.now.rules }
     {
-        self.rules.iter()
+        RegisterRules {
+            entries: self.rules.as_slice(),
+            expressions: self.expressions,
+        }
     }
 }
 
@@ -135,6 +239,7 @@ impl UnwindTableRow {
 #[derive(Debug, Drop)]
 pub struct RegisterRules<'a> {
     entries: &'a [RuleEntry],
+    expressions: LentExpressions<'a>,
 }
 
 impl<'a> Model for RegisterRules<'a> {
@@ -144,24 +249,16 @@ impl<'a> Model for RegisterRules<'a> {
     ghost Value = { List (ℕ × Rule) };
 
     ghost use Rattle.dw_rows.specs.Views.{entries_of};
+    ghost use Rattle.dw_rows.specs.GivenRows.{rules_with, LendsEach};
+    ghost use Rattle.dw_rows.specs.LentExpressions.{lent_by};
 
-    ghost view = { λ r. entries_of r.entries.now };
-}
+    ghost view = { λ r. rules_with (lent_by r.expressions) (entries_of r.entries.now) };
 
-impl<'a> RegisterRules<'a> {
-    ghost use Rattle.std.specs.Prelude.{◌≡◌};
-    ghost use Rattle.dw_rows.specs.Views.{entries_of};
-
-    /// All rules of these entries.
-    pub(crate) fn new(entries: &'a [RuleEntry]) -> Self
-        ensures { result ≡ entries_of entries.now }
-    {
-        RegisterRules { entries }
-    }
+    ghost invariant = { λ r. LendsEach (lent_by r.expressions) (entries_of r.entries.now) };
 }
 
 impl<'a> Iterator for RegisterRules<'a> {
-    type Item = (u16, RegisterRule);
+    type Item = (u16, RegisterRule<'a>);
 
     ghost use Rattle.std.specs.Iterator.{YieldsFirstBy, item_count};
     ghost use Rattle.dw_rows.specs.Views.{numbered_rule_of};
@@ -170,12 +267,13 @@ impl<'a> Iterator for RegisterRules<'a> {
 
     ghost remaining = { item_count (λ r. r) };
 
-    fn next(&mut self) -> Option<(u16, RegisterRule)> {
+    fn next(&mut self) -> Option<(u16, RegisterRule<'a>)> {
         match self.entries {
             [] => None,
             [entry, rest @ ..] => {
+                let rule = given_rule(rule_of_entry(entry), &self.expressions);
                 self.entries = rest;
-                Some((entry.register, rule_of_entry(entry)))
+                Some((entry.register, rule))
             }
         }
     }

@@ -5,9 +5,10 @@ ghost use Rattle.dw_frame.specs.Views.{cie_of, fde_of};
 ghost use Rattle.dw_rows.specs.Judgement.{cie_fault, fde_fault};
 ghost use Rattle.dw_rows.specs.UnwindRows.{rows_of};
 
+use crate::expressions::LentExpressions;
 use crate::frame::CheckedFrame;
 use crate::row::UnwindTableRow;
-use crate::row_cursor::{begin, next_range, run_good};
+use crate::row_cursor::{begin, next_range};
 use crate::unwind_context::UnwindContext;
 use dw_frame::{CommonInformationEntry, FrameDescriptionEntry, Instructions};
 use std::iter::FusedIterator;
@@ -21,20 +22,24 @@ pub struct Rows<'a> {
     fde: FrameDescriptionEntry<'a>,
     context: UnwindContext,
     instructions: Instructions<'a>,
+    expressions: LentExpressions<'a>,
     given: u64,
 }
 
 impl<'a> Model for Rows<'a> {
-    ghost use Rattle.std.specs.Prelude.{List, drop, ◌+◌};
+    ghost use Rattle.std.specs.Prelude.{List, drop, map, ◌+◌};
     ghost use Rattle.dw_rows.specs.Rules.{Row};
 
     ghost Value = { List Row };
 
     ghost use Rattle.dw_frame.specs.Views.{cie_of, fde_of};
     ghost use Rattle.dw_rows.specs.UnwindRows.{rows_of};
-    ghost use Rattle.dw_rows.specs.RowCursors.{IsReady};
+    ghost use Rattle.dw_rows.specs.GivenRows.{row_with};
+    ghost use Rattle.dw_rows.specs.LentExpressions.{lent_by};
+    ghost use Rattle.dw_rows.specs.RowCursors.{IsReady, Lends};
 
-    ghost view = { λ r. drop r.given (rows_of (cie_of r.cie) (fde_of r.fde)) };
+    ghost view = { λ r. map (row_with (lent_by r.expressions))
+        (drop r.given (rows_of (cie_of r.cie) (fde_of r.fde))) };
 
     ghost invariant = { λ r. IsReady (cie_of r.cie) (fde_of r.fde)
         (record {
@@ -42,7 +47,7 @@ impl<'a> Model for Rows<'a> {
           end = r.fde.initial_location + r.fde.address_range;
           context = r.context;
           instructions = r.instructions;
-        }) r.given };
+        }) r.given × Lends (lent_by r.expressions) (cie_of r.cie) (fde_of r.fde) };
 }
 
 impl<'a> Rows<'a> {
@@ -53,27 +58,9 @@ impl<'a> Rows<'a> {
     ghost use Rattle.dw_rows.specs.UnwindRows.{rows_of};
     ghost use Rattle.dw_rows.specs.Section.{cie_in, rows_in};
 
-    /// All rows of an FDE. Its program and its CIE's must be good.
-    pub(crate) fn new(cie: &CommonInformationEntry<'a>, fde: &FrameDescriptionEntry<'a>) -> Self
-        requires cie { cie_fault (cie_of cie.now) ≡ None }
-        requires fde { fde_fault (cie_of cie.now) (fde_of fde.now) ≡ None }
-        ensures { result ≡ rows_of (cie_of cie.now) (fde_of fde.now) }
-    {
-        let mut context = UnwindContext::new();
-        run_good(&mut context.state, cie);
-        let instructions = begin(&mut context, fde);
-        Rows {
-            cie: *cie,
-            fde: *fde,
-            context,
-            instructions,
-            given: 0,
-        }
-    }
-
     /// All rows of an FDE of a checked section.
     #[inline(always)]
-    pub(crate) fn of(frame: &CheckedFrame<'a>, fde: &FrameDescriptionEntry<'a>) -> Self
+    pub(crate) fn of(frame: &'a CheckedFrame<'a>, fde: &FrameDescriptionEntry<'a>) -> Self
         requires { Contains frame.now.fdes (fde_of fde.now) }
         ensures { result ≡ rows_in frame.now (fde_of fde.now) }
     {
@@ -85,6 +72,7 @@ impl<'a> Rows<'a> {
             fde: *fde,
             context,
             instructions,
+            expressions: frame.lent(),
             given: 0,
         }
     }
@@ -92,7 +80,7 @@ impl<'a> Rows<'a> {
     /// Begins with the rows of an FDE of a checked section, in the same place, and gives its CIE.
     pub(crate) fn restart_in(
         &mut self,
-        frame: &CheckedFrame<'a>,
+        frame: &'a CheckedFrame<'a>,
         fde: &FrameDescriptionEntry<'a>,
     ) -> CommonInformationEntry<'a>
         requires { Contains frame.now.fdes (fde_of fde.now) }
@@ -104,6 +92,7 @@ impl<'a> Rows<'a> {
         self.instructions = begin(&mut self.context, fde);
         self.cie = cie;
         self.fde = *fde;
+        self.expressions = frame.lent();
         self.given = 0;
         cie
     }
@@ -111,7 +100,7 @@ impl<'a> Rows<'a> {
     /// Writes the next row into the place of another, if there is one, and answers whether there was. Only
     /// the rules that are there are copied, so one place serves for many rows.
     #[inline(always)]
-    pub fn next_into(&mut self, row: &mut UnwindTableRow) -> bool
+    pub fn next_into(&mut self, row: &mut UnwindTableRow<'a>) -> bool
         ensures some { OnTrue result (self.old ≡ row.new ∷ self.new) }
         ensures none { OnFalse result ((self.old ≡ []) × (self.new ≡ []) × (row.new ≡ row.old)) }
     {
@@ -119,7 +108,7 @@ impl<'a> Rows<'a> {
         match next_range(&mut self.context, &mut self.instructions, &self.cie, limit) {
             Some((start, end)) => {
                 self.given += 1;
-                self.context.write_row(start, end, row);
+                self.context.write_row(start, end, self.expressions, row);
                 true
             }
             None => false,
@@ -128,7 +117,7 @@ impl<'a> Rows<'a> {
 }
 
 impl<'a> Iterator for Rows<'a> {
-    type Item = UnwindTableRow;
+    type Item = UnwindTableRow<'a>;
 
     ghost use Rattle.std.specs.Iterator.{YieldsFirst, item_count};
 
@@ -137,7 +126,7 @@ impl<'a> Iterator for Rows<'a> {
     ghost remaining = { item_count (λ rows. rows) };
 
     #[inline(always)]
-    fn next(&mut self) -> Option<UnwindTableRow> {
+    fn next(&mut self) -> Option<UnwindTableRow<'a>> {
         let mut row = UnwindTableRow::empty();
         if self.next_into(&mut row) {
             Some(row)

@@ -1,14 +1,14 @@
 //! The rules of a row together.
 
+use crate::kept_rule::{KeptCfa, KeptRule};
 use crate::map::{MAX_RULES, RegisterRuleMap, RuleEntry};
-use crate::row::{CfaRule, RegisterRule};
 use dw_bytes::FaultKind;
 use std::marker::Model;
 
 /// The rules of a row.
 #[derive(Drop)]
 pub struct RuleSet {
-    cfa: Option<CfaRule>,
+    cfa: Option<KeptCfa>,
     rules: RegisterRuleMap,
 }
 
@@ -18,16 +18,16 @@ impl Model for RuleSet {
     ghost Value = { KeptRules };
 
     ghost use Rattle.std.specs.Option.{option_map};
-    ghost use Rattle.dw_rows.specs.Views.{cfa_rule_of};
+    ghost use Rattle.dw_rows.specs.Views.{kept_cfa_of};
 
-    ghost view = { λ r. record { cfa = option_map cfa_rule_of r.cfa; rules = r.rules } };
+    ghost view = { λ r. record { cfa = option_map kept_cfa_of r.cfa; rules = r.rules } };
 }
 
 impl RuleSet {
     ghost use Rattle.std.specs.Prelude.{◌≡◌, ◌≤◌, None, Some, [], length};
     ghost use Rattle.std.specs.Option.{option_map};
     ghost use Rattle.dw_rows.specs.Rules.{IsTable, rule_in};
-    ghost use Rattle.dw_rows.specs.Views.{rule_of, cfa_rule_of, entries_of};
+    ghost use Rattle.dw_rows.specs.Views.{kept_rule_of, kept_cfa_of, entries_of};
     ghost use Rattle.dw_rows.specs.ProgramState.{Sets};
 
     /// No rules.
@@ -68,11 +68,11 @@ impl RuleSet {
     }
 
     /// Takes on a rule of the CFA, and the rules of some entries.
-    pub fn assign(&mut self, cfa: Option<CfaRule>, entries: &[RuleEntry])
+    pub fn assign(&mut self, cfa: Option<KeptCfa>, entries: &[RuleEntry])
         requires few { length entries.now ≤ MAX_RULES }
         requires table { IsTable 0 (entries_of entries.now) }
         ensures { self.new ≡ record {
-          cfa = option_map cfa_rule_of cfa;
+          cfa = option_map kept_cfa_of cfa;
           rules = entries_of entries.now;
         } }
     {
@@ -82,16 +82,16 @@ impl RuleSet {
 
     /// The CFA's rule.
     #[inline(always)]
-    pub fn cfa(&self) -> Option<CfaRule>
-        ensures { self.now.cfa ≡ option_map cfa_rule_of result }
+    pub fn cfa(&self) -> Option<KeptCfa>
+        ensures { self.now.cfa ≡ option_map kept_cfa_of result }
     {
         self.cfa
     }
 
     /// Gives the CFA a rule.
     #[inline(always)]
-    pub fn set_cfa(&mut self, cfa: CfaRule)
-        ensures { self.new ≡ record { cfa = Some (cfa_rule_of cfa); rules = self.old.rules } }
+    pub fn set_cfa(&mut self, cfa: KeptCfa)
+        ensures { self.new ≡ record { cfa = Some (kept_cfa_of cfa); rules = self.old.rules } }
     {
         self.cfa = Some(cfa);
     }
@@ -106,16 +106,16 @@ impl RuleSet {
 
     /// The rule of a register.
     #[inline(always)]
-    pub fn register(&self, number: u16) -> RegisterRule
-        ensures { rule_of result ≡ rule_in self.now.rules number }
+    pub fn register(&self, number: u16) -> KeptRule
+        ensures { kept_rule_of result ≡ rule_in self.now.rules number }
     {
         self.rules.register(number)
     }
 
     /// Gives a register a rule.
     #[inline(always)]
-    pub fn set(&mut self, register: u16, rule: RegisterRule) -> Result<(), FaultKind>
-        ensures { Sets self.old register (rule_of rule) result self.new }
+    pub fn set(&mut self, register: u16, rule: KeptRule) -> Result<(), FaultKind>
+        ensures { Sets self.old register (kept_rule_of rule) result self.new }
     {
         self.rules.set(register, rule)
     }

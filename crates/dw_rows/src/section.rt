@@ -1,8 +1,9 @@
 //! The judgement of a section's records, part by part.
 
-ghost use Rattle.std.specs.Prelude.{◌≡◌, ◌<◌, None, option_map, map, length, slice_get, MatchOption, IfSome, IfOk};
+ghost use Rattle.std.specs.Prelude.{◌≡◌, ◌<◌, ◌++◌, None, option_map, map, length, slice_get, MatchOption, IfSome, IfOk, OnOk};
 ghost use Rattle.dw_bytes.specs.Answers.{Judges, Answers};
 ghost use Rattle.dw_frame.specs.Views.{cie_of, fde_of};
+ghost use Rattle.dw_rows.specs.Expressions.{cie_expressions, fde_expressions};
 ghost use Rattle.dw_rows.specs.Judgement.{cie_fault};
 ghost use Rattle.dw_rows.specs.Section.{cie_at, first_fault, pointer_fault, program_fault};
 ghost use Rattle.dw_rows.specs.Overlap.{cie_offset};
@@ -10,8 +11,9 @@ ghost use Rattle.dw_frame.specs.Bounds.{Ascends};
 ghost use Rattle.dw_rows.specs.ProgramState.{IsLeftBy};
 ghost use Rattle.dw_rows.specs.Initial.{AreLeftBy};
 
-use crate::check::{check_program, run_cie};
+use crate::check::{judge_cie, judge_fde};
 use crate::initial_rules::InitialRules;
+use crate::judged::JudgedExpressions;
 use crate::unwind_context::UnwindContext;
 use crate::unwind_state::UnwindState;
 use dw_bytes::{Fault, FaultKind};
@@ -87,18 +89,20 @@ pub fn check_pointers(
     Ok(())
 }
 
-/// Each CIE's program has to be good. What it leaves is kept.
-pub fn check_cies(
+/// Each CIE's program has to be good. What it leaves is kept, and its expressions are.
+pub fn check_cies<'a>(
     alloc: Global,
     state: &mut UnwindState,
-    cies: &[CommonInformationEntry<'_>],
+    judged: &mut JudgedExpressions<'a>,
+    cies: &[CommonInformationEntry<'a>],
 ) -> Result<InitialRules, Fault>
     ensures answer { Answers (first_fault cie_fault (map cie_of cies.now)) result }
     ensures left { IfOk result (λ initial. AreLeftBy (map cie_of cies.now) initial) }
+    ensures kept { OnOk result (judged.new ≡ judged.old ++ cie_expressions (map cie_of cies.now)) }
 {
     let mut left = InitialRules::new(alloc);
     for cie in cies {
-        run_cie(state, cie)?;
+        judge_cie(state, judged, cie)?;
         if left.push(state.first()).is_err() {
             return Err(MEMORY);
         }
@@ -106,21 +110,25 @@ pub fn check_cies(
     Ok(left)
 }
 
-/// Each FDE's program has to be good behind its CIE's.
-pub fn check_fdes(
+/// Each FDE's program has to be good behind its CIE's. Its expressions are kept. Each CIE_pointer is the offset of a CIE.
+pub fn check_fdes<'a>(
     context: &mut UnwindContext,
-    cies: &[CommonInformationEntry<'_>],
+    judged: &mut JudgedExpressions<'a>,
+    cies: &[CommonInformationEntry<'a>],
     initial: &InitialRules,
-    fdes: &[FrameDescriptionEntry<'_>],
+    fdes: &[FrameDescriptionEntry<'a>],
 ) -> Result<(), Fault>
     requires order { Ascends cie_offset (map cie_of cies.now) }
     requires left { AreLeftBy (map cie_of cies.now) initial.now }
-    ensures { Judges (first_fault (program_fault (map cie_of cies.now))
+    requires pointed { first_fault (pointer_fault (map cie_of cies.now)) (map fde_of fdes.now) ≡ None }
+    ensures answer { Answers (first_fault (program_fault (map cie_of cies.now))
         (map fde_of fdes.now)) result }
+    ensures kept { OnOk result (judged.new ≡ judged.old ++ fde_expressions (map fde_of fdes.now)) }
 {
     for fde in fdes {
-        if let Some(cie) = begin_with_cie(&mut context.state, cies, initial, fde.cie_pointer) {
-            check_program(context, &cie, fde)?;
+        match begin_with_cie(&mut context.state, cies, initial, fde.cie_pointer) {
+            Some(cie) => judge_fde(context, judged, &cie, fde)?,
+            None => unreachable!(),
         }
     }
     Ok(())

@@ -1,6 +1,7 @@
 -- The questions that are asked of an expression, in their order: either all are answered with yes, and it is good, or the
 -- first that isn't names the first fault. Where states are given, each is compared before its operation is judged.
-use Rattle.std.proofs.Common.{◌≡◌, ◌≢◌, ◌∙◌, ◌⊎◌, ℕ, ℤ, pos, negsuc, zero, suc, ◌+◌, ◌<◌, ◌≤◌, Bool, true, false, not, cond, map, List, [], ◌∷◌, ◌++◌, length, get_or, Option, Some, None, refl, sym, ap, subst, inl, inr, arith, length-append}
+use Rattle.std.proofs.Common.{◌≡◌, ◌≢◌, ◌∙◌, ◌⊎◌, ℕ, ℤ, pos, negsuc, zero, suc, ◌+◌, ◌<◌, ◌≤◌, Bool, true, false, not, cond, map, List, []}
+use Rattle.std.proofs.Common.{◌∷◌, ◌++◌, length, get_or, Option, Some, None, refl, sym, ap, subst, inl, inr, arith, length-append}
 use Rattle.std.specs.Prelude.{slice_get, slice_set, slice_index_or, replicate, find, ◌==◌}
 use Rattle.std.specs.Option.{option_or, option_map}
 use Rattle.std.specs.List.{list_all}
@@ -26,13 +27,15 @@ use Rattle.dw_stack.specs.Faults.{Given, judgements, is_ahead, is_start, passes,
 use Rattle.dw_stack.specs.Judge.{IsEffectAt, TargetIs, Judged, Objects}
 use Rattle.dw_stack.specs.InStates.{Merges, Receives, ReceivesIf, ReceivesAt, PassesOn, Stepped}
 use Rattle.dw_stack.specs.Expressions.{operations_in, reading_fault, IsGoodExpression, IsFaultOf}
-use Rattle.dw_stack.specs.FirstFault.{states_to, same_state, Question, else_fault, first_no, asked_at, asked_of, asked_last, asked_from, first_fault, expression_fault}
+use Rattle.dw_stack.specs.FirstFault.{states_to, same_state, Question, else_fault, first_no, asked_at, asked_of, asked_last, asked_from}
+use Rattle.dw_stack.specs.FirstFault.{first_fault, expression_fault}
 use Rattle.dw_stack.proofs.Places.{place_of_some, later_place}
 use Rattle.dw_stack.proofs.Routes.{Comes}
 use Rattle.dw_stack.proofs.Describes.{Describes}
 use Rattle.dw_stack.proofs.Judging.{all_passed, judged}
 use Rattle.dw_stack.proofs.Walks.{Walked, walked_start, walked_step}
-use Rattle.dw_stack.proofs.Verdicts.{step_fault, objects_fault, end_not_nothing, end_mismatch, end_empty, end_good, end_given, end_states, end_depth}
+use Rattle.dw_stack.proofs.Verdicts.{step_fault, objects_fault, end_not_nothing, end_mismatch, end_empty, end_good, end_given, end_states}
+use Rattle.dw_stack.proofs.Verdicts.{end_depth}
 use Rattle.dw_stack.proofs.Encoded.{encoded_of, laid_if_read}
 use Rattle.dw_stack.proofs.InStates.{Has, states_come, come_states}
 use Rattle.dw_stack.proofs.Telling.{bool_tells, same_tells, others_tell, start_tells}

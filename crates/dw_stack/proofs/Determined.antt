@@ -1,11 +1,13 @@
 -- A configuration has one next, and a run one end.
-use Rattle.std.proofs.Common.{◌≡◌, ◌∙◌, ℕ, ℤ, pos, zero, suc, ◌+◌, ◌-◌, ◌<◌, Bool, true, false, List, length, take, Option, Some, None, Result, Ok, Err, refl, sym, ap, subst, inl, inr, arith}
+use Rattle.std.proofs.Common.{◌≡◌, ◌∙◌, ℕ, ℤ, pos, zero, suc, ◌+◌, ◌-◌, ◌<◌, Bool, true, false, List, length, take, Option, Some, None}
+use Rattle.std.proofs.Common.{Result, Ok, Err, refl, sym, ap, subst, inl, inr, arith}
 use Rattle.std.specs.Prelude.{slice_get, MatchBool}
 use Rattle.std.proofs.lemmas.Option.{slice_get_within, same_Some}
 use Rattle.dw_stack.specs.declared.state.Kind.{Kind}
 use Rattle.dw_stack.specs.Effects.{effect_of}
 use Rattle.dw_stack.specs.Paths.{Placed, place, IsLaidOut}
-use Rattle.dw_stack.specs.Machine.{LocationDescription, Piece, Configuration, EvaluationError, Meaning, named, jumps, JumpsTo, LeadsTo, extent_of, location_of, stack_after, pieces_after, Meets, Step, Stops, Run, Ended, IsOver}
+use Rattle.dw_stack.specs.Machine.{LocationDescription, Piece, Configuration, EvaluationError, Meaning, named, jumps, JumpsTo, LeadsTo}
+use Rattle.dw_stack.specs.Machine.{extent_of, location_of, stack_after, pieces_after, Meets, Step, Stops, Run, Ended, IsOver}
 use Rattle.dw_stack.proofs.Places.{place_of_some, place_past, place_mono, place_inj}
 
 abbrev made : ℕ → List ℕ → Option LocationDescription → List Piece → Configuration

@@ -6,7 +6,8 @@ use Rattle.dw_bytes.specs.declared.fault.Fault.{Fault}
 use Rattle.dw_bytes.specs.declared.fault.FaultKind.TheVariants.{CertLength}
 use Rattle.dw_stack.specs.declared.state.State.{State}
 use Rattle.dw_stack.specs.declared.state.Kind.{Kind}
-use Rattle.dw_stack.specs.Expressions.{operations_in, reading_fault, IsGoodExpression, IsDepthOf, AreStatesOf, IsOtherCount, IsFaultOf, Knows}
+use Rattle.dw_stack.specs.Expressions.{operations_in, reading_fault, IsGoodExpression, IsDepthOf, AreStatesOf, IsOtherCount, IsFaultOf}
+use Rattle.dw_stack.specs.Expressions.{Knows}
 use Rattle.dw_stack.specs.Faults.{KnowsOnly}
 use Rattle.dw_stack.proofs.Deciding.{Certified, named}
 use Rattle.dw_stack.proofs.Encoded.{laid_out, encoded_of, laid_if_read}

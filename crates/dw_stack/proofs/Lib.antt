@@ -21,3 +21,4 @@ pub mod Named
 pub mod Existing
 pub mod Determined
 pub mod Unbranched
+pub mod FaultsInside

@@ -1,5 +1,7 @@
 -- Each run of a good expression follows a path.
-use Rattle.std.proofs.Common.{◌≡◌, ℕ, ℤ, pos, negsuc, zero, suc, ◌+◌, ◌-◌, ◌<◌, ◌≤◌, Bool, true, false, cond, not, eqb, List, [], ◌∷◌, ◌++◌, length, take, Option, Some, None, Result, Ok, Err, refl, sym, ap, ◌∙◌, subst, inl, inr, arith, IsTrue, length-append, length-take}
+use Rattle.std.proofs.Common.{◌≡◌, ℕ, ℤ, pos, negsuc, zero, suc, ◌+◌, ◌-◌, ◌<◌, ◌≤◌, Bool, true, false, cond, not, eqb, List, [], ◌∷◌, ◌++◌}
+use Rattle.std.proofs.Common.{length, take, Option, Some, None, Result, Ok, Err, refl, sym, ap, ◌∙◌, subst, inl, inr, arith, IsTrue}
+use Rattle.std.proofs.Common.{length-append, length-take}
 use Rattle.std.specs.Prelude.{slice_get, MatchBool, ◌==◌}
 use Rattle.std.proofs.lemmas.Bool.{eqb-true, leb-true}
 use Rattle.std.proofs.lemmas.Option.{slice_get_within, slice_get_cases}
@@ -16,8 +18,11 @@ use Rattle.dw_stack.specs.declared.state.Mode.{Mode}
 use Rattle.dw_stack.specs.declared.state.Mode.TheVariants as mode
 use Rattle.dw_stack.specs.Effects.{effect_of}
 use Rattle.dw_stack.specs.States.{start_of, next_mode, height_after, state_after, StandsAlone, at_offset}
-use Rattle.dw_stack.specs.Paths.{Placed, place, IsLaidOut, jump_target, Leads, Edge, Follows, Reaches, IsStart, is_piece, pieces_before, IsGood, AreStates, IsDepth}
-use Rattle.dw_stack.specs.Machine.{LocationDescription, Piece, Configuration, EvaluationError, Meaning, entry, named, jumps, JumpsTo, extent_of, location_of, stack_after, pieces_after, CanDo, Meets, Step, Run, offsets_of, Starts, PendingIs, has_pieces, Agrees, IsNotStuck, IsOver, RunsWell}
+use Rattle.dw_stack.specs.Paths.{Placed, place, IsLaidOut, jump_target, Leads, Edge, Follows, Reaches, IsStart, is_piece, pieces_before}
+use Rattle.dw_stack.specs.Paths.{IsGood, AreStates, IsDepth}
+use Rattle.dw_stack.specs.Machine.{LocationDescription, Piece, Configuration, EvaluationError, Meaning, entry, named, jumps, JumpsTo}
+use Rattle.dw_stack.specs.Machine.{extent_of, location_of, stack_after, pieces_after, CanDo, Meets, Step, Run, offsets_of, Starts}
+use Rattle.dw_stack.specs.Machine.{PendingIs, has_pieces, Agrees, IsNotStuck, IsOver, RunsWell}
 use Rattle.dw_stack.proofs.Places.{place_of_some, place_past, place_mono, place_inj}
 use Rattle.dw_stack.proofs.Heights.{next_height_le}
 use Rattle.dw_stack.proofs.Pieces.{pieces_mono, pieces_with, length-pieces_after}

@@ -1,5 +1,6 @@
 -- What holds once the first operations were judged.
-use Rattle.std.proofs.Common.{◌≡◌, ℕ, ℤ, zero, suc, ◌+◌, ◌<◌, ◌≤◌, ◌⊎◌, Bool, true, false, List, [], ◌∷◌, ◌++◌, length, get_or, Option, Some, None, refl, sym, ap, ◌∙◌, subst, inl, inr, arith, IsTrue, cond, length-append}
+use Rattle.std.proofs.Common.{◌≡◌, ℕ, ℤ, zero, suc, ◌+◌, ◌<◌, ◌≤◌, ◌⊎◌, Bool, true, false, List, [], ◌∷◌, ◌++◌, length, get_or, Option}
+use Rattle.std.proofs.Common.{Some, None, refl, sym, ap, ◌∙◌, subst, inl, inr, arith, IsTrue, cond, length-append}
 use Rattle.std.specs.Prelude.{slice_get, max}
 use Rattle.std.proofs.lemmas.Bool.{cases_lt}
 use Rattle.std.proofs.lemmas.Option.{slice_get_within, same_Some}
@@ -16,7 +17,8 @@ use Rattle.dw_stack.specs.declared.state.Kind.{Kind}
 use Rattle.dw_stack.specs.declared.judge.TheConstants.{MAX_PIECES}
 use Rattle.dw_stack.specs.Effects.{effect_of}
 use Rattle.dw_stack.specs.States.{start_of, StandsAlone, height_after, state_after, at_offset}
-use Rattle.dw_stack.specs.Paths.{place, IsLaidOut, branch_target, jump_target, branch_target_of, IsTarget, Leads, Edge, Reaches, IsAllowed, is_piece, pieces_before}
+use Rattle.dw_stack.specs.Paths.{place, IsLaidOut, branch_target, jump_target, branch_target_of, IsTarget, Leads, Edge, Reaches, IsAllowed}
+use Rattle.dw_stack.specs.Paths.{is_piece, pieces_before}
 use Rattle.dw_stack.specs.Faults.{Given}
 use Rattle.dw_stack.specs.Judge.{Judged, TargetIs}
 use Rattle.dw_stack.specs.InStates.{PassesOn, Stepped}

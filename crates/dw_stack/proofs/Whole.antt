@@ -12,7 +12,8 @@ use Rattle.dw_stack.specs.States.{at_offset}
 use Rattle.dw_stack.specs.Paths.{Placed, IsLaidOut, Reaches, IsGood, AreStates, IsDepth}
 use Rattle.dw_stack.specs.Faults.{Given, IsFirstFault, KnowsOnly}
 use Rattle.dw_stack.specs.InStates.{given_of}
-use Rattle.dw_stack.specs.Expressions.{operations_in, reading_fault, IsGoodExpression, IsDepthOf, RunsWellWithin, IsOtherCount, IsFaultOf, Checked, IsChecked, IsOf, Knows}
+use Rattle.dw_stack.specs.Expressions.{operations_in, reading_fault, IsGoodExpression, IsDepthOf, RunsWellWithin, IsOtherCount, IsFaultOf}
+use Rattle.dw_stack.specs.Expressions.{Checked, IsChecked, IsOf, Knows}
 use Rattle.dw_stack.proofs.Places.{place_of_some}
 use Rattle.dw_stack.proofs.Verdicts.{good_refuses}
 use Rattle.dw_stack.proofs.Runs.{good_runs}

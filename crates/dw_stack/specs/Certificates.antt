@@ -1,13 +1,12 @@
 -- What certificates and checked expressions are to a caller.
 use Rattle.std.specs.Prelude.{List}
-use Rattle.dw_ops.specs.Views.{bytes_of, target_of}
 use Rattle.dw_stack.specs.declared.state.State.{State}
 use Rattle.dw_stack.specs.declared.checked.CheckedExpression.{CheckedExpression}
 use Rattle.dw_stack.specs.declared.certificate.Certificate.{Certificate}
 use Rattle.dw_stack.specs.Expressions.{Checked}
 
 abbrev pub checked_of : CheckedExpression → Checked
-checked_of c = record { kind = c.kind; target = target_of c.expression; bytes = bytes_of c.expression; depth = c.depth; count = c.count }
+checked_of c = record { kind = c.kind; target = c.target; bytes = c.bytes.now; depth = c.depth; count = c.count }
 
 abbrev pub checked_in : Certificate → Checked
 checked_in c = checked_of c.checked

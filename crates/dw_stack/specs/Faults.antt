@@ -1,5 +1,6 @@
 -- What the judgements of an expression's operations refuse, and the order in which they are asked.
-use Rattle.std.specs.Prelude.{◌≡◌, ◌≢◌, ℕ, ℤ, ◌+◌, ◌==◌, nat_lt, nat_le, ◌||◌, ◌<◌, ◌⊎◌, Bool, true, false, not, is_some, List, [], ◌∷◌, length, find, Option, Some, None, slice_get}
+use Rattle.std.specs.Prelude.{◌≡◌, ◌≢◌, ℕ, ℤ, ◌+◌, ◌==◌, nat_lt, nat_le, ◌||◌, ◌<◌, ◌⊎◌, Bool, true, false, not, is_some, List, [], ◌∷◌}
+use Rattle.std.specs.Prelude.{length, find, Option, Some, None, slice_get}
 use Rattle.std.specs.List.{list_any}
 use Rattle.dw_bytes.specs.declared.fault.FaultKind.{FaultKind}
 use Rattle.dw_bytes.specs.declared.fault.FaultKind.TheVariants as fault

@@ -2,7 +2,8 @@
 -- of offset, and last the end, each by questions in a fixed order; the first that isn't answered with yes names the fault.
 -- The questions ask what DWARF 5, sections 2.5 and 2.6, and this checker's rule on paths demand; their order is this
 -- checker's.
-use Rattle.std.specs.Prelude.{ℕ, zero, suc, ◌+◌, ◌==◌, ◌&&◌, Bool, true, false, not, if◌then◌else◌, List, [], ◌∷◌, ◌++◌, length, map, Option, Some, None, slice_get}
+use Rattle.std.specs.Prelude.{ℕ, zero, suc, ◌+◌, ◌==◌, ◌&&◌, Bool, true, false, not, if◌then◌else◌, List, [], ◌∷◌, ◌++◌, length, map}
+use Rattle.std.specs.Prelude.{Option, Some, None, slice_get}
 use Rattle.std.specs.Option.{option_or}
 use Rattle.std.specs.List.{list_all, flat_map}
 use Rattle.dw_bytes.specs.declared.target.Target.{Target}

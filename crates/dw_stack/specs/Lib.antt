@@ -11,6 +11,8 @@ pub mod Machine
 pub mod Expressions
 -- what certificates and checked expressions are
 pub mod Certificates
+-- an expression where it stands in a section
+pub mod Located
 -- ---- The first fault, as a function of the bytes. Laws tie it to what is to be believed.
 -- what each judgement refuses, and their order
 pub mod Faults

@@ -1,6 +1,7 @@
 -- Paths of an expression, the states on them, and what makes an expression good. Paths that go forward alone and take
 -- both ways of a branch, whatever its value, are a rule of this checker.
-use Rattle.std.specs.Prelude.{◌≡◌, ℕ, ℤ, pos, negsuc, zero, suc, ◌+◌, ◌==◌, ◌<◌, ◌≤◌, ◌⊎◌, Bool, true, false, List, [], ◌∷◌, length, take, count_by, IsTrue, Option, Some, None, slice_get}
+use Rattle.std.specs.Prelude.{◌≡◌, ℕ, ℤ, pos, negsuc, zero, suc, ◌+◌, ◌==◌, ◌<◌, ◌≤◌, ◌⊎◌, Bool, true, false, List, [], ◌∷◌, length, take}
+use Rattle.std.specs.Prelude.{count_by, IsTrue, Option, Some, None, slice_get}
 use Rattle.dw_ops.specs.Operations.{Operation}
 use Rattle.dw_stack.specs.declared.effect.Role.{Role}
 use Rattle.dw_stack.specs.declared.effect.Role.TheVariants as role

@@ -1,6 +1,5 @@
 //! The certificate of an expression.
 
-ghost use Rattle.dw_ops.specs.Views.{bytes_of, target_of};
 ghost use Rattle.dw_stack.specs.Expressions.{AreStatesOf};
 
 use crate::checked::CheckedExpression;
@@ -12,8 +11,8 @@ use smallvec::SmallVec;
 pub struct Certificate<'a> {
     pub(crate) checked: CheckedExpression<'a>,
     pub(crate) states: SmallVec<State, 16>,
-    pub ghost certified: { ∥ AreStatesOf checked.kind (target_of checked.expression)
-        (bytes_of checked.expression) states.items ∥₁ },
+    pub ghost certified: { ∥ AreStatesOf checked.kind checked.target checked.bytes.now
+        states.items ∥₁ },
 }
 
 impl<'a> Certificate<'a> {

@@ -1,32 +1,36 @@
 //! A checked expression.
 
+ghost use Rattle.std.specs.Prelude.{◌<◌, ◌^◌, length};
 ghost use Rattle.dw_ops.specs.Views.{bytes_of, target_of};
 ghost use Rattle.dw_stack.specs.Expressions.{IsChecked};
 
 use crate::judge::MAX_HEIGHT;
 use crate::state::Kind;
+use dw_bytes::Target;
 use dw_ops::Expression;
 
 /// An expression that was found good over all paths (`certify`, `recheck`), with what was learned of it. It keeps no
 /// memory: the expression's bytes are lent.
 #[derive(Clone, Copy, Debug)]
 pub struct CheckedExpression<'a> {
-    expression: Expression<'a>,
+    bytes: &'a [u8],
+    target: Target,
     kind: Kind,
     depth: u8,
     count: u32,
+    pub ghost short: { length bytes.now < 2 ^ 32 },
     pub ghost checked: { ∥ IsChecked
         (record {
           kind = kind;
-          target = target_of expression;
-          bytes = bytes_of expression;
+          target = target;
+          bytes = bytes.now;
           depth = depth;
           count = count;
         }) ∥₁ },
 }
 
 impl<'a> CheckedExpression<'a> {
-    ghost use Rattle.std.specs.Prelude.{◌≡◌, ◌≤◌, length};
+    ghost use Rattle.std.specs.Prelude.{◌≡◌, ◌≤◌};
     ghost use Rattle.dw_stack.specs.Expressions.{IsGoodExpression, IsDepthOf, RunsWellWithin, operations_in};
     ghost use Rattle.dw_stack.specs.Certificates.{checked_of};
 
@@ -48,7 +52,8 @@ impl<'a> CheckedExpression<'a> {
         } }
     {
         CheckedExpression {
-            expression,
+            bytes: expression.bytes(),
+            target: expression.target(),
             kind,
             depth,
             count,
@@ -62,7 +67,7 @@ impl<'a> CheckedExpression<'a> {
         ensures good { IsGoodExpression (checked_of self.now).kind (target_of result)
             (bytes_of result) }
     {
-        self.expression
+        Expression::new(self.bytes, self.target)
     }
 
     /// The kind that was handed in.

@@ -66,7 +66,7 @@ pub fn pass_on(in_states: &mut [InState], i: usize, out: &OutState)
 
 /// The one state with which an operation is reached.
 #[inline(always)]
-pub fn state_at(in_states: &[InState], i: usize) -> Result<StackState, FaultKind>
+pub fn in_state_at(in_states: &[InState], i: usize) -> Result<StackState, FaultKind>
     requires { i < length in_states.now }
     ensures { result ≡ known_state (slice_index_or in_states.now i InState.Unreached) }
 {

@@ -7,7 +7,7 @@ ghost use Rattle.dw_stack.specs.Faults.{suits, first_failed};
 ghost use Rattle.dw_stack.specs.Views.{listed};
 
 use crate::effect::{Role, StackEffect, effect};
-use crate::state::{Kind, StackState, next, stands_alone};
+use crate::state::{Kind, StackState, may_stand_at_state, next_state};
 use crate::target::place_of_jump;
 use dw_bytes::FaultKind;
 use dw_ops::Operation;
@@ -63,7 +63,7 @@ pub fn suits(
     if !located && !effect.allowed_in_cfi {
         return Err(FaultKind::NotInFrame);
     }
-    if !stands_alone(effect.role, state) {
+    if !may_stand_at_state(effect.role, state) {
         return Err(FaultKind::NotAlone);
     }
     if u16::from(state.height) < effect.needs {
@@ -101,7 +101,7 @@ pub fn judge(
         None => None,
     };
     Ok(OutState {
-        state: next(effect.role, height, state.pieced),
+        state: next_state(effect.role, height, state.pieced),
         height,
         piece: matches!(effect.role, Role::Piece),
         falls_through: effect.falls_through,

@@ -10,7 +10,8 @@ ghost use Rattle.dw_ops.specs.Opcodes.{operation_at};
 ghost use Rattle.dw_stack.specs.States.{at_offset};
 ghost use Rattle.dw_stack.specs.Paths.{Placed, place, IsStart, IsLaidOut, Reaches};
 ghost use Rattle.dw_stack.specs.Machine.{Configuration, Meaning, Starts, Run, Agrees, Meets, IsOver};
-ghost use Rattle.dw_stack.specs.Expressions.{operations_in, reading_at, IsGoodExpression, IsDepthOf, AreStatesOf, RunsWellWithin, IsFaultOf, Knows};
+ghost use Rattle.dw_stack.specs.Expressions.{operations_in, reading_at, IsGoodExpression, IsDepthOf, AreStatesOf, RunsWellWithin};
+ghost use Rattle.dw_stack.specs.Expressions.{IsFaultOf, Knows};
 ghost use Rattle.dw_stack.specs.FirstFault.{expression_fault};
 
 use crate::judge::{MAX_HEIGHT, MAX_PIECES};
@@ -46,7 +47,7 @@ pub fn runs_stand_on_operations()
 
 /// A run of a good expression has one end: for the same registers, memory and context, and from the same start, any two that
 /// are over took as many steps and stand in the same configuration.
-pub fn one_run()
+pub fn runs_are_determined()
     ensures { (kind : Kind) (target : Target) (bytes : List ℕ) → IsGoodExpression kind target bytes
         → (m : Meaning) (n k : ℕ) (c d e : Configuration)
         → Run m (operations_in target bytes) (length bytes) n c d
@@ -89,8 +90,14 @@ pub fn the_fault_is_the_first()
         → (expression_fault kind target bytes ≡ Some f) ↔ IsFaultOf kind target bytes None f }
 {}
 
+/// The first fault of an expression stands inside it, or at its end.
+pub fn faults_stand_inside()
+    ensures { (kind : Kind) (target : Target) (bytes : List ℕ) (f : Fault)
+        → expression_fault kind target bytes ≡ Some f → f.at ≤ length bytes }
+{}
+
 /// There is one first fault.
-pub fn one_fault()
+pub fn first_faults_are_unique()
     ensures { (kind : Kind) (target : Target) (bytes : List ℕ) (given : Option (List State))
         (f g : Fault) → IsFaultOf kind target bytes given f → IsFaultOf kind target bytes given g
         → f ≡ g }
@@ -103,7 +110,7 @@ pub fn each_has_a_depth()
 {}
 
 /// There is one depth.
-pub fn one_depth()
+pub fn depths_are_unique()
     ensures { (kind : Kind) (target : Target) (bytes : List ℕ) (d e : ℕ)
         → IsDepthOf kind target bytes d → IsDepthOf kind target bytes e → d ≡ e }
 {}
@@ -115,7 +122,7 @@ pub fn each_has_a_certificate()
 {}
 
 /// A good expression has one list of states.
-pub fn one_certificate()
+pub fn certificates_are_unique()
     ensures { (kind : Kind) (target : Target) (bytes : List ℕ) (s t : List State)
         → IsGoodExpression kind target bytes → AreStatesOf kind target bytes s
         → AreStatesOf kind target bytes t → s ≡ t }

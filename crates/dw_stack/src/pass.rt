@@ -7,8 +7,8 @@ ghost use Rattle.dw_stack.specs.Faults.{IsFirstFault, KnowsOnly};
 ghost use Rattle.dw_stack.specs.InStates.{given_of};
 ghost use Rattle.dw_stack.specs.Views.{listed};
 
-use crate::in_state::{InState, state_at};
-use crate::state::{Kind, StackState, State, has_result, start};
+use crate::in_state::{InState, in_state_at};
+use crate::state::{Kind, StackState, State, has_result, start_state};
 use crate::step::step;
 use crate::target::place_of;
 use dw_bytes::{Fault, FaultKind};
@@ -77,7 +77,7 @@ pub fn pass(
         (given_of given.entry) f.kind f.at) }
     ensures inside { IfErr result (λ f. f.at ≤ end) }
 {
-    let start = start(kind);
+    let start = start_state(kind);
     let mut in_states = first_arrivals(alloc, operations.len(), start)?;
     let mut states = SmallVec::new(alloc);
     let mut depth = start.height;
@@ -97,7 +97,7 @@ pub fn pass(
             Err(kind) => return Err(refusal(kind, place_of(operations, end, i))),
         }
     }
-    match state_at(in_states.as_slice(), operations.len()) {
+    match in_state_at(in_states.as_slice(), operations.len()) {
         Err(kind) => Err(refusal(kind, end)),
         Ok(state) => {
             if !has_result(kind, operations.is_empty(), state) {

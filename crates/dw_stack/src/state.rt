@@ -87,7 +87,7 @@ impl StackState {
 }
 
 /// The state before an expression.
-pub fn start(kind: Kind) -> StackState
+pub fn start_state(kind: Kind) -> StackState
     ensures { result ≡ start_of kind }
 {
     let height = match kind {
@@ -103,7 +103,7 @@ pub fn start(kind: Kind) -> StackState
 
 /// Whether an operation of this role may stand at this state.
 #[inline(always)]
-pub fn stands_alone(role: Role, state: StackState) -> bool
+pub fn may_stand_at_state(role: Role, state: StackState) -> bool
     ensures { result ≡ stands_alone role state.mode state.height }
 {
     match role {
@@ -125,7 +125,7 @@ pub fn stands_alone(role: Role, state: StackState) -> bool
 
 /// The state behind an operation of this role that leaves this height.
 #[inline(always)]
-pub fn next(role: Role, height: u8, pieced: bool) -> StackState
+pub fn next_state(role: Role, height: u8, pieced: bool) -> StackState
     ensures { result ≡ next_mode role height pieced }
 {
     let (height, mode, pieced) = match role {

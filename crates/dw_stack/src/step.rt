@@ -6,7 +6,7 @@ ghost use Rattle.dw_stack.specs.Faults.{Keeps};
 ghost use Rattle.dw_stack.specs.InStates.{Stepped, StepObjects, given_of};
 ghost use Rattle.dw_stack.specs.Views.{listed};
 
-use crate::in_state::{InState, pass_on, state_at};
+use crate::in_state::{InState, in_state_at, pass_on};
 use crate::judge::judge;
 use crate::state::{Kind, StackState, State};
 use crate::target::place_of;
@@ -53,7 +53,7 @@ pub fn step(
     ensures err { IfErr result (StepObjects kind (listed operations.now) end
         (given_of given.entry) i pieces in_states.old) }
 {
-    let state = state_at(in_states, i)?;
+    let state = in_state_at(in_states, i)?;
     if !is_given(given, i, state.at(place_of(operations, end, i))) {
         return Err(FaultKind::CertState);
     }

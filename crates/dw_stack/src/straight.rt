@@ -12,7 +12,7 @@ ghost use Rattle.dw_stack.specs.Certificates.{checked_of};
 use crate::checked::CheckedExpression;
 use crate::effect::{Role, effect};
 use crate::judge::suits;
-use crate::state::{Kind, StackState, has_result, next, start};
+use crate::state::{Kind, StackState, has_result, next_state, start_state};
 use dw_ops::{Expression, Operation, decode_one};
 
 /// What an operation that doesn't branch leaves.
@@ -46,7 +46,7 @@ fn judge_straight(
     let effect = effect(operation);
     match (effect.jump, suits(kind, &effect, pieces, state)) {
         (None, Ok(height)) => Some(Left {
-            state: next(effect.role, height, state.pieced),
+            state: next_state(effect.role, height, state.pieced),
             height,
             piece: matches!(effect.role, Role::Piece),
         }),
@@ -63,7 +63,7 @@ pub fn check_straight<'a>(expression: Expression<'a>, kind: Kind) -> Option<Chec
         (bytes_of expression.entry) (checked_of c)) }
 {
     let end = expression.bytes().len() as u32;
-    let mut state = start(kind);
+    let mut state = start_state(kind);
     let mut depth = state.height;
     let mut pieces = 0;
     let mut count = 0;

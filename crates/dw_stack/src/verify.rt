@@ -21,7 +21,7 @@ use std::alloc::Global;
 pub type CertFault = Fault;
 
 /// Whether there are so many given states, if there are some.
-fn has_count(given: Option<&[State]>, count: usize) -> bool
+fn are_as_many_states(given: Option<&[State]>, count: usize) -> bool
     ensures { IsTrue result ↔ IfSome given.entry (λ states. length states.now ≡ count) }
 {
     match given {
@@ -49,7 +49,7 @@ fn check<'a>(
     ensures inside { IfErr result (λ f. f.at ≤ length (bytes_of expression.entry)) }
 {
     let operations = operations(alloc, &expression)?;
-    if !has_count(given, operations.len()) {
+    if !are_as_many_states(given, operations.len()) {
         return Err(Fault {
             kind: FaultKind::CertLength,
             at: 0,
@@ -118,7 +118,7 @@ pub fn check_expression<'a>(
 /// A refusal is the first fault. The whole expression is read first; then there have to be as many states as operations
 /// (70, at 0); then all is judged as by `certify`, with one more question behind 37: the given state is the one that paths
 /// have (71, at the operation). Time and memory as `certify`. Laws say that there is one first fault, none where all is good and
-/// right, and one where it isn't (`one_fault`, `good_expressions_have_no_fault`, `every_expression_has_a_verdict`).
+/// right, and one where it isn't (`first_faults_are_unique`, `good_expressions_have_no_fault`, `every_expression_has_a_verdict`).
 pub fn recheck<'a>(
     alloc: Global,
     expression: Expression<'a>,

@@ -2,9 +2,7 @@ ghost use Rattle.std.specs.Prelude.{◌<◌, ◌^◌, length};
 
 use dw_bytes::{AddressSize, FaultKind, Order, Target};
 use dw_frame::{CommonInformationEntry, Entry, FrameDescriptionEntry, entries};
-use dw_rows::{
-    CfaRule, CheckedFrame, RegisterRule, UnwindTableRow, check_fde, check_frame, row_at, rows,
-};
+use dw_rows::{CfaRule, CheckedFrame, RegisterRule, UnwindTableRow, check_fde, check_frame};
 use std::alloc::Global;
 use std::test::Fail;
 
@@ -61,28 +59,33 @@ fn first_fault(alloc: Global, program: [u8; 8]) -> Result<Option<(FaultKind, u32
     )
 }
 
-/// The rows of a program as text.
+/// The rows of the FDE of 0x1000 as text.
+fn text_of<'a>(alloc: Global, frame: &'a CheckedFrame<'a>) -> Result<String, Fail> {
+    let fde = frame.fde_for_address(0x1000).ok_or("an FDE")?;
+    let mut text = String::new(alloc);
+    for row in frame.rows(&fde) {
+        let start = row.start_address();
+        let end = row.end_address();
+        let cfa = row.cfa();
+        text.push_str(&format!(in alloc; "{start:x}..{end:x} {cfa:?}")?)?;
+        for (register, rule) in row.rules() {
+            text.push_str(&format!(in alloc; " r{register} {rule:?}")?)?;
+        }
+        text.push_str("\n")?;
+    }
+    Ok(text)
+}
+
+fn text_in(alloc: Global, frame: &CheckedFrame<'_>) -> Result<String, Fail> {
+    text_of(alloc, frame)
+}
+
+/// The rows of a section as text.
 fn shown(alloc: Global, section: &[u8]) -> Result<String, Fail>
     requires { length section.now < 2 ^ 32 }
 {
-    let (cie, fde) = records(section)?;
-    let mut text = String::new(alloc);
-    match check_fde(alloc, &cie, &fde) {
-        Ok(()) => {
-            for row in rows(&cie, &fde) {
-                let start = row.start_address();
-                let end = row.end_address();
-                let cfa = row.cfa();
-                text.push_str(&format!(in alloc; "{start:x}..{end:x} {cfa:?}")?)?;
-                for (register, rule) in row.rules() {
-                    text.push_str(&format!(in alloc; " r{register} {rule:?}")?)?;
-                }
-                text.push_str("\n")?;
-            }
-        }
-        Err(_) => return Err(Fail::from("a bad program")),
-    }
-    Ok(text)
+    let frame = check_frame(alloc, section, LITTLE)?;
+    text_in(alloc, &frame)
 }
 
 #[test]
@@ -121,8 +124,12 @@ fn names_the_first_fault(rt: HostRuntime) -> Result<(), Fail> {
         Some((FaultKind::Unrestored, 56))
     );
     assert_eq!(rt;
-        first_fault(rt.alloc(), [0, 0x0f, 1, 0x30, 0, 0, 0, 0])?,
-        Some((FaultKind::NotYet, 49))
+        first_fault(rt.alloc(), [0, 0x0f, 1, 0x12, 0, 0, 0, 0])?,
+        Some((FaultKind::Underflow, 51))
+    );
+    assert_eq!(rt;
+        first_fault(rt.alloc(), [0, 0x16, 6, 1, 0x12, 0, 0, 0])?,
+        None
     );
     Ok(())
 }
@@ -130,41 +137,13 @@ fn names_the_first_fault(rt: HostRuntime) -> Result<(), Fail> {
 #[test]
 fn finds_the_row_of_an_address(rt: HostRuntime) -> Result<(), Fail> {
     let section = with([0x41, 0x0a, 0x0e, 0x10, 0x41, 0x0b, 0, 0]);
-    let (cie, fde) = records(&section)?;
-    match check_fde(rt.alloc(), &cie, &fde) {
-        Ok(()) => {
-            assert!(rt; row_at(&cie, &fde, 0xfff).is_none());
-            assert_eq!(rt;
-                row_at(&cie, &fde, 0x1000).ok_or("first")?.end_address(),
-                0x1001
-            );
-            let row = row_at(&cie, &fde, 0x1001).ok_or("second")?;
-            assert!(rt;
-                matches!(
-                    row.cfa(),
-                    CfaRule::RegisterAndOffset {
-                        register: 7,
-                        offset: 16
-                    }
-                )
-            );
-            let row = row_at(&cie, &fde, 0x101f).ok_or("third")?;
-            assert_eq!(rt; row.start_address(), 0x1002);
-            assert!(rt;
-                matches!(
-                    row.cfa(),
-                    CfaRule::RegisterAndOffset {
-                        register: 7,
-                        offset: 8
-                    }
-                )
-            );
-            assert!(rt; matches!(row.register(16), RegisterRule::Offset(-8)));
-            assert!(rt; matches!(row.register(6), RegisterRule::Default));
-            assert!(rt; row_at(&cie, &fde, 0x1020).is_none());
-        }
-        Err(_) => return Err(Fail::from("a bad program")),
-    }
+    let frame = check_frame(rt.alloc(), &section, LITTLE)?;
+    assert_eq!(rt; range_at(&frame, 0xfff), None);
+    assert_eq!(rt; range_at(&frame, 0x1000), Some((0x1000, 0x1001)));
+    assert_eq!(rt; rules_at(&frame, 0x1001), Some((16, Some(-8), None)));
+    assert_eq!(rt; range_at(&frame, 0x101f), Some((0x1002, 0x1020)));
+    assert_eq!(rt; rules_at(&frame, 0x101f), Some((8, Some(-8), None)));
+    assert_eq!(rt; range_at(&frame, 0x1020), None);
     Ok(())
 }
 
@@ -187,19 +166,95 @@ fn push_fde(section: &mut Vec<u8>, initial: u64, range: u64) -> Result<(), Fail>
 }
 
 /// Where the row of an address begins and ends.
-fn range_at(frame: &CheckedFrame<'_>, address: u64) -> Option<(u64, u64)> {
+fn range_of<'a>(frame: &'a CheckedFrame<'a>, address: u64) -> Option<(u64, u64)> {
     let row = frame.row_for_address(address)?;
     Some((row.start_address(), row.end_address()))
 }
 
+fn range_at(frame: &CheckedFrame<'_>, address: u64) -> Option<(u64, u64)> {
+    range_of(frame, address)
+}
+
+/// The offset of a rule that says where a register is saved.
+fn saved_at(rule: RegisterRule<'_>) -> Option<i64> {
+    match rule {
+        RegisterRule::Offset(offset) => Some(offset),
+        _ => None,
+    }
+}
+
+/// Of the row of an address: how far the CFA is from register 7, and where registers 16 and 6 are saved.
+fn rules_of<'a>(
+    frame: &'a CheckedFrame<'a>,
+    address: u64,
+) -> Option<(i64, Option<i64>, Option<i64>)> {
+    let row = frame.row_for_address(address)?;
+    match row.cfa() {
+        CfaRule::RegisterAndOffset {
+            register: 7,
+            offset,
+        } => Some((
+            offset,
+            saved_at(row.register(16)),
+            saved_at(row.register(6)),
+        )),
+        _ => None,
+    }
+}
+
+fn rules_at(frame: &CheckedFrame<'_>, address: u64) -> Option<(i64, Option<i64>, Option<i64>)> {
+    rules_of(frame, address)
+}
+
 /// How many rows the FDE of an address has.
-fn row_count(frame: &CheckedFrame<'_>, address: u64) -> Option<u32> {
+fn row_count_of<'a>(frame: &'a CheckedFrame<'a>, address: u64) -> Option<u32> {
     let fde = frame.fde_for_address(address)?;
     let mut count = 0u32;
     for _ in frame.rows(&fde) {
         count = count.saturating_add(1);
     }
     Some(count)
+}
+
+fn row_count(frame: &CheckedFrame<'_>, address: u64) -> Option<u32> {
+    row_count_of(frame, address)
+}
+
+/// Where the first two rows of an FDE end, and where the first one ends once more, in the place of others.
+fn ends_of<'a>(frame: &'a CheckedFrame<'a>, address: u64) -> Option<(u64, u64, u64)> {
+    let fde = frame.fde_for_address(address)?;
+    let mut rows = frame.rows(&fde);
+    let first = rows.next()?.end_address();
+    let second = rows.next()?.end_address();
+    frame.rows_into(&fde, &mut rows);
+    let mut row = UnwindTableRow::empty();
+    if rows.next_into(&mut row) {
+        Some((first, second, row.end_address()))
+    } else {
+        None
+    }
+}
+
+fn ends_at(frame: &CheckedFrame<'_>, address: u64) -> Option<(u64, u64, u64)> {
+    ends_of(frame, address)
+}
+
+/// Where the CIE and the FDE of an address begin, and where its row ends; and then where the same place ends, when it was asked
+/// for the row of another address.
+fn places_of<'a>(
+    frame: &'a CheckedFrame<'a>,
+    address: u64,
+    other: u64,
+) -> Option<(u32, u32, u64, u64)> {
+    let mut row = UnwindTableRow::empty();
+    let (cie, fde) = frame.row_for_address_into(address, &mut row)?;
+    let end = row.end_address();
+    let _ = frame.row_for_address_into(other, &mut row);
+    Some((cie.offset, fde.offset, end, row.end_address()))
+}
+
+fn places_at(frame: &CheckedFrame<'_>, address: u64, other: u64) -> Option<(u32, u32, u64, u64)> {
+    places_of(frame, address, other)
 }
 
 #[test]
@@ -211,21 +266,11 @@ fn checks_a_section(rt: HostRuntime) -> Result<(), Fail> {
     assert_eq!(rt; range_at(&frame, 0x1000), Some((0x1000, 0x1001)));
     assert_eq!(rt; range_at(&frame, 0x101f), Some((0x1004, 0x1020)));
     assert_eq!(rt; range_at(&frame, 0x1020), None);
-    let fde = frame.fde_for_address(0x1000).ok_or("an FDE")?;
-    let mut rows = frame.rows(&fde);
-    assert_eq!(rt; rows.next().ok_or("a row")?.end_address(), 0x1001);
-    assert_eq!(rt; rows.next().ok_or("a row")?.end_address(), 0x1004);
-    frame.rows_into(&fde, &mut rows);
-    let mut row = UnwindTableRow::empty();
-    assert!(rt; rows.next_into(&mut row));
-    assert_eq!(rt; row.end_address(), 0x1001);
-    let (cie, fde) = frame
-        .row_for_address_into(0x1001, &mut row)
-        .ok_or("the second row")?;
-    assert_eq!(rt; (cie.offset, fde.offset), (0, 24));
-    assert_eq!(rt; row.end_address(), 0x1004);
-    assert!(rt; frame.row_for_address_into(0x1020, &mut row).is_none());
-    assert_eq!(rt; row.end_address(), 0x1004);
+    assert_eq!(rt; ends_at(&frame, 0x1000), Some((0x1001, 0x1004, 0x1001)));
+    assert_eq!(rt;
+        places_at(&frame, 0x1001, 0x1020),
+        Some((0, 24, 0x1004, 0x1004))
+    );
     assert_eq!(rt; frame.section(), FUNCTION.as_slice());
     Ok(())
 }

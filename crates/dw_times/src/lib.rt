@@ -1,10 +1,12 @@
-//! The libraries as `bench/beside_gimli/driver.c` times them: each export does one kind of work, and answers a number that all of it goes into.
+//! The libraries as `bench/beside_gimli/driver.c` times them: each export does one kind of work, and answers a number that all of
+//! it goes into.
 #![tactic(auto)]
 
 ghost use Rattle.std.specs.Prelude.{◌<◌, ◌^◌, length, Some, None};
 
 use dw_bytes::{AddressSize, Order, Target};
 use dw_eval::{Context, Memory, Outcome, Registers, evaluate};
+use dw_loclists::check_lists;
 use dw_ops::Expression;
 use dw_rows::{CheckedFrame, Rows, UnwindTableRow, check_frame};
 use dw_stack::{CheckedExpression, Kind, certify, check_expression};
@@ -61,12 +63,20 @@ pub extern "C" fn bench_check(alloc: Global, section: &[u8]) -> usize {
     }
 }
 
-/// The check, and all rows by the iterator.
+/// The check of a section of location lists.
 #[unsafe(no_mangle)]
-pub extern "C" fn bench_rows(alloc: Global, section: &[u8]) -> u64 {
-    let Some(frame) = checked(alloc, section) else {
+pub extern "C" fn bench_check_lists(alloc: Global, section: &[u8]) -> usize {
+    if section.len() >= 1 << 32 {
         return 0;
-    };
+    }
+    match check_lists(alloc, section, TARGET) {
+        Ok(lists) => lists.expressions().len(),
+        Err(_) => 0,
+    }
+}
+
+/// The ends of all rows by the iterator, added up.
+fn iterated_sum_of<'a>(frame: &'a CheckedFrame<'a>) -> u64 {
     let mut sum = 0u64;
     for fde in frame.fdes() {
         for row in frame.rows(fde) {
@@ -76,8 +86,21 @@ pub extern "C" fn bench_rows(alloc: Global, section: &[u8]) -> u64 {
     sum
 }
 
+fn iterated_sum(frame: &CheckedFrame<'_>) -> u64 {
+    iterated_sum_of(frame)
+}
+
+/// The check, and all rows by the iterator.
+#[unsafe(no_mangle)]
+pub extern "C" fn bench_rows(alloc: Global, section: &[u8]) -> u64 {
+    match checked(alloc, section) {
+        Some(frame) => iterated_sum(&frame),
+        None => 0,
+    }
+}
+
 /// The ends of the rows that are to come, added up.
-fn sum_of(rows: &mut Rows<'_>, row: &mut UnwindTableRow) -> u64 {
+fn sum_of<'a>(rows: &mut Rows<'a>, row: &mut UnwindTableRow<'a>) -> u64 {
     let mut sum = 0u64;
     'rows: while rows.next_into(row) {
         sum = sum.wrapping_add(row.end_address());
@@ -85,12 +108,8 @@ fn sum_of(rows: &mut Rows<'_>, row: &mut UnwindTableRow) -> u64 {
     sum
 }
 
-/// The check, and all rows in the place of one.
-#[unsafe(no_mangle)]
-pub extern "C" fn bench_rows_into(alloc: Global, section: &[u8]) -> u64 {
-    let Some(frame) = checked(alloc, section) else {
-        return 0;
-    };
+/// The ends of all rows in the place of one, added up.
+fn streamed_sum_of<'a>(frame: &'a CheckedFrame<'a>) -> u64 {
     let Some(first) = frame.fdes().first() else {
         return 0;
     };
@@ -104,17 +123,21 @@ pub extern "C" fn bench_rows_into(alloc: Global, section: &[u8]) -> u64 {
     sum
 }
 
-/// The check, and so many times the rows of all these addresses.
+fn streamed_sum(frame: &CheckedFrame<'_>) -> u64 {
+    streamed_sum_of(frame)
+}
+
+/// The check, and all rows in the place of one.
 #[unsafe(no_mangle)]
-pub extern "C" fn bench_look_up(
-    alloc: Global,
-    section: &[u8],
-    addresses: &[u64],
-    times: u32,
-) -> u64 {
-    let Some(frame) = checked(alloc, section) else {
-        return 0;
-    };
+pub extern "C" fn bench_rows_into(alloc: Global, section: &[u8]) -> u64 {
+    match checked(alloc, section) {
+        Some(frame) => streamed_sum(&frame),
+        None => 0,
+    }
+}
+
+/// The ends of the rows of all these addresses so many times, added up.
+fn found_sum_of<'a>(frame: &'a CheckedFrame<'a>, addresses: &[u64], times: u32) -> u64 {
     let mut row = UnwindTableRow::empty();
     let mut sum = 0u64;
     for _ in 0..times {
@@ -125,6 +148,24 @@ pub extern "C" fn bench_look_up(
         }
     }
     sum
+}
+
+fn found_sum(frame: &CheckedFrame<'_>, addresses: &[u64], times: u32) -> u64 {
+    found_sum_of(frame, addresses, times)
+}
+
+/// The check, and so many times the rows of all these addresses.
+#[unsafe(no_mangle)]
+pub extern "C" fn bench_look_up(
+    alloc: Global,
+    section: &[u8],
+    addresses: &[u64],
+    times: u32,
+) -> u64 {
+    match checked(alloc, section) {
+        Some(frame) => found_sum(&frame, addresses, times),
+        None => 0,
+    }
 }
 
 fn value_of(expression: &CheckedExpression<'_>) -> u64 {

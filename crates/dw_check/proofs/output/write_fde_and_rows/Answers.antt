@@ -1,7 +1,8 @@
-use Rattle.std.proofs.Common.{◌≡◌, List, Some, ap, sym, subst, ◌∙◌}
+use Rattle.std.proofs.Common.{◌≡◌, List, Some, ap, map, sym, subst, ◌∙◌}
 use Rattle.std.specs.List.{All}
 use Rattle.dw_frame.specs.Records.{Cie, Fde}
 use Rattle.dw_rows.specs.Rules.{Row}
+use Rattle.dw_rows.specs.GivenRows.{row_with}
 use Rattle.dw_rows.specs.UnwindRows.{rows_of}
 use Rattle.dw_rows.specs.Section.{Frame, cie_in, rows_in, rows_behind}
 use Rattle.dw_check.specs.Text.{Fits}
@@ -10,8 +11,9 @@ use Rattle.dw_check.proofs.Writing.{fde_then, fde_front}
 use Rattle.dw_check.proofs.output.write_fde_and_rows.Goals as goal
 
 -- the rows are those behind the CIE
-behind : (s : Frame) (f : Fde) (c : Cie) (rows : List Row) → cie_in s f ≡ Some c → rows ≡ rows_in s f → rows ≡ rows_of c f
-behind s f c rows is all = all ∙ ap (λ o. rows_behind o f) is
+behind : (s : Frame) (f : Fde) (c : Cie) (rows : List Row) → cie_in s f ≡ Some c → rows ≡ rows_in s f
+    → rows ≡ map (row_with s.expressions) (rows_of c f)
+behind s f c rows is all = all ∙ ap (λ o. map (row_with s.expressions) (rows_behind o f)) is
 
 pub write_fde-requires-clause-fits : goal.write_fde-requires-clause-fits
 write_fde-requires-clause-fits g c = below_top c.args.frame.now.target _ _ c.requires.size c.requires.fits
@@ -21,7 +23,8 @@ write_rows-requires-clause-fit g c =
     let size = c.args.out.now.size in
     let fit = subst (λ rows. All (λ row. Fits size row) rows)
     (sym (behind c.args.frame.now _ _ _ c.rows_into-cie.ensures.cie c.rows_into-cie.ensures.rows))
-    (good_rows_fit c.args.frame.now.target _ _ _ c.requires.size c.rows_into-cie.ensures.fde_program c.requires.fits) in
+    (good_rows_fit c.args.frame.now.target _ _ _ c.requires.size c.rows_into-cie.ensures.fde_program c.requires.fits
+    c.args.frame.now.expressions) in
     rw c.in_ok-write_fde.ensures.same.1 fit
 
 pub returns-in_err-write_fde-clause-written : goal.returns-in_err-write_fde-clause-written

@@ -1,8 +1,9 @@
 use Rattle.std.proofs.Common.{◌≡◌, rules, sym, ap, ◌∙◌, get_or}
 use Rattle.std.proofs.lemmas.List.Sorted.{answers_always}
 use Rattle.dw_bytes.specs.Operands.{block_of}
-use Rattle.dw_loclists.specs.Locations.{LocatedExpression, location_of}
-use Rattle.dw_loclists.specs.Views.{offset_of, located_of}
+use Rattle.dw_loclists.specs.Locations.{location_of}
+use Rattle.dw_stack.specs.Located.{LocatedExpression, located_of}
+use Rattle.dw_loclists.specs.Views.{offset_of}
 use Rattle.dw_loclists.proofs.Search.{searched-found, searched-none, contained-map, ascending-same}
 use Rattle.dw_loclists.proofs.find.find_expression.Goals as goal
 

@@ -1,4 +1,5 @@
-use Rattle.std.proofs.Common.{◌≡◌, ◌<◌, ◌≤◌, ◌+◌, [], ◌∷◌, ◌++◌, length, Err, Some, None, ℕ, true, false, List, sym, ap, subst, ◌∙◌, arith, inl, inr, Result}
+use Rattle.std.proofs.Common.{◌≡◌, ◌<◌, ◌≤◌, ◌+◌, [], ◌∷◌, ◌++◌, length, Err, Some, None, ℕ, true, false, List, sym, ap, subst, ◌∙◌, arith}
+use Rattle.std.proofs.Common.{inl, inr, Result}
 use Rattle.std.specs.Prelude.{◌⊎◌, ◌||◌}
 use Rattle.std.proofs.lemmas.Grind.{common_steps}
 use Rattle.dw_bytes.specs.declared.fault.Fault.{Fault}
@@ -8,9 +9,11 @@ use Rattle.dw_bytes.specs.Answers.{memory}
 use Rattle.dw_loclists.specs.Entries.{Entry, is_end, is_default}
 use Rattle.dw_loclists.specs.Bounds.{IsBefore}
 use Rattle.dw_loclists.specs.Reading.{list_at, entries_at, entry_fault}
-use Rattle.dw_loclists.specs.Views.{entry_of, all_located}
+use Rattle.dw_loclists.specs.Views.{entry_of}
+use Rattle.dw_stack.specs.Located.{all_located}
 use Rattle.dw_loclists.proofs.EachEntry.{checked-refused, checked-none, checked-fault, before-inside}
-use Rattle.dw_loclists.proofs.EachList.{listed, entries-end, entries-last, entries-refused, list-ends, list-stops, next-entry, end-nothing, more-kept}
+use Rattle.dw_loclists.proofs.EachList.{listed, entries-end, entries-last, entries-refused, list-ends, list-stops, next-entry, end-nothing}
+use Rattle.dw_loclists.proofs.EachList.{more-kept}
 use Rattle.dw_loclists.proofs.list.read_list.Goals as goal
 
 abbrev no-list : Fault → Result (List Entry × ReadPosition) Fault

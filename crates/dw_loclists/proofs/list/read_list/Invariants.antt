@@ -3,7 +3,7 @@ use Rattle.dw_bytes.specs.Reading.{MovesForward}
 use Rattle.dw_loclists.specs.Entries.{Entry}
 use Rattle.dw_loclists.specs.Locations.{expressions_of}
 use Rattle.dw_loclists.specs.Reading.{entries_at}
-use Rattle.dw_loclists.specs.Views.{all_located}
+use Rattle.dw_stack.specs.Located.{all_located}
 use Rattle.dw_loclists.proofs.EachList.{put_all}
 use Rattle.dw_loclists.proofs.list.read_list.Given as goal
 

@@ -7,7 +7,8 @@ use Rattle.dw_loclists.specs.declared.contents.LocationList.{LocationList}
 use Rattle.dw_loclists.specs.Locations.{expressions_of}
 use Rattle.dw_loclists.specs.Reading.{lists_at}
 use Rattle.dw_loclists.specs.Kept.{kept_of}
-use Rattle.dw_loclists.specs.Views.{start_of, all_located}
+use Rattle.dw_loclists.specs.Views.{start_of}
+use Rattle.dw_stack.specs.Located.{all_located}
 use Rattle.dw_loclists.proofs.EachTable.{next-list, last-list, bad-list, list-begins}
 use Rattle.dw_loclists.proofs.KeptLists.{kept-as, list-kept, same-kept}
 use Rattle.dw_loclists.proofs.table.read_lists.Goals as goal

@@ -1,5 +1,6 @@
 use Rattle.dw_rows.proofs.WellFormedSections.{faultless-well-formed}
 use Rattle.dw_rows.proofs.CheckedSections.{checked-cies-sound, checked-fdes-sound, checked-cies-ascend, checked-fdes-ascend}
+use Rattle.dw_rows.proofs.GoodExpressions.{checked-expressions}
 use Rattle.dw_rows.proofs.laws.checked_sections.Goals as goal
 
 pub returns : goal.returns
@@ -9,4 +10,5 @@ returns c = record {
   fdes = checked-fdes-sound;
   cies_ascend = checked-cies-ascend;
   fdes_ascend = checked-fdes-ascend;
+  expressions = checked-expressions;
 }

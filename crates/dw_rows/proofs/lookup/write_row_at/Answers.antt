@@ -3,8 +3,10 @@ use Rattle.std.specs.Prelude.{find}
 use Rattle.dw_frame.specs.Views.{cie_of, fde_of}
 use Rattle.dw_rows.specs.UnwindRows.{rows_of, has_address}
 use Rattle.dw_rows.specs.RowCursors.{RowCursor}
+use Rattle.dw_rows.specs.LentExpressions.{lent_by}
+use Rattle.dw_rows.proofs.GivenRows.{find-with}
 use Rattle.dw_rows.proofs.Covering.{not-missed}
-use Rattle.dw_rows.proofs.Coming.{seeks-found, seeks-on, seeks-cursor, seeks-nearer, seeks-cfa, seeks-remembers, seeks-end}
+use Rattle.dw_rows.proofs.Coming.{seeks-found, seeks-on, seeks-cursor, seeks-nearer, seeks-cfa, seeks-lent, seeks-remembers, seeks-end}
 use Rattle.dw_rows.proofs.lookup.write_row_at.Goals as goal
 
 pub write_row-requires : goal.write_row-requires
@@ -23,7 +25,11 @@ write_row-requires c =
       context = c.next_plain.new.state;
       instructions = c.next_plain.new.instructions;
     } in
-    seeks-cfa cie fde c.args.address w new c.in-Row.start c.in-Row.end c.loop-start.invariant.seeks c.in-Row.ensures
+    record {
+      cfa = seeks-cfa cie fde c.args.address w new c.in-Row.start c.in-Row.end c.loop-start.invariant.seeks c.in-Row.ensures;
+      lent = seeks-lent cie fde c.args.address w new c.in-Row.start c.in-Row.end (lent_by c.args.expressions) c.loop-start.invariant.seeks
+          c.in-Row.ensures c.requires.lent;
+    }
 
 pub returns-then-address-end : goal.returns-then-address-end
 returns-then-address-end c =
@@ -41,7 +47,8 @@ returns-then-address-end c =
       context = c.next_plain.new.state;
       instructions = c.next_plain.new.instructions;
     } in
-    seeks-found cie fde c.args.address w new c.in-Row.start c.in-Row.end c.loop-start.invariant.seeks c.in-Row.ensures c.if-address-end.true
+    find-with (lent_by c.args.expressions) c.args.address (rows_of cie fde) _
+    (seeks-found cie fde c.args.address w new c.in-Row.start c.in-Row.end c.loop-start.invariant.seeks c.in-Row.ensures c.if-address-end.true)
     ∙ ap Some (sym c.write_row.ensures)
 
 pub loop-start-smaller : goal.loop-start-smaller

@@ -3,8 +3,10 @@ use Rattle.std.specs.Prelude.{find}
 use Rattle.dw_frame.specs.Views.{cie_of, fde_of}
 use Rattle.dw_rows.specs.UnwindRows.{rows_of, has_address}
 use Rattle.dw_rows.specs.RowCursors.{RowCursor, Seeks}
+use Rattle.dw_rows.specs.LentExpressions.{lent_by}
+use Rattle.dw_rows.proofs.GivenRows.{find-with}
 use Rattle.dw_rows.proofs.Covering.{not-missed}
-use Rattle.dw_rows.proofs.Coming.{seeks-found, seeks-on, seeks-none, seeks-cursor, seeks-nearer, seeks-cfa}
+use Rattle.dw_rows.proofs.Coming.{seeks-found, seeks-on, seeks-none, seeks-cursor, seeks-nearer, seeks-cfa, seeks-lent}
 use Rattle.dw_rows.proofs.lookup.write_row_behind.Goals as goal
 
 pub loop-start-init : goal.loop-start-init
@@ -36,7 +38,11 @@ write_row-requires c =
       context = c.next_range.new.context;
       instructions = c.next_range.new.instructions;
     } in
-    seeks-cfa cie fde c.args.address w new c.in-Some.start c.in-Some.end c.loop-start.invariant.seeks c.in-Some.ensures
+    record {
+      cfa = seeks-cfa cie fde c.args.address w new c.in-Some.start c.in-Some.end c.loop-start.invariant.seeks c.in-Some.ensures;
+      lent = seeks-lent cie fde c.args.address w new c.in-Some.start c.in-Some.end (lent_by c.args.expressions) c.loop-start.invariant.seeks
+          c.in-Some.ensures c.requires.lent;
+    }
 
 pub returns-then-address-end : goal.returns-then-address-end
 returns-then-address-end c =
@@ -54,8 +60,9 @@ returns-then-address-end c =
       context = c.next_range.new.context;
       instructions = c.next_range.new.instructions;
     } in
-    seeks-found cie fde c.args.address w new c.in-Some.start c.in-Some.end c.loop-start.invariant.seeks c.in-Some.ensures
-    c.if-address-end.true ∙ ap Some (sym c.write_row.ensures)
+    find-with (lent_by c.args.expressions) c.args.address (rows_of cie fde) _
+    (seeks-found cie fde c.args.address w new c.in-Some.start c.in-Some.end c.loop-start.invariant.seeks c.in-Some.ensures c.if-address-end.true)
+    ∙ ap Some (sym c.write_row.ensures)
 
 pub loop-start-smaller : goal.loop-start-smaller
 loop-start-smaller c =

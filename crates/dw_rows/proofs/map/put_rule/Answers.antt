@@ -1,9 +1,9 @@
 use Rattle.std.proofs.Common.{arith, ◌≡◌, ◌<◌, length}
 use Rattle.std.proofs.lemmas.Grind.{common_steps}
 use Rattle.dw_rows.specs.RememberStack.{place_in}
-use Rattle.dw_rows.specs.Views.{rule_of, entries_of}
+use Rattle.dw_rows.specs.Views.{kept_rule_of, entries_of}
 use Rattle.dw_rows.proofs.Tables.{inserted, Clears, puts-inserted, full-count}
-use Rattle.dw_rows.proofs.Edits.{insert-place, rule_of-some, length-entries_of}
+use Rattle.dw_rows.proofs.Edits.{insert-place, kept_rule_of-some, length-entries_of}
 use Rattle.dw_rows.specs.declared.map.TheConstants.{MAX_RULES}
 use Rattle.dw_rows.proofs.map.put_rule.Goals as goal
 
@@ -13,8 +13,8 @@ returns-then-full c =
     let mid = entries_of c.clear_rule.new.table.items in
     let full : length c.clear_rule.new.table.items ≡ MAX_RULES = grind (arith, common_steps) in
     let clears : Clears old c.args.register mid = record { table = c.clear_rule.ensures.table; rules = c.clear_rule.ensures.rules } in
-    let more = full-count old mid c.args.register (rule_of c.args.rule) (omega arith)
-    (rule_of-some c.args.rule c.in_default.not-Default) clears in
+    let more = full-count old mid c.args.register (kept_rule_of c.args.rule) (omega arith)
+    (kept_rule_of-some c.args.rule c.in_default.not-Default) clears in
     record {
       table = c.clear_rule.ensures.table;
       rules = tt;
@@ -29,11 +29,11 @@ returns c =
     let mid = entries_of c.clear_rule.new.table.items in
     let place : c.place_of-place.result ≡ place_in c.args.register mid = cc in
     let clears : Clears old c.args.register mid = record { table = c.clear_rule.ensures.table; rules = c.clear_rule.ensures.rules } in
-    let new : entries_of c.insert.new.self.items ≡ inserted c.args.register (rule_of c.args.rule) mid =
+    let new : entries_of c.insert.new.self.items ≡ inserted c.args.register (kept_rule_of c.args.rule) mid =
     rw (c.insert.ensures.items, place) (insert-place c.clear_rule.new.table.items c.args.register
-    (rule_of c.args.rule) c.entry.result c.entry.ensures) in
-    let k = puts-inserted old mid (entries_of c.insert.new.self.items) c.args.register (rule_of c.args.rule) (omega arith)
-    (rule_of-some c.args.rule c.in_default.not-Default) clears new in
+    (kept_rule_of c.args.rule) c.entry.result c.entry.ensures) in
+    let k = puts-inserted old mid (entries_of c.insert.new.self.items) c.args.register (kept_rule_of c.args.rule) (omega arith)
+    (kept_rule_of-some c.args.rule c.in_default.not-Default) clears new in
     record {
       table = k.table;
       rules = k.rules;

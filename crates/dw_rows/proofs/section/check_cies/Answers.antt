@@ -1,10 +1,11 @@
-use Rattle.std.proofs.Common.{◌≡◌, ◌+◌, [], ◌∷◌, ◌++◌, map, take, false, Result, Ok, Err, MatchResult, sym, subst, ◌∙◌, arith}
+use Rattle.std.proofs.Common.{◌≡◌, ◌+◌, [], ◌∷◌, ◌++◌, map, take, drop, false, Result, Ok, Err, MatchResult, sym, ap, subst, ◌∙◌, arith, append_assoc}
 use Rattle.std.specs.Result.{is_err}
 use Rattle.dw_frame.specs.Views.{cie_of}
+use Rattle.dw_rows.specs.Expressions.{expressions_of, cie_expressions}
 use Rattle.dw_rows.specs.Judgement.{cie_fault}
 use Rattle.dw_rows.specs.ProgramState.{IsLeftBy}
 use Rattle.dw_rows.proofs.Elements.{front-map}
-use Rattle.dw_rows.proofs.Faults.{passed}
+use Rattle.dw_rows.proofs.Faults.{passed, drop-at}
 use Rattle.dw_rows.proofs.Initials.{left-one}
 use Rattle.dw_rows.proofs.section.check_cies.Goals as goal
 
@@ -18,12 +19,19 @@ loop-cie-preserved c =
     let cies = c.args.cies.now in
     let i = c.loop-cie.cie-index in
     let x = c.cie-item.result in
-    let one : IsLeftBy (cie_of x) c.first.result.now = subst (IsLeftBy (cie_of x)) (sym c.first.ensures) c.in_ok-run_cie.ensures.left in
+    let one : IsLeftBy (cie_of x) c.first.result.now = subst (IsLeftBy (cie_of x)) (sym c.first.ensures) c.in_ok-judge_cie.ensures.left in
     let kept : c.push.new.self ≡ c.loop-cie.left ++ c.first.result.now ∷ [] = not-refused _ _ _ c.if-is_err.ensures.value c.push.ensures in
     let front : map cie_of (take (i + 1) cies) ≡ map cie_of (take i cies) ++ cie_of x ∷ [] =
     front-map cie_of cies i x (omega arith) (sym c.cie-item.is) in
     record {
-      fault = c.loop-cie.invariant.fault ∙ passed cie_of cie_fault cies i x (omega arith) (sym c.cie-item.is) c.in_ok-run_cie.ensures.fault;
+      fault = c.loop-cie.invariant.fault ∙ passed cie_of cie_fault cies i x (omega arith) (sym c.cie-item.is) c.in_ok-judge_cie.ensures.fault;
       left = rw (front, kept) (left-one (map cie_of (take i cies)) c.loop-cie.left
           (cie_of x) c.first.result.now c.loop-cie.invariant.left one);
+      kept =
+          let ahead : cie_expressions (map cie_of (drop i cies)) ≡ expressions_of (cie_of x).program
+          ++ cie_expressions (map cie_of (drop (i + 1) cies)) =
+          ap (λ l. cie_expressions (map cie_of l)) (drop-at cies i x (omega arith) (sym c.cie-item.is)) in
+          c.loop-cie.invariant.kept ∙ ap (λ l. c.loop-cie.judged ++ l) ahead
+          ∙ sym (append_assoc c.loop-cie.judged (expressions_of (cie_of x).program) (cie_expressions (map cie_of (drop (i + 1) cies))))
+          ∙ ap (λ l. l ++ cie_expressions (map cie_of (drop (i + 1) cies))) (sym c.in_ok-judge_cie.ensures.kept);
     }

@@ -1,5 +1,6 @@
-use Rattle.std.proofs.Common.{◌≡◌, map, take, drop}
+use Rattle.std.proofs.Common.{◌≡◌, ◌++◌, map, take, drop}
 use Rattle.dw_frame.specs.Views.{cie_of}
+use Rattle.dw_rows.specs.Expressions.{cie_expressions}
 use Rattle.dw_rows.specs.Judgement.{cie_fault}
 use Rattle.dw_rows.specs.Section.{first_fault}
 use Rattle.dw_rows.specs.Initial.{AreLeftBy}
@@ -9,4 +10,5 @@ abbrev pub invariant-loop-cie : goal.invariant-loop-cie
 invariant-loop-cie l = record {
   fault : first_fault cie_fault (map cie_of l.cies) ≡ first_fault cie_fault (map cie_of (drop l.cie-index l.cies));
   left : AreLeftBy (map cie_of (take l.cie-index l.cies)) l.left;
+  kept : l.fn.judged ++ cie_expressions (map cie_of l.cies) ≡ l.judged ++ cie_expressions (map cie_of (drop l.cie-index l.cies));
 }

@@ -1,4 +1,5 @@
-use Rattle.std.proofs.Common.{◌≡◌, ◌+◌, ◌<◌, ◌⊎◌, ◌∙◌, refl, sym, ap, subst, length, ℕ, Option, List, [], cond, Bool, ◌∷◌, ◌++◌, arith, rules, get_or, length-set, get_or-set_same, get_or-set_other, inr}
+use Rattle.std.proofs.Common.{◌≡◌, ◌+◌, ◌<◌, ◌⊎◌, ◌∙◌, refl, sym, ap, subst, length, ℕ, Option, List, [], cond, Bool, ◌∷◌, ◌++◌, arith}
+use Rattle.std.proofs.Common.{rules, get_or, length-set, get_or-set_same, get_or-set_other, inr}
 use Rattle.std.proofs.lemmas.List.{length-replicate, get_or-replicate}
 use Rattle.std.proofs.lemmas.Grind.{common_steps}
 use Rattle.std.specs.Prelude.{slice_set, replicate, max, Ok, Err, ◌==◌}
@@ -70,8 +71,8 @@ step_of kind ops len laid given i states states' old new last depth depth' piece
 
 pub loop-i-init : goal.loop-i-init
 loop-i-init c = begins c.args.kind (listed c.args.operations.now) c.args.end c.requires.laid (given_of c.args.given)
-    (length c.args.operations.now) c.start-start.result c.new-states.result.items c.in_ok-in_states.in_states.items
-    (sym (listed_length c.args.operations.now)) c.start-start.ensures c.new-states.ensures.items c.in_ok-in_states.ensures.ok
+    (length c.args.operations.now) c.start_state-start.result c.new-states.result.items c.in_ok-in_states.in_states.items
+    (sym (listed_length c.args.operations.now)) c.start_state-start.ensures c.new-states.ensures.items c.in_ok-in_states.ensures.ok
 
 pub loop-i-preserved : goal.loop-i-preserved
 loop-i-preserved c =
@@ -130,17 +131,17 @@ last_read xs items n m same long = ap (get_or_at m) (sym same) ∙ ap (λ (k : �
     get_or_at : ℕ → List InState → InState
     get_or_at k ys = get_or ys k Unreached
 
-pub returns-in-Err-state_at-clause-first : goal.returns-in-Err-state_at-clause-first
-returns-in-Err-state_at-clause-first c =
+pub returns-in-Err-in_state_at-clause-first : goal.returns-in-Err-in_state_at-clause-first
+returns-in-Err-in_state_at-clause-first c =
     let long = listed_length c.args.operations.now in
     let all : c.loop-i.i ≡ length (listed c.args.operations.now) = omega (arith, long, c.loop-i-test.false, c.loop-i.auto.i-end) in
     let e = last_read c.as_slice.result.now c.loop-i.in_states.items (length c.args.operations.now)
     (length (listed c.args.operations.now)) c.as_slice.ensures long in
     let f = end_refused c.args.kind (listed c.args.operations.now) c.args.end c.requires.laid
     (given_of c.args.given) c.loop-i.i all c.loop-i.states.items c.loop-i.in_states.items c.loop-i.depth c.loop-i.pieces c.loop-i.invariant
-    (get_or c.as_slice.result.now (length c.args.operations.now) Unreached) c.in-Err-state_at.kind e c.in-Err-state_at.ensures in
+    (get_or c.as_slice.result.now (length c.args.operations.now) Unreached) c.in-Err-in_state_at.kind e c.in-Err-in_state_at.ensures in
     refusal_of c.args.kind (listed c.args.operations.now) c.args.end
-    (given_of c.args.given) c.refusal-in-Err-state_at.result c.in-Err-state_at.kind _ _ c.refusal-in-Err-state_at.ensures refl f
+    (given_of c.args.given) c.refusal-in-Err-in_state_at.result c.in-Err-in_state_at.kind _ _ c.refusal-in-Err-in_state_at.ensures refl f
 
 pub returns-then-not-has_result-clause-first : goal.returns-then-not-has_result-clause-first
 returns-then-not-has_result-clause-first c =
@@ -150,11 +151,11 @@ returns-then-not-has_result-clause-first c =
     (length (listed c.args.operations.now)) c.as_slice.ensures long in
     let one = end_state c.args.kind (listed c.args.operations.now) c.args.end c.requires.laid
     (given_of c.args.given) c.loop-i.i all c.loop-i.states.items c.loop-i.in_states.items c.loop-i.depth c.loop-i.pieces c.loop-i.invariant
-    (get_or c.as_slice.result.now (length c.args.operations.now) Unreached) c.in-Ok-state_at.state e c.in-Ok-state_at.ensures in
+    (get_or c.as_slice.result.now (length c.args.operations.now) Unreached) c.in-Ok-in_state_at.state e c.in-Ok-in_state_at.ensures in
     let empty : (length (listed c.args.operations.now) == 0) ≡ c.is_empty.result = ap (λ (n : ℕ). n == 0) long ∙ sym c.is_empty.ensures in
     let f = end_empty c.args.kind (listed c.args.operations.now) c.args.end c.requires.laid
     (given_of c.args.given) c.loop-i.i all c.loop-i.states.items c.loop-i.in_states.items c.loop-i.depth c.loop-i.pieces c.loop-i.invariant
-    c.in-Ok-state_at.state one (λ has. let yes = subst (λ (b : Bool). HasResult c.args.kind b c.in-Ok-state_at.state) empty has in
+    c.in-Ok-in_state_at.state one (λ has. let yes = subst (λ (b : Bool). HasResult c.args.kind b c.in-Ok-in_state_at.state) empty has in
     let same = c.has_result.ensures in let other = c.if-not-has_result.true in absurd (cc)) in
     refusal_of c.args.kind (listed c.args.operations.now) c.args.end
     (given_of c.args.given) c.refusal-then-not-has_result.result EndsEmpty _ _ c.refusal-then-not-has_result.ensures refl f
@@ -167,11 +168,11 @@ returns-clause-good c =
     (length (listed c.args.operations.now)) c.as_slice.ensures long in
     let one = end_state c.args.kind (listed c.args.operations.now) c.args.end c.requires.laid
     (given_of c.args.given) c.loop-i.i all c.loop-i.states.items c.loop-i.in_states.items c.loop-i.depth c.loop-i.pieces c.loop-i.invariant
-    (get_or c.as_slice.result.now (length c.args.operations.now) Unreached) c.in-Ok-state_at.state e c.in-Ok-state_at.ensures in
+    (get_or c.as_slice.result.now (length c.args.operations.now) Unreached) c.in-Ok-in_state_at.state e c.in-Ok-in_state_at.ensures in
     let empty : (length (listed c.args.operations.now) == 0) ≡ c.is_empty.result = ap (λ (n : ℕ). n == 0) long ∙ sym c.is_empty.ensures in
     end_good c.args.kind (listed c.args.operations.now) c.args.end c.requires.laid
     (given_of c.args.given) c.loop-i.i all c.loop-i.states.items c.loop-i.in_states.items c.loop-i.depth c.loop-i.pieces c.loop-i.invariant
-    c.in-Ok-state_at.state one (subst (λ (b : Bool). HasResult c.args.kind b c.in-Ok-state_at.state) (sym empty)
+    c.in-Ok-in_state_at.state one (subst (λ (b : Bool). HasResult c.args.kind b c.in-Ok-in_state_at.state) (sym empty)
     (sym c.has_result.ensures ∙ c.if-not-has_result.false))
 
 pub returns-clause-states : goal.returns-clause-states

@@ -18,7 +18,7 @@ renamed kind e at count s t d f p q state depth pieces j =
     (subst (λ (n : ℕ). JudgedSoFar kind e at count s d n) (sym pieces) j))
 
 pub loop-at-init : goal.loop-at-init
-loop-at-init c = begun c.args.kind c.args.expression c.start-state.result c.start-state.ensures
+loop-at-init c = begun c.args.kind c.args.expression c.start_state-state.result c.start_state-state.ensures
 
 pub loop-at-preserved : goal.loop-at-preserved
 loop-at-preserved c =

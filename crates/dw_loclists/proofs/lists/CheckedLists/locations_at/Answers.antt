@@ -6,10 +6,11 @@ use Rattle.dw_stack.specs.declared.checked.CheckedExpression.{CheckedExpression}
 use Rattle.dw_loclists.specs.Bounds.{Ascends}
 use Rattle.dw_loclists.specs.Entries.{Entry}
 use Rattle.dw_loclists.specs.Lists.{Loclist, starts_of}
-use Rattle.dw_loclists.specs.Locations.{LocatedExpression, bounded_at, defaults_in, or_else_all}
+use Rattle.dw_loclists.specs.Locations.{bounded_at, defaults_in, or_else_all}
+use Rattle.dw_stack.specs.Located.{LocatedExpression, all_located}
 use Rattle.dw_loclists.specs.Reading.{entries_at, ListSection, lists_in, located_in}
 use Rattle.dw_loclists.specs.Kept.{Kept}
-use Rattle.dw_loclists.specs.Views.{start_of, offset_of, all_located}
+use Rattle.dw_loclists.specs.Views.{start_of, offset_of}
 use Rattle.dw_loclists.specs.Walks.{entries_in}
 use Rattle.dw_loclists.proofs.Checked.{expressions-ascend}
 use Rattle.dw_loclists.proofs.Located.{list-read, inside-section, given-among}

@@ -1,6 +1,7 @@
 use Rattle.std.proofs.Common.{◌≡◌, List, ◌∷◌, ◌++◌, Contains, sym, ap, subst, ◌∙◌}
 use Rattle.dw_bytes.specs.Operands.{block_of}
-use Rattle.dw_loclists.specs.Locations.{LocatedExpression, location_of}
+use Rattle.dw_loclists.specs.Locations.{location_of}
+use Rattle.dw_stack.specs.Located.{LocatedExpression}
 use Rattle.dw_loclists.specs.Walks.{held_ahead, default_ahead}
 use Rattle.dw_loclists.proofs.Search.{contains-behind}
 use Rattle.dw_loclists.proofs.locations.LocationsAtIterator.next.Goals as goal

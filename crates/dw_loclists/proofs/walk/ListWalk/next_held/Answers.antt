@@ -3,11 +3,13 @@ use Rattle.std.specs.Prelude.{◌||◌, is_some, option_map, MatchOption}
 use Rattle.dw_bytes.specs.declared.block.Block as declared
 use Rattle.dw_bytes.specs.Operands.{Block, block_of}
 use Rattle.dw_loclists.specs.Entries.{end_of_list, default_location, base_address, is_end, is_default}
-use Rattle.dw_loclists.specs.Locations.{LocatedExpression, location_of, base_after, holds, bounded_at, defaults_in}
+use Rattle.dw_loclists.specs.Locations.{location_of, base_after, holds, bounded_at, defaults_in}
+use Rattle.dw_stack.specs.Located.{LocatedExpression}
 use Rattle.dw_loclists.specs.Reading.{entry_at, entries_at}
 use Rattle.dw_loclists.specs.Views.{entry_of}
 use Rattle.dw_loclists.specs.Walks.{default_located, entries_in, held_ahead}
-use Rattle.dw_loclists.proofs.Walking.{always-read, none-before, step-ends, step-goes, or-false, or-true, held-step, defaults-step, first-default, holds-bounded, holds-some, holds-none, not-default}
+use Rattle.dw_loclists.proofs.Walking.{always-read, none-before, step-ends, step-goes, or-false, or-true, held-step, defaults-step}
+use Rattle.dw_loclists.proofs.Walking.{first-default, holds-bounded, holds-some, holds-none, not-default}
 use Rattle.dw_loclists.proofs.walk.ListWalk.next_held.Goals as goal
 
 pub unreachable-requires : goal.unreachable-requires

@@ -6,6 +6,9 @@ use Rattle.dw_rows.specs.Section.{Frame, cie_at}
 use Rattle.dw_rows.proofs.Parts.{pointed-in, good-behind}
 use Rattle.dw_frame.specs.Bounds.{Ascends}
 use Rattle.dw_rows.specs.Overlap.{cie_offset}
+use Rattle.dw_rows.specs.RowCursors.{Lends}
+use Rattle.dw_rows.proofs.Faults.{at-found}
+use Rattle.dw_rows.proofs.Lending.{lends-in}
 use Rattle.dw_rows.proofs.CheckedSections.{checked-parts, checked-cies-ascend}
 use Rattle.dw_rows.proofs.frame.CheckedFrame.begin_with_cie.Goals as goal
 
@@ -37,3 +40,15 @@ returns-clause-fde_program c =
     ap (λ (l : List CommonInformationEntry). cie_at (map cie_of l) fde.cie_pointer) c.deref.ensures.value in
     (good-behind cies fdes (checked-parts _ c.self.invariant.checked) fde among (cie_of c.in-Some.cie)
     (sym same ∙ sym c.in-Some.ensures.cie)).1
+
+pub returns-clause-lends : goal.returns-clause-lends
+returns-clause-lends c =
+    let fde = fde_of c.args.fde.now in
+    let cie = cie_of c.in-Some.cie in
+    let cies = map cie_of c.self.inside.cies.items in
+    let fdes = map fde_of c.self.inside.fdes.items in
+    let among : Contains fdes fde = subst (λ (s : Frame). Contains s.fdes fde) (sym c.self.view_is) c.requires in
+    let same : cie_at (map cie_of c.deref.result.now) fde.cie_pointer ≡ cie_at cies fde.cie_pointer =
+    ap (λ (l : List CommonInformationEntry). cie_at (map cie_of l) fde.cie_pointer) c.deref.ensures.value in
+    let found = at-found cies fde.cie_pointer cie (sym same ∙ sym c.in-Some.ensures.cie) in
+    subst (λ (s : Frame). Lends s.expressions cie fde) c.self.view_is (lends-in _ c.self.invariant.checked cie fde found.0 among)

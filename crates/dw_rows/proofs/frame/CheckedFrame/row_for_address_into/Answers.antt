@@ -1,9 +1,11 @@
-use Rattle.std.proofs.Common.{◌≡◌, ◌+◌, Some, arith, refl, ap, sym, ◌∙◌}
+use Rattle.std.proofs.Common.{◌≡◌, ◌+◌, Some, arith, refl, ap, map, sym, ◌∙◌}
 use Rattle.std.specs.Prelude.{find}
 use Rattle.dw_frame.specs.Views.{cie_of, fde_of}
 use Rattle.dw_rows.specs.Section.{rows_behind}
+use Rattle.dw_rows.specs.GivenRows.{row_with}
 use Rattle.dw_rows.specs.UnwindRows.{rows_of, has_address}
 use Rattle.dw_rows.proofs.Covering.{cover-rows, found-by}
+use Rattle.dw_rows.proofs.GivenRows.{cover-with}
 use Rattle.dw_rows.proofs.Lookups.{row-found, row-none}
 use Rattle.dw_rows.proofs.frame.CheckedFrame.row_for_address_into.Goals as goal
 
@@ -22,10 +24,14 @@ pub returns-clause-fit : goal.returns-clause-fit
 returns-clause-fit c =
     let cie = cie_of c.write_row_of-cie.result in
     let fde = fde_of c.in_ok-fde.fde in
-    let found : find (has_address c.args.address) (rows_of cie fde) ≡ Some c.write_row_of-cie.new.row =
-    ap (λ o. find (has_address c.args.address) (rows_behind o fde)) (sym c.write_row_of-cie.ensures.cie) ∙ c.write_row_of-cie.ensures.row in
-    let by = found-by (has_address c.args.address) fde.initial (fde.initial + fde.range) _ _
-    (cover-rows cie fde c.write_row_of-cie.ensures.fde_program) found in
+    let es = c.args.self.now.expressions in
+    let rows = map (row_with es) (rows_of cie fde) in
+    let found : find (has_address c.args.address) rows ≡ Some c.write_row_of-cie.new.row =
+    ap (λ o. find (has_address c.args.address) (map (row_with es) (rows_behind o fde))) (sym c.write_row_of-cie.ensures.cie)
+    ∙ c.write_row_of-cie.ensures.row in
+    let by = found-by (has_address c.args.address) fde.initial (fde.initial + fde.range) rows c.write_row_of-cie.new.row
+    (cover-with es fde.initial (rows_of cie fde) (fde.initial + fde.range)
+    (cover-rows cie fde c.write_row_of-cie.ensures.fde_program)) found in
     (omega (arith, by.0, c.in_ok-fde.ensures.fit), omega (arith, by.1, c.in_ok-fde.ensures.fit))
 
 pub returns-in_err-fde-clause-none : goal.returns-in_err-fde-clause-none

@@ -3,7 +3,7 @@ use Rattle.dw_rows.specs.declared.map.RuleEntry.{RuleEntry}
 use Rattle.dw_rows.specs.declared.initial_rules.RuleSpan.{RuleSpan}
 use Rattle.dw_rows.specs.RuleSet.{KeptRules}
 use Rattle.std.specs.Option.{option_map}
-use Rattle.dw_rows.specs.Views.{cfa_rule_of, entries_of}
+use Rattle.dw_rows.specs.Views.{kept_cfa_of, entries_of}
 use Rattle.dw_rows.proofs.Initials.{spans-grown, kept-grown, Pushed, pushed}
 use Rattle.dw_rows.proofs.initial_rules.InitialRules.push.Goals as goal
 
@@ -50,9 +50,9 @@ returns c =
     let spans : c.push.new.self.items ≡ c.self.inside.spans.items ++ span c ∷ [] =
     rw c.if-is_err.ensures.negation at c.push.ensures.items in
     let rules : entries_of c.as_slice.result.now ≡ c.args.rules.now.rules = c.as_slice.ensures.entries ∙ c.register_rules.ensures in
-    let same : record { cfa = option_map cfa_rule_of c.cfa.result; rules = entries_of c.as_slice.result.now } ≡ c.args.rules.now =
+    let same : record { cfa = option_map kept_cfa_of c.cfa.result; rules = entries_of c.as_slice.result.now } ≡ c.args.rules.now =
     λ i. record { cfa = sym c.cfa.ensures i; rules = rules i } in
     rw (entries, spans)
     ((one_more c).kept
-    ∙ (ap (λ (l : List KeptRules). l ++ record { cfa = option_map cfa_rule_of c.cfa.result; rules = entries_of c.as_slice.result.now }
+    ∙ (ap (λ (l : List KeptRules). l ++ record { cfa = option_map kept_cfa_of c.cfa.result; rules = entries_of c.as_slice.result.now }
     ∷ []) c.self.view_is ∙ ap (λ (k : KeptRules). c.args.self.now ++ k ∷ []) same))

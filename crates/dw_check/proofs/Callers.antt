@@ -1,0 +1,75 @@
+-- The caller by a row, and its registers, one after the other.
+use Rattle.std.proofs.Common.{◌≡◌, ℕ, suc, ◌+◌, ◌<◌, ◌≤◌, List, [], ◌∷◌, ◌++◌, length, map, refl, ap, sym, subst, ◌∙◌, arith, length-append}
+use Rattle.std.specs.Prelude.{Option, Some}
+use Rattle.std.proofs.lemmas.List.{append_assoc, map-append}
+use Rattle.dw_bytes.specs.declared.target.Target.{Target}
+use Rattle.dw_frame.specs.Records.{Cie, Fde}
+use Rattle.dw_rows.specs.Rules.{Rule, Cfa, Row, rule_in}
+use Rattle.dw_rows.specs.Section.{Frame, IsCoverOf, cie_in, row_of}
+use Rattle.dw_eval.specs.World.{World}
+use Rattle.dw_check.specs.Caller.{Answer, IsCfa, IsRegister, AreRegisters, Caller, IsCaller, IsCallerAt, machine}
+
+-- as many as there are rules
+pub as_many : (e : World) (cfa : Answer) (rules : List (ℕ × Rule)) (answers : List (ℕ × Answer)) → AreRegisters e cfa rules answers
+    → length answers ≡ length rules
+as_many e cfa [] [] h = refl
+as_many e cfa [] (x ∷ xs) h = absurd h
+as_many e cfa (x ∷ rules) [] h = absurd h
+as_many e cfa (x ∷ rules) (y ∷ answers) h = ap suc (as_many e cfa rules answers h.2)
+
+-- the next one too
+pub one_more : (e : World) (cfa : Answer) (rules : List (ℕ × Rule)) (answers : List (ℕ × Answer)) (r : ℕ) (rule : Rule) (answer : Answer)
+    → AreRegisters e cfa rules answers → IsRegister e cfa r rule answer
+    → AreRegisters e cfa (rules ++ (r, rule) ∷ []) (answers ++ (r, answer) ∷ [])
+one_more e cfa [] [] r rule answer h is = (refl, is, tt)
+one_more e cfa [] (x ∷ xs) r rule answer h is = absurd h
+one_more e cfa (x ∷ rules) [] r rule answer h is = absurd h
+one_more e cfa (x ∷ rules) (y ∷ answers) r rule answer h is = (h.0, h.1, one_more e cfa rules answers r rule answer h.2 is)
+
+-- there is room for the next one
+pub has_room : (e : World) (cfa : Answer) (came left rest all : List (ℕ × Rule)) (answers : List (ℕ × Answer)) (x : ℕ × Rule) (most : ℕ)
+    → AreRegisters e cfa came answers → came ++ left ≡ all → left ≡ x ∷ rest → length all ≤ most → length answers < most
+has_room e cfa came left rest all answers x most h whole next few =
+    let many = as_many e cfa came answers h in
+    let cut : length came + length left ≡ length all = sym (length-append came left) ∙ ap length whole in
+    let one : length left ≡ suc (length rest) = ap length next in
+    omega (arith, many, cut, one, few)
+
+-- ---- a loop over what things stand for: the next one has come
+
+pub comes : {X Y : Type 0} (view : X → Y) (came : List X) (x : X) (left rest all : List Y) → map view came ++ left ≡ all
+    → left ≡ view x ∷ rest → map view (came ++ x ∷ []) ++ rest ≡ all
+comes view came x left rest all whole next =
+    ap (λ l. l ++ rest) (map-append view came (x ∷ [])) ∙ append_assoc (map view came) (view x ∷ []) rest
+    ∙ ap (λ l. map view came ++ l) (sym next) ∙ whole
+
+-- ---- the caller by the row of an address
+
+-- It is what is said of the row's own rules, under the target of the section.
+pub by_row : (registers memory : ℕ → Option ℕ) (target : Target) (frame given : Frame) (address : ℕ) (fde : Fde) (cie : Cie) (row : Row)
+    (rule : Cfa) (rules : List (ℕ × Rule)) (back : Rule) (cfa returned : Answer) (answers : List (ℕ × Answer)) → given ≡ frame
+    → target ≡ given.target → IsCoverOf given.fdes address (Some fde) → cie_in given fde ≡ Some cie → row_of given address ≡ Some row
+    → row.cfa ≡ Some rule → IsCfa (machine target registers memory) (Some rule) cfa → rules ≡ row.rules
+    → AreRegisters (machine target registers memory) cfa rules answers → back ≡ rule_in row.rules cie.return_register
+    → IsRegister (machine target registers memory) cfa cie.return_register back returned
+    → IsCallerAt (machine frame.target registers memory) frame address
+    (record { cfa = cfa; registers = answers; return_address = returned })
+by_row registers memory target frame given address fde cie row rule rules back cfa returned answers same of_target covers points found
+    cfa_is has_cfa rules_are has_registers back_is returns =
+    let e = machine target registers memory in
+    let caller : Caller = record { cfa = cfa; registers = answers; return_address = returned } in
+    let by_rules : IsCaller e cie.return_register row caller = record {
+      cfa = subst (λ c. IsCfa e c cfa) (sym cfa_is) has_cfa;
+      registers = subst (λ rs. AreRegisters e cfa rs answers) rules_are has_registers;
+      return_address = subst (λ b. IsRegister e cfa cie.return_register b returned) back_is returns;
+    } in
+    let here : IsCallerAt (machine given.target registers memory) given address caller = record {
+      fde = fde;
+      covers = covers;
+      cie = cie;
+      cie_is = points;
+      row = row;
+      row_is = found;
+      is = subst (λ t. IsCaller (machine t registers memory) cie.return_register row caller) of_target by_rules;
+    } in
+    subst (λ f. IsCallerAt (machine f.target registers memory) f address caller) same here

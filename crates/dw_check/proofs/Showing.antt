@@ -1,0 +1,71 @@
+-- What a loop over expressions has written: those that came, each with what it comes to.
+use Rattle.std.proofs.Common.{◌≡◌, ℕ, List, [], ◌∷◌, ◌++◌, refl, sym, subst, append_assoc}
+use Rattle.std.specs.Prelude.{Option}
+use Rattle.std.specs.List.{All}
+use Rattle.std.proofs.lemmas.List.{append-nil}
+use Rattle.std.proofs.lemmas.List.Elements.{All-rest, recursion_from_All}
+use Rattle.std.specs.Io.KnownBytes.{Appends}
+use Rattle.dw_bytes.specs.declared.target.AddressSize.{AddressSize}
+use Rattle.dw_stack.specs.Located.{LocatedExpression}
+use Rattle.dw_check.specs.SinkBytes.{AppendsFront}
+use Rattle.dw_check.specs.StateFile.{StateFact}
+use Rattle.dw_check.specs.Text.{expression_line}
+use Rattle.dw_check.specs.Evaluations.{Evaluates}
+use Rattle.dw_check.specs.Lookups.{IsShowable, AreEvaluated}
+use Rattle.dw_check.proofs.Found.{each_evaluated}
+use Rattle.dw_check.proofs.Growth.{appends_nothing, appends_more, front_more, front_wider}
+
+-- What came is written, and any text of the rest behind it is one of all.
+pub record Shown (gs : List StateFact) (all rest : List LocatedExpression) (old new : Option (List ℕ)) : Type 0 where
+  pub came : List ℕ
+  pub sent : Appends old new came
+  pub whole : (behind : List ℕ) → AreEvaluated gs rest behind → AreEvaluated gs all (came ++ behind)
+
+pub shown_none : (gs : List StateFact) (all : List LocatedExpression) (a : Option (List ℕ)) → Shown gs all all a a
+shown_none gs all a = record { came = []; sent = appends_nothing a; whole = λ behind h. h }
+
+-- the next one, and then the rest
+next_before : (gs : List StateFact) (left rest : List LocatedExpression) (x : LocatedExpression) (own behind : List ℕ) → left ≡ x ∷ rest
+    → Evaluates x.kind x.target x.bytes gs own → AreEvaluated gs rest behind
+    → AreEvaluated gs left ((expression_line x.offset ++ own) ++ behind)
+next_before gs left rest x own behind e h k =
+    subst (λ (l : List LocatedExpression). AreEvaluated gs l ((expression_line x.offset ++ own) ++ behind)) (sym e)
+    (own, behind, refl, h, k)
+
+-- the next one too
+pub shown_next : (gs : List StateFact) (all left rest : List LocatedExpression) (x : LocatedExpression) (own : List ℕ)
+    (a b c : Option (List ℕ))
+    → left ≡ x ∷ rest → Shown gs all left a b → Evaluates x.kind x.target x.bytes gs own → Appends b c (expression_line x.offset ++ own)
+    → Shown gs all rest a c
+shown_next gs all left rest x own a b c e s h more =
+    let line = expression_line x.offset ++ own in
+    record {
+      came = s.came ++ line;
+      sent = appends_more a b c s.came line s.sent more;
+      whole = λ behind k. subst (AreEvaluated gs all) (sym (append_assoc s.came line behind))
+          (s.whole (line ++ behind) (next_before gs left rest x own behind e h k));
+    }
+
+-- a beginning of the next one's
+pub shown_front : (size : AddressSize) (gs : List StateFact) (all left rest : List LocatedExpression) (x : LocatedExpression) (own : List ℕ)
+    (a b c : Option (List ℕ))
+    → left ≡ x ∷ rest → All (λ y. IsShowable size y) left → Shown gs all left a b → Evaluates x.kind x.target x.bytes gs own
+    → AppendsFront b c (expression_line x.offset ++ own) → (t : List ℕ) × AreEvaluated gs all t × AppendsFront a c t
+shown_front size gs all left rest x own a b c e fine s h part =
+    let line = expression_line x.offset ++ own in
+    let others = each_evaluated size gs rest
+    (recursion_from_All (λ y. IsShowable size y) rest (All-rest (λ y. IsShowable size y) x rest left e fine)) in (
+      s.came ++ (line ++ others.0),
+      s.whole (line ++ others.0) (next_before gs left rest x own others.0 e h others.1),
+      front_more a b c s.came (line ++ others.0) s.sent (front_wider b c line others.0 part),
+    )
+
+-- all of them
+pub shown_all : (gs : List StateFact) (all left : List LocatedExpression) (a b : Option (List ℕ)) → left ≡ [] → Shown gs all left a b
+    → (t : List ℕ) × AreEvaluated gs all t × Appends a b t
+shown_all gs all left a b e s = (
+  s.came,
+  subst (AreEvaluated gs all) (append-nil s.came)
+      (s.whole [] (subst (λ (l : List LocatedExpression). AreEvaluated gs l []) (sym e) refl)),
+  s.sent,
+)

@@ -1,0 +1,89 @@
+-- Two sections have no fault exactly where they are well formed.
+use Rattle.std.proofs.Common.{◌≡◌, ◌⊎◌, ℕ, ◌^◌, ◌<◌, ◌↔◌, List, length, refl, arith, inl, inr}
+use Rattle.std.specs.Prelude.{Option, Some, None, Result, Ok, Err, IfOk, IfErr}
+use Rattle.std.proofs.lemmas.Bool.Decides.{nat_tests}
+use Rattle.dw_bytes.specs.declared.target.Target.{Target}
+use Rattle.dw_bytes.specs.declared.fault.Fault.{Fault}
+use Rattle.dw_bytes.specs.Answers.{memory}
+use Rattle.dw_rows.specs.Section.{section_fault}
+use Rattle.dw_rows.specs.WellFormed as frames
+use Rattle.dw_loclists.specs.Reading.{lists_fault}
+use Rattle.dw_loclists.specs.Lists as tables
+use Rattle.dw_check.specs.Checked.{AreWellFormed, Checks, check_fault, fault_within, length_fault, or_next}
+use Rattle.dw_check.specs.declared.stop.Section.{Section}
+use Rattle.dw_check.specs.declared.stop.Section.TheVariants.{Frame, Lists}
+use Rattle.dw_check.specs.declared.whole_check.CheckFault.{CheckFault}
+use Rattle.dw_check.proofs.Lengths.{short_fault}
+
+-- ---- the first fault of both
+
+or_next_none : (a b : Option CheckFault) → or_next a b ≡ None → (a ≡ None) × (b ≡ None)
+or_next_none None b h = (refl, h)
+or_next_none (Some fault) b h = absurd (other fault h)
+  where
+    other : (fault : CheckFault) → Some fault ≡ None → ⊥
+    other fault e = cc
+
+within_none : (section : Section) (first : Option Fault) → fault_within section first ≡ None → first ≡ None
+within_none section None h = refl
+within_none section (Some fault) h = absurd (other _ h)
+  where
+    other : (found : CheckFault) → Some found ≡ None → ⊥
+    other found e = cc
+
+short : (bytes : List ℕ) → length_fault bytes ≡ None → length bytes < 2 ^ 32
+short bytes h = grind (arith, nat_tests, h)
+
+-- neither section alone has a fault
+pub each_without_fault : (target : Target) (frame lists : List ℕ) → check_fault target frame lists ≡ None
+    → (section_fault target frame ≡ None) × (lists_fault target lists ≡ None)
+unfolding check_fault
+each_without_fault target frame lists h =
+    let a = or_next_none (fault_within Frame (length_fault frame)) _ h in
+    let b = or_next_none (fault_within Lists (length_fault lists)) _ a.1 in
+    let c = or_next_none (fault_within Frame (section_fault target frame)) _ b.1 in
+    (within_none Frame _ c.0, within_none Lists _ c.1)
+
+-- by what is said of each section alone
+pub without_fault : ((target : Target) (section : List ℕ) → (section_fault target section ≡ None) ↔ frames.IsWellFormed target section)
+    → ((target : Target) (section : List ℕ) → (lists_fault target section ≡ None) ↔ tables.IsWellFormed target section)
+    → (target : Target) (frame lists : List ℕ) → (check_fault target frame lists ≡ None) ↔ AreWellFormed target frame lists
+unfolding check_fault
+without_fault of_frames of_lists target frame lists = (to, from)
+  where
+    to : check_fault target frame lists ≡ None → AreWellFormed target frame lists
+    to h =
+        let a = or_next_none (fault_within Frame (length_fault frame)) _ h in
+        let b = or_next_none (fault_within Lists (length_fault lists)) _ a.1 in
+        let c = or_next_none (fault_within Frame (section_fault target frame)) _ b.1 in
+        record {
+          frame_is_short = short frame (within_none Frame _ a.0);
+          lists_are_short = short lists (within_none Lists _ b.0);
+          frame_is_right = (of_frames target frame).0 (within_none Frame _ c.0);
+          lists_are_right = (of_lists target lists).0 (within_none Lists _ c.1);
+        }
+
+    from : AreWellFormed target frame lists → check_fault target frame lists ≡ None
+    from right =
+        rw (
+          short_fault frame None _ right.frame_is_short,
+          short_fault lists None _ right.lists_are_short,
+          (of_frames target frame).1 right.frame_is_right,
+          (of_lists target lists).1 right.lists_are_right,
+        ) refl
+
+-- ---- a check that names the first fault accepts exactly what is well formed
+
+pub accepts : {X : Type 0} (first : Option CheckFault) (W : Type 0) (answer : Result X CheckFault) → Checks first answer
+    → (first ≡ None) ↔ W → IfOk answer (λ _. W)
+accepts first W (Ok x) h exact = exact.0 h
+accepts first W (Err found) h exact = tt
+
+pub refuses : {X : Type 0} (first : Option CheckFault) (W : Type 0) (answer : Result X CheckFault) → Checks first answer
+    → (first ≡ None) ↔ W → IfErr answer (λ found. (found.fault ≡ memory) ⊎ (W → ⊥))
+refuses first W (Ok x) h exact = tt
+refuses first W (Err found) (inl lacks) exact = inl lacks
+refuses first W (Err found) (inr is) exact = inr (λ right. other (exact.1 right) is)
+  where
+    other : first ≡ None → first ≡ Some found → ⊥
+    other none some = cc

@@ -1,0 +1,34 @@
+use Rattle.std.proofs.Common.{◌≡◌, ℕ, refl, sym, ap, ◌∙◌}
+use Rattle.dw_check.specs.declared.unwinding.Answer as declared
+use Rattle.dw_check.specs.declared.unwinding.Answer.TheVariants as answers
+use Rattle.dw_check.specs.Caller.{Answer, behind, word}
+use Rattle.dw_check.specs.CallerViews.{answer_in, machine_in}
+use Rattle.dw_check.proofs.present.Present.register.Goals as goal
+
+-- what has no value stays as it is
+behind_other : (a : declared.Answer) (f : ℕ → Answer) → ((n : ℕ) → a ≡ answers.Value n → ⊥) → answer_in a ≡ behind (answer_in a) f
+behind_other (answers.Value n) f other = absurd (other n refl)
+behind_other answers.Undefined f other = refl
+behind_other answers.Unreadable f other = refl
+behind_other answers.DivisionByZero f other = refl
+
+pub returns-in-Value-outcome : goal.returns-in-Value-outcome
+returns-in-Value-outcome g c =
+    let e = machine_in g.R.Registers.contents g.M.Memory.bytes c.args.self.now in
+    rw (c.in-Expression.is, c.in-Value-cfa-2.is) (
+      answer_in c.outcome.result,
+      c.outcome.ensures c.in-Expression.offset,
+      c.word-in-Value-outcome.ensures ∙ ap (λ (a : declared.Answer). behind (answer_in a) (word e)) (sym c.in-Value-outcome.is),
+    )
+
+pub returns-in_default-outcome : goal.returns-in_default-outcome
+returns-in_default-outcome g c =
+    let e = machine_in g.R.Registers.contents g.M.Memory.bytes c.args.self.now in
+    rw (c.in-Expression.is, c.in-Value-cfa-2.is) (
+      answer_in c.outcome.result,
+      c.outcome.ensures c.in-Expression.offset,
+      behind_other c.outcome.result (word e) c.in_default-outcome.not-Value,
+    )
+
+pub returns-in-Value-cfa-3 : goal.returns-in-Value-cfa-3
+returns-in-Value-cfa-3 g c = rw (c.in-ValExpression.is, c.in-Value-cfa-3.is) (c.outcome-in-Value-cfa-3.ensures c.in-ValExpression.offset)

@@ -1,0 +1,5 @@
+use Rattle.dw_check.proofs.Reported.{of_mapped}
+use Rattle.dw_check.proofs.reports.cie_count.Goals as goal
+
+pub returns : goal.returns
+returns c = of_mapped _ _ _ c.cies.ensures.cies

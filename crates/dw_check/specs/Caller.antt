@@ -1,0 +1,166 @@
+-- The frame that called: its registers, its CFA, and where it goes on (DWARF 5, section 6.4.1).
+use Rattle.std.specs.Prelude.{◌≡◌, ℕ, ◌+◌, ◌^◌, nat_le, ℤ, pos, ◌+ℤ◌, if◌then◌else◌, List, [], ◌∷◌, length, Option, Some, None, Contains}
+use Rattle.dw_bytes.specs.declared.target.Target.{Target}
+use Rattle.dw_bytes.specs.Encoding.{bytes_of_address}
+use Rattle.dw_frame.specs.Records.{Cie, Fde}
+use Rattle.dw_rows.specs.Rules.{Rule, Cfa, register_and_offset, cfa_expression, Row, RuleOver, rule_in, default, same_value, offset, val_offset, register, expression, val_expression}
+use Rattle.dw_stack.specs.Located.{LocatedExpression}
+use Rattle.dw_rows.specs.Section.{Frame, Covers, IsCoverOf, cie_in, row_of}
+use Rattle.dw_stack.specs.Expressions.{IsGoodExpression, operations_in}
+use Rattle.dw_eval.specs.Numbers.{reduced}
+use Rattle.dw_eval.specs.World.{World, width, number_at}
+use Rattle.dw_eval.specs.Results as results
+use Rattle.dw_eval.specs.Results.{Outcome, IsRun}
+
+-- What is known of a number: it; that it can't be had; that registers or memory lack what it takes, or that a read goes past
+-- 2^w - 1; or that its expression divides by zero.
+pub data Answer : Type 0 where
+  value : ℕ → Answer
+  undefined : Answer
+  unreadable : Answer
+  division_by_zero : Answer
+
+-- ---- what is handed in
+
+-- registers and memory alone, under a target
+abbrev pub machine : Target → (ℕ → Option ℕ) → (ℕ → Option ℕ) → World
+machine target registers memory =
+    record { target = target; registers = registers; memory = memory; cfa = None; frame_base = None; object = None }
+
+-- the same with a CFA
+abbrev pub with_cfa : World → ℕ → World
+with_cfa e c =
+    record { target = e.target; registers = e.registers; memory = e.memory; cfa = Some c; frame_base = None; object = None }
+
+-- the same under a target, as that of an expression, which is its section's
+abbrev pub under : Target → World → World
+under target e = record {
+  target = target;
+  registers = e.registers;
+  memory = e.memory;
+  cfa = e.cfa;
+  frame_base = e.frame_base;
+  object = e.object;
+}
+
+-- a number and an offset, modulo 2^w
+abbrev pub moved : World → ℤ → ℕ → ℕ
+moved e by n = reduced (width e) (pos n +ℤ by)
+
+-- a content and an offset, modulo 2^w
+abbrev pub moved_content : World → ℤ → Option ℕ → Answer
+moved_content e by (Some n) = value (moved e by n)
+moved_content e by None = unreadable
+
+-- what a register has now
+abbrev pub content : World → ℕ → Answer
+content e r = moved_content e (pos 0) (e.registers r)
+
+-- the address-sized word at an address, of which the last byte is at most at 2^w - 1
+abbrev pub word : World → ℕ → Answer
+word e a = if nat_le (a + bytes_of_address e.target.address_size) (2 ^ width e)
+    then moved_content e (pos 0) (number_at e.memory e.target.order a (bytes_of_address e.target.address_size)) else unreadable
+
+-- what comes of a value, or that there is none
+abbrev pub behind : Answer → (ℕ → Answer) → Answer
+behind (value n) f = f n
+behind other f = other
+
+-- What an expression of a frame comes to. It has the kind of its rule: that of a CFA begins with nothing, that of a register with
+-- the CFA.
+abbrev pub answer_of : Outcome → Answer
+answer_of (results.value n) = value n
+answer_of (results.division_by_zero at) = division_by_zero
+answer_of _ = unreadable
+
+abbrev pub Gives : World → LocatedExpression → Answer → Type 0
+Gives e x answer = (outcome : Outcome) × (steps : ℕ) × IsRun (under x.target e) x.kind (operations_in x.target x.bytes) (length x.bytes) outcome steps
+    × (answer ≡ answer_of outcome)
+
+-- ---- the CFA, and each register, by its rule
+
+-- A row that covers an address has a rule for the CFA. A CFA expression runs with nothing pushed.
+abbrev pub IsCfa : World → Option Cfa → Answer → Type 0
+IsCfa e (Some (register_and_offset r n)) answer = answer ≡ moved_content e n (e.registers r)
+IsCfa e (Some (cfa_expression x)) answer = Gives e x answer
+IsCfa e None answer = answer ≡ unreadable
+
+-- a rule that needs the CFA has its outcome where it has no value (own)
+abbrev pub NeedsCfa : Answer → (ℕ → Answer → Type 0) → Answer → Type 0
+NeedsCfa (value c) Is answer = Is c answer
+NeedsCfa other Is answer = answer ≡ other
+
+-- What a register of the caller is, by its rule and the CFA. The CFA is pushed before the expression of a register.
+abbrev pub IsRegister : World → Answer → ℕ → Rule → Answer → Type 0
+IsRegister e cfa r default answer = answer ≡ undefined
+IsRegister e cfa r RuleOver.undefined answer = answer ≡ undefined
+IsRegister e cfa r same_value answer = answer ≡ content e r
+IsRegister e cfa r (offset n) answer = answer ≡ behind cfa (λ c. word e (moved e n c))
+IsRegister e cfa r (val_offset n) answer = answer ≡ behind cfa (λ c. value (moved e n c))
+IsRegister e cfa r (register other) answer = answer ≡ content e other
+IsRegister e cfa r (expression x) answer =
+    NeedsCfa cfa (λ c a. (address : Answer) × Gives (with_cfa e c) x address × (a ≡ behind address (word e))) answer
+IsRegister e cfa r (val_expression x) answer = NeedsCfa cfa (λ c a. Gives (with_cfa e c) x a) answer
+
+-- the registers of these rules, in their order
+abbrev pub AreRegisters : World → Answer → List (ℕ × Rule) → List (ℕ × Answer) → Type 0
+AreRegisters e cfa [] [] = Unit {0}
+AreRegisters e cfa (entry ∷ rules) (found ∷ answers) =
+    (found.0 ≡ entry.0) × IsRegister e cfa entry.0 entry.1 found.1 × AreRegisters e cfa rules answers
+AreRegisters e cfa _ _ = ⊥
+
+-- ---- the caller
+
+-- Its CFA; each register that has a rule, by ascending numbers; and where it goes on.
+pub record Caller : Type 0 where
+  pub cfa : Answer
+  pub registers : List (ℕ × Answer)
+  pub return_address : Answer
+
+-- The caller by a row, under registers and memory. The return address is what the register is that the CIE names for it.
+pub record IsCaller (e : World) (return_register : ℕ) (row : Row) (caller : Caller) : Type 0 where
+  pub cfa : IsCfa e row.cfa caller.cfa
+  pub registers : AreRegisters e caller.cfa row.rules caller.registers
+  pub return_address : IsRegister e caller.cfa return_register (rule_in row.rules return_register) caller.return_address
+
+-- The caller at an address: by the FDE that covers it, that one's CIE, and the row of the address.
+pub record IsCallerAt (e : World) (frame : Frame) (address : ℕ) (caller : Caller) : Type 0 where
+  pub fde : Fde
+  pub covers : IsCoverOf frame.fdes address (Some fde)
+  pub cie : Cie
+  pub cie_is : cie_in frame fde ≡ Some cie
+  pub row : Row
+  pub row_is : row_of frame address ≡ Some row
+  pub is : IsCaller e cie.return_register row caller
+
+-- The caller at an address, or that no FDE covers it.
+abbrev pub Unwinds : World → Frame → ℕ → Option Caller → Type 0
+Unwinds e frame address (Some caller) = IsCallerAt e frame address caller
+Unwinds e frame address None = (f : Fde) → Contains frame.fdes f → ¬ Covers f address
+
+-- ---- rows whose expressions are good
+
+abbrev pub IsGood : LocatedExpression → Type 0
+IsGood x = IsGoodExpression x.kind x.target x.bytes
+
+abbrev pub IsGoodCfa : Option Cfa → Type 0
+IsGoodCfa (Some (cfa_expression x)) = IsGood x
+IsGoodCfa _ = Unit {0}
+
+abbrev pub IsGoodRule : Rule → Type 0
+IsGoodRule (expression x) = IsGood x
+IsGoodRule (val_expression x) = IsGood x
+IsGoodRule _ = Unit {0}
+
+abbrev pub AreGoodRules : List (ℕ × Rule) → Type 0
+AreGoodRules [] = Unit {0}
+AreGoodRules (entry ∷ rules) = IsGoodRule entry.1 × AreGoodRules rules
+
+-- each expression of the row is good under its kind
+pub record HasGoodExpressions (row : Row) : Type 0 where
+  pub cfa : IsGoodCfa row.cfa
+  pub registers : AreGoodRules row.rules
+
+-- so is each of the row of an address, if it has one
+abbrev pub HasGoodRow : Frame → ℕ → Type 0
+HasGoodRow frame address = (row : Row) → row_of frame address ≡ Some row → HasGoodExpressions row

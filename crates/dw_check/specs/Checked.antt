@@ -1,0 +1,56 @@
+-- Two sections that are right, and the first fault of two (DWARF 5, sections 6.4.1 and 7.29).
+use Rattle.std.specs.Prelude.{◌≡◌, ◌⊎◌, ℕ, ◌<◌, ◌^◌, nat_lt, if◌then◌else◌, List, [], length, Option, Some, None, Result, Ok, Err}
+use Rattle.dw_bytes.specs.declared.target.Target.{Target}
+use Rattle.dw_bytes.specs.declared.fault.Fault.{Fault}
+use Rattle.dw_bytes.specs.declared.fault.FaultKind.TheVariants.{SectionTooLong}
+use Rattle.dw_bytes.specs.Answers.{memory}
+use Rattle.dw_rows.specs.Section.{section_fault}
+use Rattle.dw_rows.specs.WellFormed as frame
+use Rattle.dw_loclists.specs.Reading.{lists_fault}
+use Rattle.dw_loclists.specs.Lists as tables
+use Rattle.dw_check.specs.declared.whole_check.CheckFault.{CheckFault}
+use Rattle.dw_check.specs.declared.stop.Section.{Section}
+use Rattle.dw_check.specs.declared.stop.Section.TheVariants.{Frame, Lists, Expression}
+
+-- Both are shorter than 2^32 bytes (own), and each is right by itself: the one is records with good programs of which no two
+-- cover an address, and the other is tables of lists with good expressions.
+pub record AreWellFormed (target : Target) (frame_bytes list_bytes : List ℕ) : Type 0 where
+  pub frame_is_short : length frame_bytes < 2 ^ 32
+  pub lists_are_short : length list_bytes < 2 ^ 32
+  pub frame_is_right : frame.IsWellFormed target frame_bytes
+  pub lists_are_right : tables.IsWellFormed target list_bytes
+
+-- ---- the first fault
+
+-- a fault, and the section that it stands in
+abbrev pub fault_within : Section → Option Fault → Option CheckFault
+fault_within section None = None
+fault_within section (Some fault) = Some (record { section = section; fault = fault })
+
+-- 2^32 bytes or more are too many
+abbrev pub length_fault : List ℕ → Option Fault
+length_fault bytes = if nat_lt (length bytes) (2 ^ 32) then None else Some (record { kind = SectionTooLong; at = 0 })
+
+-- the first, or where there is none the other
+abbrev pub or_next : Option CheckFault → Option CheckFault → Option CheckFault
+or_next (Some fault) next = Some fault
+or_next None next = next
+
+-- the lengths, and then what each section has
+unfoldable pub check_fault : Target → List ℕ → List ℕ → Option CheckFault
+check_fault target frame_bytes list_bytes =
+    or_next (fault_within Frame (length_fault frame_bytes))
+    (or_next (fault_within Lists (length_fault list_bytes))
+    (or_next (fault_within Frame (section_fault target frame_bytes))
+    (fault_within Lists (lists_fault target list_bytes))))
+
+-- A check passes where there is no fault. Otherwise it names the fault, or memory ran out.
+abbrev pub Checks : {X : Type 0} → Option CheckFault → Result X CheckFault → Type 0
+Checks first (Ok _) = first ≡ None
+Checks first (Err found) = (found.fault ≡ memory) ⊎ (first ≡ Some found)
+
+-- the bytes that a fault's offset counts in
+abbrev pub bytes_within : Section → List ℕ → List ℕ → List ℕ
+bytes_within Frame frame_bytes list_bytes = frame_bytes
+bytes_within Lists frame_bytes list_bytes = list_bytes
+bytes_within Expression frame_bytes list_bytes = []

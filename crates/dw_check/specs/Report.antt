@@ -1,0 +1,77 @@
+-- The text of a report on two sections without a fault.
+use Rattle.std.specs.Prelude.{◌≡◌, ℕ, ◌+◌, List, [], ◌∷◌, ◌++◌, length, codes, decimal}
+use Rattle.std.specs.List.{flat_map}
+use Rattle.dw_rows.specs.Section.{Frame, rows_in}
+use Rattle.dw_stack.specs.declared.state.Kind.{Kind}
+use Rattle.dw_stack.specs.declared.state.Kind.TheVariants.{FrameCfa, FrameRegister, Location}
+use Rattle.dw_stack.specs.Expressions.{IsDepthOf, operations_in}
+use Rattle.dw_stack.specs.Located.{LocatedExpression}
+use Rattle.dw_loclists.specs.Reading.{ListSection, tables_in, lists_in, located_in}
+use Rattle.dw_check.specs.Text.{offset_text}
+use Rattle.dw_check.specs.Stops.{section_text}
+use Rattle.dw_check.specs.declared.stop.Section.{Section}
+use Rattle.dw_check.specs.declared.stop.Section.TheVariants as sections
+
+-- ---- how many there are
+
+-- how many rows all FDEs have together
+abbrev pub row_count : Frame → ℕ
+row_count frame = length (flat_map (rows_in frame) frame.fdes)
+
+-- a number behind what it counts
+unfoldable pub count_text : List ℕ → ℕ → List ℕ
+count_text name number = name ++ decimal number
+
+-- the same at the end of a line
+unfoldable pub last_count_text : List ℕ → ℕ → List ℕ
+last_count_text name number = name ++ decimal number ++ codes "\n"
+
+unfoldable pub frame_counts_line : ℕ → ℕ → ℕ → List ℕ
+frame_counts_line cies fdes rows = codes "cies " ++ decimal cies ++ codes " fdes " ++ decimal fdes ++ codes " rows " ++ decimal rows
+    ++ codes "\n"
+
+unfoldable pub expressions_text : ℕ → List ℕ
+expressions_text expressions = last_count_text (codes " expressions ") expressions
+
+unfoldable pub lists_counts_line : ℕ → ℕ → ℕ → List ℕ
+lists_counts_line tables lists expressions = count_text (codes "tables ") tables ++ count_text (codes " lists ") lists
+    ++ expressions_text expressions
+
+abbrev pub frame_line : Frame → List ℕ
+frame_line frame = frame_counts_line (length frame.cies) (length frame.fdes) (row_count frame)
+
+-- as many expressions as lines follow: those of the frame section and those of lists
+abbrev pub lists_line : Frame → ListSection → List ℕ
+lists_line frame lists = lists_counts_line (length (tables_in lists)) (length (lists_in lists))
+    (length frame.expressions + length (located_in lists))
+
+unfoldable pub summary_text : Frame → ListSection → List ℕ
+summary_text frame lists = codes "accepted\n" ++ frame_line frame ++ lists_line frame lists
+
+-- ---- an expression
+
+abbrev pub expression_kind_text : Kind → List ℕ
+expression_kind_text FrameCfa = codes "cfa"
+expression_kind_text FrameRegister = codes "register"
+expression_kind_text Location = codes "location"
+
+-- the section and the offset of its first byte, its kind, how many operations it has, and its depth
+unfoldable pub expression_line : Section → LocatedExpression → ℕ → List ℕ
+expression_line section x depth = codes "expr " ++ section_text section ++ codes " " ++ offset_text x.offset ++ codes " "
+    ++ expression_kind_text x.kind ++ codes " ops " ++ decimal (length (operations_in x.target x.bytes))
+    ++ codes " depth " ++ decimal depth ++ codes "\n"
+
+-- a line for each of these, with its depth
+abbrev pub AreLines : Section → List LocatedExpression → List ℕ → Type 0
+AreLines section [] text = text ≡ []
+AreLines section (x ∷ xs) text = (depth : ℕ) × (rest : List ℕ) × IsDepthOf x.kind x.target x.bytes depth
+    × AreLines section xs rest × (text ≡ expression_line section x depth ++ rest)
+
+-- ---- the report
+
+pub record IsReport (frame : Frame) (lists : ListSection) (text : List ℕ) : Type 0 where
+  pub frame_lines : List ℕ
+  pub of_frame : AreLines sections.Frame frame.expressions frame_lines
+  pub lines : List ℕ
+  pub of_lists : AreLines sections.Lists (located_in lists) lines
+  pub whole : text ≡ summary_text frame lists ++ (frame_lines ++ lines)

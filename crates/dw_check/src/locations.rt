@@ -1,0 +1,142 @@
+//! What location lists say of an address, evaluated.
+
+ghost use Rattle.std.specs.Prelude.{◌≡◌, ◌++◌, ◌∷◌, ◌<◌, ◌^◌, ℕ, List, false, length, codes};
+ghost use Rattle.std.specs.List.{All};
+ghost use Rattle.dw_stack.specs.Certificates.{checked_of};
+ghost use Rattle.dw_loclists.specs.Reading.{IsChecked};
+ghost use Rattle.dw_stack.specs.Located.{located_of};
+ghost use Rattle.dw_check.specs.Text.{expression_line};
+ghost use Rattle.dw_check.specs.Lookups.{IsShowable, AreEvaluated, ShowsLocations, ShowsList, list_at};
+ghost use Rattle.dw_check.specs.Evaluations.{Evaluates};
+ghost use Rattle.dw_check.specs.StateFile.{StateFact, IsGivenBy};
+ghost use Rattle.dw_check.specs.StateViews.{known_state_of};
+ghost use Rattle.dw_check.specs.WriteResults.{IsSame, Writes, WritesWhole, is_write};
+
+use crate::evaluations::write_outcome;
+use crate::lines::push_expression;
+use crate::machine_state::MachineState;
+use crate::requests::ListLookup;
+use crate::sink::Sink;
+use crate::stop::ReportFault;
+use crate::writer::{Writer, send};
+use dw_loclists::{CheckedLists, LocationsAt};
+use dw_stack::CheckedExpression;
+
+/// Writes the line of an expression at an offset of its section.
+fn write_expression<S: Sink>(out: &mut Writer<'_, S>, offset: u32) -> Result<(), ReportFault>
+    requires runs { S.has_stopped out.old.sink.now ≡ false }
+    ensures same { IsSame out.old out.new }
+    ensures written { Writes (S.taken out.old.sink.now) (S.taken out.new.sink.now) result
+        (expression_line offset) }
+    ensures stops { S.has_stopped out.new.sink.now ≡ is_write result }
+{
+    out.line.clear();
+    push_expression(out.line, offset)?;
+    send(out)
+}
+
+/// Writes a line that says that there is nothing to show.
+fn write_nothing<S: Sink>(out: &mut Writer<'_, S>, line: &str) -> Result<(), ReportFault>
+    requires runs { S.has_stopped out.old.sink.now ≡ false }
+    ensures same { IsSame out.old out.new }
+    ensures written { Writes (S.taken out.old.sink.now) (S.taken out.new.sink.now) result line.now }
+    ensures stops { S.has_stopped out.new.sink.now ≡ is_write result }
+{
+    out.line.clear();
+    out.line.push_str(line)?;
+    send(out)
+}
+
+/// Writes an expression at an offset of its section, and what it comes to over what is known.
+fn write_location<S: Sink>(
+    out: &mut Writer<'_, S>,
+    offset: u32,
+    checked: &CheckedExpression<'_>,
+    state: &MachineState,
+) -> Result<(), ReportFault>
+    requires showable { IsShowable out.old.size (located_of (offset, checked.now)) }
+    requires runs { S.has_stopped out.old.sink.now ≡ false }
+    ensures same { IsSame out.old out.new }
+    ensures written { (gs : List StateFact) → IsGivenBy (known_state_of state.now) gs
+        → (text : List ℕ)
+        × Evaluates (checked_of checked.now).kind (checked_of checked.now).target
+        (checked_of checked.now).bytes gs text
+        × Writes (S.taken out.old.sink.now) (S.taken out.new.sink.now) result
+        (expression_line offset ++ text) }
+    ensures stops { S.has_stopped out.new.sink.now ≡ is_write result }
+{
+    write_expression(out, offset)?;
+    write_outcome(out, checked, state)
+}
+
+/// Writes the expressions that are still to come, each with what it comes to.
+fn write_rest<'c, 'a, S: Sink>(
+    out: &mut Writer<'_, S>,
+    locations: LocationsAt<'c, 'a>,
+    state: &MachineState,
+) -> Result<(), ReportFault>
+    requires showable { All (λ x. IsShowable out.old.size x) locations }
+    requires runs { S.has_stopped out.old.sink.now ≡ false }
+    ensures same { IsSame out.old out.new }
+    ensures written { (gs : List StateFact) → IsGivenBy (known_state_of state.now) gs
+        → (text : List ℕ) × AreEvaluated gs locations.entry text
+        × Writes (S.taken out.old.sink.now) (S.taken out.new.sink.now) result text }
+    ensures stops { S.has_stopped out.new.sink.now ≡ is_write result }
+{
+    for (offset, checked) in locations {
+        write_location(out, offset, &checked, state)?;
+    }
+    Ok(())
+}
+
+/// Writes the expressions that hold, each with what it comes to, or that none holds.
+fn write_locations<'c, 'a, S: Sink>(
+    out: &mut Writer<'_, S>,
+    locations: LocationsAt<'c, 'a>,
+    state: &MachineState,
+) -> Result<(), ReportFault>
+    requires showable { All (λ x. IsShowable out.old.size x) locations }
+    requires runs { S.has_stopped out.old.sink.now ≡ false }
+    ensures same { IsSame out.old out.new }
+    ensures written { (gs : List StateFact) → IsGivenBy (known_state_of state.now) gs
+        → (text : List ℕ) × ShowsLocations gs locations.entry text
+        × Writes (S.taken out.old.sink.now) (S.taken out.new.sink.now) result text }
+    ensures stops { S.has_stopped out.new.sink.now ≡ is_write result }
+{
+    let mut locations = locations;
+    match locations.next() {
+        Some((offset, checked)) => {
+            write_location(out, offset, &checked, state)?;
+            write_rest(out, locations, state)
+        }
+        None => write_nothing(out, "none\n"),
+    }
+}
+
+/// Writes what a list says of an address, or that there is no list. One pass over the list; each expression is found
+/// by halving.
+pub(crate) fn write_found<S: Sink>(
+    out: &mut Writer<'_, S>,
+    lists: &CheckedLists<'_>,
+    lookup: ListLookup,
+    state: &MachineState,
+) -> Result<(), ReportFault>
+    requires short { length lists.now.section < 2 ^ 32 }
+    requires checked { IsChecked lists.now }
+    requires size { out.old.size ≡ lists.now.target.address_size }
+    requires runs { S.has_stopped out.old.sink.now ≡ false }
+    ensures same { IsSame out.old out.new }
+    ensures written { (gs : List StateFact) → IsGivenBy (known_state_of state.now) gs
+        → (text : List ℕ)
+        × ShowsList gs (list_at lists.now lookup.list) lookup.base lookup.address text
+        × Writes (S.taken out.old.sink.now) (S.taken out.new.sink.now) result text }
+    ensures stops { S.has_stopped out.new.sink.now ≡ is_write result }
+{
+    match lists.list(lookup.list) {
+        Some(list) => {
+            let locations = lists.locations_at(&list, lookup.base, lookup.address);
+            write_locations(out, locations, state)
+        }
+        None => write_nothing(out, "no list\n"),
+    }
+}

@@ -1,0 +1,153 @@
+//! What registers and memory have, and what rules make of it.
+
+ghost use Rattle.std.specs.Prelude.{◌≡◌, ◌≤◌, ◌+ℤ◌, ℕ, Some, length, map, pos};
+ghost use Rattle.dw_eval.specs.Numbers.{reduced, width_of};
+ghost use Rattle.dw_rows.specs.Views.{cfa_rule_of, rule_of};
+ghost use Rattle.dw_stack.specs.Located.{located_of};
+ghost use Rattle.dw_check.specs.Caller.{Gives, IsCfa, IsRegister, AreRegisters, moved, moved_content, content, word};
+ghost use Rattle.dw_check.specs.CallerViews.{answer_in, found_in, machine_in, with_optional_cfa};
+
+use crate::unwinding::{Answer, FoundRegisters};
+use arrayvec::ArrayVec;
+use dw_bytes::{AddressSize, Target};
+use dw_eval::{Context, Memory, Outcome, Registers, evaluate};
+use dw_rows::{CfaRule, MAX_RULES, RegisterRule, RegisterRules};
+use dw_stack::CheckedExpression;
+
+/// The registers and the memory of a frame, under the target of its section.
+#[derive(Drop)]
+pub(crate) struct Present<'m, R: Registers, M: Memory> {
+    pub target: Target,
+    pub registers: &'m R,
+    pub memory: &'m M,
+}
+
+/// The number modulo 2^w, w being the size of an address in bits.
+fn reduce(size: AddressSize, number: u64) -> u64
+    ensures { result ≡ reduced (width_of size) (pos number) }
+{
+    match size {
+        AddressSize::Four => number % 0x1_0000_0000,
+        AddressSize::Eight => number,
+    }
+}
+
+/// The sum of a number and an offset, modulo 2^w.
+fn plus(size: AddressSize, number: u64, offset: i64) -> u64
+    ensures { result ≡ reduced (width_of size) (pos number +ℤ offset) }
+{
+    reduce(size, number.wrapping_add(offset.cast_unsigned()))
+}
+
+impl<'m, R: Registers, M: Memory> Present<'m, R, M> {
+    /// A number and an offset, modulo 2^w.
+    fn moved(&self, number: u64, offset: i64) -> u64
+        ensures { result ≡ moved (machine_in R.contents M.bytes self.now) offset number }
+    {
+        plus(self.target.address_size, number, offset)
+    }
+
+    /// A content and an offset, modulo 2^w.
+    fn moved_content(&self, content: Option<u64>, offset: i64) -> Answer
+        ensures { answer_in result
+            ≡ moved_content (machine_in R.contents M.bytes self.now) offset content }
+    {
+        match content {
+            Some(number) => Answer::Value(self.moved(number, offset)),
+            None => Answer::Unreadable,
+        }
+    }
+
+    /// The content of a register, modulo 2^w.
+    fn content(&self, number: u16) -> Answer
+        ensures { answer_in result ≡ content (machine_in R.contents M.bytes self.now) number }
+    {
+        self.moved_content(self.registers.register(number), 0)
+    }
+
+    /// The address-sized word at an address.
+    fn word(&self, address: u64) -> Answer
+        ensures { answer_in result ≡ word (machine_in R.contents M.bytes self.now) address }
+    {
+        let size = self.target.address_size.bytes();
+        if address > self.target.address_size.max_address() - u64::from(size - 1) {
+            return Answer::Unreadable;
+        }
+        self.moved_content(self.memory.read(address, size, self.target.order), 0)
+    }
+
+    /// What an expression of a row gives, which begins with the CFA where that is handed in.
+    fn outcome(&self, expression: &CheckedExpression<'_>, cfa: Option<u64>) -> Answer
+        ensures { (at : ℕ) → Gives (with_optional_cfa (machine_in R.contents M.bytes self.now) cfa)
+            (located_of (at, expression.now)) (answer_in result) }
+    {
+        let context = Context {
+            cfa,
+            frame_base: None,
+            object: None,
+        };
+        match evaluate(expression, &context, self.registers, self.memory).outcome {
+            Outcome::Value(value) => Answer::Value(value),
+            Outcome::DivisionByZero { .. } => Answer::DivisionByZero,
+            _ => Answer::Unreadable,
+        }
+    }
+
+    /// The CFA by its rule.
+    pub fn cfa(&self, rule: CfaRule<'_>) -> Answer
+        ensures { IsCfa (machine_in R.contents M.bytes self.now) (Some (cfa_rule_of rule.entry))
+            (answer_in result) }
+    {
+        match rule {
+            CfaRule::RegisterAndOffset { register, offset } => {
+                self.moved_content(self.registers.register(register), offset)
+            }
+            CfaRule::Expression { expression, .. } => self.outcome(&expression, None),
+        }
+    }
+
+    /// A register of the caller by its rule and the CFA.
+    pub fn register(&self, cfa: Answer, number: u16, rule: RegisterRule<'_>) -> Answer
+        ensures { IsRegister (machine_in R.contents M.bytes self.now) (answer_in cfa) number
+            (rule_of rule.entry) (answer_in result) }
+    {
+        match rule {
+            RegisterRule::Default => Answer::Undefined,
+            RegisterRule::Undefined => Answer::Undefined,
+            RegisterRule::SameValue => self.content(number),
+            RegisterRule::Offset(offset) => match cfa {
+                Answer::Value(cfa) => self.word(self.moved(cfa, offset)),
+                other => other,
+            },
+            RegisterRule::ValOffset(offset) => match cfa {
+                Answer::Value(cfa) => Answer::Value(self.moved(cfa, offset)),
+                other => other,
+            },
+            RegisterRule::Register(other) => self.content(other),
+            RegisterRule::Expression { expression, .. } => match cfa {
+                Answer::Value(cfa) => match self.outcome(&expression, Some(cfa)) {
+                    Answer::Value(address) => self.word(address),
+                    other => other,
+                },
+                other => other,
+            },
+            RegisterRule::ValExpression { expression, .. } => match cfa {
+                Answer::Value(cfa) => self.outcome(&expression, Some(cfa)),
+                other => other,
+            },
+        }
+    }
+
+    /// The registers of these rules, in their order.
+    pub fn registers(&self, cfa: Answer, rules: RegisterRules<'_>) -> FoundRegisters
+        requires { length rules ≤ MAX_RULES }
+        ensures { AreRegisters (machine_in R.contents M.bytes self.now) (answer_in cfa) rules.entry
+            (map found_in result.items) }
+    {
+        let mut registers = ArrayVec::new();
+        for (number, rule) in rules {
+            registers.push((number, self.register(cfa, number, rule)));
+        }
+        registers
+    }
+}

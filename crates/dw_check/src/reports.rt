@@ -1,0 +1,312 @@
+//! The report on two checked sections.
+
+ghost use Rattle.std.specs.Prelude.{◌≡◌, ◌+◌, ◌++◌, ◌<◌, ◌^◌, ℕ, List, OnOk, false, length, map};
+ghost use Rattle.std.specs.List.{flat_map};
+ghost use Rattle.std.specs.String.{string_bytes};
+ghost use Rattle.dw_stack.specs.Certificates.{checked_of};
+ghost use Rattle.dw_stack.specs.Located.{located_of};
+ghost use Rattle.dw_loclists.specs.Reading.{tables_in, lists_in, located_in};
+ghost use Rattle.dw_check.specs.Report.{IsReport, row_count, count_text, last_count_text, expressions_text, frame_counts_line, lists_counts_line, frame_line, lists_line, summary_text, expression_kind_text, expression_line};
+ghost use Rattle.dw_check.specs.ReportViews.{line_of};
+ghost use Rattle.dw_check.specs.WriteResults.{IsSame, Writes, WritesWhole, is_write};
+ghost use Rattle.dw_check.specs.declared.stop.Section.TheVariants as sections;
+
+use crate::numbers::{push_decimal, push_offset};
+use crate::sink::Sink;
+use crate::stop::{ReportFault, Section};
+use crate::whole_check::Checked;
+use crate::writer::{Writer, send};
+use dw_loclists::CheckedLists;
+use dw_rows::laws::rows_cover;
+use dw_rows::{CheckedFrame, Rows, UnwindTableRow};
+use dw_stack::{CheckedExpression, Kind};
+use std::alloc::{AllocError, Global};
+
+/// How many rows are still to come, each made in the same place.
+fn count_rows_of<'a>(rows: &mut Rows<'a>, row: &mut UnwindTableRow<'a>) -> u64
+    requires { length rows.old < 2 ^ 64 }
+    ensures { result ≡ length rows.old }
+{
+    let mut count = 0;
+    'rows: while rows.next_into(row) {
+        count += 1;
+    }
+    count
+}
+
+/// How many rows all FDEs of a section have together.
+fn count_rows<'a>(frame: &'a CheckedFrame<'a>) -> u128
+    ensures { result ≡ row_count frame.now }
+{
+    rows_cover();
+    let fdes = frame.fdes();
+    let number = fdes.len();
+    if number == 0 {
+        return 0;
+    }
+    let mut rows = frame.rows(&fdes[0]);
+    let mut row = UnwindTableRow::empty();
+    let mut count = 0;
+    for fde in fdes {
+        frame.rows_into(fde, &mut rows);
+        count += u128::from(count_rows_of(&mut rows, &mut row));
+    }
+    count
+}
+
+fn cie_count(frame: &CheckedFrame<'_>) -> usize
+    ensures { result ≡ length frame.now.cies }
+{
+    frame.cies().len()
+}
+
+fn fde_count(frame: &CheckedFrame<'_>) -> usize
+    ensures { result ≡ length frame.now.fdes }
+{
+    frame.fdes().len()
+}
+
+fn table_count(lists: &CheckedLists<'_>) -> usize
+    ensures { result ≡ length (tables_in lists.now) }
+{
+    lists.tables().len()
+}
+
+fn list_count(lists: &CheckedLists<'_>) -> usize
+    ensures { result ≡ length (lists_in lists.now) }
+{
+    lists.lists().len()
+}
+
+/// How many expressions both sections have. Each takes a byte of its section at least, or more.
+fn expression_count(checked: &Checked<'_>) -> u128
+    ensures { result ≡ length checked.now.frame.expressions + length (located_in checked.now.lists) }
+{
+    let of_frame = checked.frame().expressions().len();
+    let of_lists = checked.lists().expressions().len();
+    of_frame as u128 + of_lists as u128
+}
+
+#[tactic(auto, unfolding(crate::specs::Report::count_text))]
+fn push_count(line: &mut String, name: &str, number: usize) -> Result<(), AllocError>
+    ensures { OnOk result (string_bytes line.new ≡ string_bytes line.old
+        ++ count_text name.now number) }
+{
+    line.push_str(name)?;
+    push_decimal(line, number)
+}
+
+#[tactic(auto, unfolding(crate::specs::Report::frame_counts_line))]
+fn push_frame_counts(
+    line: &mut String,
+    cies: usize,
+    fdes: usize,
+    rows: u128,
+) -> Result<(), AllocError>
+    ensures { OnOk result (string_bytes line.new ≡ string_bytes line.old
+        ++ frame_counts_line cies fdes rows) }
+{
+    line.push_str("cies ")?;
+    push_decimal(line, cies)?;
+    line.push_str(" fdes ")?;
+    push_decimal(line, fdes)?;
+    line.push_str(" rows ")?;
+    push_decimal(line, rows)?;
+    line.push_str("\n")
+}
+
+#[tactic(auto, unfolding(crate::specs::Report::last_count_text))]
+fn push_last_count(line: &mut String, name: &str, number: u128) -> Result<(), AllocError>
+    ensures { OnOk result (string_bytes line.new ≡ string_bytes line.old
+        ++ last_count_text name.now number) }
+{
+    line.push_str(name)?;
+    push_decimal(line, number)?;
+    line.push_str("\n")
+}
+
+#[tactic(auto, unfolding(crate::specs::Report::expressions_text))]
+fn push_expressions(line: &mut String, expressions: u128) -> Result<(), AllocError>
+    ensures { OnOk result (string_bytes line.new ≡ string_bytes line.old
+        ++ expressions_text expressions) }
+{
+    push_last_count(line, " expressions ", expressions)
+}
+
+#[tactic(auto, unfolding(crate::specs::Report::lists_counts_line))]
+fn push_lists_counts(
+    line: &mut String,
+    tables: usize,
+    lists: usize,
+    expressions: u128,
+) -> Result<(), AllocError>
+    ensures { OnOk result (string_bytes line.new ≡ string_bytes line.old
+        ++ lists_counts_line tables lists expressions) }
+{
+    push_count(line, "tables ", tables)?;
+    push_count(line, " lists ", lists)?;
+    push_expressions(line, expressions)
+}
+
+/// How many records and rows a frame section has.
+fn push_frame(line: &mut String, frame: &CheckedFrame<'_>) -> Result<(), AllocError>
+    ensures { OnOk result (string_bytes line.new ≡ string_bytes line.old ++ frame_line frame.now) }
+{
+    let rows = count_rows(frame);
+    push_frame_counts(line, cie_count(frame), fde_count(frame), rows)
+}
+
+/// How many tables and lists a section of location lists has, and how many expressions both sections have.
+fn push_lists(line: &mut String, checked: &Checked<'_>) -> Result<(), AllocError>
+    ensures { OnOk result (string_bytes line.new ≡ string_bytes line.old
+        ++ lists_line checked.now.frame checked.now.lists) }
+{
+    let lists = checked.lists();
+    push_lists_counts(
+        line,
+        table_count(lists),
+        list_count(lists),
+        expression_count(checked),
+    )
+}
+
+/// What a report begins with.
+#[tactic(auto, unfolding(crate::specs::Report::summary_text))]
+fn push_summary(line: &mut String, checked: &Checked<'_>) -> Result<(), AllocError>
+    ensures { OnOk result (string_bytes line.new ≡ string_bytes line.old
+        ++ summary_text checked.now.frame checked.now.lists) }
+{
+    line.push_str("accepted\n")?;
+    push_frame(line, checked.frame())?;
+    push_lists(line, checked)
+}
+
+/// The name of a kind.
+fn kind_text(kind: Kind) -> &'static str
+    ensures { result.now ≡ expression_kind_text kind }
+{
+    match kind {
+        Kind::FrameCfa => "cfa",
+        Kind::FrameRegister => "register",
+        Kind::Location => "location",
+    }
+}
+
+/// The line of an expression of a section.
+#[tactic(auto, unfolding(crate::specs::Report::expression_line))]
+fn push_expression(
+    line: &mut String,
+    section: Section,
+    offset: u32,
+    checked: &CheckedExpression<'_>,
+) -> Result<(), AllocError>
+    ensures { OnOk result (string_bytes line.new ≡ string_bytes line.old
+        ++ expression_line section (located_of (offset, checked.now))
+        (checked_of checked.now).depth) }
+{
+    line.push_str("expr ")?;
+    line.push_str(section.text())?;
+    line.push_str(" ")?;
+    push_offset(line, offset)?;
+    line.push_str(" ")?;
+    line.push_str(kind_text(checked.kind()))?;
+    line.push_str(" ops ")?;
+    push_decimal(line, checked.operation_count())?;
+    line.push_str(" depth ")?;
+    push_decimal(line, checked.depth())?;
+    line.push_str("\n")
+}
+
+/// Writes the line of an expression of a section.
+fn write_expression<S: Sink>(
+    out: &mut Writer<'_, S>,
+    section: Section,
+    offset: u32,
+    checked: &CheckedExpression<'_>,
+) -> Result<(), ReportFault>
+    requires { S.has_stopped out.old.sink.now ≡ false }
+    ensures same { IsSame out.old out.new }
+    ensures written { Writes (S.taken out.old.sink.now) (S.taken out.new.sink.now) result
+        (line_of section (offset, checked.now)) }
+    ensures stops { S.has_stopped out.new.sink.now ≡ is_write result }
+{
+    out.line.clear();
+    push_expression(out.line, section, offset, checked)?;
+    send(out)
+}
+
+/// Writes the lines of expressions of a section, in order.
+fn write_expressions<S: Sink>(
+    out: &mut Writer<'_, S>,
+    section: Section,
+    expressions: &[(u32, CheckedExpression<'_>)],
+) -> Result<(), ReportFault>
+    requires { S.has_stopped out.old.sink.now ≡ false }
+    ensures same { IsSame out.old out.new }
+    ensures written { Writes (S.taken out.old.sink.now) (S.taken out.new.sink.now) result
+        (flat_map (line_of section) expressions.now) }
+    ensures stops { S.has_stopped out.new.sink.now ≡ is_write result }
+{
+    for located in expressions {
+        write_expression(out, section, located.0, &located.1)?;
+    }
+    Ok(())
+}
+
+/// Writes the lines of the expressions of two sections: the frame section's first.
+fn write_both<S: Sink>(
+    out: &mut Writer<'_, S>,
+    of_frame: &[(u32, CheckedExpression<'_>)],
+    of_lists: &[(u32, CheckedExpression<'_>)],
+) -> Result<(), ReportFault>
+    requires { S.has_stopped out.old.sink.now ≡ false }
+    ensures same { IsSame out.old out.new }
+    ensures written { Writes (S.taken out.old.sink.now) (S.taken out.new.sink.now) result
+        (flat_map (line_of sections.Frame) of_frame.now
+        ++ flat_map (line_of sections.Lists) of_lists.now) }
+    ensures stops { S.has_stopped out.new.sink.now ≡ is_write result }
+{
+    write_expressions(out, Section::Frame, of_frame)?;
+    write_expressions(out, Section::Lists, of_lists)
+}
+
+/// Writes the lines of a report.
+pub(crate) fn write_report<S: Sink>(
+    out: &mut Writer<'_, S>,
+    checked: &Checked<'_>,
+) -> Result<(), ReportFault>
+    requires { S.has_stopped out.old.sink.now ≡ false }
+    ensures same { IsSame out.old out.new }
+    ensures written { (text : List ℕ) × IsReport checked.now.frame checked.now.lists text
+        × Writes (S.taken out.old.sink.now) (S.taken out.new.sink.now) result text }
+    ensures stops { S.has_stopped out.new.sink.now ≡ is_write result }
+{
+    let of_frame = checked.frame().expressions();
+    let of_lists = checked.lists().expressions();
+    out.line.clear();
+    push_summary(out.line, checked)?;
+    send(out)?;
+    write_both(out, of_frame, of_lists)
+}
+
+/// Writes the report on two checked sections: that they are accepted, how many records, rows, tables, lists and expressions
+/// there are, and a line for each expression, in the order of `check`. It writes line by line, and keeps no more than one of
+/// them. After a refusal a beginning of the text is written, and the sink has stopped exactly where that is `Write`.
+pub fn report<S: Sink>(
+    alloc: Global,
+    checked: &Checked<'_>,
+    sink: &mut S,
+) -> Result<(), ReportFault>
+    requires { S.has_stopped sink.old ≡ false }
+    ensures written { (text : List ℕ) × IsReport checked.now.frame checked.now.lists text
+        × Writes (S.taken sink.old) (S.taken sink.new) result text }
+    ensures stops { S.has_stopped sink.new ≡ is_write result }
+{
+    let mut line = String::new(alloc);
+    let mut out = Writer {
+        line: &mut line,
+        size: checked.frame().target().address_size,
+        sink,
+    };
+    write_report(&mut out, checked)
+}

@@ -1,0 +1,83 @@
+//! The frame that called: its registers, its CFA, and where it goes on.
+
+ghost use Rattle.std.specs.Prelude.{◌≡◌, option_map};
+ghost use Rattle.dw_check.specs.Caller.{Unwinds, machine};
+ghost use Rattle.dw_check.specs.CallerViews.{caller_in};
+
+use crate::present::Present;
+use crate::whole_check::Checked;
+use arrayvec::ArrayVec;
+use dw_eval::{Memory, Registers};
+use dw_rows::{MAX_RULES, UnwindTableRow};
+
+/// What is known of a register of the caller, of its CFA or of its return address.
+#[derive(Clone, Copy, Debug, PartialEq, Eq)]
+pub enum Answer {
+    /// It is this number, below 2^w, w being the size of an address in bits.
+    Value(u64),
+    /// It can't be had: no instruction has given the register a rule, or the rule says so.
+    Undefined,
+    /// It takes a register or memory that isn't handed in, or a read goes past the greatest address.
+    Unreadable,
+    /// Its expression divides by zero.
+    DivisionByZero,
+}
+
+/// What fills the places of a list that aren't used.
+impl Default for Answer {
+    fn default() -> Self
+        ensures { result ≡ Answer.Undefined }
+    {
+        Answer::Undefined
+    }
+}
+
+/// Registers with their answers, in ascending order.
+pub type FoundRegisters = ArrayVec<(u16, Answer), MAX_RULES>;
+
+/// The frame that called (DWARF 5, section 6.4.1).
+#[derive(Clone, Debug, Drop, PartialEq, Eq)]
+pub struct Caller {
+    /// The canonical frame address.
+    pub cfa: Answer,
+    /// Each register that has a rule other than `Default`, ascending.
+    pub registers: FoundRegisters,
+    /// Where the caller goes on: what the register is that the CIE names for it.
+    pub return_address: Answer,
+}
+
+/// The caller of the frame that stands at an address, over the frame's registers and memory, or none where no FDE covers the
+/// address (DWARF 5, section 6.4.1).
+///
+/// Contents and sums are taken modulo 2^w, and what is saved is an address-sized word. A rule that needs the CFA has the CFA's
+/// answer where that has no value. One halving finds the FDE and one its CIE, its program is run once, up to the row of the
+/// address, and nothing is allocated.
+pub fn unwind<'a, R: Registers, M: Memory>(
+    checked: &'a Checked<'a>,
+    address: u64,
+    registers: &R,
+    memory: &M,
+) -> Option<Caller>
+    ensures { Unwinds (machine checked.now.frame.target (R.contents registers.now)
+        (M.bytes memory.now)) checked.now.frame address (option_map caller_in result) }
+{
+    let frame = checked.frame();
+    let mut row = UnwindTableRow::empty();
+    match frame.row_for_address_into(address, &mut row) {
+        Some((cie, _)) => {
+            let present = Present {
+                target: frame.target(),
+                registers,
+                memory,
+            };
+            let cfa = present.cfa(row.cfa());
+            let number = cie.return_address_register;
+            Some(Caller {
+                cfa,
+                registers: present.registers(cfa, row.rules()),
+                return_address: present.register(cfa, number, row.register(number)),
+            })
+        }
+        None => None,
+    }
+}

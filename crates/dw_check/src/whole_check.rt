@@ -1,0 +1,130 @@
+//! Two sections checked together.
+
+ghost use Rattle.std.specs.Prelude.{◌≡◌, ◌≤◌, ◌<◌, ◌^◌, ◌⊎◌, length, IfOk, IfErr, OnOk};
+ghost use Rattle.dw_bytes.specs.Answers.{memory};
+ghost use Rattle.dw_rows.specs.Section.{frame_of};
+ghost use Rattle.dw_check.specs.Checked.{AreWellFormed, Checks, check_fault, fault_within, length_fault, bytes_within};
+
+use crate::laws::sections_without_fault_are_well_formed;
+use crate::stop::Section;
+use dw_bytes::{Fault, FaultKind, Target};
+use dw_loclists::{CheckedLists, check_lists};
+use dw_rows::{CheckedFrame, check_frame};
+use std::alloc::Global;
+
+/// Sections of this many bytes or more are refused.
+const SECTION_LIMIT: usize = 1 << 32;
+
+/// The first fault of two sections.
+#[derive(Clone, Copy, Debug, PartialEq, Eq)]
+pub struct CheckFault {
+    /// The section that it stands in. Where memory ran out it says nothing.
+    pub section: Section,
+    /// What is wrong, and where in the section.
+    pub fault: Fault,
+}
+
+/// A `.debug_frame` and a `.debug_loclists` section that were checked, under one target.
+#[derive(Drop)]
+pub struct Checked<'a> {
+    frame: CheckedFrame<'a>,
+    lists: CheckedLists<'a>,
+    pub ghost one_target: { lists.target ≡ frame.target },
+}
+
+/// A section has fewer than 2^32 bytes.
+fn check_length(section: Section, bytes: &[u8]) -> Result<(), CheckFault>
+    ensures answer { Checks (fault_within section (length_fault bytes.now)) result }
+    ensures short { IfOk result (λ _. length bytes.now < 2 ^ 32) }
+    ensures place { IfErr result (λ found. (found.section ≡ section) × (found.fault.at ≡ 0)) }
+{
+    if bytes.len() >= SECTION_LIMIT {
+        return Err(CheckFault {
+            section,
+            fault: Fault {
+                kind: FaultKind::SectionTooLong,
+                at: 0,
+            },
+        });
+    }
+    Ok(())
+}
+
+/// The sections, if they have no fault, each judged where those before it have none.
+#[tactic(auto, unfolding(crate::specs::Checked::check_fault))]
+fn check_both<'a>(
+    alloc: Global,
+    frame: &'a [u8],
+    lists: &'a [u8],
+    target: Target,
+) -> Result<Checked<'a>, CheckFault>
+    ensures answer { Checks (check_fault target frame.entry.now lists.entry.now) result }
+    ensures inside { IfErr result (λ found.
+        found.fault.at ≤ length (bytes_within found.section frame.entry.now lists.entry.now)) }
+    ensures frame { IfOk result (λ checked. checked.frame ≡ frame_of target frame.entry.now) }
+    ensures lists { IfOk result (λ checked.
+        checked.lists ≡ record { target = target; section = lists.entry.now }) }
+{
+    check_length(Section::Frame, frame)?;
+    check_length(Section::Lists, lists)?;
+    let frame = match check_frame(alloc, frame, target) {
+        Ok(frame) => frame,
+        Err(fault) => {
+            return Err(CheckFault {
+                section: Section::Frame,
+                fault,
+            });
+        }
+    };
+    let lists = match check_lists(alloc, lists, target) {
+        Ok(lists) => lists,
+        Err(fault) => {
+            return Err(CheckFault {
+                section: Section::Lists,
+                fault,
+            });
+        }
+    };
+    Ok(Checked { frame, lists })
+}
+
+/// Checks two sections under a target: the length of the frame section, that of the lists, then the frame section as
+/// `check_frame` does, then the lists as `check_lists` does. The first fault in that order is the answer.
+pub fn check<'a>(
+    alloc: Global,
+    frame: &'a [u8],
+    lists: &'a [u8],
+    target: Target,
+) -> Result<Checked<'a>, CheckFault>
+    ensures answer { Checks (check_fault target frame.entry.now lists.entry.now) result }
+
+    // It accepts exactly the sections that are well formed.
+    ensures accepts { IfOk result (λ _. AreWellFormed target frame.entry.now lists.entry.now) }
+    ensures refuses { IfErr result (λ found. (found.fault ≡ memory)
+        ⊎ (AreWellFormed target frame.entry.now lists.entry.now → ⊥)) }
+    ensures inside { IfErr result (λ found.
+        found.fault.at ≤ length (bytes_within found.section frame.entry.now lists.entry.now)) }
+    ensures frame { IfOk result (λ checked. checked.frame ≡ frame_of target frame.entry.now) }
+    ensures lists { IfOk result (λ checked.
+        checked.lists ≡ record { target = target; section = lists.entry.now }) }
+{
+    sections_without_fault_are_well_formed();
+    check_both(alloc, frame, lists, target)
+}
+
+impl<'a> Checked<'a> {
+    /// The frame section: its records and rows.
+    pub fn frame(&self) -> &CheckedFrame<'a>
+        ensures { result.now ≡ self.now.frame }
+    {
+        &self.frame
+    }
+
+    /// The location lists. They were read under the target of the frame section.
+    pub fn lists(&self) -> &CheckedLists<'a>
+        ensures lists { result.now ≡ self.now.lists }
+        ensures target { self.now.lists.target ≡ self.now.frame.target }
+    {
+        &self.lists
+    }
+}

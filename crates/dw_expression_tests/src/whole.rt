@@ -1,0 +1,271 @@
+//! Two sections checked together, and callers by what is checked.
+
+use crate::evaluation::{Bytes, LITTLE, OneRegister};
+use dw_bytes::{AddressSize, Fault, FaultKind, Order, Target};
+use dw_check::{Answer, Caller, CheckFault, Checked, Section, Through, check, report, unwind};
+use std::alloc::Global;
+use std::test::Fail;
+
+/// A CIE, and an FDE of 0x1000 to 0x1020: the first of the worked examples.
+const FUNCTION: [u8; 56] = [
+    0x14, 0, 0, 0, 0xff, 0xff, 0xff, 0xff, 4, 0, 8, 0, 1, 0x78, 0x10, 0x0c, 7, 8, 0x90, 1, 0, 0, 0,
+    0, 0x1c, 0, 0, 0, 0, 0, 0, 0, 0, 0x10, 0, 0, 0, 0, 0, 0, 0x20, 0, 0, 0, 0, 0, 0, 0, 0x41, 0x0e,
+    0x10, 0x86, 2, 0x43, 0x0d, 6,
+];
+
+/// A list at 0xc: 0 to 0x10 behind the base in register 0, and else the value 0.
+const LISTS: [u8; 22] = [
+    0x12, 0, 0, 0, 5, 0, 8, 0, 0, 0, 0, 0, 4, 0, 0x10, 1, 0x50, 5, 2, 0x30, 0x9f, 0,
+];
+
+/// A CIE and an FDE of 0x8000 to 0x8010 in big-endian order, with addresses of four bytes: from 0x8008 on the CFA is register
+/// 13 and 8, and register 14 is saved at 4 below it.
+const SHORT: [u8; 44] = [
+    0, 0, 0, 0x10, 0xff, 0xff, 0xff, 0xff, 4, 0, 4, 0, 4, 0x7c, 0x0e, 0x0c, 0x0d, 0, 0, 0, 0, 0, 0,
+    0x14, 0, 0, 0, 0, 0, 0, 0x80, 0, 0, 0, 0, 0x10, 0x42, 0x0e, 8, 0x8e, 1, 0, 0, 0,
+];
+
+/// The CIE, and an FDE whose rules have expressions: register 6 is saved at the CFA and 8, register 7 is the CFA.
+const EXPRESSIONS: [u8; 56] = [
+    0x14, 0, 0, 0, 0xff, 0xff, 0xff, 0xff, 4, 0, 8, 0, 1, 0x78, 0x10, 0x0c, 7, 8, 0x90, 1, 0, 0, 0,
+    0, 0x1c, 0, 0, 0, 0, 0, 0, 0, 0, 0x10, 0, 0, 0, 0, 0, 0, 0x20, 0, 0, 0, 0, 0, 0, 0, 0x10, 6, 2,
+    0x23, 8, 0x16, 7, 0,
+];
+
+/// The report on these alone.
+const REPORT_OF_EXPRESSIONS: &str = "\
+accepted
+cies 1 fdes 1 rows 1
+tables 0 lists 0 expressions 2
+expr frame 0x00000033 register ops 1 depth 1
+expr frame 0x00000038 register ops 0 depth 1
+";
+
+/// The report on the first two of these.
+const REPORT: &str = "\
+accepted
+cies 1 fdes 1 rows 3
+tables 1 lists 1 expressions 2
+expr lists 0x00000010 location ops 1 depth 0
+expr lists 0x00000013 location ops 2 depth 1
+";
+
+const BIG: Target = Target {
+    order: Order::Big,
+    address_size: AddressSize::Four,
+};
+
+/// How many CIEs, FDEs, tables, lists and expressions there are.
+fn counts(
+    alloc: Global,
+    frame: &[u8],
+    lists: &[u8],
+) -> Option<(usize, usize, usize, usize, usize)> {
+    let checked = check(alloc, frame, lists, LITTLE).ok()?;
+    Some((
+        checked.frame().cies().len(),
+        checked.frame().fdes().len(),
+        checked.lists().tables().len(),
+        checked.lists().lists().len(),
+        checked.lists().expressions().len(),
+    ))
+}
+
+/// The caller at an address of two sections that were checked.
+fn caller_in(
+    checked: &Checked<'_>,
+    address: u64,
+    register: &OneRegister,
+    memory: &Bytes<'_>,
+) -> Option<Caller> {
+    unwind(checked, address, register, memory)
+}
+
+/// The caller at an address of a frame section, where one register is known, and the bytes of memory from an address on.
+fn caller(
+    alloc: Global,
+    frame: &[u8],
+    target: Target,
+    address: u64,
+    register: OneRegister,
+    memory: Bytes<'_>,
+) -> Result<Option<Caller>, Fail> {
+    let checked = check(alloc, frame, &[], target)
+        .ok()
+        .ok_or("a frame section")?;
+    Ok(caller_in(&checked, address, &register, &memory))
+}
+
+/// The report on two sections.
+fn reported(alloc: Global, frame: &[u8], lists: &[u8]) -> Result<Vec<u8>, Fail> {
+    let checked = check(alloc, frame, lists, LITTLE).ok().ok_or("sections")?;
+    let mut sink = Through::new(Vec::new(alloc));
+    report(alloc, &checked, &mut sink).ok().ok_or("a report")?;
+    Ok(sink.into_inner())
+}
+
+/// Memory of which nothing is known.
+fn no_bytes() -> Bytes<'static> {
+    Bytes {
+        start: 0,
+        bytes: &[],
+    }
+}
+
+#[test]
+fn accepts_sections_that_are_well_formed(rt: HostRuntime) -> Result<(), Fail> {
+    assert_eq!(rt; counts(rt.alloc(), &[], &[]), Some((0, 0, 0, 0, 0)));
+    assert_eq!(rt;
+        counts(rt.alloc(), &FUNCTION, &LISTS),
+        Some((1, 1, 1, 1, 2))
+    );
+    Ok(())
+}
+
+#[test]
+fn reports_on_sections(rt: HostRuntime) -> Result<(), Fail> {
+    assert_eq!(rt;
+        reported(rt.alloc(), &[], &[])?.as_slice(),
+        "accepted\ncies 0 fdes 0 rows 0\ntables 0 lists 0 expressions 0\n".as_bytes()
+    );
+    assert_eq!(rt;
+        reported(rt.alloc(), &FUNCTION, &LISTS)?.as_slice(),
+        REPORT.as_bytes()
+    );
+    assert_eq!(rt;
+        reported(rt.alloc(), &EXPRESSIONS, &[])?.as_slice(),
+        REPORT_OF_EXPRESSIONS.as_bytes()
+    );
+    Ok(())
+}
+
+#[test]
+fn names_the_section_of_the_first_fault(rt: HostRuntime) -> Result<(), Fail> {
+    let truncated = Fault {
+        kind: FaultKind::Truncated,
+        at: 0,
+    };
+    assert_eq!(rt;
+        check(rt.alloc(), &FUNCTION, &[0], LITTLE).err(),
+        Some(CheckFault {
+            section: Section::Lists,
+            fault: truncated,
+        })
+    );
+    assert_eq!(rt;
+        check(rt.alloc(), &[0], &[0], LITTLE).err(),
+        Some(CheckFault {
+            section: Section::Frame,
+            fault: truncated,
+        })
+    );
+    Ok(())
+}
+
+#[test]
+fn unwinds_a_function(rt: HostRuntime) -> Result<(), Fail> {
+    let register = OneRegister {
+        known: 6,
+        content: 0x7f00,
+    };
+    let memory = Bytes {
+        start: 0x7f00,
+        bytes: &[0, 0x80, 0, 0, 0, 0, 0, 0, 0x34, 0x12, 0, 0, 0, 0, 0, 0],
+    };
+    let found = caller(rt.alloc(), &FUNCTION, LITTLE, 0x1010, register, memory)?.ok_or("a caller")?;
+    assert_eq!(rt; found.cfa, Answer::Value(0x7f10));
+    assert_eq!(rt;
+        found.registers.as_slice(),
+        [(6, Answer::Value(0x8000)), (16, Answer::Value(0x1234))].as_slice()
+    );
+    assert_eq!(rt; found.return_address, Answer::Value(0x1234));
+    let found = caller(rt.alloc(), &FUNCTION, LITTLE, 0x1010, register, no_bytes())?.ok_or(
+        "a caller",
+    )?;
+    assert_eq!(rt; found.cfa, Answer::Value(0x7f10));
+    assert_eq!(rt;
+        found.registers.as_slice(),
+        [(6, Answer::Unreadable), (16, Answer::Unreadable)].as_slice()
+    );
+    assert_eq!(rt; found.return_address, Answer::Unreadable);
+    Ok(())
+}
+
+#[test]
+fn unwinds_by_expressions(rt: HostRuntime) -> Result<(), Fail> {
+    let register = OneRegister {
+        known: 7,
+        content: 0x7f00,
+    };
+    let memory = Bytes {
+        start: 0x7f00,
+        bytes: &[
+            0x34, 0x12, 0, 0, 0, 0, 0, 0, 0, 0, 0, 0, 0, 0, 0, 0, 5, 0, 0, 0, 0, 0, 0, 0,
+        ],
+    };
+    let found = caller(rt.alloc(), &EXPRESSIONS, LITTLE, 0x1000, register, memory)?.ok_or(
+        "a caller",
+    )?;
+    assert_eq!(rt; found.cfa, Answer::Value(0x7f08));
+    assert_eq!(rt;
+        found.registers.as_slice(),
+        [
+            (6, Answer::Value(5)),
+            (7, Answer::Value(0x7f08)),
+            (16, Answer::Value(0x1234)),
+        ]
+        .as_slice()
+    );
+    assert_eq!(rt; found.return_address, Answer::Value(0x1234));
+    Ok(())
+}
+
+#[test]
+fn unwinds_where_nothing_is_known(rt: HostRuntime) -> Result<(), Fail> {
+    let other = OneRegister {
+        known: 0,
+        content: 0,
+    };
+    let found = caller(rt.alloc(), &FUNCTION, LITTLE, 0x1010, other, no_bytes())?.ok_or(
+        "a caller",
+    )?;
+    assert_eq!(rt; found.cfa, Answer::Unreadable);
+    assert_eq!(rt;
+        found.registers.as_slice(),
+        [(6, Answer::Unreadable), (16, Answer::Unreadable)].as_slice()
+    );
+    assert_eq!(rt; found.return_address, Answer::Unreadable);
+    assert_eq!(rt;
+        caller(rt.alloc(), &FUNCTION, LITTLE, 0x1020, other, no_bytes())?,
+        None
+    );
+    Ok(())
+}
+
+/// Sums are taken modulo 2^32, and a word that goes past the greatest address isn't read.
+#[test]
+fn unwinds_at_the_greatest_addresses(rt: HostRuntime) -> Result<(), Fail> {
+    let memory = Bytes {
+        start: 0xffff_fffc,
+        bytes: &[0x12, 0x34, 0x56, 0x78, 0x9a, 0xbc, 0xde, 0xf0],
+    };
+    let register = OneRegister {
+        known: 13,
+        content: 0xffff_fff8,
+    };
+    let found = caller(rt.alloc(), &SHORT, BIG, 0x8008, register, memory)?.ok_or("a caller")?;
+    assert_eq!(rt; found.cfa, Answer::Value(0));
+    assert_eq!(rt;
+        found.registers.as_slice(),
+        [(14, Answer::Value(0x1234_5678))].as_slice()
+    );
+    assert_eq!(rt; found.return_address, Answer::Value(0x1234_5678));
+    let register = OneRegister {
+        known: 13,
+        content: 0xffff_fffa,
+    };
+    let found = caller(rt.alloc(), &SHORT, BIG, 0x8008, register, memory)?.ok_or("a caller")?;
+    assert_eq!(rt; found.cfa, Answer::Value(2));
+    assert_eq!(rt; found.return_address, Answer::Unreadable);
+    Ok(())
+}

@@ -1,5 +1,0 @@
-use Rattle.dw_loclists.proofs.Standing.{one-entry}
-use Rattle.dw_loclists.proofs.laws.one_entry.Goals as goal
-
-pub returns : goal.returns
-returns c = one-entry

@@ -1,5 +1,0 @@
-use Rattle.dw_ops.proofs.Lists.{one-operation}
-use Rattle.dw_ops.proofs.laws.one_operation.Goals as goal
-
-pub returns : goal.returns
-returns c = one-operation

@@ -1,0 +1,104 @@
+//! The expressions of programs, judged where they stand.
+
+ghost use Rattle.std.specs.Prelude.{◌≡◌, [], ◌∷◌, ◌++◌, Some, OnOk};
+ghost use Rattle.dw_bytes.specs.Answers.{Answers};
+ghost use Rattle.dw_frame.specs.Views.{instruction_of, expression_of};
+ghost use Rattle.dw_stack.specs.Located.{located_as, located_fault};
+ghost use Rattle.dw_rows.specs.Expressions.{expression_in, listed};
+
+use crate::section::MEMORY;
+use dw_bytes::{Fault, FaultKind};
+use dw_frame::{CallFrameInstruction, UnwindExpression};
+use dw_stack::{CheckedExpression, Kind, check_expression};
+use std::alloc::Global;
+use std::marker::Model;
+
+/// The expressions that were judged and are good, in the order of judging, each with the offset in the section where it
+/// begins.
+#[derive(Drop)]
+pub struct JudgedExpressions<'a> {
+    alloc: Global,
+    kept: Vec<(u32, CheckedExpression<'a>)>,
+}
+
+impl<'a> Model for JudgedExpressions<'a> {
+    ghost use Rattle.std.specs.Prelude.{List};
+    ghost use Rattle.dw_stack.specs.Located.{LocatedExpression, all_located};
+
+    ghost Value = { List LocatedExpression };
+
+    ghost view = { λ j. all_located j.kept.items };
+}
+
+impl<'a> JudgedExpressions<'a> {
+    ghost use Rattle.std.specs.Prelude.{length};
+    ghost use Rattle.dw_stack.specs.Located.{all_located};
+
+    /// None yet.
+    pub fn new(alloc: Global) -> Self
+        ensures { result ≡ [] }
+    {
+        JudgedExpressions {
+            alloc,
+            kept: Vec::new(alloc),
+        }
+    }
+
+    /// How many there are.
+    pub fn count(&self) -> usize
+        ensures { result ≡ length self.now }
+    {
+        self.kept.len()
+    }
+
+    /// All of them.
+    pub fn into_kept(self) -> Vec<(u32, CheckedExpression<'a>)>
+        ensures { all_located result.items ≡ self.entry }
+    {
+        self.kept
+    }
+
+    /// Judges the expression of an instruction, if it has one, and keeps it.
+    #[inline(always)]
+    pub fn judge(&mut self, instruction: &CallFrameInstruction<'a>) -> Result<(), Fault>
+        ensures answer { Answers (located_fault (expression_in (instruction_of instruction.now)))
+            result }
+        ensures kept { OnOk result
+            (self.new ≡ self.old ++ listed (expression_in (instruction_of instruction.now))) }
+    {
+        match instruction {
+            CallFrameInstruction::DefCfaExpression { expression } => {
+                self.judge_as(Kind::FrameCfa, *expression)
+            }
+            CallFrameInstruction::Expression { expression, .. } => {
+                self.judge_as(Kind::FrameRegister, *expression)
+            }
+            CallFrameInstruction::ValExpression { expression, .. } => {
+                self.judge_as(Kind::FrameRegister, *expression)
+            }
+            _ => Ok(()),
+        }
+    }
+
+    /// Judges an expression under its kind, and keeps it.
+    fn judge_as(&mut self, kind: Kind, found: UnwindExpression<'a>) -> Result<(), Fault>
+        ensures answer { Answers
+            (located_fault (Some (located_as kind (expression_of found.entry)))) result }
+        ensures kept { OnOk result
+            (self.new ≡ self.old ++ located_as kind (expression_of found.entry) ∷ []) }
+    {
+        match check_expression(self.alloc, found.expression, kind) {
+            Ok(checked) => {
+                if self.kept.push((found.offset, checked)).is_err() {
+                    return Err(MEMORY);
+                }
+                Ok(())
+            }
+            Err(fault) if fault.kind == FaultKind::Memory => Err(MEMORY),
+            Err(fault) => Err(Fault {
+                kind: fault.kind,
+                at: found.offset + fault.at,
+            }),
+        }
+    }
+}

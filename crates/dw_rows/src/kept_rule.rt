@@ -1,0 +1,31 @@
+//! Rules as programs give them and states keep them: an expression is named by its offset in the section.
+
+/// What a register of the caller is (DWARF 5, section 6.4.1). An offset counts from the CFA.
+#[derive(Clone, Copy, Debug)]
+pub enum KeptRule {
+    /// No instruction has set it, or a restore has given back that the CIE's did not.
+    Default,
+    /// It can't be had.
+    Undefined,
+    /// It is the register's present content.
+    SameValue,
+    /// It is saved at that offset.
+    Offset(i64),
+    /// It is the CFA plus that offset.
+    ValOffset(i64),
+    /// It is the content of that register.
+    Register(u16),
+    /// It is saved at the address that the expression at that offset of the section gives.
+    Expression(u32),
+    /// It is what the expression at that offset of the section gives.
+    ValExpression(u32),
+}
+
+/// How the CFA is found (DWARF 5, section 6.4.1).
+#[derive(Clone, Copy, Debug)]
+pub enum KeptCfa {
+    /// It is the content of a register plus an offset.
+    RegisterAndOffset { register: u16, offset: i64 },
+    /// It is what the expression at that offset of the section gives.
+    Expression(u32),
+}

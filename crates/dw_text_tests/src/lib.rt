@@ -1,0 +1,13 @@
+//! Tests of the texts that `dw_check` writes, by `request` and `run` alone.
+#![tactic(auto)]
+
+#[cfg(test)]
+mod expressions;
+#[cfg(test)]
+mod lists_text;
+#[cfg(test)]
+mod operations;
+#[cfg(test)]
+mod sections;
+#[cfg(test)]
+mod words_and_sinks;
