@@ -53,6 +53,14 @@ checked-fdes-sound s k f among = fdes-sound s.target s.section f (subst (λ (t :
 pub checked-fits : (s : Frame) → IsChecked s → (f : Fde) → Contains s.fdes f → f.initial + f.range ≤ top_of s.target
 checked-fits s k f among = (checked-fdes-sound s k f among).range
 
+-- its expressions are those of its programs
+pub in-programs : (s : Frame) → IsChecked s → (e : LocatedExpression) → Contains s.expressions e
+    → Contains (frame_expressions s.cies s.fdes) e
+in-programs s k e among =
+    let t = frame_of s.target s.section in
+    let there : Contains (frame_expressions t.cies t.fdes) e = subst (λ (u : Frame). Contains u.expressions e) k.whole among in
+    subst (λ (u : Frame). Contains (frame_expressions u.cies u.fdes) e) (sym k.whole) there
+
 -- what a section without a fault keeps
 pub kept : (target : Target) (section : List ℕ) (cies : List Cie) (left : List KeptRules) (fdes : List Fde) (index : List IndexEntry)
     → fault_in (entries_of target section) ≡ None → cies ≡ (frame_of target section).cies → fdes ≡ (frame_of target section).fdes

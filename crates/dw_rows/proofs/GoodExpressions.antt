@@ -1,5 +1,5 @@
 -- The expressions of a checked section are good, and lie in it.
-use Rattle.std.proofs.Common.{◌≡◌, ℕ, zero, suc, ◌+◌, ◌≤◌, List, [], ◌∷◌, length, map, Ok, Contains, refl, sym, ap, subst, ◌∙◌, arith, inl, inr}
+use Rattle.std.proofs.Common.{◌≡◌, ℕ, zero, suc, ◌+◌, ◌≤◌, List, [], ◌∷◌, length, map, Ok, Contains, refl, ap, subst, ◌∙◌, arith, inl, inr}
 use Rattle.std.proofs.lemmas.List.Elements.{Contains-append_cases}
 use Rattle.dw_bytes.specs.Answers.{values_in}
 use Rattle.dw_frame.specs.Instructions.{Instruction}
@@ -12,7 +12,7 @@ use Rattle.dw_rows.specs.Section.{Frame, IsChecked, frame_of}
 use Rattle.dw_rows.proofs.ExpressionOrder.{expression-inside}
 use Rattle.dw_rows.proofs.Parts.{pointed-in, good-behind}
 use Rattle.dw_rows.proofs.Programs.{good-from-cie, good-from-fde, good-read, good-read-fde}
-use Rattle.dw_rows.proofs.CheckedSections.{checked-read, checked-parts, checked-cies-good}
+use Rattle.dw_rows.proofs.CheckedSections.{checked-read, checked-parts, checked-cies-good, in-programs}
 
 abbrev IsGood : LocatedExpression → Type 0
 IsGood e = IsGoodExpression e.kind e.target e.bytes
@@ -60,8 +60,7 @@ pub checked-expressions : (s : Frame) → IsChecked s → (e : LocatedExpression
 checked-expressions s k e among =
     let t = frame_of s.target s.section in
     let there : Contains (frame_expressions t.cies t.fdes) e = subst (λ (u : Frame). Contains u.expressions e) k.whole among in
-    let here : Contains (frame_expressions s.cies s.fdes) e =
-    subst (λ (u : Frame). Contains (frame_expressions u.cies u.fdes) e) (sym k.whole) there in
+    let here : Contains (frame_expressions s.cies s.fdes) e = in-programs s k e among in
     let inside = expression-inside s.target s.section (checked-read s k) e there in
     let good : IsGood e = elim (Contains-append_cases (cie_expressions s.cies) (fde_expressions s.fdes) e here) [
       | inl c ↦ of-cies s k e c

@@ -1,5 +1,5 @@
 -- The expressions of a section are lent to the rules that name them.
-use Rattle.std.proofs.Common.{◌≡◌, ℕ, zero, suc, List, [], ◌∷◌, length, reverse, take, drop, Some, Contains, refl, sym, subst, ◌∙◌, arith, inl, inr}
+use Rattle.std.proofs.Common.{◌≡◌, ℕ, zero, suc, List, [], ◌∷◌, length, reverse, take, drop, Some, Contains, refl, sym, ap, subst, ◌∙◌, arith, inl, inr}
 use Rattle.std.specs.Prelude.{IfSome}
 use Rattle.std.proofs.Math.Seq.{take-append_seam, drop-append_seam}
 use Rattle.std.proofs.lemmas.List.Elements.{Contains-append_cases}
@@ -27,7 +27,7 @@ use Rattle.dw_rows.proofs.ExpressionsAmong.{of-instruction, of-effect, of-frame-
 use Rattle.dw_rows.proofs.ExpressionOrder.{expression-found, cie-expressions-ascend, fde-expressions-ascend}
 use Rattle.dw_rows.proofs.Programs.{effects-good, good-read-fde, start-same}
 use Rattle.dw_rows.proofs.Tables.{rule_list-table, rule_list-same}
-use Rattle.dw_rows.proofs.CheckedSections.{checked-read}
+use Rattle.dw_rows.proofs.CheckedSections.{checked-read, in-programs}
 
 -- ---- what a cursor keeps
 
@@ -147,6 +147,15 @@ found-in s k e among =
     subst (λ (u : Frame). Contains (frame_expressions u.cies u.fdes) e) k.whole among in
     let found : expression_at t.expressions e.offset ≡ Some e = expression-found s.target s.section (checked-read s k) e there in
     subst (λ (u : Frame). expression_at u.expressions e.offset ≡ Some e) (sym k.whole) found
+
+-- no two begin at one offset
+pub one-at-offset : (s : Frame) → IsChecked s → (d e : LocatedExpression) → Contains s.expressions d → Contains s.expressions e
+    → d.offset ≡ e.offset → d ≡ e
+one-at-offset s k d e d_in e_in same =
+    let first : expression_at s.expressions d.offset ≡ Some d = found-in s k d (in-programs s k d d_in) in
+    let second : expression_at s.expressions e.offset ≡ Some e = found-in s k e (in-programs s k e e_in) in
+    let both : Some d ≡ Some e = sym first ∙ ap (expression_at s.expressions) same ∙ second in
+    cc
 
 pub lends-in : (s : Frame) → IsChecked s → (c : Cie) (f : Fde) → Contains s.cies c → Contains s.fdes f → Lends s.expressions c f
 lends-in s k c f c_in f_in =

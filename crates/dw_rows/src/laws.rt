@@ -97,7 +97,7 @@ pub fn exact_rows()
 {}
 
 /// What a section that is accepted holds: good programs that lie in it and are of its target, in order of offset, and good
-/// expressions, which lie in it likewise.
+/// expressions, which lie in it likewise, no two of them beginning at one offset.
 pub fn checked_sections()
     ensures well_formed { (s : Frame) → IsChecked s → IsWellFormed s.target s.section }
     ensures cies { (s : Frame) → IsChecked s → (c : Cie) → Contains s.cies c
@@ -109,6 +109,8 @@ pub fn checked_sections()
     ensures expressions { (s : Frame) → IsChecked s → (e : LocatedExpression)
         → Contains s.expressions e → IsGoodExpression e.kind e.target e.bytes
         × (e.target ≡ s.target) × (e.offset + length e.bytes ≤ length s.section) }
+    ensures one_at_an_offset { (s : Frame) → IsChecked s → (d e : LocatedExpression)
+        → Contains s.expressions d → Contains s.expressions e → d.offset ≡ e.offset → d ≡ e }
 {}
 
 /// Each restore_state has at most one match, and so has each remember_state.

@@ -1,6 +1,7 @@
 use Rattle.dw_rows.proofs.WellFormedSections.{faultless-well-formed}
 use Rattle.dw_rows.proofs.CheckedSections.{checked-cies-sound, checked-fdes-sound, checked-cies-ascend, checked-fdes-ascend}
 use Rattle.dw_rows.proofs.GoodExpressions.{checked-expressions}
+use Rattle.dw_rows.proofs.Lending.{one-at-offset}
 use Rattle.dw_rows.proofs.laws.checked_sections.Goals as goal
 
 pub returns : goal.returns
@@ -11,4 +12,5 @@ returns c = record {
   cies_ascend = checked-cies-ascend;
   fdes_ascend = checked-fdes-ascend;
   expressions = checked-expressions;
+  one_at_an_offset = one-at-offset;
 }
