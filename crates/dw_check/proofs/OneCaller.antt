@@ -1,28 +1,37 @@
 -- There is one caller, by what is said of evaluations.
 use Rattle.std.proofs.Common.{◌≡◌, ℕ, ◌≤◌, ◌==◌, if◌then◌else◌, Bool, true, false, List, [], ◌∷◌, refl, ap, sym, subst, ◌∙◌}
-use Rattle.std.specs.Prelude.{Option, Some, None}
+use Rattle.std.specs.Prelude.{Option, Some, None, IfSome}
+use Rattle.std.specs.List.{AllByRecursion}
+use Rattle.std.proofs.lemmas.List.Elements.{recursion_from_All}
 use Rattle.dw_bytes.specs.declared.target.Target.{Target}
 use Rattle.dw_frame.specs.Records.{Cie}
 use Rattle.dw_rows.specs.Rules.{Rule, Cfa, register_and_offset, cfa_expression, Row, RuleOver, rule_in, default, same_value, offset, val_offset, register, expression, val_expression}
 use Rattle.dw_stack.specs.Located.{LocatedExpression}
+use Rattle.dw_rows.specs.GoodRows.{IsGoodAmong, IsGoodRule, IsGoodCfa, IsGoodEntry, HasGoodExpressions}
 use Rattle.dw_rows.specs.Section.{Frame, cie_in, row_of}
 use Rattle.dw_stack.specs.declared.state.Kind.{Kind}
+use Rattle.dw_stack.specs.declared.state.Kind.TheVariants.{FrameCfa, FrameRegister}
 use Rattle.dw_stack.specs.Expressions.{Checked, IsChecked, IsGoodExpression, IsDepthOf}
 use Rattle.dw_eval.specs.World.{World}
 use Rattle.dw_eval.specs.Results.{Outcome, IsEvaluation}
-use Rattle.dw_check.specs.Caller.{Answer, value, undefined, unreadable, division_by_zero, moved_content, content, word, moved, behind, answer_of, under, Gives, with_cfa, IsCfa, NeedsCfa, IsRegister, AreRegisters, Caller, IsCaller, Unwinds, IsGood, IsGoodCfa, IsGoodRule, AreGoodRules, HasGoodExpressions, HasGoodRow}
+use Rattle.dw_check.specs.Caller.{Answer, value, undefined, unreadable, division_by_zero, moved_content, content, word, moved, behind, answer_of, under, Gives, with_cfa, IsCfa, NeedsCfa, IsRegister, AreRegisters, Caller, IsCaller, Unwinds}
 use Rattle.dw_check.proofs.Sound.{known}
 
 -- ---- rules of a list are good
 
-if_good : (b : Bool) (x y : Rule) → IsGoodRule x → IsGoodRule y
-    → IsGoodRule (if b then x else y)
-if_good true x y g h = g
-if_good false x y g h = h
+if_good : (es : List LocatedExpression) (b : Bool) (x y : Rule) → IsGoodRule es x → IsGoodRule es y
+    → IsGoodRule es (if b then x else y)
+if_good es true x y g h = g
+if_good es false x y g h = h
 
-rule_good : (rules : List (ℕ × Rule)) (r : ℕ) → AreGoodRules rules → IsGoodRule (rule_in rules r)
-rule_good [] r good = tt
-rule_good (entry ∷ rules) r good = if_good (entry.0 == r) _ _ good.0 (rule_good rules r good.1)
+-- each of them, one after the other
+abbrev AreGood : List LocatedExpression → List (ℕ × Rule) → Type 0
+AreGood es rules = AllByRecursion (IsGoodEntry es) rules
+
+rule_good : (es : List LocatedExpression) (rules : List (ℕ × Rule)) (r : ℕ) → AreGood es rules → IsGoodRule es (rule_in rules r)
+rule_good es [] r good = tt
+rule_good es (entry ∷ rules) r good =
+    if_good es (entry.0 == r) entry.1 (rule_in rules r) good.0 (rule_good es rules r good.1)
 
 -- callers are the same by their parts
 abbrev made : Answer → List (ℕ × Answer) → Answer → Caller
@@ -33,15 +42,17 @@ same_parts a b xs ys v w x y z = rw (x, y, z) refl
 
 -- ---- one
 
-module _ (only : (c : Checked) (e : World) (o p : Outcome) (n k : ℕ) → IsGoodExpression c.kind c.target c.bytes → IsEvaluation c e o n
+module _ (es : List LocatedExpression)
+    (only : (c : Checked) (e : World) (o p : Outcome) (n k : ℕ) → IsGoodExpression c.kind c.target c.bytes → IsEvaluation c e o n
     → IsEvaluation c e p k → (o ≡ p) × (n ≡ k)) where
-  gives_one : (e : World) (x : LocatedExpression) (a b : Answer) → IsGood x → Gives e x a → Gives e x b → a ≡ b
-  gives_one e x a b good g h =
-      g.3 ∙ ap answer_of (only (known x.kind x.target x.bytes 0) (under x.target e) g.0 h.0 g.1 h.1 good g.2 h.2).0 ∙ sym h.3
+  gives_one : (e : World) (x : LocatedExpression) (a b : Answer) (kind : Kind) → IsGoodAmong es kind x → Gives e x a
+      → Gives e x b → a ≡ b
+  gives_one e x a b kind good g h =
+      g.3 ∙ ap answer_of (only (known x.kind x.target x.bytes 0) (under x.target e) g.0 h.0 g.1 h.1 good.good g.2 h.2).0 ∙ sym h.3
 
-  cfa_one : (e : World) (rule : Option Cfa) (a b : Answer) → IsGoodCfa rule → IsCfa e rule a → IsCfa e rule b → a ≡ b
+  cfa_one : (e : World) (rule : Option Cfa) (a b : Answer) → IfSome rule (IsGoodCfa es) → IsCfa e rule a → IsCfa e rule b → a ≡ b
   cfa_one e (Some (register_and_offset r n)) a b good g h = g ∙ sym h
-  cfa_one e (Some (cfa_expression x)) a b good g h = gives_one e x a b good g h
+  cfa_one e (Some (cfa_expression x)) a b good g h = gives_one e x a b FrameCfa good g h
   cfa_one e None a b good g h = g ∙ sym h
 
   needs_one : (cfa : Answer) (Is : ℕ → Answer → Type 0) (a b : Answer) → ((c : ℕ) → Is c a → Is c b → a ≡ b) → NeedsCfa cfa Is a
@@ -51,7 +62,7 @@ module _ (only : (c : Checked) (e : World) (o p : Outcome) (n k : ℕ) → IsGoo
   needs_one unreadable Is a b one g h = g ∙ sym h
   needs_one division_by_zero Is a b one g h = g ∙ sym h
 
-  register_one : (e : World) (cfa : Answer) (r : ℕ) (rule : Rule) (a b : Answer) → IsGoodRule rule → IsRegister e cfa r rule a
+  register_one : (e : World) (cfa : Answer) (r : ℕ) (rule : Rule) (a b : Answer) → IsGoodRule es rule → IsRegister e cfa r rule a
       → IsRegister e cfa r rule b → a ≡ b
   register_one e cfa r default a b good g h = g ∙ sym h
   register_one e cfa r RuleOver.undefined a b good g h = g ∙ sym h
@@ -61,11 +72,11 @@ module _ (only : (c : Checked) (e : World) (o p : Outcome) (n k : ℕ) → IsGoo
   register_one e cfa r (register other) a b good g h = g ∙ sym h
   register_one e cfa r (expression y) a b good g h =
       needs_one cfa (λ c x. (address : Answer) × Gives (with_cfa e c) y address × (x ≡ behind address (word e))) a b
-      (λ c k l. k.2 ∙ ap (λ x. behind x (word e)) (gives_one (with_cfa e c) y k.0 l.0 good k.1 l.1) ∙ sym l.2) g h
+      (λ c k l. k.2 ∙ ap (λ x. behind x (word e)) (gives_one (with_cfa e c) y k.0 l.0 FrameRegister good k.1 l.1) ∙ sym l.2) g h
   register_one e cfa r (val_expression y) a b good g h =
-      needs_one cfa (λ c x. Gives (with_cfa e c) y x) a b (λ c k l. gives_one (with_cfa e c) y a b good k l) g h
+      needs_one cfa (λ c x. Gives (with_cfa e c) y x) a b (λ c k l. gives_one (with_cfa e c) y a b FrameRegister good k l) g h
 
-  registers_one : (e : World) (cfa : Answer) (rules : List (ℕ × Rule)) (xs ys : List (ℕ × Answer)) → AreGoodRules rules
+  registers_one : (e : World) (cfa : Answer) (rules : List (ℕ × Rule)) (xs ys : List (ℕ × Answer)) → AreGood es rules
       → AreRegisters e cfa rules xs → AreRegisters e cfa rules ys → xs ≡ ys
   registers_one e cfa [] [] [] good g h = refl
   registers_one e cfa [] [] (y ∷ ys) good g h = absurd h
@@ -78,23 +89,25 @@ module _ (only : (c : Checked) (e : World) (o p : Outcome) (n k : ℕ) → IsGoo
       let rest : xs ≡ ys = registers_one e cfa rules xs ys good.1 g.2 h.2 in
       rw (number, answer, rest) refl
 
-  caller_one : (e : World) (back : ℕ) (row : Row) (c d : Caller) → HasGoodExpressions row → IsCaller e back row c
+  caller_one : (e : World) (back : ℕ) (row : Row) (c d : Caller) → HasGoodExpressions es row → IsCaller e back row c
       → IsCaller e back row d → c ≡ d
   caller_one e back row c d good g h =
       let cfa : c.cfa ≡ d.cfa = cfa_one e row.cfa c.cfa d.cfa good.cfa g.cfa h.cfa in
+      let rules_good : AreGood es row.rules = recursion_from_All (IsGoodEntry es) row.rules good.rules in
       let same = subst (λ a. AreRegisters e a row.rules c.registers) cfa g.registers in
-      let registers : c.registers ≡ d.registers = registers_one e d.cfa row.rules c.registers d.registers good.registers same h.registers in
+      let registers : c.registers ≡ d.registers = registers_one e d.cfa row.rules c.registers d.registers rules_good same h.registers in
       let rule = rule_in row.rules back in
       let returned = subst (λ a. IsRegister e a back rule c.return_address) cfa g.return_address in
       let return_address : c.return_address ≡ d.return_address =
-      register_one e d.cfa back rule c.return_address d.return_address (rule_good row.rules back good.registers)
+      register_one e d.cfa back rule c.return_address d.return_address (rule_good es row.rules back rules_good)
       returned h.return_address in
       same_parts _ _ _ _ _ _ cfa registers return_address
 
   some_one : {X : Type 0} (o : Option X) (x y : X) → o ≡ Some x → o ≡ Some y → x ≡ y
   some_one o x y g h = cc
 
-  pub unwinds_one : (e : World) (frame : Frame) (address : ℕ) (c d : Option Caller) → HasGoodRow frame address
+  pub unwinds_one : (e : World) (frame : Frame) (address : ℕ) (c d : Option Caller)
+      → ((row : Row) → row_of frame address ≡ Some row → HasGoodExpressions es row)
       → Unwinds e frame address c → Unwinds e frame address d → c ≡ d
   unwinds_one e frame address None None good g h = refl
   unwinds_one e frame address None (Some d) good g h = absurd (g h.fde h.covers.0 h.covers.1)
@@ -109,19 +122,20 @@ module _ (only : (c : Checked) (e : World) (o p : Outcome) (n k : ℕ) → IsGoo
 
 -- ---- some
 
-module _ (deepest : (kind : Kind) (target : Target) (bytes : List ℕ) → IsGoodExpression kind target bytes
+module _ (es : List LocatedExpression)
+    (deepest : (kind : Kind) (target : Target) (bytes : List ℕ) → IsGoodExpression kind target bytes
     → (d : ℕ) × IsDepthOf kind target bytes d)
     (has : (c : Checked) (e : World) → IsChecked c → (o : Outcome) × (n : ℕ) × IsEvaluation c e o n × (n ≤ c.count)) where
-  gives_some : (e : World) (x : LocatedExpression) → IsGood x → (a : Answer) × Gives e x a
-  gives_some e x good =
-      let depth = deepest x.kind x.target x.bytes good in
-      let checked : IsChecked (known x.kind x.target x.bytes depth.0) = record { good = good; depth = depth.1; count = refl } in
+  gives_some : (e : World) (x : LocatedExpression) (kind : Kind) → IsGoodAmong es kind x → (a : Answer) × Gives e x a
+  gives_some e x kind good =
+      let depth = deepest x.kind x.target x.bytes good.good in
+      let checked : IsChecked (known x.kind x.target x.bytes depth.0) = record { good = good.good; depth = depth.1; count = refl } in
       let found = has (known x.kind x.target x.bytes depth.0) (under x.target e) checked in
       (answer_of found.0, (found.0, found.1, found.2, refl))
 
-  cfa_some : (e : World) (rule : Option Cfa) → IsGoodCfa rule → (a : Answer) × IsCfa e rule a
+  cfa_some : (e : World) (rule : Option Cfa) → IfSome rule (IsGoodCfa es) → (a : Answer) × IsCfa e rule a
   cfa_some e (Some (register_and_offset r n)) good = (moved_content e n (e.registers r), refl)
-  cfa_some e (Some (cfa_expression x)) good = gives_some e x good
+  cfa_some e (Some (cfa_expression x)) good = gives_some e x FrameCfa good
   cfa_some e None good = (unreadable, refl)
 
   needs_some : (cfa : Answer) (Is : ℕ → Answer → Type 0) → ((c : ℕ) → (a : Answer) × Is c a) → (a : Answer) × NeedsCfa cfa Is a
@@ -130,7 +144,7 @@ module _ (deepest : (kind : Kind) (target : Target) (bytes : List ℕ) → IsGoo
   needs_some unreadable Is some = (unreadable, refl)
   needs_some division_by_zero Is some = (division_by_zero, refl)
 
-  register_some : (e : World) (cfa : Answer) (r : ℕ) (rule : Rule) → IsGoodRule rule → (a : Answer) × IsRegister e cfa r rule a
+  register_some : (e : World) (cfa : Answer) (r : ℕ) (rule : Rule) → IsGoodRule es rule → (a : Answer) × IsRegister e cfa r rule a
   register_some e cfa r default good = (undefined, refl)
   register_some e cfa r RuleOver.undefined good = (undefined, refl)
   register_some e cfa r same_value good = (content e r, refl)
@@ -139,11 +153,11 @@ module _ (deepest : (kind : Kind) (target : Target) (bytes : List ℕ) → IsGoo
   register_some e cfa r (register other) good = (content e other, refl)
   register_some e cfa r (expression y) good =
       needs_some cfa (λ c x. (address : Answer) × Gives (with_cfa e c) y address × (x ≡ behind address (word e)))
-      (λ c. let found = gives_some (with_cfa e c) y good in (behind found.0 (word e), (found.0, found.1, refl)))
+      (λ c. let found = gives_some (with_cfa e c) y FrameRegister good in (behind found.0 (word e), (found.0, found.1, refl)))
   register_some e cfa r (val_expression y) good =
-      needs_some cfa (λ c x. Gives (with_cfa e c) y x) (λ c. gives_some (with_cfa e c) y good)
+      needs_some cfa (λ c x. Gives (with_cfa e c) y x) (λ c. gives_some (with_cfa e c) y FrameRegister good)
 
-  registers_some : (e : World) (cfa : Answer) (rules : List (ℕ × Rule)) → AreGoodRules rules
+  registers_some : (e : World) (cfa : Answer) (rules : List (ℕ × Rule)) → AreGood es rules
       → (xs : List (ℕ × Answer)) × AreRegisters e cfa rules xs
   registers_some e cfa [] good = ([], tt)
   registers_some e cfa (entry ∷ rules) good =
@@ -151,11 +165,12 @@ module _ (deepest : (kind : Kind) (target : Target) (bytes : List ℕ) → IsGoo
       let rest = registers_some e cfa rules good.1 in
       ((entry.0, first.0) ∷ rest.0, (refl, first.1, rest.1))
 
-  pub caller_some : (e : World) (back : ℕ) (row : Row) → HasGoodExpressions row → (c : Caller) × IsCaller e back row c
+  pub caller_some : (e : World) (back : ℕ) (row : Row) → HasGoodExpressions es row → (c : Caller) × IsCaller e back row c
   caller_some e back row good =
       let cfa = cfa_some e row.cfa good.cfa in
-      let registers = registers_some e cfa.0 row.rules good.registers in
-      let returned = register_some e cfa.0 back (rule_in row.rules back) (rule_good row.rules back good.registers) in (
+      let rules_good : AreGood es row.rules = recursion_from_All (IsGoodEntry es) row.rules good.rules in
+      let registers = registers_some e cfa.0 row.rules rules_good in
+      let returned = register_some e cfa.0 back (rule_in row.rules back) (rule_good es row.rules back rules_good) in (
         record { cfa = cfa.0; registers = registers.0; return_address = returned.0 },
         record { cfa = cfa.1; registers = registers.1; return_address = returned.1 },
       )

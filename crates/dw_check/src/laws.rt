@@ -1,16 +1,17 @@
 //! Laws of checks and of requests: functions that do nothing, each with the law as its contract.
 
-ghost use Rattle.std.specs.Prelude.{◌≡◌, ◌↔◌, ℕ, List, Option, None};
+ghost use Rattle.std.specs.Prelude.{◌≡◌, ◌↔◌, ℕ, List, Option, None, Contains};
 ghost use Rattle.dw_bytes.specs.declared.target.Target.{Target};
 ghost use Rattle.dw_check.specs.Checked.{AreWellFormed, check_fault};
 ghost use Rattle.dw_check.specs.Headline.{AreSound};
 ghost use Rattle.dw_check.specs.Report.{IsReport};
 ghost use Rattle.dw_loclists.specs.Reading.{IsChecked, ListSection};
 ghost use Rattle.dw_eval.specs.World.{World};
+ghost use Rattle.dw_frame.specs.Records.{Fde};
 ghost use Rattle.dw_rows.specs.Rules.{Row};
 ghost use Rattle.dw_rows.specs.Section.{Frame};
 ghost use Rattle.dw_rows.specs.Section as rows;
-ghost use Rattle.dw_check.specs.Caller.{Caller, HasGoodExpressions, HasGoodRow, IsCaller, Unwinds};
+ghost use Rattle.dw_check.specs.Caller.{Caller, IsCaller, Unwinds};
 ghost use Rattle.dw_check.specs.Requests.{Asked};
 ghost use Rattle.dw_check.specs.Runs.{Reply, IsReply};
 
@@ -50,20 +51,24 @@ pub fn accepted_sections_are_sound()
     dw_eval::laws::evaluations_are_determined();
 }
 
-/// An unwinding has one answer: none, or one caller.
+/// Over a section that is accepted an unwinding has one answer: none, or one caller.
 pub fn one_caller()
     ensures { (e : World) (frame : Frame) (address : ℕ) (c d : Option Caller)
-        → HasGoodRow frame address → Unwinds e frame address c
+        → rows.IsChecked frame → Unwinds e frame address c
         → Unwinds e frame address d → c ≡ d }
 {
+    dw_rows::laws::rows_have_good_expressions();
     dw_eval::laws::evaluations_are_determined();
 }
 
-/// Over each row there is a caller.
+/// Over each row of a section that is accepted there is a caller.
 pub fn each_row_has_a_caller()
-    ensures { (e : World) (return_register : ℕ) (row : Row) → HasGoodExpressions row
+    ensures { (e : World) (return_register : ℕ) (frame : Frame) (fde : Fde) (row : Row)
+        → rows.IsChecked frame → Contains frame.fdes fde
+        → Contains (rows.rows_in frame fde) row
         → (c : Caller) × IsCaller e return_register row c }
 {
+    dw_rows::laws::rows_have_good_expressions();
     dw_stack::laws::each_has_a_depth();
     dw_eval::laws::each_has_an_evaluation();
 }

@@ -34,4 +34,5 @@ pub mod ExpressionsAmong
 mod Lending
 pub mod GivenRows
 mod GoodExpressions
+mod GoodRows
 mod JudgedInPlace

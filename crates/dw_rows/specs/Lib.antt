@@ -19,6 +19,8 @@ pub mod Section
 pub mod WellFormed
 -- rows with their expressions, as they are handed out (6.4.1)
 pub mod GivenRows
+-- rows whose expressions are good (6.4.2.2, 6.4.2.3)
+pub mod GoodRows
 -- the one row of an address (6.4.1)
 pub mod ExactRows
 -- ---- The first fault, as a function of the bytes. Laws tie it to what is to be believed.

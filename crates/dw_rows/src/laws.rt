@@ -3,7 +3,7 @@
 
 ghost use Rattle.std.specs.Prelude.{◌≡◌, ◌⊎◌, false, ℕ, ◌+◌, ◌<◌, ◌≤◌, ◌↔◌, List, length, Option, Some, None, slice_get, filter, [], ◌∷◌, Err, Contains};
 ghost use Rattle.dw_frame.specs.Records.{Cie, Fde};
-ghost use Rattle.dw_rows.specs.Rules.{PlacedRule, PlacedCfa, PlacedRow, IsTable, rule_in, rule_list};
+ghost use Rattle.dw_rows.specs.Rules.{PlacedRule, PlacedCfa, PlacedRow, Row, IsTable, rule_in, rule_list};
 ghost use Rattle.dw_bytes.specs.declared.fault.FaultKind.{FaultKind};
 ghost use Rattle.dw_frame.specs.Instructions.{Instruction};
 ghost use Rattle.dw_rows.specs.Effects.{Effect, restores_state, effect_of};
@@ -18,8 +18,9 @@ ghost use Rattle.dw_bytes.specs.declared.fault.Fault.{Fault};
 ghost use Rattle.dw_frame.specs.Bounds.{StandsIn, IsSoundCie, IsSoundFde, Ascends};
 ghost use Rattle.dw_stack.specs.Expressions.{IsGoodExpression};
 ghost use Rattle.dw_stack.specs.Located.{LocatedExpression};
+ghost use Rattle.dw_rows.specs.GoodRows.{HasGoodExpressions};
 ghost use Rattle.dw_rows.specs.ExactRows.{HasOneRow};
-ghost use Rattle.dw_rows.specs.Section.{Frame, Covers, row_of, IsChecked, section_fault};
+ghost use Rattle.dw_rows.specs.Section.{Frame, Covers, rows_in, row_of, IsChecked, section_fault};
 ghost use Rattle.dw_rows.specs.WellFormed.{IsWellFormed};
 ghost use Rattle.dw_rows.specs.declared.map.TheConstants.{MAX_RULES};
 ghost use Rattle.dw_rows.specs.declared.remember_stack.TheConstants.{MAX_REMEMBERED};
@@ -111,6 +112,15 @@ pub fn checked_sections()
         × (e.target ≡ s.target) × (e.offset + length e.bytes ≤ length s.section) }
     ensures one_at_an_offset { (s : Frame) → IsChecked s → (d e : LocatedExpression)
         → Contains s.expressions d → Contains s.expressions e → d.offset ≡ e.offset → d ≡ e }
+{}
+
+/// In a section that is accepted each expression of a row is one of the section's, has the kind of its rule, and is good: in the
+/// rows of each FDE, and so in the row of each address.
+pub fn rows_have_good_expressions()
+    ensures rows { (s : Frame) → IsChecked s → (f : Fde) → Contains s.fdes f → (row : Row)
+        → Contains (rows_in s f) row → HasGoodExpressions s.expressions row }
+    ensures addresses { (s : Frame) (a : ℕ) → IsChecked s → (row : Row) → row_of s a ≡ Some row
+        → HasGoodExpressions s.expressions row }
 {}
 
 /// Each restore_state has at most one match, and so has each remember_state.

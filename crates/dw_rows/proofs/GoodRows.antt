@@ -1,0 +1,106 @@
+-- The rows of a checked section have good expressions, each of the kind of its rule.
+use Rattle.std.proofs.Common.{◌≡◌, ℕ, zero, suc, ◌+◌, ◌==◌, Bool, true, false, cond, List, [], ◌∷◌, map, Option, Some, None, Contains, refl, sym, ap, subst, arith}
+use Rattle.std.specs.Prelude.{All, IfSome, find, option_and_then, option_map}
+use Rattle.std.specs.List.{AllByRecursion}
+use Rattle.std.proofs.lemmas.List.Elements.{All-from_recursion, recursion_from_All}
+use Rattle.dw_frame.specs.Records.{Fde}
+use Rattle.dw_stack.specs.declared.state.Kind.{Kind}
+use Rattle.dw_stack.specs.declared.state.Kind.TheVariants.{FrameCfa, FrameRegister}
+use Rattle.dw_rows.specs.Rules.{PlacedRule, PlacedCfa, PlacedRow, Row, default, undefined, same_value, offset, val_offset, register, expression, val_expression, register_and_offset, cfa_expression}
+use Rattle.dw_rows.specs.Effects.{Effect}
+use Rattle.dw_rows.specs.InForce.{Start}
+use Rattle.dw_rows.specs.GivenRows.{or_nowhere, located_at, rule_with, cfa_with, rules_with, row_with, IsLent, LendsRule, LendsCfa, LendsEntry, LendsEach}
+use Rattle.dw_rows.specs.GoodRows.{IsGoodAmong, IsGoodRule, IsGoodCfa, IsGoodEntry, HasGoodExpressions}
+use Rattle.dw_rows.specs.UnwindRows.{rows_of, has_address}
+use Rattle.dw_rows.specs.Clauses.{IsRow, AreRowsFrom, start_in, program_in}
+use Rattle.dw_rows.specs.Section.{Frame, IsChecked, covers, rows_in, rows_behind, row_of}
+use Rattle.dw_rows.proofs.Elements.{contained-map}
+use Rattle.dw_rows.proofs.Parts.{pointed-in, good-behind}
+use Rattle.dw_rows.proofs.Faults.{at-found}
+use Rattle.dw_rows.proofs.Programs.{good-from-cie, good-from-fde}
+use Rattle.dw_rows.proofs.RowsOf.{rows-of-good}
+use Rattle.dw_rows.proofs.Lending.{lends-in, row-lends}
+use Rattle.dw_rows.proofs.CheckedSections.{checked-parts}
+use Rattle.dw_rows.proofs.GoodExpressions.{checked-expressions}
+
+-- what is found is one of the elements
+found-among : {X : Type 0} (p : X → Bool) (xs : List X) (x : X) → find p xs ≡ Some x → Contains xs x
+found-among p [] x e = cc
+found-among p (y ∷ xs) x e = go (λ later. found-among p xs x later) (p y) e
+  where
+    go : (find p xs ≡ Some x → Contains xs x) → (b : Bool) → cond b (Some y) (find p xs) ≡ Some x → Contains (y ∷ xs) x
+    go next true is = let same : y ≡ x = cc in (zero, omega arith, same)
+    go next false is = let rest = next is in (suc rest.0, omega (arith, rest.1), rest.2)
+
+-- ---- what is lent to rules is good
+
+lent-good : (s : Frame) → IsChecked s → (kind : Kind) (at : ℕ) → IsLent s.expressions kind at
+    → IsGoodAmong s.expressions kind (located_at s.expressions at)
+lent-good s k kind at h =
+    let among : Contains s.expressions h.lent = found-among (λ e. e.offset == at) s.expressions h.lent h.found in
+    subst (IsGoodAmong s.expressions kind) (sym (ap or_nowhere h.found))
+    (record { among = among; of_kind = h.of_kind; good = (checked-expressions s k h.lent among).0 })
+
+rule-good : (s : Frame) → IsChecked s → (x : PlacedRule) → LendsRule s.expressions x → IsGoodRule s.expressions (rule_with s.expressions x)
+rule-good s k (expression at) h = lent-good s k FrameRegister at h
+rule-good s k (val_expression at) h = lent-good s k FrameRegister at h
+rule-good s k default h = tt
+rule-good s k undefined h = tt
+rule-good s k same_value h = tt
+rule-good s k (offset n) h = tt
+rule-good s k (val_offset n) h = tt
+rule-good s k (register r) h = tt
+
+cfa-good : (s : Frame) → IsChecked s → (x : Option PlacedCfa) → IfSome x (LendsCfa s.expressions)
+    → IfSome (option_map (cfa_with s.expressions) x) (IsGoodCfa s.expressions)
+cfa-good s k None h = tt
+cfa-good s k (Some (cfa_expression at)) h = lent-good s k FrameCfa at h
+cfa-good s k (Some (register_and_offset r n)) h = tt
+
+rules-by : (s : Frame) → IsChecked s → (rules : List (ℕ × PlacedRule)) → AllByRecursion (LendsEntry s.expressions) rules
+    → AllByRecursion (IsGoodEntry s.expressions) (rules_with s.expressions rules)
+rules-by s k [] h = tt
+rules-by s k (x ∷ rules) h = (rule-good s k x.1 h.0, rules-by s k rules h.1)
+
+rules-good : (s : Frame) → IsChecked s → (rules : List (ℕ × PlacedRule)) → LendsEach s.expressions rules
+    → All (IsGoodEntry s.expressions) (rules_with s.expressions rules)
+rules-good s k rules h =
+    All-from_recursion (IsGoodEntry s.expressions) (rules_with s.expressions rules)
+    (rules-by s k rules (recursion_from_All (LendsEntry s.expressions) rules h))
+
+-- ---- the rows of programs
+
+one-of : (s : Start) (program : List Effect) (from to : ℕ) (rows : List PlacedRow) (row : PlacedRow) → AreRowsFrom s program from rows to
+    → Contains rows row → IsRow s program row
+one-of s program from to [] row are (i, lt, is) = absurd (omega arith)
+one-of s program from to (x ∷ rows) row are (zero, lt, is) = subst (IsRow s program) is are.1
+one-of s program from to (x ∷ rows) row are (suc i, lt, is) = one-of s program x.end to rows row are.2 (i, omega arith, is)
+
+-- each row of an FDE
+pub row-good : (s : Frame) → IsChecked s → (f : Fde) → Contains s.fdes f → (row : Row) → Contains (rows_in s f) row
+    → HasGoodExpressions s.expressions row
+row-good s checked f among row inside =
+    let parts = checked-parts s checked in
+    let pointed = pointed-in s.cies s.fdes parts f among in
+    let c = pointed.0 in
+    let none = good-behind s.cies s.fdes parts f among c pointed.1 in
+    let good = good-from-fde c f (good-from-cie c none.0) none.1 in
+    let es = s.expressions in
+    let rows : rows_in s f ≡ map (row_with es) (rows_of c f) = ap (λ o. map (row_with es) (rows_behind o f)) pointed.1 in
+    let placed = contained-map (row_with es) (rows_of c f) row (subst (λ l. Contains l row) rows inside) in
+    let is = one-of (start_in c f good) (program_in c f good) f.initial (f.initial + f.range) (rows_of c f) placed.0
+    (rows-of-good c f good) placed.1 in
+    let lends = lends-in s checked c f (at-found s.cies f.cie_pointer c pointed.1).0 among in
+    let lent = row-lends es c f good placed.0 is.0 is.1 lends in
+    subst (HasGoodExpressions es) placed.2
+    (record { cfa = cfa-good s checked (placed.0).cfa lent.0; rules = rules-good s checked (placed.0).rules lent.1 })
+
+-- the row of an address
+pub found-good : (s : Frame) (a : ℕ) → IsChecked s → (row : Row) → row_of s a ≡ Some row → HasGoodExpressions s.expressions row
+found-good s a checked row is = go (find (covers a) s.fdes) refl is
+  where
+    go : (o : Option Fde) → find (covers a) s.fdes ≡ o → option_and_then (λ f. find (has_address a) (rows_in s f)) o ≡ Some row
+        → HasGoodExpressions s.expressions row
+    go None by e = cc
+    go (Some f) by e =
+        row-good s checked f (found-among (covers a) s.fdes f by) row (found-among (has_address a) (rows_in s f) row e)

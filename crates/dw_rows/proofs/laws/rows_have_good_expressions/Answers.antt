@@ -1,0 +1,5 @@
+use Rattle.dw_rows.proofs.GoodRows.{row-good, found-good}
+use Rattle.dw_rows.proofs.laws.rows_have_good_expressions.Goals as goal
+
+pub returns : goal.returns
+returns c = record { rows = row-good; addresses = found-good }
