@@ -6,10 +6,8 @@
 Most expressions are good ones with branches, the others operations and bytes in any order.
 """
 import random
-import subprocess
-import sys
-import tempfile
 
+from comparing import Case, Run, compare, refusal
 from expression_model import answer
 
 BINARY = bytes([0x1a, 0x1b, 0x1c, 0x1d, 0x1e, 0x21, 0x22, 0x24, 0x25, 0x26, 0x27, 0x29, 0x2a, 0x2b, 0x2c, 0x2d, 0x2e])
@@ -148,33 +146,12 @@ class Maker:
         return state, "\n".join(lines)
 
 
-def written(program, maker, expression, lines, folder):
-    for name, content in [("e", expression), ("s", lines.encode())]:
-        with open(f"{folder}/{name}", "wb") as file:
-            file.write(content)
-    flags = ["--big"] * maker.big + ["--addr4"] * (maker.size == 4)
-    words = [program, "eval", *flags, maker.kind, f"{folder}/e", "--state", f"{folder}/s"]
-    return subprocess.run(words, capture_output=True, text=True, check=False).stdout
-
-
-def main():
-    if len(sys.argv) not in (3, 4):
-        raise SystemExit(__doc__)
-    maker = Maker(int(sys.argv[3]) if len(sys.argv) == 4 else 0)
-    counts = {}
-    with tempfile.TemporaryDirectory() as folder:
-        for _ in range(int(sys.argv[2])):
-            maker.start()
-            expression, (state, lines) = maker.expression(), maker.state()
-            wanted = answer(expression, maker.kind, maker.big, maker.size, state)
-            text = written(sys.argv[1], maker, expression, lines, folder)
-            if text != wanted:
-                raise SystemExit(f"{expression.hex()} as {maker.kind}, {lines!r}\nwanted {wanted}\nwritten {text}")
-            word = " ".join(wanted.split()[:3:2] if wanted.startswith("refused") else wanted.split()[:1])
-            counts[word] = counts.get(word, 0) + 1
-    for word in sorted(counts):
-        print(f"{counts[word]:8} {word}")
+def case(maker):
+    expression, (state, lines) = maker.expression(), maker.state()
+    wanted = answer(expression, maker.kind, maker.big, maker.size, state)
+    run = Run(f"{expression.hex()} as {maker.kind}, {lines!r}", ["eval", maker.kind, "e", "--state", "s"], wanted)
+    return Case({"e": expression, "s": lines.encode()}, [run], [refusal(wanted) or wanted.split()[0]])
 
 
 if __name__ == "__main__":
-    main()
+    compare(__doc__, Maker, case)

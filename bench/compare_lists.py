@@ -5,11 +5,8 @@
 
 Most sections are good ones, some with a byte changed or cut.
 """
-import subprocess
-import sys
-import tempfile
-
 from compare_expressions import Maker
+from comparing import Case, Run, compare, refusal
 from list_model import answer
 
 
@@ -91,36 +88,20 @@ class ListMaker(Maker):
         return max(offset, 0), base, min(max(address, 0), top)
 
 
-def written(program, maker, section, query, lines, folder):
-    for name, content in [("l", section), ("s", lines.encode())]:
-        with open(f"{folder}/{name}", "wb") as file:
-            file.write(content)
-    flags = ["--big"] * maker.big + ["--addr4"] * (maker.size == 4)
-    words = [program, "locs", *flags, f"{folder}/l", *map(hex, query), "--state", f"{folder}/s"]
-    return subprocess.run(words, capture_output=True, text=True, check=False).stdout
+def kind_of(text):
+    if text.startswith("expr"):
+        return f"{sum(line.startswith('expr') for line in text.splitlines())} that hold"
+    return refusal(text) or text.strip()
 
 
-def main():
-    if len(sys.argv) not in (3, 4):
-        raise SystemExit(__doc__)
-    maker = ListMaker(int(sys.argv[3]) if len(sys.argv) == 4 else 0)
-    counts = {}
-    with tempfile.TemporaryDirectory() as folder:
-        for _ in range(int(sys.argv[2])):
-            maker.start()
-            section, (state, lines) = maker.section(), maker.state()
-            query = maker.query()
-            wanted = answer(section, *query, maker.big, maker.size, state)
-            text = written(sys.argv[1], maker, section, query, lines, folder)
-            if text != wanted:
-                raise SystemExit(f"{section.hex()} at {query}, {lines!r}\nwanted {wanted}\nwritten {text}")
-            word = " ".join(wanted.split()[:3:2]) if wanted.startswith("refused") else wanted.strip()
-            if wanted.startswith("expr"):
-                word = f"{sum(line.startswith('expr') for line in wanted.splitlines())} that hold"
-            counts[word] = counts.get(word, 0) + 1
-    for word in sorted(counts):
-        print(f"{counts[word]:8} {word}")
+def case(maker):
+    section, (state, lines) = maker.section(), maker.state()
+    query = maker.query()
+    wanted = answer(section, *query, maker.big, maker.size, state)
+    words = ["locs", "l", *map(hex, query), "--state", "s"]
+    run = Run(f"{section.hex()} at {query}, {lines!r}", words, wanted)
+    return Case({"l": section, "s": lines.encode()}, [run], [kind_of(wanted)])
 
 
 if __name__ == "__main__":
-    main()
+    compare(__doc__, ListMaker, case)

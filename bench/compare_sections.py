@@ -6,11 +6,8 @@
 Each section goes through `rows`, and through `row` with one address. Half of the sections are made to be good ones, the others with
 slips here and there; and some of either have a few bytes changed, or are cut.
 """
-import subprocess
-import sys
-import tempfile
-
 from compare_expressions import Maker
+from comparing import Case, Run, compare, refusal
 from frame_model import answers
 
 
@@ -277,41 +274,21 @@ class SectionMaker(Maker):
         return min(max(address, 0), self.top)
 
 
-def written(program, maker, command, *words):
-    flags = ["--big"] * maker.big + ["--addr4"] * (maker.size == 4)
-    return subprocess.run([program, command, *flags, *words], capture_output=True, text=True, check=False).stdout
+def kind_of(text, row):
+    return refusal(text) or "accepted, the address has " + ("none" if row == "none\n" else "a row")
 
 
-def word_of(text, row):
-    if text.startswith("refused"):
-        return " ".join(text.split()[:3:2])
-    return "accepted, the address has " + ("none" if row == "none\n" else "a row")
-
-
-def main():
-    if len(sys.argv) not in (3, 4):
-        raise SystemExit(__doc__)
-    maker = SectionMaker(int(sys.argv[3]) if len(sys.argv) == 4 else 0)
-    counts = {}
-    with tempfile.TemporaryDirectory() as folder:
-        path = f"{folder}/f"
-        for _ in range(int(sys.argv[2])):
-            maker.start()
-            section = maker.section()
-            address = maker.address()
-            rows, (row,) = answers(section, [address], maker.big, maker.size)
-            with open(path, "wb") as file:
-                file.write(section)
-            for words, wanted in [(["rows", path], rows), (["row", path, hex(address)], row)]:
-                text = written(sys.argv[1], maker, *words)
-                if text != wanted:
-                    target = f"big {maker.big}, {maker.size} bytes"
-                    raise SystemExit(f"{section.hex()} ({target}), {words[0]} {address:#x}\nwanted {wanted}\nwritten {text}")
-            word = word_of(rows, row)
-            counts[word] = counts.get(word, 0) + 1
-    for word in sorted(counts):
-        print(f"{counts[word]:8} {word}")
+def case(maker):
+    section = maker.section()
+    address = maker.address()
+    rows, (row,) = answers(section, [address], maker.big, maker.size)
+    said = f"{section.hex()} (big {maker.big}, {maker.size} bytes)"
+    runs = [
+        Run(f"{said}, rows {address:#x}", ["rows", "f"], rows),
+        Run(f"{said}, row {address:#x}", ["row", "f", hex(address)], row),
+    ]
+    return Case({"f": section}, runs, [kind_of(rows, row)])
 
 
 if __name__ == "__main__":
-    main()
+    compare(__doc__, SectionMaker, case)
