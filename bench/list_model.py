@@ -19,12 +19,23 @@ def reader(data, at, big, size):
     return made
 
 
-def located(operations, length):
-    return {"operations": operations, "length": length, "depth": certify(operations, length, "location")}
+def located(place, held, kind, big, size):
+    """A good expression of a kind, with its place; its faults stand at their place in the section."""
+    try:
+        operations = Reader(held, big, size).operations()
+        depth = certify(operations, len(held), kind)
+    except Fault as fault:
+        raise Fault(fault.number, place + fault.at) from None
+    return {"place": place, "kind": kind, "bytes": held, "operations": operations, "depth": depth}
+
+
+def outcome_of(expression, state, big, size):
+    """The outcome of a located expression, and its steps."""
+    return Machine(state, big, size).run(expression["operations"], len(expression["bytes"]), expression["kind"])
 
 
 def entry(fields, has_default, big, size):
-    """Its code, two numbers, and its expression with its place."""
+    """Its code, two numbers, and its expression."""
     at, code = fields.at, fields.fixed(1)
     if code not in (END, PAIR, DEFAULT, BASE, START_END, START_LENGTH):
         raise Fault(51, at)
@@ -45,10 +56,7 @@ def entry(fields, has_default, big, size):
     if code in (PAIR, START_END) and second < first:
         raise Fault(52, at)
     if code not in (END, BASE):
-        try:
-            expression = (place, located(Reader(held, big, size).operations(), count))
-        except Fault as fault:
-            raise Fault(fault.number, place + fault.at) from None
+        expression = located(place, held, "location", big, size)
     return code, first, second, expression
 
 
@@ -110,18 +118,24 @@ def holding(entries, base, address):
     return found or otherwise
 
 
+def checked(section, big, size):
+    """How many tables there are, and the lists by their offsets, in the order of the section; or the first fault."""
+    at, tables, lists = 0, 0, {}
+    while at < len(section):
+        more, at = table(section, at, big, size)
+        tables, lists = tables + 1, lists | more
+    return tables, lists
+
+
 def answer(section, offset, base, address, big, size, state):
-    at, lists = 0, {}
     try:
-        while at < len(section):
-            more, at = table(section, at, big, size)
-            lists |= more
+        _, lists = checked(section, big, size)
     except Fault as fault:
         return f"refused {fault.number} {NAMES[fault.number]} lists 0x{fault.at:08x}\n"
     if offset not in lists:
         return "no list\n"
     text = ""
-    for place, found in holding(lists[offset], base, address):
-        outcome, steps = Machine(state, big, size).run(found["operations"], found["length"], "location")
-        text += f"expr 0x{place:08x}\n" + outcome_text(outcome, size) + f"steps {steps} depth {found['depth']}\n"
+    for found in holding(lists[offset], base, address):
+        outcome, steps = outcome_of(found, state, big, size)
+        text += f"expr 0x{found['place']:08x}\n" + outcome_text(outcome, size) + f"steps {steps} depth {found['depth']}\n"
     return text or "none\n"
