@@ -3,7 +3,7 @@
 answer(section, offset, base, address, big, size, state) gives the text that `dwcheck locs` has to write.
 """
 from expression_model import NAMES as EXPRESSION_NAMES
-from expression_model import Fault, Machine, Reader, certify, outcome_text
+from expression_model import Fault, Reader, located, run_text
 
 NAMES = EXPRESSION_NAMES | {
     3: "ReservedLength", 6: "AddressSize", 7: "SegmentSize", 50: "ListVersion", 51: "UnknownEntry", 52: "BackRange",
@@ -17,21 +17,6 @@ def reader(data, at, big, size):
     made = Reader(data, big, size)
     made.at = at
     return made
-
-
-def located(place, held, kind, big, size):
-    """A good expression of a kind, with its place; its faults stand at their place in the section."""
-    try:
-        operations = Reader(held, big, size).operations()
-        depth = certify(operations, len(held), kind)
-    except Fault as fault:
-        raise Fault(fault.number, place + fault.at) from None
-    return {"place": place, "kind": kind, "bytes": held, "operations": operations, "depth": depth}
-
-
-def outcome_of(expression, state, big, size):
-    """The outcome of a located expression, and its steps."""
-    return Machine(state, big, size).run(expression["operations"], len(expression["bytes"]), expression["kind"])
 
 
 def entry(fields, has_default, big, size):
@@ -136,6 +121,5 @@ def answer(section, offset, base, address, big, size, state):
         return "no list\n"
     text = ""
     for found in holding(lists[offset], base, address):
-        outcome, steps = outcome_of(found, state, big, size)
-        text += f"expr 0x{found['place']:08x}\n" + outcome_text(outcome, size) + f"steps {steps} depth {found['depth']}\n"
+        text += f"expr 0x{found['place']:08x}\n" + run_text(found, state, big, size)
     return text or "none\n"

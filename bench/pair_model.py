@@ -7,8 +7,7 @@ import re
 
 import frame_model
 import list_model
-from expression_model import Fault, Machine, Unreadable
-from list_model import outcome_of
+from expression_model import Fault, Machine, Unreadable, outcome_of
 
 NAMES = frame_model.NAMES | list_model.NAMES
 
