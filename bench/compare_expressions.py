@@ -19,10 +19,10 @@ class Maker:
     def __init__(self, seed):
         self.random = random.Random(seed)
 
-    def start(self):
-        """Another target and kind."""
-        self.big = self.random.random() < 0.3
-        self.size = self.random.choice([4, 8])
+    def start(self, target=None):
+        """Another target, or the one that is named, and another kind."""
+        drawn = self.random.random() < 0.3, self.random.choice([4, 8])
+        self.big, self.size = target or drawn
         self.kind = self.random.choice(["cfa", "register", "location", "location"])
 
     def number(self):

@@ -11,8 +11,8 @@ from list_model import answer
 
 
 class ListMaker(Maker):
-    def start(self):
-        super().start()
+    def start(self, target=None):
+        super().start(target)
         self.kind = "location"
         self.near, self.starts, self.marks = 0x1000, [], [0, 1, (1 << 8 * self.size) - 1]
 

@@ -19,7 +19,9 @@ def refusal(text):
 
 
 def written(program, words):
-    return subprocess.run([program, *words], capture_output=True, text=True, check=False).stdout
+    """What it writes to standard output, and then to standard error."""
+    run = subprocess.run([program, *words], capture_output=True, text=True, check=False)
+    return run.stdout + run.stderr
 
 
 def check(program, maker, case, folder):
