@@ -30,26 +30,28 @@ entry-some target at bytes e h = coded-some target entry_line at bytes e h
 
 -- ---- where the expression of an entry stands
 
--- behind the first byte, and up to the last
-pub record StandsWithin (at end : ℕ) (b : Block) : Type 0 where
+-- behind the first byte, and up to the last, under the target of the section
+pub record StandsWithin (target : Target) (at end : ℕ) (b : Block) : Type 0 where
   pub behind : at < b.offset
   pub ends : b.offset + length b.bytes ≡ end
+  pub of_target : b.target ≡ target
 
-abbrev pub AllWithin : ℕ → ℕ → Option Block → Type 0
-AllWithin at end None = Unit {0}
-AllWithin at end (Some b) = StandsWithin at end b
+abbrev pub AllWithin : Target → ℕ → ℕ → Option Block → Type 0
+AllWithin target at end None = Unit {0}
+AllWithin target at end (Some b) = StandsWithin target at end b
 
 block-within : (target : Target) (start at : ℕ) (bytes : List ℕ) (b : Block) → start < at → IsBlock target at bytes b
-    → StandsWithin start (at + length bytes) b
+    → StandsWithin target start (at + length bytes) b
 block-within target start at bytes b lt h = record {
   behind = omega (arith, h.offset_is);
   ends = omega (arith, h.offset_is, ap length h.parts, length-append h.count b.bytes);
+  of_target = h.target_is;
 }
 
 -- what holds of the operands of each line of the table
 Holds : ℕ → Target → Option (Line Entry) → Type 0
 Holds start target of = (at : ℕ) (bytes : List ℕ) (e : Entry) → start < at → AreOperands target of at bytes e
-    → AllWithin start (at + length bytes) (expression_in e)
+    → AllWithin target start (at + length bytes) (expression_in e)
 
 which : (b : Bool) (P : Option (Line Entry) → Type 0) (x y : Option (Line Entry)) → P x → P y → P (cond b x y)
 which true P x y h k = h
@@ -57,19 +59,23 @@ which false P x y h k = k
 
 no-block : (start : ℕ) (target : Target) → Holds start target (Some (none end_of_list))
 unfolding Holds
-no-block start target at bytes e lt (vs, encoded, fit, is) = subst (λ x. AllWithin start (at + length bytes) (expression_in x)) (sym is) tt
+no-block start target at bytes e lt (vs, encoded, fit, is) = subst (λ x. AllWithin target start (at + length bytes) (expression_in x)) (sym is) tt
 
 base-block : (start : ℕ) (target : Target) → Holds start target (Some (one address base_address))
 unfolding Holds
 base-block start target at bytes e lt (vs, encoded, fit, is) =
-    subst (λ x. AllWithin start (at + length bytes) (expression_in x)) (sym is) tt
+    subst (λ x. AllWithin target start (at + length bytes) (expression_in x)) (sym is) tt
 
 default-block : (start : ℕ) (target : Target) → Holds start target (Some (one block default_location))
 unfolding Holds
 default-block start target at bytes e lt (vs, (first, rest, parts, is_block, ended), fit, is) =
     let within = block-within target start at first vs.0 lt is_block in
-    subst (λ x. AllWithin start (at + length bytes) (expression_in x)) (sym is)
-    (record { behind = within.behind; ends = omega (arith, within.ends, ap length parts, length-append first rest, ap length ended) })
+    subst (λ x. AllWithin target start (at + length bytes) (expression_in x)) (sym is)
+    (record {
+      behind = within.behind;
+      ends = omega (arith, within.ends, ap length parts, length-append first rest, ap length ended);
+      of_target = within.of_target;
+    })
 
 third-block : (start : ℕ) (target : Target) (first second : Kind) (make : Operands (first ∷ second ∷ block ∷ []) → Entry)
     → ((vs : Operands (first ∷ second ∷ block ∷ [])) → expression_in (make vs) ≡ Some vs.1.1.0)
@@ -77,8 +83,8 @@ third-block : (start : ℕ) (target : Target) (first second : Kind) (make : Oper
 unfolding Holds
 third-block start target first second make has at bytes e lt (vs, (a, ra, pa, ia, (b, rb, pb, ib, (c, rc, pc, ic, ended))), fit, is) =
     let within = block-within target start (at + length a + length b) c vs.1.1.0 (omega arith) ic in
-    subst (λ x. AllWithin start (at + length bytes) (expression_in x)) (sym is)
-    (subst (AllWithin start (at + length bytes)) (sym (has vs))
+    subst (λ x. AllWithin target start (at + length bytes) (expression_in x)) (sym is)
+    (subst (AllWithin target start (at + length bytes)) (sym (has vs))
     (record {
       behind = within.behind;
       ends =
@@ -93,6 +99,7 @@ third-block start target first second make has at bytes e lt (vs, (a, ra, pa, ia
             length-append b rb,
             length-append c rc,
           );
+      of_target = within.of_target;
     }))
 
 unknown-block : (start : ℕ) (target : Target) → Holds start target None
@@ -113,11 +120,11 @@ all-lines start target code =
     (unknown-block start target))))))
 
 pub entry-within : (target : Target) (at : ℕ) (bytes : List ℕ) (e : Entry) → IsEntry target at bytes e
-    → AllWithin at (at + length bytes) (expression_in e)
+    → AllWithin target at (at + length bytes) (expression_in e)
 unfolding Holds
 entry-within target at bytes e (code, front, operands, parts, first, second) =
     let inside = all-lines at target code (at + length front) operands e (omega (arith, first.count)) second in
-    subst (λ n. AllWithin at n (expression_in e)) (omega (arith, ap length parts, length-append front operands)) inside
+    subst (λ n. AllWithin target at n (expression_in e)) (omega (arith, ap length parts, length-append front operands)) inside
 
 -- ---- judging
 
@@ -229,10 +236,10 @@ before-inside r e after n is before =
     let within = entry-within r.target r.position next.bytes e next.encoded in
     elim before [
       | inl le ↦ omega arith
-      | inr up ↦ let last = up-to r.position (r.position + length next.bytes) n (expression_in e) within up in omega
+      | inr up ↦ let last = up-to r.target r.position (r.position + length next.bytes) n (expression_in e) within up in omega
           (arith, last, ap length next.parts, length-append next.bytes after.rest)
     ]
   where
-    up-to : (at end n : ℕ) (b : Option Block) → AllWithin at end b → IsUpTo n b → n ≤ end
-    up-to at end n None within up = absurd up
-    up-to at end n (Some b) within up = omega (arith, within.ends, up)
+    up-to : (target : Target) (at end n : ℕ) (b : Option Block) → AllWithin target at end b → IsUpTo n b → n ≤ end
+    up-to target at end n None within up = absurd up
+    up-to target at end n (Some b) within up = omega (arith, within.ends, up)

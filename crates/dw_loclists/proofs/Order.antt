@@ -61,16 +61,17 @@ expressions-as e = from (expression_in e)
     from None = refl
     from (Some b) = refl
 
-block-rises : (at end : ℕ) (b : Option Block) → at < end → AllWithin at end b → RiseWithin (at + 1) (end + 1) (offsets-of (located-of b))
-block-rises at end None lt within = omega arith
-block-rises at end (Some b) lt within = (omega (arith, within.behind), omega (arith, within.ends))
+block-rises : (target : Target) (at end : ℕ) (b : Option Block) → at < end → AllWithin target at end b
+    → RiseWithin (at + 1) (end + 1) (offsets-of (located-of b))
+block-rises target at end None lt within = omega arith
+block-rises target at end (Some b) lt within = (omega (arith, within.behind), omega (arith, within.ends))
 
 entry-rises : (target : Target) (at : ℕ) (bytes : List ℕ) (e : Entry) → IsEntry target at bytes e
     → RiseWithin (at + 1) (at + length bytes + 1) (offsets-of (expressions_of (e ∷ [])))
 entry-rises target at bytes e here =
     let some = entry-some target at bytes e here in
     subst (λ (xs : List LocatedExpression). RiseWithin (at + 1) (at + length bytes + 1) (offsets-of xs)) (sym (expressions-as e))
-    (block-rises at (at + length bytes) (expression_in e) (omega (arith, some)) (entry-within target at bytes e here))
+    (block-rises target at (at + length bytes) (expression_in e) (omega (arith, some)) (entry-within target at bytes e here))
 
 offsets-append : (xs ys : List LocatedExpression) → offsets-of (xs ++ ys) ≡ offsets-of xs ++ offsets-of ys
 offsets-append xs ys = map-append (λ (x : LocatedExpression). x.offset) xs ys

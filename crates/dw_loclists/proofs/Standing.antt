@@ -1,12 +1,13 @@
 -- What the laws say of sections that are right, where no other file has it.
-use Rattle.std.proofs.Common.{◌≡◌, ℕ, zero, suc, ◌≤◌, ◌↔◌, cond, List, [], ◌∷◌, ◌++◌, length, Contains, Some, None, refl, sym, ap, subst}
-use Rattle.std.proofs.Common.{◌∙◌, append_assoc, arith}
+use Rattle.std.proofs.Common.{◌≡◌, ℕ, zero, suc, ◌+◌, ◌≤◌, ◌↔◌, cond, List, [], ◌∷◌, ◌++◌, length, Contains, Some, None, refl, sym, ap, subst}
+use Rattle.std.proofs.Common.{Option, ◌∙◌, append_assoc, arith}
 use Rattle.std.specs.Prelude.{count_by}
 use Rattle.std.specs.List.{AllByRecursion}
 use Rattle.std.proofs.lemmas.List.{length-append}
 use Rattle.dw_bytes.specs.declared.target.Target.{Target}
 use Rattle.dw_bytes.specs.Operands.{Block}
 use Rattle.dw_bytes.specs.Reading.{ReadPosition, IsExact}
+use Rattle.dw_bytes.specs.Sequence.{Sequence}
 use Rattle.dw_bytes.proofs.Readers.{one-encoding}
 use Rattle.dw_stack.specs.declared.state.Kind.TheVariants.{Location}
 use Rattle.dw_stack.specs.Expressions.{IsGoodExpression}
@@ -17,7 +18,7 @@ use Rattle.dw_loclists.specs.Locations.{base_after, held_by, bounded_at, default
 use Rattle.dw_stack.specs.Located.{LocatedExpression}
 use Rattle.dw_loclists.specs.Reading.{entry_at, list_at, lists_fault, ListSection, IsChecked, tables_in, lists_in, located_in}
 use Rattle.dw_loclists.specs.Bounds.{Ascends}
-use Rattle.dw_loclists.proofs.EachEntry.{entry-exact}
+use Rattle.dw_loclists.proofs.EachEntry.{AllWithin, entry-exact, entry-within}
 use Rattle.dw_loclists.proofs.EachList.{list-found, list-only, count-cons}
 use Rattle.dw_loclists.proofs.EachTable.{sections-are-tables}
 use Rattle.dw_loclists.proofs.Checked.{checked-tables, tables-checked, expressions-ascend}
@@ -56,6 +57,28 @@ pub good-expressions : (s : ListSection) (l : Loclist) (e : Entry) (b : Block) �
 good-expressions s l e b checked among e_in has =
     good-among l.entries e b (among-tables s.target 0 s.section (tables_in s) l (checked-tables s checked) among).list_is.expressions e_in
     has
+
+-- ---- targets
+
+target-of-block : (target : Target) (at end : ℕ) (found : Option Block) (b : Block) → AllWithin target at end found → found ≡ Some b
+    → b.target ≡ target
+target-of-block target at end found b within is =
+    let here = subst (AllWithin target at end) is within in
+    here.of_target
+
+target-among : (target : Target) (at : ℕ) (bytes : List ℕ) (es : List Entry) (last e : Entry) (b : Block)
+    → Sequence (IsEntry target) at bytes (es ++ last ∷ []) → Contains es e → expression_in e ≡ Some b → b.target ≡ target
+target-among target at bytes [] last e b encoded (k, lt, is) has = absurd (omega arith)
+target-among target at bytes (x ∷ es) last e b (first, rest, parts, here, others) (zero, lt, is) has =
+    target-of-block target at (at + length first) (expression_in x) b (entry-within target at first x here) (ap expression_in is ∙ has)
+target-among target at bytes (x ∷ es) last e b (first, rest, parts, here, others) (suc k, lt, is) has =
+    target-among target (at + length first) rest es last e b others (k, omega arith, is) has
+
+pub one-target : (s : ListSection) (l : Loclist) (e : Entry) (b : Block) → IsChecked s → Contains (lists_in s) l → Contains l.entries e
+    → expression_in e ≡ Some b → b.target ≡ s.target
+one-target s l e b checked among e_in has =
+    let list = among-tables s.target 0 s.section (tables_in s) l (checked-tables s checked) among in
+    target-among s.target _ list.own l.entries end_of_list e b list.list_is.encoded e_in has
 
 -- ---- bases
 

@@ -57,7 +57,7 @@ pub fn tables_come_in_order()
 {}
 
 /// What a section that is accepted holds: its tables are what its bytes encode, its lists and its expressions come in order of
-/// their offsets, one list begins at an offset, and each expression is good as a location.
+/// their offsets, one list begins at an offset, and each expression is good as a location, and is of the section's target.
 pub fn checked_sections()
     ensures tables { (s : ListSection) →
         IsChecked s → AreTables s.target 0 s.section (tables_in s) }
@@ -71,6 +71,9 @@ pub fn checked_sections()
     ensures good { (s : ListSection) (l : Loclist) (e : Entry) (b : Block) →
         IsChecked s → Contains (lists_in s) l → Contains l.entries e →
         expression_in e ≡ Some b → IsGoodExpression Location b.target b.bytes }
+    ensures target { (s : ListSection) (l : Loclist) (e : Entry) (b : Block) →
+        IsChecked s → Contains (lists_in s) l → Contains l.entries e →
+        expression_in e ≡ Some b → b.target ≡ s.target }
 {}
 
 /// An entry of a list counts from the base of the last base_address before it, or else from the unit's; and a list has one

@@ -1,5 +1,5 @@
 use Rattle.dw_loclists.proofs.Checked.{checked-tables, lists-ascend}
-use Rattle.dw_loclists.proofs.Standing.{located-ascend, good-expressions}
+use Rattle.dw_loclists.proofs.Standing.{located-ascend, good-expressions, one-target}
 use Rattle.dw_loclists.proofs.Located.{one-list}
 use Rattle.dw_loclists.proofs.laws.checked_sections.Goals as goal
 
@@ -9,6 +9,7 @@ returns c = record {
   lists_ascend = lists-ascend;
   expressions_ascend = located-ascend;
   one_list = one-list;
-  good =
-      good-expressions;
+  good = good-expressions;
+  target =
+      one-target;
 }
