@@ -1,13 +1,17 @@
 -- The caller by a row, and its registers, one after the other.
 use Rattle.std.proofs.Common.{◌≡◌, ℕ, suc, ◌+◌, ◌<◌, ◌≤◌, List, [], ◌∷◌, ◌++◌, length, map, refl, ap, sym, subst, ◌∙◌, arith, length-append}
-use Rattle.std.specs.Prelude.{Option, Some}
+use Rattle.std.specs.Prelude.{All, Option, Some}
+use Rattle.std.specs.List.{AllByRecursion}
 use Rattle.std.proofs.lemmas.List.{append_assoc, map-append}
+use Rattle.std.proofs.lemmas.List.Elements.{recursion_from_All}
 use Rattle.dw_bytes.specs.declared.target.Target.{Target}
 use Rattle.dw_frame.specs.Records.{Cie, Fde}
 use Rattle.dw_rows.specs.Rules.{Rule, Cfa, Row, rule_in}
 use Rattle.dw_rows.specs.Section.{Frame, IsCoverOf, cie_in, row_of}
+use Rattle.dw_stack.specs.declared.state.Kind.{Kind}
+use Rattle.dw_stack.specs.Located.{LocatedExpression}
 use Rattle.dw_eval.specs.World.{World}
-use Rattle.dw_check.specs.Caller.{Answer, IsCfa, IsRegister, AreRegisters, Caller, IsCaller, IsCallerAt, machine}
+use Rattle.dw_check.specs.Caller.{Answer, Gives, IsCfa, IsRegister, AreRegisters, Caller, IsCaller, IsCallerAt, machine}
 
 -- as many as there are rules
 pub as_many : (e : World) (cfa : Answer) (rules : List (ℕ × Rule)) (answers : List (ℕ × Answer)) → AreRegisters e cfa rules answers
@@ -42,6 +46,23 @@ pub comes : {X Y : Type 0} (view : X → Y) (came : List X) (x : X) (left rest a
 comes view came x left rest all whole next =
     ap (λ l. l ++ rest) (map-append view came (x ∷ [])) ∙ append_assoc (map view came) (view x ∷ []) rest
     ∙ ap (λ l. map view came ++ l) (sym next) ∙ whole
+
+-- what holds of all holds of the next one
+first_behind : {X : Type 0} (P : X → Type 0) (came : List X) (x : X) (rest : List X) → AllByRecursion P (came ++ x ∷ rest) → P x
+first_behind P [] x rest h = h.0
+first_behind P (y ∷ came) x rest h = first_behind P came x rest h.1
+
+pub of_next : {X : Type 0} (P : X → Type 0) (came : List X) (x : X) (left rest all : List X) → All P all → came ++ left ≡ all
+    → left ≡ x ∷ rest → P x
+of_next P came x left rest all each whole next =
+    first_behind P came x rest
+    (recursion_from_All P (came ++ x ∷ rest) (subst (All P) (sym whole ∙ ap (λ l. came ++ l) next) each))
+
+-- ---- an expression of a kind
+
+pub as_kind : (e : World) (kind : Kind) (x : LocatedExpression) (answer : Answer) → x.kind ≡ kind → Gives e x.kind x answer
+    → Gives e kind x answer
+as_kind e kind x answer is gives = subst (λ k. Gives e k x answer) is gives
 
 -- ---- the caller by the row of an address
 

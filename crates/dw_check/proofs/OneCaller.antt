@@ -33,6 +33,11 @@ rule_good es [] r good = tt
 rule_good es (entry ∷ rules) r good =
     if_good es (entry.0 == r) entry.1 (rule_in rules r) good.0 (rule_good es rules r good.1)
 
+-- a good one is good as one of its rule
+good_as : (es : List LocatedExpression) (kind : Kind) (x : LocatedExpression) → IsGoodAmong es kind x
+    → IsGoodExpression kind x.target x.bytes
+good_as es kind x good = subst (λ k. IsGoodExpression k x.target x.bytes) good.of_kind good.good
+
 -- callers are the same by their parts
 abbrev made : Answer → List (ℕ × Answer) → Answer → Caller
 made cfa registers returned = record { cfa = cfa; registers = registers; return_address = returned }
@@ -45,10 +50,11 @@ same_parts a b xs ys v w x y z = rw (x, y, z) refl
 module _ (es : List LocatedExpression)
     (only : (c : Checked) (e : World) (o p : Outcome) (n k : ℕ) → IsGoodExpression c.kind c.target c.bytes → IsEvaluation c e o n
     → IsEvaluation c e p k → (o ≡ p) × (n ≡ k)) where
-  gives_one : (e : World) (x : LocatedExpression) (a b : Answer) (kind : Kind) → IsGoodAmong es kind x → Gives e x a
-      → Gives e x b → a ≡ b
+  gives_one : (e : World) (x : LocatedExpression) (a b : Answer) (kind : Kind) → IsGoodAmong es kind x → Gives e kind x a
+      → Gives e kind x b → a ≡ b
   gives_one e x a b kind good g h =
-      g.3 ∙ ap answer_of (only (known x.kind x.target x.bytes 0) (under x.target e) g.0 h.0 g.1 h.1 good.good g.2 h.2).0 ∙ sym h.3
+      let here = good_as es kind x good in
+      g.3 ∙ ap answer_of (only (known kind x.target x.bytes 0) (under x.target e) g.0 h.0 g.1 h.1 here g.2 h.2).0 ∙ sym h.3
 
   cfa_one : (e : World) (rule : Option Cfa) (a b : Answer) → IfSome rule (IsGoodCfa es) → IsCfa e rule a → IsCfa e rule b → a ≡ b
   cfa_one e (Some (register_and_offset r n)) a b good g h = g ∙ sym h
@@ -71,10 +77,10 @@ module _ (es : List LocatedExpression)
   register_one e cfa r (val_offset n) a b good g h = g ∙ sym h
   register_one e cfa r (register other) a b good g h = g ∙ sym h
   register_one e cfa r (expression y) a b good g h =
-      needs_one cfa (λ c x. (address : Answer) × Gives (with_cfa e c) y address × (x ≡ behind address (word e))) a b
+      needs_one cfa (λ c x. (address : Answer) × Gives (with_cfa e c) FrameRegister y address × (x ≡ behind address (word e))) a b
       (λ c k l. k.2 ∙ ap (λ x. behind x (word e)) (gives_one (with_cfa e c) y k.0 l.0 FrameRegister good k.1 l.1) ∙ sym l.2) g h
   register_one e cfa r (val_expression y) a b good g h =
-      needs_one cfa (λ c x. Gives (with_cfa e c) y x) a b (λ c k l. gives_one (with_cfa e c) y a b FrameRegister good k l) g h
+      needs_one cfa (λ c x. Gives (with_cfa e c) FrameRegister y x) a b (λ c k l. gives_one (with_cfa e c) y a b FrameRegister good k l) g h
 
   registers_one : (e : World) (cfa : Answer) (rules : List (ℕ × Rule)) (xs ys : List (ℕ × Answer)) → AreGood es rules
       → AreRegisters e cfa rules xs → AreRegisters e cfa rules ys → xs ≡ ys
@@ -126,11 +132,12 @@ module _ (es : List LocatedExpression)
     (deepest : (kind : Kind) (target : Target) (bytes : List ℕ) → IsGoodExpression kind target bytes
     → (d : ℕ) × IsDepthOf kind target bytes d)
     (has : (c : Checked) (e : World) → IsChecked c → (o : Outcome) × (n : ℕ) × IsEvaluation c e o n × (n ≤ c.count)) where
-  gives_some : (e : World) (x : LocatedExpression) (kind : Kind) → IsGoodAmong es kind x → (a : Answer) × Gives e x a
+  gives_some : (e : World) (x : LocatedExpression) (kind : Kind) → IsGoodAmong es kind x → (a : Answer) × Gives e kind x a
   gives_some e x kind good =
-      let depth = deepest x.kind x.target x.bytes good.good in
-      let checked : IsChecked (known x.kind x.target x.bytes depth.0) = record { good = good.good; depth = depth.1; count = refl } in
-      let found = has (known x.kind x.target x.bytes depth.0) (under x.target e) checked in
+      let here = good_as es kind x good in
+      let depth = deepest kind x.target x.bytes here in
+      let checked : IsChecked (known kind x.target x.bytes depth.0) = record { good = here; depth = depth.1; count = refl } in
+      let found = has (known kind x.target x.bytes depth.0) (under x.target e) checked in
       (answer_of found.0, (found.0, found.1, found.2, refl))
 
   cfa_some : (e : World) (rule : Option Cfa) → IfSome rule (IsGoodCfa es) → (a : Answer) × IsCfa e rule a
@@ -152,10 +159,10 @@ module _ (es : List LocatedExpression)
   register_some e cfa r (val_offset n) good = (behind cfa (λ c. value (moved e n c)), refl)
   register_some e cfa r (register other) good = (content e other, refl)
   register_some e cfa r (expression y) good =
-      needs_some cfa (λ c x. (address : Answer) × Gives (with_cfa e c) y address × (x ≡ behind address (word e)))
+      needs_some cfa (λ c x. (address : Answer) × Gives (with_cfa e c) FrameRegister y address × (x ≡ behind address (word e)))
       (λ c. let found = gives_some (with_cfa e c) y FrameRegister good in (behind found.0 (word e), (found.0, found.1, refl)))
   register_some e cfa r (val_expression y) good =
-      needs_some cfa (λ c x. Gives (with_cfa e c) y x) (λ c. gives_some (with_cfa e c) y FrameRegister good)
+      needs_some cfa (λ c x. Gives (with_cfa e c) FrameRegister y x) (λ c. gives_some (with_cfa e c) y FrameRegister good)
 
   registers_some : (e : World) (cfa : Answer) (rules : List (ℕ × Rule)) → AreGood es rules
       → (xs : List (ℕ × Answer)) × AreRegisters e cfa rules xs

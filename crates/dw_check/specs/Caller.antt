@@ -5,8 +5,10 @@ use Rattle.dw_bytes.specs.Encoding.{bytes_of_address}
 use Rattle.dw_frame.specs.Records.{Cie, Fde}
 use Rattle.dw_rows.specs.Rules.{Rule, Cfa, register_and_offset, cfa_expression, Row, RuleOver, rule_in, default, same_value, offset, val_offset, register, expression, val_expression}
 use Rattle.dw_stack.specs.Located.{LocatedExpression}
+use Rattle.dw_stack.specs.declared.state.Kind.{Kind}
+use Rattle.dw_stack.specs.declared.state.Kind.TheVariants.{FrameCfa, FrameRegister}
 use Rattle.dw_rows.specs.Section.{Frame, Covers, IsCoverOf, cie_in, row_of}
-use Rattle.dw_stack.specs.Expressions.{IsGoodExpression, operations_in}
+use Rattle.dw_stack.specs.Expressions.{operations_in}
 use Rattle.dw_eval.specs.Numbers.{reduced}
 use Rattle.dw_eval.specs.World.{World, width, number_at}
 use Rattle.dw_eval.specs.Results as results
@@ -66,23 +68,22 @@ abbrev pub behind : Answer → (ℕ → Answer) → Answer
 behind (value n) f = f n
 behind other f = other
 
--- What an expression of a frame comes to. It has the kind of its rule: that of a CFA begins with nothing, that of a register with
--- the CFA.
+-- What an expression of a frame comes to, run as one of a kind: that of a CFA begins with nothing, that of a register with the CFA.
 abbrev pub answer_of : Outcome → Answer
 answer_of (results.value n) = value n
 answer_of (results.division_by_zero at) = division_by_zero
 answer_of _ = unreadable
 
-abbrev pub Gives : World → LocatedExpression → Answer → Type 0
-Gives e x answer = (outcome : Outcome) × (steps : ℕ) × IsRun (under x.target e) x.kind (operations_in x.target x.bytes) (length x.bytes) outcome steps
-    × (answer ≡ answer_of outcome)
+abbrev pub Gives : World → Kind → LocatedExpression → Answer → Type 0
+Gives e kind x answer = (outcome : Outcome) × (steps : ℕ)
+    × IsRun (under x.target e) kind (operations_in x.target x.bytes) (length x.bytes) outcome steps × (answer ≡ answer_of outcome)
 
 -- ---- the CFA, and each register, by its rule
 
 -- A row that covers an address has a rule for the CFA. A CFA expression runs with nothing pushed.
 abbrev pub IsCfa : World → Option Cfa → Answer → Type 0
 IsCfa e (Some (register_and_offset r n)) answer = answer ≡ moved_content e n (e.registers r)
-IsCfa e (Some (cfa_expression x)) answer = Gives e x answer
+IsCfa e (Some (cfa_expression x)) answer = Gives e FrameCfa x answer
 IsCfa e None answer = answer ≡ unreadable
 
 -- a rule that needs the CFA has its outcome where it has no value (own)
@@ -99,8 +100,8 @@ IsRegister e cfa r (offset n) answer = answer ≡ behind cfa (λ c. word e (move
 IsRegister e cfa r (val_offset n) answer = answer ≡ behind cfa (λ c. value (moved e n c))
 IsRegister e cfa r (register other) answer = answer ≡ content e other
 IsRegister e cfa r (expression x) answer =
-    NeedsCfa cfa (λ c a. (address : Answer) × Gives (with_cfa e c) x address × (a ≡ behind address (word e))) answer
-IsRegister e cfa r (val_expression x) answer = NeedsCfa cfa (λ c a. Gives (with_cfa e c) x a) answer
+    NeedsCfa cfa (λ c a. (address : Answer) × Gives (with_cfa e c) FrameRegister x address × (a ≡ behind address (word e))) answer
+IsRegister e cfa r (val_expression x) answer = NeedsCfa cfa (λ c a. Gives (with_cfa e c) FrameRegister x a) answer
 
 -- the registers of these rules, in their order
 abbrev pub AreRegisters : World → Answer → List (ℕ × Rule) → List (ℕ × Answer) → Type 0
@@ -137,30 +138,3 @@ pub record IsCallerAt (e : World) (frame : Frame) (address : ℕ) (caller : Call
 abbrev pub Unwinds : World → Frame → ℕ → Option Caller → Type 0
 Unwinds e frame address (Some caller) = IsCallerAt e frame address caller
 Unwinds e frame address None = (f : Fde) → Contains frame.fdes f → ¬ Covers f address
-
--- ---- rows whose expressions are good
-
-abbrev pub IsGood : LocatedExpression → Type 0
-IsGood x = IsGoodExpression x.kind x.target x.bytes
-
-abbrev pub IsGoodCfa : Option Cfa → Type 0
-IsGoodCfa (Some (cfa_expression x)) = IsGood x
-IsGoodCfa _ = Unit {0}
-
-abbrev pub IsGoodRule : Rule → Type 0
-IsGoodRule (expression x) = IsGood x
-IsGoodRule (val_expression x) = IsGood x
-IsGoodRule _ = Unit {0}
-
-abbrev pub AreGoodRules : List (ℕ × Rule) → Type 0
-AreGoodRules [] = Unit {0}
-AreGoodRules (entry ∷ rules) = IsGoodRule entry.1 × AreGoodRules rules
-
--- each expression of the row is good under its kind
-pub record HasGoodExpressions (row : Row) : Type 0 where
-  pub cfa : IsGoodCfa row.cfa
-  pub registers : AreGoodRules row.rules
-
--- so is each of the row of an address, if it has one
-abbrev pub HasGoodRow : Frame → ℕ → Type 0
-HasGoodRow frame address = (row : Row) → row_of frame address ≡ Some row → HasGoodExpressions row

@@ -33,12 +33,13 @@ pub record IsSafe (kind : Kind) (target : Target) (bytes : List ℕ) : Type 0 wh
   pub ends : (e : World) → ComesToOne kind target bytes e
 
 -- Each address that an FDE covers has exactly one row, the standard's, with remember and restore balanced and locations never
--- going back; any other address has none. Each expression of a rule and each of a list is safe.
+-- going back; any other address has none. Each expression of a rule and each of a list is of that target, and safe.
 pub record AreSound (target : Target) (frame_bytes list_bytes : List ℕ) : Type 0 where
   pub rows : (a : ℕ) (f : Fde) → Contains (frame_of target frame_bytes).fdes f → Covers f a → HasOneRow (frame_of target frame_bytes) a
   pub others : (a : ℕ) → ((f : Fde) → Contains (frame_of target frame_bytes).fdes f → ¬ Covers f a)
       → row_of (frame_of target frame_bytes) a ≡ None
-  pub frame_expressions : (x : LocatedExpression) → Contains (frame_of target frame_bytes).expressions x → IsSafe x.kind x.target x.bytes
-  pub expressions : (l : Loclist) (e : Entry) (b : Block)
+  pub frame_expressions : (x : LocatedExpression) → Contains (frame_of target frame_bytes).expressions x
+      → (x.target ≡ target) × IsSafe x.kind x.target x.bytes
+  pub list_expressions : (l : Loclist) (e : Entry) (b : Block)
       → Contains (lists_in (record { target = target; section = list_bytes })) l → Contains l.entries e → expression_in e ≡ Some b
-      → IsSafe Location b.target b.bytes
+      → (b.target ≡ target) × IsSafe Location b.target b.bytes

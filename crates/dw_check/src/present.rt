@@ -1,8 +1,10 @@
 //! What registers and memory have, and what rules make of it.
 
-ghost use Rattle.std.specs.Prelude.{◌≡◌, ◌≤◌, ◌+ℤ◌, ℕ, Some, length, map, pos};
+ghost use Rattle.std.specs.Prelude.{◌≡◌, ◌≤◌, ◌+ℤ◌, ℕ, All, Some, length, map, pos};
 ghost use Rattle.dw_eval.specs.Numbers.{reduced, width_of};
 ghost use Rattle.dw_rows.specs.Views.{cfa_rule_of, rule_of};
+ghost use Rattle.dw_rows.specs.GivenRows.{IsCfaOfKind, IsEntryOfKind, IsRuleOfKind};
+ghost use Rattle.dw_stack.specs.Certificates.{checked_of};
 ghost use Rattle.dw_stack.specs.Located.{located_of};
 ghost use Rattle.dw_check.specs.Caller.{Gives, IsCfa, IsRegister, AreRegisters, moved, moved_content, content, word};
 ghost use Rattle.dw_check.specs.CallerViews.{answer_in, found_in, machine_in, with_optional_cfa};
@@ -79,7 +81,8 @@ impl<'m, R: Registers, M: Memory> Present<'m, R, M> {
     /// What an expression of a row gives, which begins with the CFA where that is handed in.
     fn outcome(&self, expression: &CheckedExpression<'_>, cfa: Option<u64>) -> Answer
         ensures { (at : ℕ) → Gives (with_optional_cfa (machine_in R.contents M.bytes self.now) cfa)
-            (located_of (at, expression.now)) (answer_in result) }
+            (checked_of expression.now).kind (located_of (at, expression.now))
+            (answer_in result) }
     {
         let context = Context {
             cfa,
@@ -95,6 +98,7 @@ impl<'m, R: Registers, M: Memory> Present<'m, R, M> {
 
     /// The CFA by its rule.
     pub fn cfa(&self, rule: CfaRule<'_>) -> Answer
+        requires { IsCfaOfKind (cfa_rule_of rule) }
         ensures { IsCfa (machine_in R.contents M.bytes self.now) (Some (cfa_rule_of rule.entry))
             (answer_in result) }
     {
@@ -108,6 +112,7 @@ impl<'m, R: Registers, M: Memory> Present<'m, R, M> {
 
     /// A register of the caller by its rule and the CFA.
     pub fn register(&self, cfa: Answer, number: u16, rule: RegisterRule<'_>) -> Answer
+        requires { IsRuleOfKind (rule_of rule) }
         ensures { IsRegister (machine_in R.contents M.bytes self.now) (answer_in cfa) number
             (rule_of rule.entry) (answer_in result) }
     {
@@ -140,7 +145,8 @@ impl<'m, R: Registers, M: Memory> Present<'m, R, M> {
 
     /// The registers of these rules, in their order.
     pub fn registers(&self, cfa: Answer, rules: RegisterRules<'_>) -> FoundRegisters
-        requires { length rules ≤ MAX_RULES }
+        requires few { length rules ≤ MAX_RULES }
+        requires kinds { All IsEntryOfKind rules }
         ensures { AreRegisters (machine_in R.contents M.bytes self.now) (answer_in cfa) rules.entry
             (map found_in result.items) }
     {

@@ -18,7 +18,7 @@ const SECTION_LIMIT: usize = 1 << 32;
 /// The first fault of two sections.
 #[derive(Clone, Copy, Debug, PartialEq, Eq)]
 pub struct CheckFault {
-    /// The section that it stands in. Where memory ran out it says nothing.
+    /// The section that it stands in: never an expression. Where memory ran out it says nothing.
     pub section: Section,
     /// What is wrong, and where in the section.
     pub fault: Fault,
@@ -59,6 +59,8 @@ fn check_both<'a>(
     target: Target,
 ) -> Result<Checked<'a>, CheckFault>
     ensures answer { Checks (check_fault target frame.entry.now lists.entry.now) result }
+    ensures section { IfErr result (λ found.
+        (found.section ≡ Section.Frame) ⊎ (found.section ≡ Section.Lists)) }
     ensures inside { IfErr result (λ found.
         found.fault.at ≤ length (bytes_within found.section frame.entry.now lists.entry.now)) }
     ensures frame { IfOk result (λ checked. checked.frame ≡ frame_of target frame.entry.now) }
@@ -102,6 +104,8 @@ pub fn check<'a>(
     ensures accepts { IfOk result (λ _. AreWellFormed target frame.entry.now lists.entry.now) }
     ensures refuses { IfErr result (λ found. (found.fault ≡ memory)
         ⊎ (AreWellFormed target frame.entry.now lists.entry.now → ⊥)) }
+    ensures section { IfErr result (λ found.
+        (found.section ≡ Section.Frame) ⊎ (found.section ≡ Section.Lists)) }
     ensures inside { IfErr result (λ found.
         found.fault.at ≤ length (bytes_within found.section frame.entry.now lists.entry.now)) }
     ensures frame { IfOk result (λ checked. checked.frame ≡ frame_of target frame.entry.now) }
