@@ -89,8 +89,8 @@ expressions-as e = from (expression_in e)
     from None = refl
     from (Some b) = refl
 
-block-shows : (target : Target) (at end : ℕ) (b : Option Block) → AllWithin target at end b → end < 2 ^ 32 → AllUnder target b → IsGoodLocation b
-    → AllShowable target (located-of b)
+block-shows : (target : Target) (at end : ℕ) (b : Option Block) → AllWithin target at end b → end < 2 ^ 32 → AllUnder target b
+    → IsGoodLocation b → AllShowable target (located-of b)
 block-shows target at end None within short under good = tt
 block-shows target at end (Some b) within short under good = (
   record { short = omega (arith, within.ends); good = good; size_is = ap (λ (t : Target). t.address_size) (sym under) },

@@ -120,7 +120,8 @@ module _ (es : List LocatedExpression)
   unwinds_one e frame address (Some c) None good g h = absurd (h g.fde g.covers.0 g.covers.1)
   unwinds_one e frame address (Some c) (Some d) good g h =
       let fde : g.fde ≡ h.fde = h.covers.2 g.fde g.covers.0 g.covers.1 in
-      let cie : g.cie ≡ h.cie = some_one (cie_in frame h.fde) g.cie h.cie (subst (λ f. cie_in frame f ≡ Some g.cie) fde g.cie_is) h.cie_is in
+      let here_too = subst (λ f. cie_in frame f ≡ Some g.cie) fde g.cie_is in
+      let cie : g.cie ≡ h.cie = some_one (cie_in frame h.fde) g.cie h.cie here_too h.cie_is in
       let row : g.row ≡ h.row = some_one (row_of frame address) g.row h.row g.row_is h.row_is in
       let moved_row = subst (λ r. IsCaller e g.cie.return_register r c) row g.is in
       let here = subst (λ (x : Cie). IsCaller e x.return_register h.row c) cie moved_row in

@@ -95,7 +95,8 @@ counted_fits f all left rest x n m e s few short =
 -- ---- the lines of expressions
 
 -- each is the line of an expression with its depth
-pub lines_are : (section : Section) (xs : List (ℕ × CheckedExpression)) → AreLines section (map located_of xs) (flat_map (line_of section) xs)
+pub lines_are : (section : Section) (xs : List (ℕ × CheckedExpression))
+    → AreLines section (map located_of xs) (flat_map (line_of section) xs)
 lines_are section [] = refl
 lines_are section (x ∷ xs) = (
   (checked_of x.1).depth,

@@ -59,7 +59,8 @@ which false P x y h k = k
 
 no-block : (start : ℕ) (target : Target) → Holds start target (Some (none end_of_list))
 unfolding Holds
-no-block start target at bytes e lt (vs, encoded, fit, is) = subst (λ x. AllWithin target start (at + length bytes) (expression_in x)) (sym is) tt
+no-block start target at bytes e lt (vs, encoded, fit, is) =
+    subst (λ x. AllWithin target start (at + length bytes) (expression_in x)) (sym is) tt
 
 base-block : (start : ℕ) (target : Target) → Holds start target (Some (one address base_address))
 unfolding Holds

@@ -13,7 +13,8 @@ returns c = λ target frame lists none.
           c.exact_rows.ensures.covered (frame_of target frame) a (record { whole = refl; faultless = each.0 }) f inside covers;
       others = λ a free. c.exact_rows.ensures.others (frame_of target frame) a free;
       frame_expressions = λ x among.
-          let known = c.checked_sections.ensures.expressions (frame_of target frame) (record { whole = refl; faultless = each.0 }) x among in (
+          let known = c.checked_sections.ensures.expressions (frame_of target frame)
+          (record { whole = refl; faultless = each.0 }) x among in (
             known.1,
             safe c.each_has_a_depth.ensures c.good_expressions_run_well.ensures c.each_has_an_evaluation.ensures
                 c.evaluations_are_determined.ensures x.kind x.target x.bytes known.0,

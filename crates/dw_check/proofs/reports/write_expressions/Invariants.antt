@@ -8,5 +8,6 @@ abbrev pub invariant-loop-located : goal.invariant-loop-located
 invariant-loop-located g l = record {
   same : IsSame l.fn.out l.out;
   runs : g.S.Sink.has_stopped l.out.sink.now ≡ false;
-  sent : Sent (line_of l.section) l.expressions (drop l.located-index l.expressions) (g.S.Sink.taken l.fn.out.sink.now) (g.S.Sink.taken l.out.sink.now);
+  sent : Sent (line_of l.section) l.expressions (drop l.located-index l.expressions) (g.S.Sink.taken l.fn.out.sink.now)
+      (g.S.Sink.taken l.out.sink.now);
 }

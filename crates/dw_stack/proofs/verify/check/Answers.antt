@@ -21,7 +21,8 @@ returns-in_err-passed-clause-fault c =
     let are = ap listed c.as_slice.ensures ∙ c.in_ok-operations.ensures.list in
     let counted = c.len.ensures.value ∙ (sym (ap length c.as_slice.ensures)
     ∙ (sym (listed_length c.as_slice.result.now) ∙ ap length are)) in
-    let same = same_count (target_of e) (bytes_of e) c.args.given c.len.result counted (c.are_as_many_states.ensures.0 c.if-not-are_as_many_states.false) in
+    let same = same_count (target_of e) (bytes_of e) c.args.given c.len.result counted
+    (c.are_as_many_states.ensures.0 c.if-not-are_as_many_states.false) in
     let fault = fault_for c.args.kind (target_of e) (bytes_of e) (listed c.as_slice.result.now)
     (length c.bytes.result.now) c.in_ok-operations.ensures.answer are (ap length c.bytes.ensures)
     (given_of c.args.given) c.in_err-passed.field-0.0 same c.in_err-passed.ensures.first in
