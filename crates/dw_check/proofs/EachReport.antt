@@ -67,14 +67,20 @@ module _ (deepest : (kind : Kind) (target : Target) (bytes : List ℕ) → IsGoo
       let rest = lines_some section xs good.1 in
       (expression_line section x depth.0 ++ rest.0, (depth.0, rest.0, depth.1, rest.1, refl))
 
+  -- those of a section of location lists
+  pub list_lines_some : ((s : ListSection) (l : Loclist) (e : Entry) (b : Block) → IsChecked s → Contains (lists_in s) l
+      → Contains l.entries e → expression_in e ≡ Some b → IsGoodExpression Location b.target b.bytes)
+      → (lists : ListSection) → IsChecked lists → (t : List ℕ) × AreLines sections.Lists (located_in lists) t
+  list_lines_some good lists checked =
+      lines_some sections.Lists (located_in lists) (lists_good (lists_in lists) (λ l e b listed at is. good lists l e b checked listed at is))
+
   pub report_some : ((s : ListSection) (l : Loclist) (e : Entry) (b : Block) → IsChecked s → Contains (lists_in s) l → Contains l.entries e
       → expression_in e ≡ Some b → IsGoodExpression Location b.target b.bytes)
       → ((s : Frame) (x : LocatedExpression) → rows.IsChecked s → Contains s.expressions x → Good x)
       → (frame : Frame) (lists : ListSection) → rows.IsChecked frame → IsChecked lists → (t : List ℕ) × IsReport frame lists t
   report_some good frame_good frame lists frame_checked checked =
       let first = lines_some sections.Frame frame.expressions (all_good frame.expressions (λ x. frame_good frame x frame_checked)) in
-      let found = lines_some sections.Lists (located_in lists) (lists_good (lists_in lists)
-      (λ l e b listed at is. good lists l e b checked listed at is)) in (
+      let found = list_lines_some good lists checked in (
         summary_text frame lists ++ (first.0 ++ found.0),
         record { frame_lines = first.0; of_frame = first.1; lines = found.0; of_lists = found.1; whole = refl },
       )

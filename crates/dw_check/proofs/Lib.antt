@@ -8,6 +8,7 @@ pub mod GoodLocations
 pub mod Growth
 pub mod KnownState
 pub mod Lengths
+pub mod Lined
 pub mod OneCaller
 pub mod OneReply
 pub mod Padded

@@ -112,14 +112,14 @@ next_here xs i x h e =
     drop-cons xs i x h ∙ ap (λ y. y ∷ drop (suc i) xs) (sym e) ∙ ap (λ n. x ∷ drop n xs) (sym (add-one i))
 
 -- the report of the expressions of two sections
-pub reported : (frame : Frame) (lists : ListSection) (xs ys : List (ℕ × CheckedExpression)) → map located_of xs ≡ frame.expressions
-    → map located_of ys ≡ located_in lists
-    → IsReport frame lists (summary_text frame lists ++ (flat_map (line_of sections.Frame) xs ++ flat_map (line_of sections.Lists) ys))
-reported frame lists xs ys d e = record {
+pub reported : (frame : Frame) (lists : ListSection) (xs : List (ℕ × CheckedExpression)) (lines : List ℕ)
+    → map located_of xs ≡ frame.expressions → AreLines sections.Lists (located_in lists) lines
+    → IsReport frame lists (summary_text frame lists ++ (flat_map (line_of sections.Frame) xs ++ lines))
+reported frame lists xs lines d are = record {
   frame_lines = flat_map (line_of sections.Frame) xs;
   of_frame = subst (λ located. AreLines sections.Frame located (flat_map (line_of sections.Frame) xs)) d (lines_are sections.Frame xs);
-  lines = flat_map (line_of sections.Lists) ys;
-  of_lists = subst (λ located. AreLines sections.Lists located (flat_map (line_of sections.Lists) ys)) e (lines_are sections.Lists ys);
+  lines = lines;
+  of_lists = are;
   whole = refl;
 }
 

@@ -6,7 +6,7 @@ ghost use Rattle.std.specs.String.{string_bytes};
 ghost use Rattle.dw_stack.specs.Certificates.{checked_of};
 ghost use Rattle.dw_stack.specs.Located.{located_of};
 ghost use Rattle.dw_loclists.specs.Reading.{tables_in, lists_in, located_in};
-ghost use Rattle.dw_check.specs.Report.{IsReport, row_count, count_text, last_count_text, expressions_text, frame_counts_line, lists_counts_line, frame_line, lists_line, summary_text, expression_kind_text, expression_line};
+ghost use Rattle.dw_check.specs.Report.{IsReport, AreLines, row_count, count_text, last_count_text, expressions_text, frame_counts_line, lists_counts_line, frame_line, lists_line, summary_text, expression_kind_text, expression_line};
 ghost use Rattle.dw_check.specs.ReportViews.{line_of};
 ghost use Rattle.dw_check.specs.WriteResults.{IsSame, Writes, WritesWhole, is_write};
 ghost use Rattle.dw_check.specs.declared.stop.Section.TheVariants as sections;
@@ -16,7 +16,7 @@ use crate::sink::Sink;
 use crate::stop::{ReportFault, Section};
 use crate::whole_check::Checked;
 use crate::writer::{Writer, send};
-use dw_loclists::CheckedLists;
+use dw_loclists::{CheckedLists, Expressions};
 use dw_rows::laws::rows_cover;
 use dw_rows::{CheckedFrame, Rows, UnwindTableRow};
 use dw_stack::{CheckedExpression, Kind};
@@ -235,39 +235,55 @@ fn write_expression<S: Sink>(
     send(out)
 }
 
-/// Writes the lines of expressions of a section, in order.
-fn write_expressions<S: Sink>(
+/// Writes the lines of expressions of a frame section, in order.
+fn write_frame_expressions<S: Sink>(
     out: &mut Writer<'_, S>,
-    section: Section,
     expressions: &[(u32, CheckedExpression<'_>)],
 ) -> Result<(), ReportFault>
     requires { S.has_stopped out.old.sink.now ≡ false }
     ensures same { IsSame out.old out.new }
     ensures written { Writes (S.taken out.old.sink.now) (S.taken out.new.sink.now) result
-        (flat_map (line_of section) expressions.now) }
+        (flat_map (line_of sections.Frame) expressions.now) }
     ensures stops { S.has_stopped out.new.sink.now ≡ is_write result }
 {
     for located in expressions {
-        write_expression(out, section, located.0, &located.1)?;
+        write_expression(out, Section::Frame, located.0, &located.1)?;
+    }
+    Ok(())
+}
+
+/// Writes the lines of expressions of location lists, in order.
+fn write_list_expressions<'c, 'a, S: Sink>(
+    out: &mut Writer<'_, S>,
+    expressions: Expressions<'c, 'a>,
+) -> Result<(), ReportFault>
+    requires { S.has_stopped out.old.sink.now ≡ false }
+    ensures same { IsSame out.old out.new }
+    ensures written { (text : List ℕ) → AreLines sections.Lists expressions.entry text
+        → Writes (S.taken out.old.sink.now) (S.taken out.new.sink.now) result text }
+    ensures stops { S.has_stopped out.new.sink.now ≡ is_write result }
+{
+    for (offset, checked) in expressions {
+        write_expression(out, Section::Lists, offset, &checked)?;
     }
     Ok(())
 }
 
 /// Writes the lines of the expressions of two sections: the frame section's first.
-fn write_both<S: Sink>(
+fn write_both<'c, 'a, S: Sink>(
     out: &mut Writer<'_, S>,
     of_frame: &[(u32, CheckedExpression<'_>)],
-    of_lists: &[(u32, CheckedExpression<'_>)],
+    of_lists: Expressions<'c, 'a>,
 ) -> Result<(), ReportFault>
     requires { S.has_stopped out.old.sink.now ≡ false }
     ensures same { IsSame out.old out.new }
-    ensures written { Writes (S.taken out.old.sink.now) (S.taken out.new.sink.now) result
-        (flat_map (line_of sections.Frame) of_frame.now
-        ++ flat_map (line_of sections.Lists) of_lists.now) }
+    ensures written { (text : List ℕ) → AreLines sections.Lists of_lists.entry text
+        → Writes (S.taken out.old.sink.now) (S.taken out.new.sink.now) result
+        (flat_map (line_of sections.Frame) of_frame.now ++ text) }
     ensures stops { S.has_stopped out.new.sink.now ≡ is_write result }
 {
-    write_expressions(out, Section::Frame, of_frame)?;
-    write_expressions(out, Section::Lists, of_lists)
+    write_frame_expressions(out, of_frame)?;
+    write_list_expressions(out, of_lists)
 }
 
 /// Writes the lines of a report.

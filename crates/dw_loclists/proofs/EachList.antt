@@ -19,6 +19,9 @@ use Rattle.dw_loclists.specs.Locations.{location_of, expressions_of}
 use Rattle.dw_stack.specs.Located.{LocatedExpression}
 use Rattle.dw_loclists.specs.Reading.{checked_entry_at, no_end, at_most_entries, entries_at, list_at}
 use Rattle.dw_loclists.proofs.EachEntry.{IsFine, entry-some, checked-found, checked-only}
+use Rattle.dw_loclists.specs.declared.kept.KeptExpression.{KeptExpression}
+use Rattle.dw_loclists.specs.Kept.{KeepsMore}
+use Rattle.dw_loclists.proofs.KeptLists.{nothing, keeps-then}
 
 -- entries that are each fine behind those before them, and then the end of their list
 abbrev pub AreEntries : Target → Bool → ℕ → List ℕ → List Entry → Type 0
@@ -417,19 +420,19 @@ next-entry r s after d next es e so_far is going or =
     so_far ∙ (ap (put_all es) (entries-more d s e after is going)
     ∙ (put-one-more es e (entries_at (d || is_default e) after) ∙ ap (λ b. put_all (es ++ e ∷ []) (entries_at b after)) or))
 
-same-expressions : (xs : List LocatedExpression) → xs ++ [] ≡ xs
-same-expressions [] = refl
-same-expressions (x ∷ xs) = ap (λ (t : List LocatedExpression). x ∷ t) (same-expressions xs)
+-- the expressions of one entry more, and of the last one, which has none
+pub keeps-entry : (es : List Entry) (e : Entry) (old mid new : List KeptExpression) → KeepsMore (expressions_of es) old mid
+    → KeepsMore (expressions_of (e ∷ [])) mid new → KeepsMore (expressions_of (es ++ e ∷ [])) old new
+keeps-entry es e old mid new h k =
+    subst (λ (ys : List LocatedExpression). KeepsMore ys old new) (sym (expressions-more es e))
+    (keeps-then (expressions_of es) (expressions_of (e ∷ [])) old mid new h k)
 
-pub end-nothing : (e : Entry) (xs : List LocatedExpression) → is_end e ≡ true → xs ++ expressions_of (e ∷ []) ≡ xs
-end-nothing e xs is = ap (λ (x : Entry). xs ++ expressions_of (x ∷ [])) (ends-only e is) ∙ same-expressions xs
-
-pub more-kept : (a b c : List LocatedExpression) (es : List Entry) (e : Entry) → b ≡ a ++ expressions_of es
-    → c ≡ b ++ expressions_of (e ∷ []) → c ≡ a ++ expressions_of (es ++ e ∷ [])
-more-kept a b c es e so_far more =
-    more ∙ (ap (λ (t : List LocatedExpression). t ++ expressions_of (e ∷ [])) so_far
-    ∙ (append_assoc a (expressions_of es) (expressions_of (e ∷ []))
-    ∙ ap (λ (t : List LocatedExpression). a ++ t) (sym (expressions-more es e))))
+pub keeps-end : (es : List Entry) (e : Entry) (old mid new : List KeptExpression) → is_end e ≡ true → KeepsMore (expressions_of es) old mid
+    → KeepsMore (expressions_of (e ∷ [])) mid new → KeepsMore (expressions_of es) old new
+keeps-end es e old mid new is h k =
+    subst (λ (ys : List LocatedExpression). KeepsMore ys old new)
+    (ap (λ (x : Entry). expressions_of es ++ expressions_of (x ∷ [])) (ends-only e is) ∙ nothing (expressions_of es))
+    (keeps-then (expressions_of es) (expressions_of (e ∷ [])) old mid new h k)
 
 -- the entries of a list, read from its first byte on
 pub entries-read : (target : Target) (r : ReadPosition) (l : Loclist) (after : ReadPosition) → r.target ≡ target

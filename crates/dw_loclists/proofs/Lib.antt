@@ -5,6 +5,7 @@ pub mod KeptLists
 pub mod Search
 pub mod Order
 pub mod Checked
+pub mod InPlace
 pub mod Walking
 pub mod Located
 pub mod Standing

@@ -1,7 +1,7 @@
 -- Where the lists of a checked section stand, and what their expressions are among.
 use Rattle.std.proofs.Common.{◌≡◌, ℕ, zero, suc, ◌+◌, ◌≤◌, Bool, true, false, cond, List, [], ◌∷◌, ◌++◌, length, drop, Contains, Ok, refl}
 use Rattle.std.proofs.Common.{sym, ap, subst, ◌∙◌, append_assoc, arith, inl, inr}
-use Rattle.std.specs.Prelude.{◌⊎◌}
+use Rattle.std.specs.Prelude.{◌⊎◌, map}
 use Rattle.std.proofs.Math.Seq.{drop-append_seam}
 use Rattle.std.proofs.lemmas.List.{length-append}
 use Rattle.std.proofs.lemmas.List.Elements.{Contains-append_left, Contains-append_right, Contains-append_cases}
@@ -15,9 +15,13 @@ use Rattle.dw_stack.specs.Located.{LocatedExpression}
 use Rattle.dw_loclists.specs.Locations.{default_of, defaults_in}
 use Rattle.dw_loclists.specs.Reading.{entries_at, ListSection, IsChecked, tables_in, lists_in, located_in}
 use Rattle.dw_loclists.proofs.EachList.{entries-read}
-use Rattle.dw_loclists.proofs.Order.{entries-front}
-use Rattle.dw_loclists.proofs.Checked.{checked-tables, lists-ascend}
-use Rattle.dw_loclists.proofs.Search.{ascends-back, ascending-same}
+use Rattle.dw_loclists.specs.declared.kept.KeptExpression.{KeptExpression}
+use Rattle.dw_loclists.specs.Bounds.{Ascends}
+use Rattle.dw_loclists.specs.Kept.{IsKeptOf, AreKeptOf, IsAmong}
+use Rattle.dw_loclists.specs.Views.{offset_of}
+use Rattle.dw_loclists.proofs.Order.{entries-front, offsets-of}
+use Rattle.dw_loclists.proofs.Checked.{checked-tables, lists-ascend, expressions-ascend}
+use Rattle.dw_loclists.proofs.Search.{ascends-back, ascending-same, contains-behind}
 
 -- ---- where lists stand
 
@@ -180,3 +184,26 @@ given-among s l base address x l_in among =
     from : (Contains (bounded_at base address l.entries) x ⊎ Contains (defaults_in l.entries) x) → Contains (expressions_of l.entries) x
     from (inl h) = bounded-among base address l.entries x h
     from (inr h) = defaults-among l.entries x h
+
+-- ---- what is kept of them
+
+-- what was kept of one of them
+pub kept-among : (xs : List LocatedExpression) (ks : List KeptExpression) (x : LocatedExpression) → AreKeptOf xs ks → Contains xs x
+    → IsAmong ks x
+kept-among [] ks x kept among = absurd (no-list x among)
+kept-among (y ∷ xs) [] x kept among = absurd kept
+kept-among (y ∷ xs) (k ∷ ks) x kept (zero, lt, is) =
+    (k, (zero, omega arith, refl), subst (λ (z : LocatedExpression). IsKeptOf z k) is kept.0)
+kept-among (y ∷ xs) (k ∷ ks) x kept (suc j, lt, is) =
+    let rest = kept-among xs ks x kept.1 (j, omega arith, is) in (rest.0, contains-behind rest.0 k ks rest.1, rest.2)
+
+same-offsets : (xs : List LocatedExpression) (ks : List KeptExpression) → AreKeptOf xs ks → offsets-of xs ≡ map offset_of ks
+same-offsets [] [] kept = refl
+same-offsets [] (k ∷ ks) kept = absurd kept
+same-offsets (x ∷ xs) [] kept = absurd kept
+same-offsets (x ∷ xs) (k ∷ ks) kept =
+    ap (λ n. n ∷ offsets-of xs) (sym kept.0.offset_is) ∙ ap (λ (t : List ℕ). offset_of k ∷ t) (same-offsets xs ks kept.1)
+
+pub kept-ascend : (s : ListSection) (ks : List KeptExpression) → IsChecked s → AreKeptOf (located_in s) ks → Ascends offset_of ks
+kept-ascend s ks checked kept = ascends-back offset_of ks
+    (subst (Ascends (λ n. n)) (same-offsets (located_in s) ks kept) (expressions-ascend s checked))

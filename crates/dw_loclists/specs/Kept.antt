@@ -1,46 +1,92 @@
 -- What is kept of a section. No contract of a public call speaks of these.
-use Rattle.std.specs.Prelude.{◌≡◌, ◌<◌, ◌^◌, length, ℕ, List, [], ◌∷◌, ◌++◌, map}
+use Rattle.std.specs.Prelude.{◌≡◌, ◌<◌, ◌≤◌, ◌+◌, ◌^◌, length, take, drop, ℕ, List, [], ◌∷◌, ◌++◌, map, Contains}
+use Rattle.std.specs.List.{AllByRecursion, AllZip}
+use Rattle.dw_bytes.specs.declared.target.Target.{Target}
 use Rattle.dw_loclists.specs.declared.contents.Contents.{Contents}
+use Rattle.dw_loclists.specs.declared.kept.KeptExpression.{KeptExpression}
 use Rattle.dw_loclists.specs.Lists.{Loclist, Table, lists_of, starts_of}
 use Rattle.dw_loclists.specs.Locations.{expressions_in}
-use Rattle.dw_stack.specs.Located.{LocatedExpression, all_located}
-use Rattle.dw_loclists.specs.Reading.{ListSection, IsChecked, tables_in}
+use Rattle.dw_stack.specs.declared.state.Kind.TheVariants.{Location}
+use Rattle.dw_stack.specs.Expressions as stack
+use Rattle.dw_stack.specs.Located.{LocatedExpression}
+use Rattle.dw_loclists.specs.Reading.{ListSection, IsChecked, tables_in, located_in}
 use Rattle.dw_loclists.specs.Views.{start_of}
 
--- where tables and lists begin, and the expressions
+-- ---- expressions
+
+-- What is kept of a good expression: where it stands, and what was learned of it.
+pub record IsKeptOf (x : LocatedExpression) (k : KeptExpression) : Type 0 where
+  pub offset_is : k.offset ≡ x.offset
+  pub length_is : k.length ≡ length x.bytes
+  pub checked : stack.IsChecked (record { kind = x.kind; target = x.target; bytes = x.bytes; depth = k.depth; count = k.count })
+
+-- of each of these, in order
+abbrev pub AreKeptOf : List LocatedExpression → List KeptExpression → Type 0
+AreKeptOf = AllZip IsKeptOf
+
+-- of these besides, behind what was kept
+abbrev pub KeepsMore : List LocatedExpression → List KeptExpression → List KeptExpression → Type 0
+KeepsMore more old new = (xs : List LocatedExpression) → AreKeptOf xs old → AreKeptOf (xs ++ more) new
+
+-- of an expression among others
+abbrev pub IsAmong : List KeptExpression → LocatedExpression → Type 0
+IsAmong kept x = (k : KeptExpression) × Contains kept k × IsKeptOf x k
+
+-- an expression with its bytes, which a section lends
+abbrev pub lent_from : Target → List ℕ → KeptExpression → LocatedExpression
+lent_from target section k = record { offset = k.offset; kind = Location; target = target; bytes = take k.length (drop k.offset section) }
+
+abbrev pub all_lent_from : Target → List ℕ → List KeptExpression → List LocatedExpression
+all_lent_from target section kept = map (lent_from target section) kept
+
+-- its bytes are there, and it is kept of these
+pub record IsLendable (target : Target) (section : List ℕ) (k : KeptExpression) : Type 0 where
+  pub inside : k.offset + k.length ≤ length section
+  pub kept : IsKeptOf (lent_from target section k) k
+
+pub record AreLendable (target : Target) (section : List ℕ) (kept : List KeptExpression) : Type 0 where
+  pub each : AllByRecursion (IsLendable target section) kept
+  pub short : length section < 2 ^ 32
+
+-- ---- tables and lists
+
+-- where they begin
 pub record Kept : Type 0 where
   pub tables : List ℕ
   pub lists : List ℕ
-  pub expressions : List LocatedExpression
 
 abbrev pub kept_of : Contents → Kept
-kept_of c = record { tables = c.tables.items; lists = map start_of c.lists.items; expressions = all_located c.expressions.items }
+kept_of c = record { tables = c.tables.items; lists = map start_of c.lists.items }
 
 abbrev pub nothing_kept : Kept
-nothing_kept = record { tables = []; lists = []; expressions = [] }
+nothing_kept = record { tables = []; lists = [] }
 
 -- with lists behind what was kept, and with a table behind it
 abbrev pub with_lists : Kept → List Loclist → Kept
-with_lists k lists = record { tables = k.tables; lists = k.lists ++ starts_of lists; expressions = k.expressions ++ expressions_in lists }
+with_lists k lists = record { tables = k.tables; lists = k.lists ++ starts_of lists }
 
 abbrev pub with_table : Kept → Table → Kept
-with_table k t = record {
-  tables = k.tables ++ t.offset ∷ [];
-  lists = k.lists ++ starts_of t.lists;
-  expressions = k.expressions
-      ++ expressions_in t.lists;
-}
+with_table k t = record { tables = k.tables ++ t.offset ∷ []; lists = k.lists ++ starts_of t.lists }
 
 -- of tables, and nothing else
 abbrev pub kept_from : List Table → Kept
-kept_from tables = record {
-  tables = map (λ (t : Table). t.offset) tables;
-  lists = starts_of (lists_of tables);
-  expressions = expressions_in (lists_of tables);
-}
+kept_from tables = record { tables = map (λ (t : Table). t.offset) tables; lists = starts_of (lists_of tables) }
+
+-- ---- all of them
+
+-- lists are kept, and their expressions
+pub record KeepsLists (lists : List Loclist) (old new : Contents) : Type 0 where
+  pub kept : kept_of new ≡ with_lists (kept_of old) lists
+  pub expressions : KeepsMore (expressions_in lists) old.expressions.items new.expressions.items
+
+-- a table is kept, and the expressions of its lists
+pub record KeepsTable (t : Table) (old new : Contents) : Type 0 where
+  pub kept : kept_of new ≡ with_table (kept_of old) t
+  pub expressions : KeepsMore (expressions_in t.lists) old.expressions.items new.expressions.items
 
 -- what a checked section keeps: all that its tables have
-pub record IsKept (s : ListSection) (k : Kept) : Type 0 where
+pub record IsKept (s : ListSection) (c : Contents) : Type 0 where
   pub checked : IsChecked s
-  pub kept : k ≡ kept_from (tables_in s)
+  pub kept : kept_of c ≡ kept_from (tables_in s)
+  pub expressions : AreKeptOf (located_in s) c.expressions.items
   pub short : length s.section < 2 ^ 32

@@ -1,8 +1,7 @@
 -- What the types of the code stand for.
-use Rattle.std.specs.Prelude.{ℕ, map, List}
+use Rattle.std.specs.Prelude.{ℕ}
 use Rattle.dw_bytes.specs.Operands.{block_of}
-use Rattle.dw_stack.specs.declared.checked.CheckedExpression.{CheckedExpression}
-use Rattle.dw_stack.specs.Certificates.{checked_of}
+use Rattle.dw_loclists.specs.declared.kept.KeptExpression.{KeptExpression}
 use Rattle.dw_loclists.specs.declared.entry.Entry as declared
 use Rattle.dw_loclists.specs.declared.contents.LocationList as declared_list
 use Rattle.dw_loclists.specs.declared.entry.Entry.TheVariants as entries
@@ -21,5 +20,5 @@ abbrev pub start_of : declared_list.LocationList → ℕ
 start_of l = l.offset
 
 -- where an expression begins
-abbrev pub offset_of : ℕ × CheckedExpression → ℕ
-offset_of x = x.0
+abbrev pub offset_of : KeptExpression → ℕ
+offset_of k = k.offset

@@ -6,11 +6,12 @@ use Rattle.dw_bytes.specs.declared.fault.Fault.{Fault}
 use Rattle.dw_bytes.specs.Operands.{block_of}
 use Rattle.dw_bytes.specs.Reading.{ReadPosition}
 use Rattle.dw_loclists.specs.declared.walk.ListWalk.{ListWalk}
-use Rattle.dw_stack.specs.declared.checked.CheckedExpression.{CheckedExpression}
+use Rattle.dw_loclists.specs.declared.kept.KeptExpression.{KeptExpression}
 use Rattle.dw_loclists.specs.Bounds.{Ascends}
 use Rattle.dw_loclists.specs.Entries.{Entry}
 use Rattle.dw_loclists.specs.Locations.{location_of, bounded_at, defaults_in, or_else_all}
-use Rattle.dw_stack.specs.Located.{LocatedExpression, all_located}
+use Rattle.dw_loclists.specs.Kept.{IsAmong}
+use Rattle.dw_stack.specs.Located.{LocatedExpression}
 use Rattle.dw_loclists.specs.Reading.{entries_at}
 use Rattle.dw_loclists.specs.Views.{offset_of}
 
@@ -43,7 +44,7 @@ abbrev pub still_to_come : Bool → ℕ → ListWalk → List LocatedExpression
 still_to_come found address w = if found then held_ahead address w else or_else_all (held_ahead address w) (default_ahead w)
 
 -- A walk whose expressions are all kept, in order of their offsets.
-pub record IsWalk (ended : Bool) (address : ℕ) (w : ListWalk) (kept : List (ℕ × CheckedExpression)) : Type 0 where
+pub record IsWalk (ended : Bool) (address : ℕ) (w : ListWalk) (kept : List KeptExpression) : Type 0 where
   pub readable : ended ≡ false → IsReadable w
   pub order : Ascends offset_of kept
-  pub among : ended ≡ false → (x : LocatedExpression) → Contains (held_ahead address w ++ default_ahead w) x → Contains (all_located kept) x
+  pub among : ended ≡ false → (x : LocatedExpression) → Contains (held_ahead address w ++ default_ahead w) x → IsAmong kept x

@@ -2,7 +2,7 @@
 
 ghost use Rattle.std.specs.Prelude.{◌<◌, ◌^◌};
 
-use dw_stack::CheckedExpression;
+use crate::kept::KeptExpression;
 use std::alloc::Global;
 
 /// A location list of a section (DWARF 5, section 7.7.3), named by where it begins.
@@ -31,22 +31,23 @@ impl LocationList {
     }
 }
 
-/// What is kept of the part of a section that was read: the offsets of its tables, its lists, and its expressions with their
-/// offsets, each in order.
+/// What is kept of the part of a section that was read: the offsets of its tables, its lists, and what was learned of its
+/// expressions, each in order.
 #[derive(Drop)]
-pub struct Contents<'a> {
+pub struct Contents {
     pub tables: Vec<u32>,
     pub lists: Vec<LocationList>,
-    pub expressions: Vec<(u32, CheckedExpression<'a>)>,
+    pub expressions: Vec<KeptExpression>,
 }
 
-impl<'a> Contents<'a> {
-    ghost use Rattle.std.specs.Prelude.{◌≡◌};
+impl Contents {
+    ghost use Rattle.std.specs.Prelude.{◌≡◌, []};
     ghost use Rattle.dw_loclists.specs.Kept.{kept_of, nothing_kept};
 
     /// Of no table yet.
     pub fn new(alloc: Global) -> Self
-        ensures { kept_of result ≡ nothing_kept }
+        ensures kept { kept_of result ≡ nothing_kept }
+        ensures expressions { result.expressions.items ≡ [] }
     {
         Contents {
             tables: Vec::new(alloc),

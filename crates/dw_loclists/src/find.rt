@@ -5,9 +5,11 @@ ghost use Rattle.dw_loclists.specs.Bounds.{Ascends};
 ghost use Rattle.dw_bytes.specs.Operands.{block_of};
 ghost use Rattle.dw_loclists.specs.Locations.{location_of};
 ghost use Rattle.dw_loclists.specs.Views.{start_of, offset_of};
-ghost use Rattle.dw_stack.specs.Located.{located_of, all_located};
+ghost use Rattle.dw_loclists.specs.Kept.{IsAmong};
+ghost use Rattle.dw_stack.specs.Located.{located_of};
 
 use crate::contents::LocationList;
+use crate::kept::KeptExpression;
 use dw_bytes::Block;
 use dw_stack::CheckedExpression;
 
@@ -24,17 +26,17 @@ pub fn find_list(lists: &[LocationList], offset: u64) -> Option<LocationList>
     }
 }
 
-/// The checked expression that was kept of a block.
+/// The checked expression of a block, by what was kept of it.
 pub fn find_expression<'a>(
-    expressions: &[(u32, CheckedExpression<'a>)],
+    expressions: &[KeptExpression],
     block: Block<'a>,
 ) -> (u32, CheckedExpression<'a>)
     requires order { Ascends offset_of expressions.now }
-    requires kept { Contains (all_located expressions.now) (location_of (block_of block)) }
+    requires kept { IsAmong expressions.now (location_of (block_of block)) }
     ensures { located_of result ≡ location_of (block_of block.entry) }
 {
-    match expressions.binary_search_by_key(&block.offset, |expression| expression.0) {
-        Ok(place) => expressions[place],
+    match expressions.binary_search_by_key(&block.offset, |expression| expression.offset) {
+        Ok(place) => expressions[place].lend(block),
         Err(_) => unreachable!(),
     }
 }

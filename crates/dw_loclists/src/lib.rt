@@ -4,7 +4,9 @@
 mod contents;
 mod entry;
 mod find;
+mod kept;
 pub mod laws;
+mod lent;
 mod list;
 mod lists;
 mod locations;
@@ -12,5 +14,6 @@ mod table;
 mod walk;
 
 pub use contents::LocationList;
+pub use lent::Expressions;
 pub use lists::{CheckedLists, check_lists};
 pub use locations::LocationsAt;

@@ -7,16 +7,17 @@ ghost use Rattle.dw_bytes.specs.Readers.{IsRefusedWithin};
 ghost use Rattle.dw_bytes.specs.Answers.{memory, Answers};
 ghost use Rattle.dw_bytes.specs.Operands.{block_of};
 ghost use Rattle.dw_loclists.specs.Bounds.{IsBefore};
+ghost use Rattle.dw_loclists.specs.Kept.{KeepsMore};
 ghost use Rattle.dw_loclists.specs.Lists.{Loclist};
 ghost use Rattle.dw_loclists.specs.Locations.{location_of, expressions_of};
 ghost use Rattle.dw_loclists.specs.Reading.{entry_fault, location_fault, list_at};
 ghost use Rattle.dw_loclists.specs.Views.{entry_of};
-ghost use Rattle.dw_stack.specs.Located.{all_located};
 
 use crate::entry::Entry;
+use crate::kept::KeptExpression;
 use dw_bytes::{Block, Cursor, Fault, FaultKind};
 use dw_ops::Expression;
-use dw_stack::{CheckedExpression, Kind, check_expression};
+use dw_stack::{Kind, check_expression};
 use std::alloc::Global;
 
 /// Want of memory, which stands nowhere in a section.
@@ -25,23 +26,26 @@ pub const MEMORY: Fault = Fault {
     at: 0,
 };
 
-/// Judges an expression as a location, and keeps it with its offset in the section.
+/// Judges an expression as a location, and keeps what was learned of it.
 #[inline(always)]
-fn check_location<'a>(
+fn check_location(
     alloc: Global,
-    block: Block<'a>,
-    expressions: &mut Vec<(u32, CheckedExpression<'a>)>,
+    block: Block<'_>,
+    expressions: &mut Vec<KeptExpression>,
 ) -> Result<(), Fault>
     ensures answer { Answers (location_fault (Some (block_of block.entry))) result }
-    ensures kept { OnOk result (all_located expressions.new.items
-        ≡ all_located expressions.old.items ++ location_of (block_of block.entry) ∷ []) }
+    ensures kept { OnOk result (KeepsMore (location_of (block_of block.entry) ∷ [])
+        expressions.old.items expressions.new.items) }
     ensures inside { IfErr result (λ fault.
         fault.at ≤ block.entry.offset + length block.entry.bytes.now) }
 {
     let expression = Expression::new(block.bytes, block.target);
     match check_expression(alloc, expression, Kind::Location) {
         Ok(checked) => {
-            if expressions.push((block.offset, checked)).is_err() {
+            if expressions
+                .push(KeptExpression::new(block, &checked))
+                .is_err()
+            {
                 return Err(MEMORY);
             }
             Ok(())
@@ -56,16 +60,16 @@ fn check_location<'a>(
 
 /// Judges an entry at an offset, behind a default of its list or not, and keeps its expression.
 #[inline(always)]
-fn check_entry<'a>(
+fn check_entry(
     alloc: Global,
-    entry: &Entry<'a>,
+    entry: &Entry<'_>,
     at: u32,
     has_default: bool,
-    expressions: &mut Vec<(u32, CheckedExpression<'a>)>,
+    expressions: &mut Vec<KeptExpression>,
 ) -> Result<(), Fault>
     ensures answer { Answers (entry_fault has_default at (entry_of entry.now)) result }
-    ensures kept { OnOk result (all_located expressions.new.items
-        ≡ all_located expressions.old.items ++ expressions_of (entry_of entry.now ∷ [])) }
+    ensures kept { OnOk result (KeepsMore (expressions_of (entry_of entry.now ∷ []))
+        expressions.old.items expressions.new.items) }
     ensures inside { IfErr result (λ fault. IsBefore at (entry_of entry.now) fault.at) }
 {
     if has_default && entry.is_default() {
@@ -88,17 +92,16 @@ fn check_entry<'a>(
 
 /// Reads a list up to its end_of_list, at which the cursor then has come by. Each entry is judged as soon as it is read, and
 /// its expression is kept. The table ends at an offset.
-pub fn read_list<'a>(
+pub fn read_list(
     alloc: Global,
-    cursor: &mut Cursor<'a>,
+    cursor: &mut Cursor<'_>,
     end: u32,
-    expressions: &mut Vec<(u32, CheckedExpression<'a>)>,
+    expressions: &mut Vec<KeptExpression>,
 ) -> Result<(), Fault>
     requires { end ≡ cursor.old.position + length cursor.old.rest }
     ensures exact { MatchResult result
         (λ _. (l : Loclist) × (list_at cursor.old ≡ Ok (l, cursor.new)) ×
-        (all_located expressions.new.items
-        ≡ all_located expressions.old.items ++ expressions_of l.entries))
+        KeepsMore (expressions_of l.entries) expressions.old.items expressions.new.items)
         (λ f. (f ≡ memory) ⊎ (list_at cursor.old ≡ Err f)) }
     ensures within { IsRefusedWithin cursor.old result }
     ensures goes_on { MovesForward cursor.old cursor.new }

@@ -6,15 +6,14 @@ ghost use Rattle.dw_loclists.specs.Lists.{Loclist, Table, starts_of};
 ghost use Rattle.dw_loclists.specs.Locations.{locations_of};
 ghost use Rattle.dw_loclists.specs.Reading.{lists_fault, IsChecked, tables_in, lists_in, located_in};
 ghost use Rattle.dw_loclists.specs.Views.{start_of};
-ghost use Rattle.dw_stack.specs.Located.{all_located};
 
 use crate::contents::{Contents, LocationList};
 use crate::find::find_list;
+use crate::lent::Expressions;
 use crate::locations::LocationsAt;
 use crate::table::read_table;
 use crate::walk::ListWalk;
 use dw_bytes::{Cursor, Fault, Target};
-use dw_stack::CheckedExpression;
 use std::alloc::Global;
 use std::marker::Model;
 
@@ -24,19 +23,19 @@ use std::marker::Model;
 pub struct CheckedLists<'a> {
     target: Target,
     section: &'a [u8],
-    contents: Contents<'a>,
+    contents: Contents,
 }
 
 impl<'a> Model for CheckedLists<'a> {
     ghost use Rattle.dw_loclists.specs.Reading.{ListSection};
-    ghost use Rattle.dw_loclists.specs.Kept.{kept_of, IsKept};
+    ghost use Rattle.dw_loclists.specs.Kept.{IsKept};
 
     ghost Value = { ListSection };
 
     ghost view = { λ c. record { target = c.target; section = c.section.now } };
 
     ghost invariant = { λ c.
-        IsKept (record { target = c.target; section = c.section.now }) (kept_of c.contents) };
+        IsKept (record { target = c.target; section = c.section.now }) c.contents };
 }
 
 /// Checks a section of fewer than 2^32 bytes. A refusal is the first fault, from left to right.
@@ -105,10 +104,11 @@ impl<'a> CheckedLists<'a> {
     }
 
     /// All expressions, each with the offset of its first byte, in order. Every one is checked as a location.
-    pub fn expressions(&self) -> &[(u32, CheckedExpression<'a>)]
-        ensures { all_located result.now ≡ located_in self.now }
+    pub fn expressions(&self) -> Expressions<'_, 'a>
+        ensures expressions { result ≡ located_in self.now }
+        ensures checked { IsChecked self.now }
     {
-        self.contents.expressions.as_slice()
+        Expressions::new(self.section, self.target, &self.contents.expressions)
     }
 
     /// The list whose first byte is at an offset of the section, if one's is: found by halving, without memory.

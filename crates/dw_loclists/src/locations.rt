@@ -4,6 +4,7 @@ ghost use Rattle.std.specs.Iterator.{YieldsFirstBy, item_count};
 ghost use Rattle.dw_stack.specs.Located.{located_of};
 
 use crate::find::find_expression;
+use crate::kept::KeptExpression;
 use crate::walk::ListWalk;
 use dw_stack::CheckedExpression;
 use std::iter::FusedIterator;
@@ -16,7 +17,7 @@ use std::marker::Model;
 pub struct LocationsAt<'c, 'a> {
     walk: ListWalk<'a>,
     address: u64,
-    expressions: &'c [(u32, CheckedExpression<'a>)],
+    expressions: &'c [KeptExpression],
     /// Whether a bounded entry held.
     found: bool,
     ended: bool,
@@ -40,11 +41,7 @@ impl<'c, 'a> LocationsAt<'c, 'a> {
     ghost use Rattle.dw_loclists.specs.Walks.{still_to_come, IsWalk};
 
     /// Those that a walk from the beginning of a list gives.
-    pub(crate) fn new(
-        walk: ListWalk<'a>,
-        address: u64,
-        expressions: &'c [(u32, CheckedExpression<'a>)],
-    ) -> Self
+    pub(crate) fn new(walk: ListWalk<'a>, address: u64, expressions: &'c [KeptExpression]) -> Self
         requires { IsWalk false address walk expressions.now }
         ensures { result ≡ still_to_come false address walk.entry }
     {

@@ -9,7 +9,7 @@ ghost use Rattle.dw_bytes.specs.Sequence.{exactly_of};
 ghost use Rattle.dw_loclists.specs.Bounds.{Ascends};
 ghost use Rattle.dw_loclists.specs.Lists.{Loclist, Table, table_header};
 ghost use Rattle.dw_loclists.specs.Reading.{lists_at, list_offset_at, table_at};
-ghost use Rattle.dw_loclists.specs.Kept.{kept_of, with_lists, with_table};
+ghost use Rattle.dw_loclists.specs.Kept.{KeepsLists, KeepsTable};
 ghost use Rattle.dw_loclists.specs.Views.{start_of};
 
 use crate::contents::{Contents, LocationList};
@@ -38,16 +38,16 @@ pub fn read_header(cursor: &mut Cursor<'_>, target: Target) -> Result<u32, Fault
 }
 
 /// Reads lists up to the end of their table, and keeps them.
-fn read_lists<'a>(
+fn read_lists(
     alloc: Global,
-    cursor: &mut Cursor<'a>,
+    cursor: &mut Cursor<'_>,
     end: u32,
-    contents: &mut Contents<'a>,
+    contents: &mut Contents,
 ) -> Result<(), Fault>
     requires { end ≡ cursor.old.position + length cursor.old.rest }
     ensures exact { MatchResult result
         (λ _. (lists : List Loclist) × (lists_at cursor.old ≡ Ok lists) ×
-        (kept_of contents.new ≡ with_lists (kept_of contents.old) lists))
+        KeepsLists lists contents.old contents.new)
         (λ f. (f ≡ memory) ⊎ (lists_at cursor.old ≡ Err f)) }
     ensures within { IsRefusedWithin cursor.old result }
 {
@@ -97,12 +97,12 @@ fn check_array(
 
 /// Reads the table at an offset of a section, judges it and keeps what it has. Gives the offset behind it.
 #[tactic(auto, unfolding(crate::specs::Reading::table_at))]
-pub fn read_table<'a>(
+pub fn read_table(
     alloc: Global,
-    section: &'a [u8],
+    section: &[u8],
     target: Target,
     at: u32,
-    contents: &mut Contents<'a>,
+    contents: &mut Contents,
 ) -> Result<u32, Fault>
     requires inside { at < length section.now }
     requires short { length section.now < 2 ^ 32 }
@@ -110,7 +110,7 @@ pub fn read_table<'a>(
         (λ next. (t : Table) ×
         (table_at (section_from target section.now at)
         ≡ Ok (t, section_from target section.now next)) ×
-        (kept_of contents.new ≡ with_table (kept_of contents.old) t))
+        KeepsTable t contents.old contents.new)
         (λ f. (f ≡ memory) ⊎ (table_at (section_from target section.now at) ≡ Err f)) }
     ensures forward { IfOk result (λ next. at < next × next ≤ length section.now) }
     ensures inside { IfErr result (λ fault. fault.at ≤ length section.now) }

@@ -34,8 +34,9 @@ impl<'a> CheckedExpression<'a> {
     ghost use Rattle.dw_stack.specs.Expressions.{IsGoodExpression, IsDepthOf, RunsWellWithin, operations_in};
     ghost use Rattle.dw_stack.specs.Certificates.{checked_of};
 
-    /// An expression with what was learned of it.
-    pub(crate) fn new(expression: Expression<'a>, kind: Kind, depth: u8, count: u32) -> Self
+    /// An expression that is known to be good as this kind, with its depth and how many operations it has: a caller who kept these
+    /// proves that they are so, and nothing is judged again.
+    pub fn new(expression: Expression<'a>, kind: Kind, depth: u8, count: u32) -> Self
         requires { IsChecked (record {
           kind = kind;
           target = target_of expression;

@@ -9,6 +9,6 @@ returns c =
     let checked = c.args.checked.now in
     let in_frame : length c.expressions-of_frame.result.now ≡ length checked.frame.expressions =
     of_mapped _ _ _ (c.expressions-of_frame.ensures ∙ ap (λ (f : Frame). f.expressions) c.frame.ensures) in
-    let in_lists : length c.expressions-of_lists.result.now ≡ length (located_in checked.lists) =
-    of_mapped _ _ _ (c.expressions-of_lists.ensures ∙ ap located_in c.lists.ensures.lists) in
-    omega (arith, in_frame, in_lists)
+    let in_lists : length c.expressions.result ≡ length (located_in checked.lists) =
+    ap length (c.expressions.ensures.expressions ∙ ap located_in c.lists.ensures.lists) in
+    omega (arith, in_frame, in_lists, c.len-of_lists.ensures.value)

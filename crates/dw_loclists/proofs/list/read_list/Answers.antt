@@ -10,10 +10,9 @@ use Rattle.dw_loclists.specs.Entries.{Entry, is_end, is_default}
 use Rattle.dw_loclists.specs.Bounds.{IsBefore}
 use Rattle.dw_loclists.specs.Reading.{list_at, entries_at, entry_fault}
 use Rattle.dw_loclists.specs.Views.{entry_of}
-use Rattle.dw_stack.specs.Located.{all_located}
 use Rattle.dw_loclists.proofs.EachEntry.{checked-refused, checked-none, checked-fault, before-inside}
-use Rattle.dw_loclists.proofs.EachList.{listed, entries-end, entries-last, entries-refused, list-ends, list-stops, next-entry, end-nothing}
-use Rattle.dw_loclists.proofs.EachList.{more-kept}
+use Rattle.dw_loclists.proofs.EachList.{listed, entries-end, entries-last, entries-refused, list-ends, list-stops, next-entry}
+use Rattle.dw_loclists.proofs.EachList.{keeps-entry, keeps-end}
 use Rattle.dw_loclists.proofs.list.read_list.Goals as goal
 
 abbrev no-list : Fault → Result (List Entry × ReadPosition) Fault
@@ -77,7 +76,8 @@ returns-then-is_end-clause-exact c =
     (checked-none c.entries.has_default here entry c.read.new.cursor c.in_ok-entry.ensures.exact fine) last in (
       listed c.args.cursor.now.position es,
       list-ends c.args.cursor.now here c.read.new.cursor c.entries.has_default es before.so_far.1 read,
-      c.in_ok-check_entry.ensures.kept ∙ (end-nothing entry (all_located c.entries.expressions.items) last ∙ before.so_far.2),
+      keeps-end es entry c.args.expressions.now.items c.entries.expressions.items c.check_entry.new.expressions.items last before.so_far.2
+          c.in_ok-check_entry.ensures.kept,
     )
 
 pub returns-clause-exact : goal.returns-clause-exact
@@ -109,8 +109,8 @@ entries-preserved-then-has_default c =
         es ++ entry ∷ [],
         next-entry c.args.cursor.now here c.read.new.cursor c.entries.has_default c.entries.has_default es entry before.so_far.1 read going
             or,
-        more-kept (all_located c.args.expressions.now.items) (all_located c.entries.expressions.items)
-            (all_located c.check_entry.new.expressions.items) es entry before.so_far.2 c.in_ok-check_entry.ensures.kept,
+        keeps-entry es entry c.args.expressions.now.items c.entries.expressions.items c.check_entry.new.expressions.items before.so_far.2
+            c.in_ok-check_entry.ensures.kept,
       );
       goes = record {
         forward = omega (arith, before.goes.forward, goes.forward);
@@ -137,8 +137,8 @@ entries-preserved c =
         es ++ entry ∷ [],
         next-entry c.args.cursor.now here c.read.new.cursor c.entries.has_default c.is_default-has_default.result es entry before.so_far.1
             read going or,
-        more-kept (all_located c.args.expressions.now.items) (all_located c.entries.expressions.items)
-            (all_located c.check_entry.new.expressions.items) es entry before.so_far.2 c.in_ok-check_entry.ensures.kept,
+        keeps-entry es entry c.args.expressions.now.items c.entries.expressions.items c.check_entry.new.expressions.items before.so_far.2
+            c.in_ok-check_entry.ensures.kept,
       );
       goes = record {
         forward = omega (arith, before.goes.forward, goes.forward);

@@ -1,11 +1,13 @@
-use Rattle.std.proofs.Common.{◌≡◌, [], ◌∷◌, ◌++◌, Some, sym, ap, ◌∙◌, arith, inl, inr}
+use Rattle.std.proofs.Common.{◌≡◌, List, [], ◌∷◌, ◌++◌, Some, sym, ap, subst, ◌∙◌, arith, inl, inr}
 use Rattle.std.specs.Prelude.{◌⊎◌}
 use Rattle.std.proofs.lemmas.Grind.{common_steps}
 use Rattle.dw_bytes.specs.Answers.{memory}
 use Rattle.dw_loclists.specs.Reading.{tables_from, lists_fault}
-use Rattle.dw_loclists.specs.Kept.{Kept, kept_from, with_table}
+use Rattle.dw_loclists.specs.Lists.{Table, lists_of}
+use Rattle.dw_loclists.specs.Locations.{expressions_in}
+use Rattle.dw_loclists.specs.Kept.{Kept, kept_from, with_table, AreKeptOf}
 use Rattle.dw_loclists.proofs.EachTable.{at-fault}
-use Rattle.dw_loclists.proofs.KeptLists.{table-kept}
+use Rattle.dw_loclists.proofs.KeptLists.{table-kept, keeps-table}
 use Rattle.dw_loclists.proofs.Checked.{all-tables, tables-checked, tables-are, tables-fault, one-more}
 use Rattle.dw_loclists.proofs.lists.check_lists.Goals as goal
 
@@ -33,7 +35,9 @@ tables-preserved c =
       so_far = (
         ts ++ read.0 ∷ [],
         one-more target section c.tables.at c.in_ok-at.at ts read.0 before.so_far.1 read.1,
-        read.2 ∙ (ap (λ (k : Kept). with_table k read.0) before.so_far.2 ∙ table-kept ts read.0),
+        read.2.kept ∙ (ap (λ (k : Kept). with_table k read.0) before.so_far.2 ∙ table-kept ts read.0),
+        keeps-table ts read.0 c.tables.contents.expressions.items c.read_table.new.contents.expressions.items before.so_far.3
+            read.2.expressions,
       );
       inside = c.in_ok-at.ensures.forward.1;
     }
@@ -44,9 +48,12 @@ invariant_of-result c =
     let section = c.args.section.now in
     let before = c.tables.invariant in
     let all = all-tables target section c.tables.at before.so_far.0 before.so_far.1 (omega arith) in
+    let same = sym (tables-are target section before.so_far.0 all) in
     record {
       checked = tables-checked target section before.so_far.0 all;
-      kept = before.so_far.2 ∙ ap kept_from (sym (tables-are target section before.so_far.0 all));
+      kept = before.so_far.2 ∙ ap kept_from same;
+      expressions = subst (λ (ts : List Table). AreKeptOf (expressions_in (lists_of ts)) c.tables.contents.expressions.items) same
+          before.so_far.3;
       short = c.requires;
     }
 

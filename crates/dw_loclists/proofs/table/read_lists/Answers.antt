@@ -4,13 +4,11 @@ use Rattle.std.proofs.lemmas.Grind.{common_steps}
 use Rattle.std.proofs.lemmas.List.{map-append}
 use Rattle.dw_bytes.specs.Answers.{memory}
 use Rattle.dw_loclists.specs.declared.contents.LocationList.{LocationList}
-use Rattle.dw_loclists.specs.Locations.{expressions_of}
 use Rattle.dw_loclists.specs.Reading.{lists_at}
 use Rattle.dw_loclists.specs.Kept.{kept_of}
 use Rattle.dw_loclists.specs.Views.{start_of}
-use Rattle.dw_stack.specs.Located.{all_located}
 use Rattle.dw_loclists.proofs.EachTable.{next-list, last-list, bad-list, list-begins}
-use Rattle.dw_loclists.proofs.KeptLists.{kept-as, list-kept, same-kept}
+use Rattle.dw_loclists.proofs.KeptLists.{kept-as, list-kept, keeps-list}
 use Rattle.dw_loclists.proofs.table.read_lists.Goals as goal
 
 pub returns-in_err-read_list-clause-exact : goal.returns-in_err-read_list-clause-exact
@@ -44,12 +42,12 @@ lists-preserved c =
       so_far = (
         ls ++ l ∷ [],
         next-list c.args.cursor.now here c.read_list.new.cursor ls l before.so_far.1 read,
-        list-kept (kept_of c.args.contents.now) (kept_of old)
-            (kept-as old.tables.items (map start_of c.push.new.self.items) (all_located c.read_list.new.expressions.items)) ls l
-            before.so_far.2
-            (same-kept old.tables.items (map start_of c.push.new.self.items) (map start_of old.lists.items ++ l.offset ∷ [])
-            (all_located c.read_list.new.expressions.items) (all_located old.expressions.items ++ expressions_of l.entries) starts
-            c.in_ok-read_list.ensures.exact.2),
+        record {
+          kept = list-kept (kept_of c.args.contents.now) (kept_of old) (kept-as old.tables.items (map start_of c.push.new.self.items)) ls l
+              before.so_far.2.kept (ap (kept-as old.tables.items) starts);
+          expressions = keeps-list ls l c.args.contents.now.expressions.items old.expressions.items c.read_list.new.expressions.items
+              before.so_far.2.expressions c.in_ok-read_list.ensures.exact.2;
+        },
       );
       goes = record {
         forward = omega (arith, before.goes.forward, goes.forward);

@@ -30,7 +30,7 @@ check_array-requires c =
     let first_is : c.len-first.result ≡ length c.args.contents.now.lists.items = grind (arith, common_steps) in
     let starts =
     slice-starts c.deref.result.now c.args.contents.now.lists.items c.read_lists.new.contents.lists.items c.len-first.result
-    (starts_of lists.0) c.deref.ensures.value first_is (ap (λ (k : Kept). k.lists) lists.2) in
+    (starts_of lists.0) c.deref.ensures.value first_is (ap (λ (k : Kept). k.lists) lists.2.kept) in
     let here = c.skip_offsets.new.self in
     let are = lists-found here.target here lists.0 refl lists.1 in
     ascends-back start_of (take (length c.deref.result.now - c.len-first.result) (drop c.len-first.result c.deref.result.now))
@@ -51,7 +51,7 @@ returns-in_err-check_array-clause-exact c =
     let first_is : c.len-first.result ≡ length c.args.contents.now.lists.items = grind (arith, common_steps) in
     let starts =
     slice-starts c.deref.result.now c.args.contents.now.lists.items c.read_lists.new.contents.lists.items c.len-first.result
-    (starts_of lists.0) c.deref.ensures.value first_is (ap (λ (k : Kept). k.lists) lists.2) in
+    (starts_of lists.0) c.deref.ensures.value first_is (ap (λ (k : Kept). k.lists) lists.2.kept) in
     let cursor_is : c.at-cursor.result ≡ section_from target bytes body.start = grind (arith, common_steps) in
     let header : fields_at (table_header target) (section_from target bytes body.start) ≡ Ok (c.in_ok-count.count, mid) =
     ap (fields_at (table_header target)) (sym cursor_is) ∙ c.in_ok-count.ensures.exact in
@@ -83,7 +83,7 @@ returns-clause-exact c =
     let first_is : c.len-first.result ≡ length c.args.contents.now.lists.items = grind (arith, common_steps) in
     let starts =
     slice-starts c.deref.result.now c.args.contents.now.lists.items c.read_lists.new.contents.lists.items c.len-first.result
-    (starts_of lists.0) c.deref.ensures.value first_is (ap (λ (k : Kept). k.lists) lists.2) in
+    (starts_of lists.0) c.deref.ensures.value first_is (ap (λ (k : Kept). k.lists) lists.2.kept) in
     let cursor_is : c.at-cursor.result ≡ section_from target bytes body.start = grind (arith, common_steps) in
     let header : fields_at (table_header target) (section_from target bytes body.start) ≡ Ok (c.in_ok-count.count, mid) =
     ap (fields_at (table_header target)) (sym cursor_is) ∙ c.in_ok-count.ensures.exact in
@@ -104,5 +104,11 @@ returns-clause-exact c =
     c.check_array.new.cursor body.format (section_from target bytes body.start) c.in_ok-count.count offsets.0 offsets_are.0 lists.0
     c.in_ok-body.ensures.exact header offsets.1 lists.1 named in
     let tables : c.push.new.self.items ≡ c.read_lists.new.contents.tables.items ++ c.args.at ∷ [] = grind (arith, common_steps) in
-    let t = table-of c.args.at body.format mid.position offsets_are.0 lists.0 in
-    (t, made, behind-lists (kept_of c.args.contents.now) (kept_of c.read_lists.new.contents) t c.push.new.self.items lists.2 tables)
+    let t = table-of c.args.at body.format mid.position offsets_are.0 lists.0 in (
+      t,
+      made,
+      record {
+        kept = behind-lists (kept_of c.args.contents.now) (kept_of c.read_lists.new.contents) t c.push.new.self.items lists.2.kept tables;
+        expressions = lists.2.expressions;
+      },
+    )

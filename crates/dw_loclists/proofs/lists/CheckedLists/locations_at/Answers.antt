@@ -1,21 +1,16 @@
-use Rattle.std.proofs.Common.{◌≡◌, ℕ, false, List, [], ◌∷◌, ◌++◌, map, Contains, Result, Ok, refl, sym, ap, subst, ◌∙◌, arith}
+use Rattle.std.proofs.Common.{◌≡◌, ℕ, false, List, ◌++◌, Contains, Result, Ok, refl, sym, ap, subst, ◌∙◌, arith}
 use Rattle.std.specs.Prelude.{IsOk}
 use Rattle.dw_bytes.specs.declared.fault.Fault.{Fault}
 use Rattle.dw_bytes.specs.Reading.{ReadPosition, section_from}
-use Rattle.dw_stack.specs.declared.checked.CheckedExpression.{CheckedExpression}
-use Rattle.dw_loclists.specs.Bounds.{Ascends}
 use Rattle.dw_loclists.specs.Entries.{Entry}
 use Rattle.dw_loclists.specs.Lists.{Loclist, starts_of}
 use Rattle.dw_loclists.specs.Locations.{bounded_at, defaults_in, or_else_all}
-use Rattle.dw_stack.specs.Located.{LocatedExpression, all_located}
 use Rattle.dw_loclists.specs.Reading.{entries_at, ListSection, lists_in, located_in}
-use Rattle.dw_loclists.specs.Kept.{Kept}
-use Rattle.dw_loclists.specs.Views.{start_of, offset_of}
+use Rattle.dw_loclists.specs.Kept.{AreKeptOf}
+use Rattle.dw_loclists.specs.Views.{start_of}
 use Rattle.dw_loclists.specs.Walks.{entries_in}
-use Rattle.dw_loclists.proofs.Checked.{expressions-ascend}
-use Rattle.dw_loclists.proofs.Located.{list-read, inside-section, given-among}
-use Rattle.dw_loclists.proofs.Order.{offsets-of}
-use Rattle.dw_loclists.proofs.Search.{ascends-back, contained-map}
+use Rattle.dw_loclists.proofs.Located.{list-read, inside-section, given-among, kept-among, kept-ascend}
+use Rattle.dw_loclists.proofs.Search.{contained-map}
 use Rattle.dw_loclists.proofs.lists.CheckedLists.locations_at.Goals as goal
 
 abbrev begins : Loclist → ℕ
@@ -29,15 +24,6 @@ at-requires-clause-inside c =
     let l = contained-map begins (lists_in s) (start_of c.args.list.now) among in
     omega (arith, inside-section s l.0 c.self.invariant.checked l.1, l.2, c.offset.ensures)
 
-ascends-located : (xs : List (ℕ × CheckedExpression)) (ys : List LocatedExpression) → all_located xs ≡ ys → Ascends (λ n. n) (offsets-of ys)
-    → Ascends offset_of xs
-ascends-located xs ys is up = ascends-back offset_of xs
-    (subst (Ascends (λ n. n)) (sym (ap (λ (zs : List LocatedExpression). offsets-of zs) is) ∙ same xs) up)
-  where
-    same : (zs : List (ℕ × CheckedExpression)) → offsets-of (all_located zs) ≡ map offset_of zs
-    same [] = refl
-    same (z ∷ zs) = ap (λ (t : List ℕ). offset_of z ∷ t) (same zs)
-
 pub new-requires : goal.new-requires
 new-requires c =
     let s : ListSection = record { target = c.self.inside.target; section = c.self.inside.section.now } in
@@ -49,15 +35,15 @@ new-requires c =
     let here : c.at.result ≡ section_from s.target s.section l.0.offset =
     c.at.ensures ∙ ap (λ n. section_from s.target s.section n) (c.offset.ensures ∙ sym l.2) in
     let ahead : entries_at false c.at.result ≡ Ok (l.0.entries, read.0) = ap (entries_at false) here ∙ read.1 in
-    let kept : all_located c.deref.result.now ≡ located_in s =
-    ap all_located c.deref.ensures.value ∙ ap (λ (k : Kept). k.expressions) c.self.invariant.kept in
+    let kept : AreKeptOf (located_in s) c.deref.result.now =
+    subst (AreKeptOf (located_in s)) (sym c.deref.ensures.value) c.self.invariant.expressions in
     record {
       readable = λ going. subst (λ (r : Result (List Entry × ReadPosition) Fault). IsOk r) (sym ahead) refl;
-      order = ascends-located c.deref.result.now (located_in s) kept (expressions-ascend s checked);
+      order = kept-ascend s c.deref.result.now checked kept;
       among = λ going x h.
           let given : Contains (bounded_at c.args.base c.args.address l.0.entries ++ defaults_in l.0.entries) x =
           subst (λ (es : List Entry). Contains (bounded_at c.args.base c.args.address es ++ defaults_in es) x) (ap entries_in ahead) h in
-          subst (λ (xs : List LocatedExpression). Contains xs x) (sym kept) (given-among s l.0 c.args.base c.args.address x l.1 given);
+          kept-among (located_in s) c.deref.result.now x kept (given-among s l.0 c.args.base c.args.address x l.1 given);
     }
 
 pub returns : goal.returns

@@ -2,7 +2,7 @@ use Rattle.std.proofs.Common.{arith, rules}
 use Rattle.dw_check.proofs.Sent.{sent_next, sent_front}
 use Rattle.dw_check.proofs.Writing.{writes_front}
 use Rattle.dw_check.proofs.Reported.{next_here}
-use Rattle.dw_check.proofs.reports.write_expressions.Goals as goal
+use Rattle.dw_check.proofs.reports.write_frame_expressions.Goals as goal
 
 pub loop-located-preserved : goal.loop-located-preserved
 loop-located-preserved g c = record {

@@ -1,0 +1,75 @@
+-- What a loop over expressions has written of their lines.
+use Rattle.std.proofs.Common.{◌≡◌, ℕ, List, [], ◌∷◌, ◌++◌, refl, sym, ap, subst, ◌∙◌, append_assoc, length}
+use Rattle.std.specs.Prelude.{Option}
+use Rattle.std.specs.Io.KnownBytes.{Appends}
+use Rattle.std.proofs.lemmas.List.{append-nil}
+use Rattle.dw_stack.specs.declared.checked.CheckedExpression.{CheckedExpression}
+use Rattle.dw_stack.specs.Certificates.{checked_of}
+use Rattle.dw_stack.specs.Expressions.{operations_in}
+use Rattle.dw_stack.specs.Located.{LocatedExpression, located_of}
+use Rattle.dw_stack.proofs.Stable.{checked_stable}
+use Rattle.dw_stack.proofs.Unique.{one_depth}
+use Rattle.dw_check.specs.Report.{AreLines, expression_line}
+use Rattle.dw_check.specs.ReportViews.{line_of}
+use Rattle.dw_check.specs.SinkBytes.{AppendsFront}
+use Rattle.dw_check.specs.declared.stop.Section.{Section}
+use Rattle.dw_check.proofs.Growth.{appends_nothing, appends_more, front_more, front_wider}
+
+-- Of a text, which has a line for each, those of the expressions that came are written, and behind them it has those of the rest.
+pub record Lined (section : Section) (text : List ℕ) (rest : List LocatedExpression) (old new : Option (List ℕ)) : Type 0 where
+  pub came : List ℕ
+  pub left : List ℕ
+  pub whole : came ++ left ≡ text
+  pub sent : Appends old new came
+  pub ahead : AreLines section rest left
+
+pub lined_none : (section : Section) (text : List ℕ) (all : List LocatedExpression) (a : Option (List ℕ)) → AreLines section all text
+    → Lined section text all a a
+lined_none section text all a are = record { came = []; left = text; whole = refl; sent = appends_nothing a; ahead = are }
+
+-- the line of the next one, and those behind it
+record Next (section : Section) (rest : List LocatedExpression) (y : ℕ × CheckedExpression) (left : List ℕ) : Type 0 where
+  pub behind : List ℕ
+  pub ahead : AreLines section rest behind
+  pub parts : left ≡ line_of section y ++ behind
+
+next_line : (section : Section) (all rest : List LocatedExpression) (y : ℕ × CheckedExpression) (left : List ℕ) → all ≡ located_of y ∷ rest
+    → AreLines section all left → Next section rest y left
+next_line section all rest y left e are =
+    let it = checked_of y.1 in
+    let h = subst (λ (l : List LocatedExpression). AreLines section l left) e are in
+    let depth : h.0 ≡ it.depth =
+    one_depth it.kind (operations_in it.target it.bytes) (length it.bytes) h.0 it.depth h.2 (checked_stable it y.1.checked).depth in
+    record { behind = h.1; ahead = h.3; parts = h.4 ∙ ap (λ d. expression_line section (located_of y) d ++ h.1) depth }
+
+-- the next one's too
+pub lined_next : (section : Section) (text : List ℕ) (all rest : List LocatedExpression) (y : ℕ × CheckedExpression)
+    (a b c : Option (List ℕ))
+    → all ≡ located_of y ∷ rest → Lined section text all a b → Appends b c (line_of section y) → Lined section text rest a c
+lined_next section text all rest y a b c e s more =
+    let next = next_line section all rest y s.left e s.ahead in
+    record {
+      came = s.came ++ line_of section y;
+      left = next.behind;
+      whole = append_assoc s.came (line_of section y) next.behind ∙ ap (λ (l : List ℕ). s.came ++ l) (sym next.parts) ∙ s.whole;
+      sent = appends_more a b c s.came (line_of section y) s.sent more;
+      ahead = next.ahead;
+    }
+
+-- a beginning of the next one's
+pub lined_front : (section : Section) (text : List ℕ) (all rest : List LocatedExpression) (y : ℕ × CheckedExpression)
+    (a b c : Option (List ℕ))
+    → all ≡ located_of y ∷ rest → Lined section text all a b → AppendsFront b c (line_of section y) → AppendsFront a c text
+lined_front section text all rest y a b c e s part =
+    let next = next_line section all rest y s.left e s.ahead in
+    let parts : s.came ++ (line_of section y ++ next.behind) ≡ text = ap (λ (l : List ℕ). s.came ++ l) (sym next.parts) ∙ s.whole in
+    subst (AppendsFront a c) parts
+    (front_more a b c s.came (line_of section y ++ next.behind) s.sent (front_wider b c (line_of section y) next.behind part))
+
+-- all of them
+pub lined_all : (section : Section) (text : List ℕ) (left : List LocatedExpression) (a b : Option (List ℕ)) → left ≡ []
+    → Lined section text left a b → Appends a b text
+lined_all section text left a b e s =
+    let none : s.left ≡ [] = subst (λ (l : List LocatedExpression). AreLines section l s.left) e s.ahead in
+    let whole : s.came ≡ text = sym (append-nil s.came) ∙ ap (λ (l : List ℕ). s.came ++ l) (sym none) ∙ s.whole in
+    subst (Appends a b) whole s.sent
