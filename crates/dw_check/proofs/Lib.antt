@@ -1,5 +1,6 @@
 pub mod Assembled
 pub mod Callers
+pub mod CallersFit
 pub mod EachReply
 pub mod EachReport
 pub mod Evaluated

@@ -7,10 +7,14 @@ pub mod Report
 pub mod Headline
 -- the frame that called (6.4.1)
 pub mod Caller
+-- which callers have numbers below 2^w alone
+pub mod CallerFits
 -- the lines of sections and rows
 pub mod Text
 -- the text of an outcome
 pub mod Outcomes
+-- the text of a caller
+pub mod CallerText
 -- the names of faults
 pub mod Names
 -- numbers and addresses as text

@@ -3,6 +3,7 @@
 
 mod addresses;
 mod arguments;
+mod caller_text;
 mod command_line;
 mod evaluations;
 mod files;

@@ -1,14 +1,16 @@
 //! The frame that called: its registers, its CFA, and where it goes on.
 
-ghost use Rattle.std.specs.Prelude.{◌≡◌, option_map};
-ghost use Rattle.dw_check.specs.Caller.{Unwinds, machine};
+ghost use Rattle.std.specs.Prelude.{◌≡◌, ◌^◌, ℕ, IfSome, Option, option_map};
+ghost use Rattle.dw_eval.specs.Numbers.{width_of};
+ghost use Rattle.dw_check.specs.Caller.{Caller as OfCaller, Unwinds, machine};
+ghost use Rattle.dw_check.specs.CallerFits.{CallerFits};
 ghost use Rattle.dw_check.specs.CallerViews.{caller_in};
 
 use crate::present::Present;
 use crate::whole_check::Checked;
 use arrayvec::ArrayVec;
 use dw_eval::{Memory, Registers};
-use dw_rows::{MAX_RULES, UnwindTableRow};
+use dw_rows::{CheckedFrame, MAX_RULES, UnwindTableRow};
 
 /// What is known of a register of the caller, of its CFA or of its return address.
 #[derive(Clone, Copy, Debug, PartialEq, Eq)]
@@ -46,6 +48,18 @@ pub struct Caller {
     pub return_address: Answer,
 }
 
+/// All numbers of the callers in a checked section are below 2^w. It does nothing.
+fn callers_fit(frame: &CheckedFrame<'_>)
+    ensures { (registers memory : ℕ → Option ℕ) (address : ℕ) (caller : Option OfCaller)
+        → Unwinds (machine frame.now.target registers memory) frame.now address caller
+        → IfSome caller (CallerFits (2 ^ width_of frame.now.target.address_size)) }
+{
+    // A section without a fault has expressions of its own target alone.
+    let _ = frame.section();
+    dw_rows::laws::checked_sections();
+    dw_eval::laws::numbers_fit();
+}
+
 /// The caller of the frame that stands at an address, over the frame's registers and memory, or none where no FDE covers the
 /// address (DWARF 5, section 6.4.1).
 ///
@@ -58,10 +72,15 @@ pub fn unwind<'a, R: Registers, M: Memory>(
     registers: &R,
     memory: &M,
 ) -> Option<Caller>
-    ensures { Unwinds (machine checked.now.frame.target (R.contents registers.now)
+    ensures unwinds { Unwinds (machine checked.now.frame.target (R.contents registers.now)
         (M.bytes memory.now)) checked.now.frame address (option_map caller_in result) }
+
+    // All its numbers are below 2^w, w being the size of an address in bits.
+    ensures fits { IfSome (option_map caller_in result)
+        (CallerFits (2 ^ width_of checked.now.frame.target.address_size)) }
 {
     let frame = checked.frame();
+    callers_fit(frame);
     let mut row = UnwindTableRow::empty();
     match frame.row_for_address_into(address, &mut row) {
         Some((cie, _)) => {

@@ -1,11 +1,25 @@
+use Rattle.std.proofs.Common.{map}
+use Rattle.std.specs.Prelude.{Some}
+use Rattle.dw_check.specs.Caller.{Caller}
+use Rattle.dw_check.specs.CallerViews.{answer_in, found_in}
 use Rattle.dw_check.proofs.Callers.{by_row}
 use Rattle.dw_check.proofs.unwinding.unwind.Goals as goal
 
-pub returns-in-Some : goal.returns-in-Some
-returns-in-Some g c =
+pub returns-in-Some-clause-unwinds : goal.returns-in-Some-clause-unwinds
+returns-in-Some-clause-unwinds g c =
     by_row (g.R.Registers.contents c.args.registers.now) (g.M.Memory.bytes c.args.memory.now) _ _ _ _ _ _ _ _ _ _ _ _ _
     c.frame-frame.ensures c.target.ensures c.in-Some.ensures.only c.in-Some.ensures.cie c.in-Some.ensures.row c.cfa.ensures.cfa
     c.cfa-cfa.ensures c.rules.ensures.rules c.registers.ensures c.register.ensures.rule c.register-in-Some.ensures
 
-pub returns-in-None : goal.returns-in-None
-returns-in-None g c = rw c.frame-frame.ensures at c.in-None.ensures.only
+pub returns-in-Some-clause-fits : goal.returns-in-Some-clause-fits
+returns-in-Some-clause-fits g c =
+    let caller : Caller = record {
+      cfa = answer_in c.cfa-cfa.result;
+      registers = map found_in c.registers.result.items;
+      return_address = answer_in c.register-in-Some.result;
+    } in
+    (rw c.frame-frame.ensures at c.callers_fit.ensures) (g.R.Registers.contents c.args.registers.now)
+    (g.M.Memory.bytes c.args.memory.now) c.args.address (Some caller) (returns-in-Some-clause-unwinds g c)
+
+pub returns-in-None-clause-unwinds : goal.returns-in-None-clause-unwinds
+returns-in-None-clause-unwinds g c = rw c.frame-frame.ensures at c.in-None.ensures.only

@@ -1,0 +1,255 @@
+-- The numbers of a caller are below 2^w, by what is said of checked sections and of runs.
+use Rattle.std.proofs.Common.{◌≡◌, ℕ, zero, suc, pos, ◌+◌, ◌^◌, ◌<◌, ◌≤◌, ◌==◌, Bool, true, false, cond, if◌then◌else◌, List, [], ◌∷◌, length, map, All, IfSome, Contains, refl, sym, subst, arith, inl, inr}
+use Rattle.std.specs.Prelude.{ℤ, Option, Some, None, find, nat_le, option_map}
+use Rattle.std.specs.List.{AllByRecursion}
+use Rattle.std.proofs.lemmas.List.Elements.{All-from_recursion}
+use Rattle.std.proofs.lemmas.Option.{option_and_then_some}
+use Rattle.dw_bytes.specs.declared.target.Target.{Target}
+use Rattle.dw_bytes.specs.declared.target.AddressSize.{AddressSize}
+use Rattle.dw_bytes.specs.declared.target.AddressSize.TheVariants.{Four, Eight}
+use Rattle.dw_bytes.specs.Encoding.{bytes_of_address}
+use Rattle.dw_stack.specs.declared.state.Kind.{Kind}
+use Rattle.dw_stack.specs.declared.state.Kind.TheVariants.{FrameCfa, FrameRegister, Location}
+use Rattle.dw_stack.specs.Expressions.{IsGoodExpression, operations_in}
+use Rattle.dw_stack.specs.Located.{LocatedExpression}
+use Rattle.dw_stack.specs.Machine.{Configuration, EvaluationError, Unreadable, DivisionByZero, GivesResult, LocationDescription, Piece, Run}
+use Rattle.dw_stack.specs.Paths.{Placed}
+use Rattle.dw_rows.specs.Expressions.{expression_at}
+use Rattle.dw_rows.specs.GivenRows.{nowhere, or_nowhere, located_at, rule_with, cfa_with, rules_with, row_with}
+use Rattle.dw_rows.specs.Rules.{PlacedRule, PlacedCfa, PlacedRow, Rule, Cfa, Row, RuleOver, register_and_offset, cfa_expression, rule_in, default, same_value, offset, val_offset, register, expression, val_expression}
+use Rattle.dw_rows.specs.Section.{Frame, IsChecked, cie_in, covers, rows_behind, rows_in, row_of}
+use Rattle.dw_rows.specs.UnwindRows.{has_address}
+use Rattle.dw_eval.specs.Fits.{NumbersFit}
+use Rattle.dw_eval.specs.Meaning.{meaning_of}
+use Rattle.dw_eval.specs.Numbers.{width_of}
+use Rattle.dw_eval.specs.Results.{Outcome, located, no_answer, result_of, first_stack, started, RunsFrom, IsRun}
+use Rattle.dw_eval.specs.World.{World, width, number_at}
+use Rattle.dw_eval.proofs.Entries.{entry_below}
+use Rattle.dw_eval.proofs.Pushes.{reduced_below}
+use Rattle.dw_check.specs.Caller.{Answer, value, undefined, unreadable, division_by_zero, machine, with_cfa, under, moved, moved_content, word, behind, answer_of, Gives, IsCfa, NeedsCfa, IsRegister, AreRegisters, Caller, IsCaller, Unwinds}
+use Rattle.dw_check.specs.CallerFits.{AnswerFits, CallerFits}
+
+-- ---- answers without a run
+
+content_fits : (e : World) (by : ℤ) (o : Option ℕ) → AnswerFits (2 ^ width e) (moved_content e by o)
+content_fits e by (Some n) = reduced_below (width e) _
+content_fits e by None = tt
+
+either_fits : (m : ℕ) (b : Bool) (x y : Answer) → AnswerFits m x → AnswerFits m y → AnswerFits m (if b then x else y)
+either_fits m true x y h k = h
+either_fits m false x y h k = k
+
+word_fits : (e : World) (a : ℕ) → AnswerFits (2 ^ width e) (word e a)
+word_fits e a =
+    either_fits (2 ^ width e) (nat_le (a + bytes_of_address e.target.address_size) (2 ^ width e)) _ unreadable
+    (content_fits e (pos 0) (number_at e.memory e.target.order a (bytes_of_address e.target.address_size))) tt
+
+behind_fits : (m : ℕ) (a : Answer) (f : ℕ → Answer) → ((n : ℕ) → AnswerFits m (f n)) → AnswerFits m (behind a f)
+behind_fits m (value n) f each = each n
+behind_fits m undefined f each = tt
+behind_fits m unreadable f each = tt
+behind_fits m division_by_zero f each = tt
+
+needs_fit : (m : ℕ) (cfa : Answer) (Is : ℕ → Answer → Type 0) (a : Answer) → ((c : ℕ) → Is c a → AnswerFits m a) → NeedsCfa cfa Is a
+    → AnswerFits m a
+needs_fit m (value c) Is a each h = each c h
+needs_fit m undefined Is a each h = subst (AnswerFits m) (sym h) tt
+needs_fit m unreadable Is a each h = subst (AnswerFits m) (sym h) tt
+needs_fit m division_by_zero Is a each h = subst (AnswerFits m) (sym h) tt
+
+-- ---- expressions of which the numbers are below the modulus of an address
+
+-- the numbers of its runs are ones of addresses of this size
+abbrev IsWithin : AddressSize → LocatedExpression → Type 0
+IsWithin size x = (n : ℕ) → n < 2 ^ width_of x.target.address_size → n < 2 ^ width_of size
+
+nowhere_within : (size : AddressSize) → IsWithin size nowhere
+nowhere_within Four n h = h
+nowhere_within Eight n h = omega (arith, h)
+
+abbrev EachWithin : AddressSize → List LocatedExpression → Type 0
+EachWithin size es = (x : LocatedExpression) → Contains es x → IsWithin size x
+
+found_within : (size : AddressSize) (at : ℕ) (es : List LocatedExpression) → EachWithin size es → IsWithin size (located_at es at)
+found_within size at [] each = nowhere_within size
+found_within size at (x ∷ es) each =
+    go (each x (zero, omega arith, refl)) (found_within size at es (λ y among. each y (suc among.0, omega (arith, among.1), among.2)))
+    (x.offset == at)
+  where
+    go : IsWithin size x → IsWithin size (located_at es at) → (b : Bool)
+        → IsWithin size (or_nowhere (cond b (Some x) (expression_at es at)))
+    go here later true = here
+    go here later false = later
+
+abbrev RuleWithin : AddressSize → Rule → Type 0
+RuleWithin size (expression x) = IsWithin size x
+RuleWithin size (val_expression x) = IsWithin size x
+RuleWithin size _ = Unit {0}
+
+abbrev CfaWithin : AddressSize → Option Cfa → Type 0
+CfaWithin size (Some (cfa_expression x)) = IsWithin size x
+CfaWithin size _ = Unit {0}
+
+abbrev RulesWithin : AddressSize → List (ℕ × Rule) → Type 0
+RulesWithin size rules = AllByRecursion (λ (entry : ℕ × Rule). RuleWithin size entry.1) rules
+
+module _ (size : AddressSize) (es : List LocatedExpression) (each : EachWithin size es) where
+  rule_within : (x : PlacedRule) → RuleWithin size (rule_with es x)
+  rule_within (expression at) = found_within size at es each
+  rule_within (val_expression at) = found_within size at es each
+  rule_within default = tt
+  rule_within RuleOver.undefined = tt
+  rule_within same_value = tt
+  rule_within (offset n) = tt
+  rule_within (val_offset n) = tt
+  rule_within (register r) = tt
+
+  cfa_within : (o : Option PlacedCfa) → CfaWithin size (option_map (cfa_with es) o)
+  cfa_within None = tt
+  cfa_within (Some (register_and_offset r n)) = tt
+  cfa_within (Some (cfa_expression at)) = found_within size at es each
+
+  rules_within : (rules : List (ℕ × PlacedRule)) → RulesWithin size (rules_with es rules)
+  rules_within [] = tt
+  rules_within (x ∷ rules) = (rule_within x.1, rules_within rules)
+
+if_within : (size : AddressSize) (b : Bool) (x y : Rule) → RuleWithin size x → RuleWithin size y → RuleWithin size (if b then x else y)
+if_within size true x y h k = h
+if_within size false x y h k = k
+
+one_within : (size : AddressSize) (rules : List (ℕ × Rule)) (r : ℕ) → RulesWithin size rules → RuleWithin size (rule_in rules r)
+one_within size [] r h = tt
+one_within size (entry ∷ rules) r h = if_within size (entry.0 == r) _ _ h.0 (one_within size rules r h.1)
+
+-- ---- the row of an address is made of a placed one
+
+found_among : (es : List LocatedExpression) (test : Row → Bool) (rows : List PlacedRow) (row : Row)
+    → find test (map (row_with es) rows) ≡ Some row → (x : PlacedRow) × (row_with es x ≡ row)
+found_among es test [] row is = absurd (cc)
+found_among es test (x ∷ rows) row is = go (found_among es test rows row) (test (row_with es x)) is
+  where
+    go : (find test (map (row_with es) rows) ≡ Some row → (y : PlacedRow) × (row_with es y ≡ row)) → (b : Bool)
+        → cond b (Some (row_with es x)) (find test (map (row_with es) rows)) ≡ Some row → (y : PlacedRow) × (row_with es y ≡ row)
+    go later true e = let same : row_with es x ≡ row = cc in (x, same)
+    go later false e = later e
+
+row_is_with : (s : Frame) (a : ℕ) (row : Row) → row_of s a ≡ Some row → (x : PlacedRow) × (row_with s.expressions x ≡ row)
+row_is_with s a row is =
+    option_and_then_some (λ f. find (has_address a) (rows_in s f)) (find (covers a) s.fdes) row is
+    (λ f found here. found_among s.expressions (has_address a) (rows_behind (cie_in s f) f) row here)
+
+-- ---- runs
+
+located_fits : (m : ℕ) (empty : Bool) (p : Option LocationDescription) (ps : List Piece) (s : List ℕ)
+    → AnswerFits m (answer_of (located empty p ps s))
+located_fits m true p ps s = tt
+located_fits m false p (q ∷ ps) s = tt
+located_fits m false (Some w) [] s = tt
+located_fits m false None [] s = tt
+
+result_fits : (m : ℕ) (kind : Kind) (empty : Bool) (c : Configuration) → GivesResult kind empty c → All (λ n. n < m) c.stack
+    → AnswerFits m (answer_of (result_of kind empty c))
+result_fits m FrameCfa empty c there fits = entry_below m c.stack 0 (omega (arith, there.1)) fits
+result_fits m FrameRegister empty c there fits = entry_below m c.stack 0 (omega (arith, there.1)) fits
+result_fits m Location empty c there fits = located_fits m empty c.pending c.pieces c.stack
+
+none_fits : (m : ℕ) (why : EvaluationError) (at : ℕ) → AnswerFits m (answer_of (no_answer why at))
+none_fits m Unreadable at = tt
+none_fits m DivisionByZero at = tt
+
+more_fits : (m k : ℕ) (a : Answer) → ((n : ℕ) → n < m → n < k) → AnswerFits m a → AnswerFits k a
+more_fits m k (value n) more h = more n h
+more_fits m k undefined more h = tt
+more_fits m k unreadable more h = tt
+more_fits m k division_by_zero more h = tt
+
+module _ (numbers : (e : World) (kind : Kind) (ops : List Placed) (len n : ℕ) (s : List ℕ) (c : Configuration)
+    → first_stack e kind ≡ Some s → Run (meaning_of e) ops len n (started s) c → NumbersFit (2 ^ width e) c) where
+  run_fits : (e : World) (kind : Kind) (ops : List Placed) (len : ℕ) (o : Outcome) (n : ℕ) → IsRun e kind ops len o n
+      → AnswerFits (2 ^ width e) (answer_of o)
+  run_fits e kind ops len o n run = by (first_stack e kind) refl run
+    where
+      by : (start : Option (List ℕ)) → first_stack e kind ≡ start → RunsFrom e kind ops len start o n
+          → AnswerFits (2 ^ width e) (answer_of o)
+      by None is r = subst (λ p. AnswerFits (2 ^ width e) (answer_of p)) (sym r.0) tt
+      by (Some s) is r = elim r [
+        | inl finish ↦ subst (λ p. AnswerFits (2 ^ width e) (answer_of p)) (sym finish.gives)
+            (result_fits (2 ^ width e) kind (length ops == 0) finish.last finish.ended.result
+            (numbers e kind ops len n s finish.last is finish.run).stack)
+        | inr fail ↦ subst (λ p. AnswerFits (2 ^ width e) (answer_of p)) (sym fail.gives)
+            (none_fits (2 ^ width e) fail.why fail.last.offset)
+      ]
+
+  gives_fit : (e : World) (size : AddressSize) (x : LocatedExpression) (a : Answer) → IsWithin size x → Gives e x a
+      → AnswerFits (2 ^ width_of size) a
+  gives_fit e size x a within g =
+      subst (AnswerFits (2 ^ width_of size)) (sym g.3)
+      (more_fits (2 ^ width_of x.target.address_size) (2 ^ width_of size) (answer_of g.0) within
+      (run_fits (under x.target e) x.kind (operations_in x.target x.bytes) (length x.bytes) g.0 g.1 g.2))
+
+  -- ---- the parts of a caller
+
+  module _ (e : World) where
+    abbrev m : ℕ
+    m = 2 ^ width e
+
+    cfa_fits : (rule : Option Cfa) (a : Answer) → CfaWithin e.target.address_size rule → IsCfa e rule a → AnswerFits m a
+    cfa_fits (Some (register_and_offset r n)) a within h = subst (AnswerFits m) (sym h) (content_fits e n (e.registers r))
+    cfa_fits (Some (cfa_expression x)) a within h = gives_fit e e.target.address_size x a within h
+    cfa_fits None a within h = subst (AnswerFits m) (sym h) tt
+
+    register_fits : (cfa : Answer) (r : ℕ) (rule : Rule) (a : Answer) → RuleWithin e.target.address_size rule → IsRegister e cfa r rule a
+        → AnswerFits m a
+    register_fits cfa r default a within h = subst (AnswerFits m) (sym h) tt
+    register_fits cfa r RuleOver.undefined a within h = subst (AnswerFits m) (sym h) tt
+    register_fits cfa r same_value a within h = subst (AnswerFits m) (sym h) (content_fits e (pos 0) (e.registers r))
+    register_fits cfa r (offset n) a within h =
+        subst (AnswerFits m) (sym h) (behind_fits m cfa (λ c. word e (moved e n c)) (λ c. word_fits e (moved e n c)))
+    register_fits cfa r (val_offset n) a within h =
+        subst (AnswerFits m) (sym h) (behind_fits m cfa (λ c. value (moved e n c)) (λ c. reduced_below (width e) _))
+    register_fits cfa r (register other) a within h = subst (AnswerFits m) (sym h) (content_fits e (pos 0) (e.registers other))
+    register_fits cfa r (expression x) a within h =
+        needs_fit m cfa (λ c b. (address : Answer) × Gives (with_cfa e c) x address × (b ≡ behind address (word e))) a
+        (λ c k. subst (AnswerFits m) (sym k.2) (behind_fits m k.0 (word e) (word_fits e))) h
+    register_fits cfa r (val_expression x) a within h =
+        needs_fit m cfa (λ c b. Gives (with_cfa e c) x b) a (λ c k. gives_fit (with_cfa e c) e.target.address_size x a within k) h
+
+    registers_fit : (cfa : Answer) (rules : List (ℕ × Rule)) (found : List (ℕ × Answer)) → RulesWithin e.target.address_size rules
+        → AreRegisters e cfa rules found → AllByRecursion (λ (x : ℕ × Answer). AnswerFits m x.1) found
+    registers_fit cfa [] [] within h = tt
+    registers_fit cfa [] (x ∷ found) within h = absurd h
+    registers_fit cfa (entry ∷ rules) [] within h = absurd h
+    registers_fit cfa (entry ∷ rules) (x ∷ found) within h =
+        (register_fits cfa entry.0 entry.1 x.1 within.0 h.1, registers_fit cfa rules found within.1 h.2)
+
+    caller_fits : (back : ℕ) (row : Row) (c : Caller) → CfaWithin e.target.address_size row.cfa
+        → RulesWithin e.target.address_size row.rules → IsCaller e back row c → CallerFits m c
+    caller_fits back row c cfa rules is = record {
+      cfa = cfa_fits row.cfa c.cfa cfa is.cfa;
+      registers = All-from_recursion (λ (x : ℕ × Answer). AnswerFits m x.1) c.registers
+          (registers_fit c.cfa row.rules c.registers rules is.registers);
+      return_address = register_fits c.cfa back (rule_in row.rules back) c.return_address
+          (one_within e.target.address_size row.rules back rules) is.return_address;
+    }
+
+  -- ---- the caller at an address
+
+  module _ (good : (s : Frame) → IsChecked s → (x : LocatedExpression) → Contains s.expressions x
+      → IsGoodExpression x.kind x.target x.bytes × (x.target ≡ s.target) × (x.offset + length x.bytes ≤ length s.section)) where
+    each_within : (s : Frame) → IsChecked s → EachWithin s.target.address_size s.expressions
+    each_within s checked x among n h =
+        subst (λ (t : Target). n < 2 ^ width_of t.address_size) (good s checked x among).1 h
+
+    pub unwound_fits : (s : Frame) → IsChecked s → (registers memory : ℕ → Option ℕ) (address : ℕ) (c : Option Caller)
+        → Unwinds (machine s.target registers memory) s address c → IfSome c (CallerFits (2 ^ width_of s.target.address_size))
+    unwound_fits s checked registers memory address None h = tt
+    unwound_fits s checked registers memory address (Some c) h =
+        let e = machine s.target registers memory in
+        let size = s.target.address_size in
+        let placed = row_is_with s address h.row h.row_is in
+        let each = each_within s checked in
+        let cfa : CfaWithin size h.row.cfa =
+        subst (λ (row : Row). CfaWithin size row.cfa) placed.1 (cfa_within size s.expressions each placed.0.cfa) in
+        let rules : RulesWithin size h.row.rules =
+        subst (λ (row : Row). RulesWithin size row.rules) placed.1 (rules_within size s.expressions each placed.0.rules) in
+        caller_fits e h.cie.return_register h.row c cfa rules h.is

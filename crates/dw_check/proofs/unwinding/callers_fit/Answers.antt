@@ -1,0 +1,6 @@
+use Rattle.dw_check.proofs.CallersFit.{unwound_fits}
+use Rattle.dw_check.proofs.unwinding.callers_fit.Goals as goal
+
+pub returns : goal.returns
+returns c =
+    unwound_fits c.numbers_fit.ensures c.checked_sections.ensures.expressions c.args.frame.now c.section.ensures.checked

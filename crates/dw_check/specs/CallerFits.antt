@@ -1,0 +1,14 @@
+-- Which callers have numbers below the modulus alone.
+use Rattle.std.specs.Prelude.{ℕ, ◌<◌, All}
+use Rattle.dw_check.specs.Caller.{Answer, value, Caller}
+
+-- its number, if it is one, is below m
+abbrev pub AnswerFits : ℕ → Answer → Type 0
+AnswerFits m (value n) = n < m
+AnswerFits m _ = Unit {0}
+
+-- all its numbers are below m
+pub record CallerFits (m : ℕ) (caller : Caller) : Type 0 where
+  pub cfa : AnswerFits m caller.cfa
+  pub registers : All (λ found. AnswerFits m found.1) caller.registers
+  pub return_address : AnswerFits m caller.return_address

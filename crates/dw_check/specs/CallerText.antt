@@ -1,0 +1,27 @@
+-- The text of a caller: a line for its CFA, one for each of its registers, and one for where it goes on.
+use Rattle.std.specs.Prelude.{ℕ, List, ◌++◌, Option, Some, None, codes, decimal}
+use Rattle.std.specs.List.{flat_map}
+use Rattle.dw_bytes.specs.declared.target.AddressSize.{AddressSize}
+use Rattle.dw_check.specs.Caller.{Answer, value, undefined, unreadable, division_by_zero, Caller}
+use Rattle.dw_check.specs.Text.{address_text}
+
+-- what is known of a number; a value is shown as an address is
+abbrev pub answer_text : AddressSize → Answer → List ℕ
+answer_text size (value v) = codes "value " ++ address_text size v
+answer_text size undefined = codes "undefined"
+answer_text size unreadable = codes "unreadable"
+answer_text size division_by_zero = codes "division by zero"
+
+-- what it is, and what is known of it
+unfoldable pub answer_line : AddressSize → List ℕ → Answer → List ℕ
+answer_line size what answer = what ++ codes " " ++ answer_text size answer ++ codes "\n"
+
+-- a register by its number
+unfoldable pub found_line : AddressSize → ℕ × Answer → List ℕ
+found_line size found = codes "r" ++ decimal found.0 ++ codes " " ++ answer_text size found.1 ++ codes "\n"
+
+-- the registers stand in the caller's order, which is ascending
+unfoldable pub caller_text : AddressSize → Option Caller → List ℕ
+caller_text size (Some caller) = answer_line size (codes "cfa") caller.cfa ++ flat_map (found_line size) caller.registers
+    ++ answer_line size (codes "return") caller.return_address
+caller_text size None = codes "none\n"

@@ -1,0 +1,124 @@
+//! The text of a caller.
+
+ghost use Rattle.std.specs.Prelude.{◌≡◌, ◌++◌, ◌^◌, false, All, IfSome, OnOk, map, option_copied, option_map};
+ghost use Rattle.std.specs.List.{flat_map};
+ghost use Rattle.std.specs.String.{string_bytes};
+ghost use Rattle.dw_eval.specs.Numbers.{width_of};
+ghost use Rattle.dw_check.specs.CallerFits.{AnswerFits, CallerFits};
+ghost use Rattle.dw_check.specs.CallerText.{answer_text, answer_line, found_line, caller_text};
+ghost use Rattle.dw_check.specs.CallerViews.{answer_in, found_in, caller_in};
+ghost use Rattle.dw_check.specs.Text.{digits_of};
+ghost use Rattle.dw_check.specs.WriteResults.{IsSame, WritesWhole, is_write};
+
+use crate::numbers::{push_address, push_decimal};
+use crate::sink::Sink;
+use crate::stop::ReportFault;
+use crate::unwinding::{Answer, Caller};
+use crate::writer::{Writer, send};
+use dw_bytes::AddressSize;
+use std::alloc::AllocError;
+
+fn push_answer(line: &mut String, size: AddressSize, answer: Answer) -> Result<(), AllocError>
+    requires { AnswerFits (16 ^ digits_of size) (answer_in answer) }
+    ensures { OnOk result (string_bytes line.new ≡ string_bytes line.old
+        ++ answer_text size (answer_in answer)) }
+{
+    match answer {
+        Answer::Value(value) => {
+            line.push_str("value ")?;
+            push_address(line, size, value)
+        }
+        Answer::Undefined => line.push_str("undefined"),
+        Answer::Unreadable => line.push_str("unreadable"),
+        Answer::DivisionByZero => line.push_str("division by zero"),
+    }
+}
+
+#[tactic(auto, unfolding(crate::specs::CallerText::answer_line))]
+fn push_line(
+    line: &mut String,
+    size: AddressSize,
+    what: &str,
+    answer: Answer,
+) -> Result<(), AllocError>
+    requires { AnswerFits (16 ^ digits_of size) (answer_in answer) }
+    ensures { OnOk result (string_bytes line.new ≡ string_bytes line.old
+        ++ answer_line size what.now (answer_in answer)) }
+{
+    line.push_str(what)?;
+    line.push_str(" ")?;
+    push_answer(line, size, answer)?;
+    line.push_str("\n")
+}
+
+#[tactic(auto, unfolding(crate::specs::CallerText::found_line))]
+fn push_register(
+    line: &mut String,
+    size: AddressSize,
+    register: u16,
+    answer: Answer,
+) -> Result<(), AllocError>
+    requires { AnswerFits (16 ^ digits_of size) (answer_in answer) }
+    ensures { OnOk result (string_bytes line.new ≡ string_bytes line.old
+        ++ found_line size (register, answer_in answer)) }
+{
+    line.push_str("r")?;
+    push_decimal(line, register)?;
+    line.push_str(" ")?;
+    push_answer(line, size, answer)?;
+    line.push_str("\n")
+}
+
+fn push_registers(
+    line: &mut String,
+    size: AddressSize,
+    registers: &[(u16, Answer)],
+) -> Result<(), AllocError>
+    requires { All (λ found. AnswerFits (16 ^ digits_of size) found.1) (map found_in registers.now) }
+    ensures { OnOk result (string_bytes line.new ≡ string_bytes line.old
+        ++ flat_map (found_line size) (map found_in registers.now)) }
+{
+    for found in registers {
+        push_register(line, size, found.0, found.1)?;
+    }
+    Ok(())
+}
+
+#[tactic(auto, unfolding(crate::specs::CallerText::caller_text))]
+fn push_caller(
+    line: &mut String,
+    size: AddressSize,
+    caller: Option<&Caller>,
+) -> Result<(), AllocError>
+    requires { IfSome (option_map caller_in (option_copied caller))
+        (CallerFits (16 ^ digits_of size)) }
+    ensures { OnOk result (string_bytes line.new ≡ string_bytes line.old
+        ++ caller_text size (option_map caller_in (option_copied caller.entry))) }
+{
+    match caller {
+        Some(caller) => {
+            push_line(line, size, "cfa", caller.cfa)?;
+            push_registers(line, size, caller.registers.as_slice())?;
+            push_line(line, size, "return", caller.return_address)
+        }
+        None => line.push_str("none\n"),
+    }
+}
+
+/// Writes the lines of a caller, or that there is none.
+pub(crate) fn write_caller<S: Sink>(
+    out: &mut Writer<'_, S>,
+    caller: Option<&Caller>,
+) -> Result<(), ReportFault>
+    requires fits { IfSome (option_map caller_in (option_copied caller))
+        (CallerFits (2 ^ width_of out.old.size)) }
+    requires runs { S.has_stopped out.old.sink.now ≡ false }
+    ensures same { IsSame out.old out.new }
+    ensures written { WritesWhole (S.taken out.old.sink.now) (S.taken out.new.sink.now) result
+        (caller_text out.old.size (option_map caller_in (option_copied caller.entry))) }
+    ensures stops { S.has_stopped out.new.sink.now ≡ is_write result }
+{
+    out.line.clear();
+    push_caller(out.line, out.size, caller)?;
+    send(out)
+}
