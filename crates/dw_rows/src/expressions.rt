@@ -44,7 +44,7 @@ impl<'a> LentExpressions<'a> {
     }
 
     /// The expression whose first byte stands at an offset of the section, by halving: those of CIEs, which are few, come first.
-    pub fn at(&self, offset: u32) -> Option<CheckedExpression<'a>>
+    pub(crate) fn at(&self, offset: u32) -> Option<CheckedExpression<'a>>
         ensures { MatchOption result
             (expression_at (lent_by self.now) offset ≡ None)
             (λ checked. expression_at (lent_by self.now) offset ≡ Some

@@ -22,7 +22,6 @@ mod unwind_context;
 mod unwind_state;
 
 pub use check::{check_cie, check_fde};
-pub use expressions::LentExpressions;
 pub use frame::{CheckedFrame, check_frame};
 pub use map::MAX_RULES;
 pub use remember_stack::MAX_REMEMBERED;
