@@ -74,7 +74,8 @@ fn push_registers(
     size: AddressSize,
     registers: &[(u16, Answer)],
 ) -> Result<(), AllocError>
-    requires { All (λ found. AnswerFits (16 ^ digits_of size) found.1) (map found_in registers.now) }
+    requires { All (λ found. AnswerFits (16 ^ digits_of size) found.1)
+        (map found_in registers.now) }
     ensures { OnOk result (string_bytes line.new ≡ string_bytes line.old
         ++ flat_map (found_line size) (map found_in registers.now)) }
 {
