@@ -41,18 +41,27 @@ class PairMaker(SectionMaker):
         self.lists.start((self.big, self.size))
         self.is_good = self.chance(0.6)
         self.slip = 0 if self.is_good else self.slip
-        self.near = self.random.choice([0x7f00, 0x7f00, 0x7f00, 0, self.top - 0x40])
+        self.near = self.random.choice([0x7f00, 0x7f00, 0, self.top - 0x40, self.top - 0x10])
 
     def changed(self, section):
         return section if self.is_good else super().changed(section)
+
+    def factors(self):
+        return (1, self.random.choice([-8, -8, -4, 1])) if self.chance(0.8) else super().factors()
 
     def register(self):
         return self.unsigned(self.random.randrange(6)) if self.chance(0.6) else super().register()
 
     def rule(self):
-        if self.chance(0.3):
+        if self.chance(0.5):
             return bytes([0x80 + self.random.randrange(6)]) + self.factored(self.data, False)
         return super().rule()
+
+    def cfa_rule(self):
+        if self.chance(0.8):
+            return super().cfa_rule()
+        self.cfa = "expression"
+        return b"\x0f" + self.block("cfa")
 
     def block(self, kind):
         if self.chance(0.4):
@@ -60,12 +69,17 @@ class PairMaker(SectionMaker):
         held = bytes.fromhex(self.random.choice(ANSWERED[kind]))
         return self.unsigned(len(held)) + held
 
+    def beside(self, low, high):
+        """An address that is so much more than the one where all is near, modulo the size of the address space."""
+        return (self.near + self.random.randrange(low, high)) % (self.top + 1)
+
     def memory(self):
-        """A line of the bytes around the place where most registers point to."""
-        about, most = self.random.choice([(0x200, 0x400), (0x40, 0x80), (0x20, 0x20), (8, 8)])
-        low = min(max(self.near + self.random.randrange(-about, about), 0), self.top)
-        count = min(self.random.randrange(1, most), self.top + 1 - low)
-        return f"mem {low:#x} {self.random.randbytes(count).hex()}"
+        """A line of some bytes; one more where they go on at 0."""
+        about, most = self.random.choice([(0x200, 0x400), (0x200, 0x400), (0x80, 0x100), (0x20, 0x20), (8, 8)])
+        address = self.beside(-about, about // 4)
+        held = self.random.randbytes(self.random.randrange(most // 2, most))
+        room = self.top + 1 - address
+        return [f"mem {address:#x} {held[:room].hex()}"] + [f"mem 0x0 {held[room:].hex()}"] * (len(held) > room)
 
     def odd(self):
         """Any line, mostly one that is none."""
@@ -74,11 +88,11 @@ class PairMaker(SectionMaker):
         return self.random.choice([*BAD_LINES, *past, *odd_but_good * 3])
 
     def state_file(self):
-        """Registers that point to one place, and memory there; and what other expressions may ask for."""
-        lines = [f"reg {register} {min(self.near + self.random.randrange(0x40), self.top):#x}"
-                 for register in REGISTERS if self.chance(0.8)]
-        lines += [self.memory() for _ in range(self.random.randrange(5))]
-        if self.chance(0.5):
+        """Registers that point to the place where all is near, and memory there; and what other expressions may ask for."""
+        lines = [f"reg {register} {self.beside(0, 0x40):#x}" for register in REGISTERS if self.chance(0.8)]
+        for _ in range(self.random.choice([0, 1, 2, 3, 3])):
+            lines += self.memory()
+        if self.chance(0.3):
             lines += self.lists.state()[1].split("\n")
         self.random.shuffle(lines)
         if self.chance(0.08):

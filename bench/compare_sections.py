@@ -186,10 +186,14 @@ class SectionMaker(Maker):
 
     # Records.
 
+    def factors(self):
+        """Those of code and data."""
+        code = self.random.choice([1, 1, 1, 1, 2, 4, 0, 1 << 32, self.number()])
+        return code, self.random.choice([-8, -8, -4, -1, 1, 4, 0, (1 << 63) - 1, -1 << 63, self.random.getrandbits(62)])
+
     def cie(self):
         """What is behind its id, and what its FDEs have to know."""
-        self.code = self.random.choice([1, 1, 1, 1, 2, 4, 0, 1 << 32, self.number()])
-        self.data = self.random.choice([-8, -8, -4, -1, 1, 4, 0, (1 << 63) - 1, -1 << 63, self.random.getrandbits(62)])
+        self.code, self.data = self.factors()
         self.common, self.cfa, self.saved, self.at, self.end = True, None, [], 0, 0
         head = bytearray([4, 0, self.size, 0])
         if self.slips() and self.chance(0.2):
