@@ -10,15 +10,20 @@ use Rattle.dw_stack.specs.FirstFault.{expression_fault}
 use Rattle.dw_stack.proofs.Named.{good_if_none}
 use Rattle.dw_check.specs.Requests.{Asked}
 use Rattle.dw_check.specs.StateFile.{StateFact}
-use Rattle.dw_check.specs.Runs.{Reply, text, refusal, not_hex, bad_line, frame_reply, IsOutcome, OfSection, OfState, IsRowsReply, IsFound, IsLocsReply, IsEvalReply, IsReplyTo, IsReply}
+use Rattle.dw_check.specs.Runs.{Reply, text, refusal, not_hex, bad_line, frame_reply, IsOutcome, OfSection, OfState, OfChecked, IsCheckReply, IsRowsReply, IsFound, IsLocsReply, IsEvalReply, IsReplyTo, IsReply}
 use Rattle.dw_check.specs.Files.{section_bytes, state_facts}
+use Rattle.dw_check.specs.Report.{IsReport}
+use Rattle.dw_loclists.specs.Reading.{ListSection, IsChecked}
+use Rattle.dw_rows.specs.Section.{Frame, frame_of}
+use Rattle.dw_rows.specs.Section as rows
 use Rattle.std.specs.Prelude.{slice_get}
 use Rattle.dw_check.specs.declared.stop.Section.TheVariants.{Expression}
 use Rattle.dw_check.specs.declared.requests.ListLookup.{ListLookup}
 use Rattle.dw_check.specs.declared.requests.Task.{Task}
-use Rattle.dw_check.specs.declared.requests.Task.TheVariants.{Rows, Row, Locs, Eval}
+use Rattle.dw_check.specs.declared.requests.Task.TheVariants.{Check, Rows, Row, Locs, Eval}
 use Rattle.dw_check.proofs.Evaluated.{each_text, refused_short, refused_long}
 use Rattle.dw_check.proofs.Found.{each_found}
+use Rattle.dw_check.proofs.BothSections.{each_of_checked}
 
 module _ (kind : Kind) (target : Target) (bytes : List ℕ) (gs : List StateFact) where
   good_outcome : length bytes < 2 ^ 32 → IsGoodExpression kind target bytes → (r : Reply) × IsOutcome kind target bytes gs r
@@ -68,11 +73,25 @@ each_locs lookup target hex files =
     (λ section. OfState (state_facts target (slice_get files 1)) (IsFound lookup target section))
     (λ section. each_of_state (state_facts target (slice_get files 1)) (IsFound lookup target section) (each_found lookup target section))
 
-each_to : (task : Task) (target : Target) (hex : Bool) (files : List (List ℕ)) → (r : Reply) × IsReplyTo task target hex files r
-each_to Rows target hex files = each_rows None target hex files
-each_to (Row a) target hex files = each_rows (Some a) target hex files
-each_to (Locs lookup) target hex files = each_locs lookup target hex files
-each_to (Eval kind) target hex files = each_eval kind target hex files
+-- by what is said of reports
+abbrev EachReport : Type 0
+EachReport = (frame : Frame) (lists : ListSection) → rows.IsChecked frame → IsChecked lists → (t : List ℕ) × IsReport frame lists t
 
-pub each_reply : (asked : Asked) (files : List (List ℕ)) → (r : Reply) × IsReply asked files r
-each_reply asked files = each_to asked.task asked.target asked.hex files
+module _ (report : EachReport) where
+  each_check : (target : Target) (hex : Bool) (files : List (List ℕ)) → (r : Reply) × IsCheckReply target hex files r
+  each_check target hex files =
+      each_of_section 0 (section_bytes hex (slice_get files 0))
+      (λ frame. OfSection 1 (section_bytes hex (slice_get files 1)) (λ lists. OfChecked target frame lists IsReport))
+      (λ frame. each_of_section 1 (section_bytes hex (slice_get files 1)) (λ lists. OfChecked target frame lists IsReport)
+      (λ lists. each_of_checked target frame lists IsReport
+      (λ checked. report (frame_of target frame) (record { target = target; section = lists }) checked.0 checked.1)))
+
+  each_to : (task : Task) (target : Target) (hex : Bool) (files : List (List ℕ)) → (r : Reply) × IsReplyTo task target hex files r
+  each_to Check target hex files = each_check target hex files
+  each_to Rows target hex files = each_rows None target hex files
+  each_to (Row a) target hex files = each_rows (Some a) target hex files
+  each_to (Locs lookup) target hex files = each_locs lookup target hex files
+  each_to (Eval kind) target hex files = each_eval kind target hex files
+
+  pub each_reply : (asked : Asked) (files : List (List ℕ)) → (r : Reply) × IsReply asked files r
+  each_reply asked files = each_to asked.task asked.target asked.hex files

@@ -1,4 +1,5 @@
 pub mod Assembled
+pub mod BothSections
 pub mod Callers
 pub mod CallersFit
 pub mod EachReply

@@ -9,14 +9,18 @@ use Rattle.dw_stack.proofs.Named.{none_if_good}
 use Rattle.dw_check.specs.Requests.{Asked}
 use Rattle.dw_check.specs.StateFile.{StateFact}
 use Rattle.dw_check.specs.Evaluations.{Evaluates}
-use Rattle.dw_check.specs.Runs.{Reply, text, refusal, not_hex, bad_line, frame_reply, expression_refusal, IsOutcome, OfSection, OfState, IsRowsReply, IsFound, IsLocsReply, IsEvalReply, IsReplyTo, IsReply}
+use Rattle.dw_check.specs.Runs.{Reply, text, refusal, not_hex, bad_line, frame_reply, expression_refusal, IsOutcome, OfSection, OfState, OfChecked, IsCheckReply, IsRowsReply, IsFound, IsLocsReply, IsEvalReply, IsReplyTo, IsReply}
 use Rattle.dw_check.specs.Files.{section_bytes, state_facts}
+use Rattle.dw_check.specs.Report.{IsReport}
+use Rattle.dw_loclists.specs.Reading.{ListSection}
+use Rattle.dw_rows.specs.Section.{Frame, frame_of}
 use Rattle.std.specs.Prelude.{slice_get, Bool}
 use Rattle.dw_check.specs.declared.requests.ListLookup.{ListLookup}
 use Rattle.dw_check.specs.declared.requests.Task.{Task}
-use Rattle.dw_check.specs.declared.requests.Task.TheVariants.{Rows, Row, Locs, Eval}
+use Rattle.dw_check.specs.declared.requests.Task.TheVariants.{Check, Rows, Row, Locs, Eval}
 use Rattle.dw_check.proofs.Evaluated.{same_text}
 use Rattle.dw_check.proofs.Found.{one_found}
+use Rattle.dw_check.proofs.BothSections.{one_of_checked}
 
 not_both : (kind : Kind) (target : Target) (bytes : List ℕ) (gs : List StateFact) (a : List ℕ) (f : Fault)
     → Evaluates kind target bytes gs a → expression_refusal kind target bytes ≡ Some f → ⊥
@@ -75,12 +79,27 @@ one_locs lookup target hex files r s h k =
     (λ section. one_of_state (state_facts target (slice_get files 1)) (IsFound lookup target section) (one_found lookup target section)) r s
     h k
 
-one_to : (task : Task) (target : Target) (hex : Bool) (files : List (List ℕ)) (r s : Reply) → IsReplyTo task target hex files r
-    → IsReplyTo task target hex files s → r ≡ s
-one_to Rows target hex files r s h k = one_rows None target hex files r s h k
-one_to (Row a) target hex files r s h k = one_rows (Some a) target hex files r s h k
-one_to (Locs lookup) target hex files r s h k = one_locs lookup target hex files r s h k
-one_to (Eval kind) target hex files r s h k = one_eval kind target hex files r s h k
+-- by what is said of reports
+abbrev OneReport : Type 0
+OneReport = (frame : Frame) (lists : ListSection) (s t : List ℕ) → IsReport frame lists s → IsReport frame lists t → s ≡ t
 
-pub one_reply : (asked : Asked) (files : List (List ℕ)) (r s : Reply) → IsReply asked files r → IsReply asked files s → r ≡ s
-one_reply asked files r s h k = one_to asked.task asked.target asked.hex files r s h k
+module _ (report : OneReport) where
+  one_check : (target : Target) (hex : Bool) (files : List (List ℕ)) (r s : Reply) → IsCheckReply target hex files r
+      → IsCheckReply target hex files s → r ≡ s
+  one_check target hex files r s h k =
+      one_of_section 0 (section_bytes hex (slice_get files 0))
+      (λ frame. OfSection 1 (section_bytes hex (slice_get files 1)) (λ lists. OfChecked target frame lists IsReport))
+      (λ frame. one_of_section 1 (section_bytes hex (slice_get files 1)) (λ lists. OfChecked target frame lists IsReport)
+      (λ lists. one_of_checked target frame lists IsReport
+      (λ checked. report (frame_of target frame) (record { target = target; section = lists })))) r s h k
+
+  one_to : (task : Task) (target : Target) (hex : Bool) (files : List (List ℕ)) (r s : Reply) → IsReplyTo task target hex files r
+      → IsReplyTo task target hex files s → r ≡ s
+  one_to Check target hex files r s h k = one_check target hex files r s h k
+  one_to Rows target hex files r s h k = one_rows None target hex files r s h k
+  one_to (Row a) target hex files r s h k = one_rows (Some a) target hex files r s h k
+  one_to (Locs lookup) target hex files r s h k = one_locs lookup target hex files r s h k
+  one_to (Eval kind) target hex files r s h k = one_eval kind target hex files r s h k
+
+  pub one_reply : (asked : Asked) (files : List (List ℕ)) (r s : Reply) → IsReply asked files r → IsReply asked files s → r ≡ s
+  one_reply asked files r s h k = one_to asked.task asked.target asked.hex files r s h k

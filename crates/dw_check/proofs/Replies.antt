@@ -1,15 +1,16 @@
 -- How a run goes, and how it ends.
-use Rattle.std.proofs.Common.{◌≡◌, ℕ, List, [], sym, refl, subst}
+use Rattle.std.proofs.Common.{◌≡◌, ℕ, ◌<◌, List, [], ap, sym, refl, subst}
 use Rattle.std.specs.Prelude.{Option, Some, Result, Ok, Err}
 use Rattle.std.specs.Result.{IsErr, IsErrAnd}
 use Rattle.std.specs.Io.KnownBytes.{Appends}
 use Rattle.dw_bytes.specs.declared.fault.Fault.{Fault}
 use Rattle.dw_check.specs.StateFile.{StateFact}
-use Rattle.dw_check.specs.Stops.{ended_by, IsBadState, IsRefusal}
+use Rattle.dw_check.specs.Stops.{ended_by, IsBadSection, IsBadState, IsFirstFault, IsRefusal}
 use Rattle.dw_check.specs.SinkBytes.{AppendsFront}
 use Rattle.dw_check.specs.WriteResults.{Writes, WritesWhole}
-use Rattle.dw_check.specs.Runs.{Reply, text, refusal, bad_line, accepted_text, OfSection, OfState, Goes}
+use Rattle.dw_check.specs.Runs.{Reply, text, refusal, not_hex, bad_line, accepted_text, OfSection, OfState, Goes}
 use Rattle.dw_check.specs.declared.stop.Section.{Section}
+use Rattle.dw_check.specs.declared.whole_check.CheckFault.{CheckFault}
 use Rattle.dw_check.specs.declared.stop.ReportFault.{ReportFault}
 use Rattle.dw_check.specs.declared.stop.ReportFault.TheVariants as faults
 use Rattle.dw_check.specs.declared.stop.Stop.{Stop}
@@ -26,6 +27,15 @@ pub goes_section : (count place : ℕ) (found : Option (List ℕ)) (bytes : List
     (r : Result (Unit {0}) Stop)
     → found ≡ Some bytes → Goes count (Is bytes) old new r → Goes count (OfSection place found Is) old new r
 goes_section count place found bytes Is old new r e h = subst (λ o. Goes count (OfSection place o Is) old new r) (sym e) h
+
+pub goes_bad_section : (count place : ℕ) (found : Option (List ℕ)) (Is : List ℕ → Reply → Type 0) (a : Option (List ℕ)) (stop : Stop)
+    → IsBadSection found place count stop → Goes count (OfSection place found Is) a a (Err stop)
+goes_bad_section count place found Is a (BadHex n) h =
+    (subst (λ k. k < count) (sym h.0) h.1, subst (λ o. OfSection place o Is (not_hex n)) (sym h.2) (ap not_hex h.0), appends_nothing a)
+goes_bad_section count place found Is a Memory h = λ reply is. front_none a a (accepted_text reply) (appends_nothing a)
+goes_bad_section count place found Is a (Refused s f) h = absurd h
+goes_bad_section count place found Is a (StateLine n) h = absurd h
+goes_bad_section count place found Is a Output h = absurd h
 
 -- ---- the state
 
@@ -52,6 +62,16 @@ goes_refusal count section first Is a Memory is h = λ reply i. front_none a a (
 goes_refusal count section first Is a (BadHex n) is h = absurd h
 goes_refusal count section first Is a (StateLine n) is h = absurd h
 goes_refusal count section first Is a Output is h = absurd h
+
+-- that of two sections
+pub goes_first_fault : (count : ℕ) (first : Option CheckFault) (Is : Reply → Type 0) (a : Option (List ℕ)) (stop : Stop)
+    → ((found : CheckFault) → first ≡ Some found → Is (refusal found.section found.fault)) → IsFirstFault first stop
+    → Goes count Is a a (Err stop)
+goes_first_fault count first Is a (Refused s f) is h = (is (record { section = s; fault = f }) h, appends_nothing a)
+goes_first_fault count first Is a Memory is h = λ reply i. front_none a a (accepted_text reply) (appends_nothing a)
+goes_first_fault count first Is a (BadHex n) is h = absurd h
+goes_first_fault count first Is a (StateLine n) is h = absurd h
+goes_first_fault count first Is a Output is h = absurd h
 
 -- ---- texts
 

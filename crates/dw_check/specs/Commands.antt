@@ -16,6 +16,14 @@ pub record Command : Type 0 where
   pub has_state : Bool
   pub task : List Row → Option Task
 
+abbrev pub check_command : Command
+check_command = record {
+  name = codes "check";
+  words = (codes "FRAME", file) ∷ (codes "LISTS", file) ∷ [];
+  has_state = false;
+  task = λ rows. Some tasks.Check;
+}
+
 abbrev pub rows_command : Command
 rows_command = record {
   name = codes "rows";
@@ -57,7 +65,7 @@ eval_command = record {
 }
 
 abbrev pub commands : List Command
-commands = rows_command ∷ row_command ∷ locs_command ∷ eval_command ∷ []
+commands = check_command ∷ rows_command ∷ row_command ∷ locs_command ∷ eval_command ∷ []
 
 -- ---- in clap's words
 

@@ -5,10 +5,12 @@ use Rattle.dw_bytes.specs.declared.target.Target.{Target}
 use Rattle.dw_bytes.specs.declared.fault.Fault.{Fault}
 use Rattle.dw_bytes.specs.declared.fault.FaultKind.TheVariants.{SectionTooLong}
 use Rattle.dw_rows.specs.Section.{Frame, section_fault, frame_of}
-use Rattle.dw_loclists.specs.Reading.{lists_fault}
+use Rattle.dw_loclists.specs.Reading.{ListSection, lists_fault}
 use Rattle.dw_stack.specs.declared.state.Kind.{Kind}
 use Rattle.dw_stack.specs.FirstFault.{expression_fault}
 use Rattle.dw_check.specs.Requests.{Asked}
+use Rattle.dw_check.specs.Checked.{check_fault}
+use Rattle.dw_check.specs.Report.{IsReport}
 use Rattle.dw_check.specs.Evaluations.{Evaluates}
 use Rattle.dw_check.specs.Files.{section_bytes, state_facts}
 use Rattle.dw_check.specs.Lookups.{ShowsList, list_at}
@@ -21,7 +23,7 @@ use Rattle.dw_check.specs.declared.stop.Stop.{Stop}
 use Rattle.dw_check.specs.declared.stop.Stop.TheVariants as stops
 use Rattle.dw_check.specs.declared.requests.ListLookup.{ListLookup}
 use Rattle.dw_check.specs.declared.requests.Task.{Task}
-use Rattle.dw_check.specs.declared.requests.Task.TheVariants.{Rows, Row, Locs, Eval}
+use Rattle.dw_check.specs.declared.requests.Task.TheVariants.{Check, Rows, Row, Locs, Eval}
 use Rattle.dw_check.specs.declared.requests.End.{End}
 use Rattle.dw_check.specs.declared.requests.End.TheVariants.{Done, Refused, BadHex, StateLine, Memory, Output}
 
@@ -106,7 +108,23 @@ IsFound lookup target section gs (text written) = (lists_refusal target section 
 IsFound lookup target section gs (refusal refused fault) = (refused ≡ sections.Lists) × (lists_refusal target section ≡ Some fault)
 IsFound lookup target section gs _ = ⊥
 
+-- ---- two sections
+
+-- what two sections come to: a text of both, or their first fault
+abbrev pub OfChecked : Target → List ℕ → List ℕ → (Frame → ListSection → List ℕ → Type 0) → Reply → Type 0
+OfChecked target frame lists Shows (text written) = (check_fault target frame lists ≡ None)
+    × Shows (frame_of target frame) (record { target = target; section = lists }) written
+OfChecked target frame lists Shows (refusal section fault) =
+    check_fault target frame lists ≡ Some (record { section = section; fault = fault })
+OfChecked target frame lists Shows _ = ⊥
+
 -- ---- requests: a definition for each command
+
+-- `check`
+abbrev pub IsCheckReply : Target → Bool → List (List ℕ) → Reply → Type 0
+IsCheckReply target hex files reply =
+    OfSection 0 (section_bytes hex (slice_get files 0))
+    (λ frame. OfSection 1 (section_bytes hex (slice_get files 1)) (λ lists. OfChecked target frame lists IsReport)) reply
 
 -- `rows`, and `row` with its address
 abbrev pub IsRowsReply : Option ℕ → Target → Bool → List (List ℕ) → Reply → Type 0
@@ -126,6 +144,7 @@ IsLocsReply lookup target hex files reply =
     (λ section. OfState (state_facts target (slice_get files 1)) (IsFound lookup target section)) reply
 
 abbrev pub IsReplyTo : Task → Target → Bool → List (List ℕ) → Reply → Type 0
+IsReplyTo Check target hex files reply = IsCheckReply target hex files reply
 IsReplyTo Rows target hex files reply = IsRowsReply None target hex files reply
 IsReplyTo (Row address) target hex files reply = IsRowsReply (Some address) target hex files reply
 IsReplyTo (Locs lookup) target hex files reply = IsLocsReply lookup target hex files reply

@@ -4,6 +4,7 @@ use Rattle.dw_bytes.specs.declared.fault.Fault.{Fault}
 use Rattle.dw_check.specs.StateFile.{StateFact}
 use Rattle.dw_check.specs.declared.stop.Section.{Section}
 use Rattle.dw_check.specs.declared.stop.Section.TheVariants as sections
+use Rattle.dw_check.specs.declared.whole_check.CheckFault.{CheckFault}
 use Rattle.dw_check.specs.declared.stop.ReportFault.{ReportFault}
 use Rattle.dw_check.specs.declared.stop.ReportFault.TheVariants as faults
 use Rattle.dw_check.specs.declared.stop.Stop.{Stop}
@@ -48,3 +49,9 @@ abbrev pub IsRefusal : Section → Option Fault → Stop → Type 0
 IsRefusal section first (Refused s fault) = (s ≡ section) × (first ≡ Some fault)
 IsRefusal section first Memory = Unit {0}
 IsRefusal section first _ = ⊥
+
+-- What refuses two sections: their first fault, or memory ran out.
+abbrev pub IsFirstFault : Option CheckFault → Stop → Type 0
+IsFirstFault first (Refused section fault) = first ≡ Some (record { section = section; fault = fault })
+IsFirstFault first Memory = Unit {0}
+IsFirstFault first _ = ⊥

@@ -5,14 +5,14 @@ ghost use Rattle.std.specs.Option.{IsSomeAnd, option_to_list};
 ghost use Rattle.std.specs.String.{string_bytes};
 ghost use Rattle.clap.specs.Words.{found_of, rows_of, first_of, kind_of, subcommand_rows_of};
 ghost use Rattle.dw_check.specs.Arguments.{flag_of, target_of, kind_of as kind_named, address_at, offset_at, IsBad, address, offset, kind};
-ghost use Rattle.dw_check.specs.Commands.{rows_command, row_command, locs_command, eval_command, lookup_in};
+ghost use Rattle.dw_check.specs.Commands.{check_command, rows_command, row_command, locs_command, eval_command, lookup_in};
 ghost use Rattle.dw_check.specs.Requests.{asked_of, asked_by, HasBad, HasBadWord, IsUsageOf, AsksFor};
 ghost use Rattle.dw_check.specs.declared.requests.Usage.TheVariants.{Memory, BadArgument};
 
 use crate::addresses::{parse_address, parse_offset};
 use crate::command_line::{
-    ADDR4, ADDRESS, BASE, BIG, EVAL, EXPR, FRAME, HEX, KIND, LIST, LISTS, LOCS, ROW, ROWS, STATE,
-    whole_command,
+    ADDR4, ADDRESS, BASE, BIG, CHECK, EVAL, EXPR, FRAME, HEX, KIND, LIST, LISTS, LOCS, ROW, ROWS,
+    STATE, whole_command,
 };
 use crate::requests::{ListLookup, Request, Task, Usage};
 use clap::error::ErrorKind;
@@ -91,17 +91,36 @@ fn request_over(
     Ok(request_with(matches, task, files))
 }
 
-/// The names of a file and of a state file, if there is one.
-fn files_with_state(alloc: Global, file: &str, state: Option<&str>) -> Result<Vec<String>, Usage>
+/// The names of a file and of a second one, if there is one.
+fn one_or_two_files(alloc: Global, file: &str, second: Option<&str>) -> Result<Vec<String>, Usage>
     ensures ok { IfOk result (λ files. map (λ s. string_bytes s) files.items ≡ file.now
-        ∷ option_to_list (option_map (λ s. s.now) state.entry)) }
+        ∷ option_to_list (option_map (λ s. s.now) second.entry)) }
     ensures err { IfErr result (λ e. e ≡ Memory) }
 {
     let mut files = vec![in alloc; String::from_str(alloc, file)?]?;
-    if let Some(state) = state {
-        files.push(String::from_str(alloc, state)?)?;
+    if let Some(second) = second {
+        files.push(String::from_str(alloc, second)?)?;
     }
     Ok(files)
+}
+
+/// A request over two files.
+fn request_over_both(
+    alloc: Global,
+    matches: &ArgMatches<'_>,
+    task: Task,
+    first: &str,
+    second: &str,
+) -> Result<Request, Usage>
+    ensures task { IfOk result (λ r. r.task ≡ task) }
+    ensures target { IfOk result (λ r. r.target ≡ target_of (rows_of (found_of matches.now))) }
+    ensures hex { IfOk result (λ r. r.hex ≡ flag_of (codes "hex")
+        (rows_of (found_of matches.now))) }
+    ensures files { IfOk result (λ r. r.files ≡ first.now ∷ second.now ∷ []) }
+    ensures err { IfErr result (λ e. e ≡ Memory) }
+{
+    let files = one_or_two_files(alloc, first, Some(second))?;
+    Ok(request_with(matches, task, files))
 }
 
 /// A request over one file, and over a state file if there is one.
@@ -119,8 +138,20 @@ fn request_with_state(
         ∷ option_to_list (first_of (codes "state") (rows_of (found_of matches.now)))) }
     ensures err { IfErr result (λ e. e ≡ Memory) }
 {
-    let files = files_with_state(alloc, file, word_text(matches, STATE))?;
+    let files = one_or_two_files(alloc, file, word_text(matches, STATE))?;
     Ok(request_with(matches, task, files))
+}
+
+/// What `check` asks for.
+fn check_request(alloc: Global, matches: &ArgMatches<'_>) -> Result<Request, Usage>
+    ensures ok { IfOk result (λ r. asked_of check_command (rows_of (found_of matches.now))
+        ≡ Some r) }
+    ensures err { IfErr result (λ e. e ≡ Memory) }
+{
+    let (Some(frame), Some(lists)) = (word_text(matches, FRAME), word_text(matches, LISTS)) else {
+        return Err(Usage::Memory);
+    };
+    request_over_both(alloc, matches, Task::Check, frame, lists)
 }
 
 /// What `rows` asks for.
@@ -247,6 +278,9 @@ fn request_of(alloc: Global, name: &str, matches: &ArgMatches<'_>) -> Result<Req
     ensures err { IfErr result (λ e. (e ≡ Memory)
         ⊎ ((e ≡ BadArgument) × HasBadWord name.now (rows_of (found_of matches.now)))) }
 {
+    if name == CHECK {
+        return check_request(alloc, matches);
+    }
     if name == ROWS {
         return rows_request(alloc, matches);
     }

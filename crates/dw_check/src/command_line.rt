@@ -4,12 +4,14 @@ ghost use Rattle.std.specs.Prelude.{◌≡◌, ◌∷◌, [], IfOk, true, false,
 ghost use Rattle.clap.specs.Words.{with_rule, with_subcommand, app_of, rule_of};
 ghost use Rattle.clap.specs.declared.builder.Command.TheViews.{out-Command as fields_of};
 ghost use Rattle.dw_check.specs.Arguments.{file, offset};
-ghost use Rattle.dw_check.specs.Commands.{flag_rule, option_rule, word_rule, with_flags, with_words, with_state, app_of_command, rows_command, row_command, locs_command, eval_command, dwcheck};
+ghost use Rattle.dw_check.specs.Commands.{flag_rule, option_rule, word_rule, with_flags, with_words, with_state, app_of_command, check_command, rows_command, row_command, locs_command, eval_command, dwcheck};
 
 use clap::{Arg, ArgAction, Command};
 use std::alloc::{AllocError, Global};
 
 // The names of commands, words, flags and options.
+pub(crate) const CHECK: &str = "check";
+
 pub(crate) const ROWS: &str = "rows";
 
 pub(crate) const ROW: &str = "row";
@@ -81,7 +83,7 @@ fn with_flags<'a>(alloc: Global, command: Command<'a>) -> Result<Command<'a>, Al
     command
         .arg(flag(alloc, BIG, "Numbers are big-endian"))?
         .arg(flag(alloc, ADDR4, "Addresses have 4 bytes, not 8"))?
-        .arg(flag(alloc, HEX, "The file is hex text"))
+        .arg(flag(alloc, HEX, "Sections and expressions are hex text"))
 }
 
 fn with_word<'a>(
@@ -114,6 +116,18 @@ fn with_command<'a>(command: Command<'a>, inner: Command<'a>) -> Result<Command<
     ensures local { IfOk result (λ c. (fields_of c).has_globals ≡ false) }
 {
     command.subcommand(inner)
+}
+
+fn check_command<'a>(alloc: Global) -> Result<Command<'a>, AllocError>
+    ensures app { IfOk result (λ c. app_of c ≡ app_of_command check_command) }
+    ensures local { IfOk result (λ c. (fields_of c).has_globals ≡ false) }
+{
+    let command = with_flags(
+        alloc,
+        Command::new(alloc, CHECK).about("Check two sections, and report on them"),
+    )?;
+    let command = with_word(alloc, command, FRAME, FRAME_HELP)?;
+    with_word(alloc, command, LISTS, LISTS_HELP)
 }
 
 fn rows_command<'a>(alloc: Global) -> Result<Command<'a>, AllocError>
@@ -190,6 +204,7 @@ pub(crate) fn whole_command<'a>(alloc: Global) -> Result<Command<'a>, AllocError
     let command = Command::new(alloc, "dwcheck").about(
         "Check DWARF 5 unwind tables and location lists, and evaluate expressions",
     );
+    let command = with_command(command, check_command(alloc)?)?;
     let command = with_command(command, rows_command(alloc)?)?;
     let command = with_command(command, row_command(alloc)?)?;
     let command = with_command(command, locs_command(alloc)?)?;

@@ -18,7 +18,7 @@ use std::borrow::CowSlice;
 pub(crate) struct Files<'a> {
     /// What the numbers in them are read under.
     pub target: Target,
-    /// Whether a section or an expression is hex text; a state file never is.
+    /// Whether sections and the expression are hex text; a state file never is.
     pub hex: bool,
     /// What each of them contains.
     pub contents: &'a [Vec<u8>],

@@ -19,12 +19,16 @@ ghost use Rattle.dw_check.specs.Runs.{Reply, IsReply};
 pub fn one_reply()
     ensures { (asked : Asked) (files : List (List ℕ)) (r s : Reply) → IsReply asked files r
         → IsReply asked files s → r ≡ s }
-{}
+{
+    one_report();
+}
 
 /// And it has one.
 pub fn each_has_a_reply()
     ensures { (asked : Asked) (files : List (List ℕ)) → (r : Reply) × IsReply asked files r }
-{}
+{
+    each_has_a_report();
+}
 
 /// Two sections have no fault exactly where they are well formed.
 pub fn sections_without_fault_are_well_formed()

@@ -25,6 +25,8 @@ pub struct ListLookup {
 /// What is done with the files of a request.
 #[derive(Clone, Copy, Debug, PartialEq, Eq)]
 pub enum Task {
+    /// The report on a frame section and a section of location lists.
+    Check,
     /// Each FDE of a frame section and its rows.
     Rows,
     /// The row of an address in a frame section.
@@ -42,7 +44,7 @@ pub struct Request {
     pub(crate) task: Task,
     /// What the numbers in sections, expressions and state files are read under.
     pub(crate) target: Target,
-    /// Whether the section or the expression is hex text; a state file never is.
+    /// Whether sections and the expression are hex text; a state file never is.
     pub(crate) hex: bool,
     /// The names of the files, in the order in which the command takes them, a state file's last.
     pub(crate) files: Vec<String>,

@@ -4,18 +4,22 @@ ghost use Rattle.std.specs.Prelude.{◌≡◌, ◌<◌, ◌^◌, false, None, If
 ghost use Rattle.dw_rows.specs.Section.{frame_of};
 ghost use Rattle.dw_stack.specs.Certificates.{checked_of};
 ghost use Rattle.dw_stack.specs.Expressions.{IsOf};
-ghost use Rattle.dw_check.specs.Runs.{Ends, Goes, IsPlaceIn, IsReply, IsReplyTo, IsRowsReply, IsLocsReply, IsEvalReply, frame_refusal, lists_refusal, expression_refusal, rows_text};
-ghost use Rattle.dw_check.specs.Stops.{IsRefusal, ended_by, is_output};
+ghost use Rattle.dw_check.specs.Runs.{Ends, Goes, IsPlaceIn, IsReply, IsReplyTo, IsCheckReply, IsRowsReply, IsLocsReply, IsEvalReply, frame_refusal, lists_refusal, expression_refusal, rows_text};
+ghost use Rattle.dw_check.specs.Checked.{check_fault};
+ghost use Rattle.dw_check.specs.Stops.{IsFirstFault, IsRefusal, ended_by, is_output};
 ghost use Rattle.dw_check.specs.WriteResults.{IsSame, Writes, is_write};
 ghost use Rattle.dw_check.specs.declared.stop.Section.TheVariants as sections;
 
 use crate::evaluations::write_outcome;
 use crate::files::{Files, section_at, state_at};
+use crate::laws::one_report;
 use crate::locations::write_found;
 use crate::output::{write_frame, write_lookup, write_refused};
+use crate::reports::write_report;
 use crate::requests::{End, ListLookup, Request, Task};
 use crate::sink::Sink;
 use crate::stop::{ReportFault, Section, Stop};
+use crate::whole_check::{Checked, check};
 use crate::writer::Writer;
 use dw_bytes::{Fault, FaultKind, Target};
 use dw_loclists::{CheckedLists, check_lists};
@@ -98,11 +102,53 @@ fn checked_expression<'a>(
     }
 }
 
+/// The two sections of these bytes, if they have no fault.
+fn checked_sections<'a>(
+    alloc: Global,
+    target: Target,
+    frame: &'a [u8],
+    lists: &'a [u8],
+) -> Result<Checked<'a>, Stop>
+    ensures frame { IfOk result (λ checked. checked.frame ≡ frame_of target frame.entry.now) }
+    ensures lists { IfOk result (λ checked.
+        checked.lists ≡ record { target = target; section = lists.entry.now }) }
+    ensures whole { IfOk result
+        (λ _. check_fault target frame.entry.now lists.entry.now ≡ None) }
+    ensures stop { IfErr result (IsFirstFault
+        (check_fault target frame.entry.now lists.entry.now)) }
+{
+    match check(alloc, frame, lists, target) {
+        Ok(checked) => Ok(checked),
+        Err(found) => Err(Stop::of_fault(found.section, found.fault)),
+    }
+}
+
 /// How a run goes whose text was written so.
 fn ended(written: Result<(), ReportFault>) -> Result<(), Stop>
     ensures { result ≡ ended_by written }
 {
     Ok(written?)
+}
+
+/// Shows the report on two sections.
+fn show_report<S: Sink>(
+    alloc: Global,
+    files: &Files<'_>,
+    out: &mut Writer<'_, S>,
+) -> Result<(), Stop>
+    requires { S.has_stopped out.old.sink.now ≡ false }
+    ensures same { IsSame out.old out.new }
+    ensures goes { Goes (length files.now.contents.now)
+        (IsCheckReply files.now.target files.now.hex
+        (map (λ file. file.items) files.now.contents.now))
+        (S.taken out.old.sink.now) (S.taken out.new.sink.now) result }
+    ensures stops { S.has_stopped out.new.sink.now ≡ is_output result }
+{
+    one_report();
+    let frame = section_at(alloc, files.hex, files.contents, 0)?;
+    let lists = section_at(alloc, files.hex, files.contents, 1)?;
+    let checked = checked_sections(alloc, files.target, frame.as_slice(), lists.as_slice())?;
+    ended(write_report(out, &checked))
 }
 
 /// Writes the row of an address, or all rows.
@@ -206,6 +252,7 @@ fn show<S: Sink>(
     ensures stops { S.has_stopped out.new.sink.now ≡ is_output result }
 {
     match task {
+        Task::Check => show_report(alloc, files, out),
         Task::Rows => show_rows(alloc, None, files, out),
         Task::Row { address } => show_rows(alloc, Some(address), files, out),
         Task::Locs { lookup } => show_locations(alloc, lookup, files, out),

@@ -1,6 +1,6 @@
 use Rattle.std.proofs.Common.{[], map, rules}
 use Rattle.std.specs.Io.KnownBytes.{Appends}
-use Rattle.dw_check.specs.Runs.{refusal, IsReply}
+use Rattle.dw_check.specs.Runs.{Reply, refusal, accepted_text, IsReply}
 use Rattle.dw_check.specs.SinkBytes.{AppendsFront}
 use Rattle.dw_check.specs.Text.{refused_line}
 use Rattle.dw_check.proofs.Growth.{front_more}
@@ -18,3 +18,11 @@ returns-in-Err-Refused-clause-ends g c =
     let front : AppendsFront mid new line = search (rules, c.in-Err-Write.ensures.written) in
     let all : AppendsFront old new line = front_more old mid new [] line none front in
     (reply, is, search (rules, all), search rules)
+
+pub returns-in-Err-Memory-clause-ends : goal.returns-in-Err-Memory-clause-ends
+returns-in-Err-Memory-clause-ends g c =
+    let old = g.S.Sink.taken c.args.sink.now in
+    let mid = g.S.Sink.taken c.show.new.out.sink.now in
+    let front : (reply : Reply) → IsReply c.args.request.now (map (λ file. file.items) c.args.files.now) reply
+    → AppendsFront old mid (accepted_text reply) = search (rules, c.in-Err-Memory.ensures.goes) in
+    (λ reply is. search (rules, front reply is), search rules)
