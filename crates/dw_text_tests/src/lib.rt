@@ -10,4 +10,6 @@ mod operations;
 #[cfg(test)]
 mod sections;
 #[cfg(test)]
+mod whole_checks;
+#[cfg(test)]
 mod words_and_sinks;

@@ -8,7 +8,8 @@ use std::alloc::Global;
 use std::test::Fail;
 
 /// A list at 0xc: 0 to 0x10 behind the base in register 0, and else the value 0.
-const PAIR_AND_DEFAULT: &str = "12000000 0500 08 00 00000000 04 00 10 01 50 05 02 309f 00";
+pub(crate) const PAIR_AND_DEFAULT: &str =
+    "12000000 0500 08 00 00000000 04 00 10 01 50 05 02 309f 00";
 
 /// A list at 0xc: behind the base 0x2000, 0x2000 to 0x2010 in register 0, 0x2008 to 0x2018 in register 1, and an empty range
 /// in register 2.

@@ -10,19 +10,20 @@ use std::test::Fail;
 pub(crate) const C1: &str = "14000000 ffffffff 04 00 08 00 01 78 10 0c0708 9001 00000000";
 
 /// The same with nops for instructions.
-const C1_NOPS: &str = "14000000 ffffffff 04 00 08 00 01 78 10 000000 0000 00000000";
+pub(crate) const C1_NOPS: &str = "14000000 ffffffff 04 00 08 00 01 78 10 000000 0000 00000000";
 
 /// The head of an FDE of 32 bytes.
 pub(crate) const H1: &str = "1c000000 00000000 0010000000000000 2000000000000000";
 
 /// The head of another up to its addresses.
-const H2: &str = "1c000000 00000000";
+pub(crate) const H2: &str = "1c000000 00000000";
 
 /// Eight of them.
-const NOPS: &str = "0000000000000000";
+pub(crate) const NOPS: &str = "0000000000000000";
 
 /// The CIE in the 64-bit format, 32 bytes.
-const LONG_C1: &str = "ffffffff 1400000000000000 ffffffffffffffff 04 00 08 00 01 78 10 0c0708 9001";
+pub(crate) const LONG_C1: &str =
+    "ffffffff 1400000000000000 ffffffffffffffff 04 00 08 00 01 78 10 0c0708 9001";
 
 const FIRST_ROW: &str = "row 0x0000000000001000..0x0000000000001020 cfa=r7+8 r16=[c-8]\n";
 
@@ -58,7 +59,7 @@ pub(crate) fn shown(alloc: Global, words: &[&str], content: &[u8]) -> Result<(En
 }
 
 /// All parts, one behind the other.
-fn joined(alloc: Global, parts: &[&str]) -> Result<String, Fail> {
+pub(crate) fn joined(alloc: Global, parts: &[&str]) -> Result<String, Fail> {
     let mut text = String::new(alloc);
     for part in parts {
         text.push_str(part)?;
@@ -340,20 +341,30 @@ fn too_many_rules(rt: HostRuntime) -> Result<(), Fail> {
     Ok(())
 }
 
+/// The first row's section as hex text without blanks.
+pub(crate) fn first_row_digits(alloc: Global) -> Result<Vec<u8>, Fail> {
+    let text = joined(alloc, &[C1, H1, "41 0e10 8602 43 0d06"])?;
+    Ok(text.bytes().filter(|b| *b != b' ').collect(alloc)?)
+}
+
+/// The offset of the fault where the first row's section ends behind so many bytes, if that is within a record.
+pub(crate) fn cut_off_at(length: usize) -> Option<u32> {
+    match length {
+        0 | 24 | 56 => None,
+        1..=3 => Some(0),
+        4..=23 => Some(4),
+        25..=27 => Some(24),
+        _ => Some(28),
+    }
+}
+
 /// The first row's section, cut at each length.
 #[test]
 fn cut_sections(rt: HostRuntime) -> Result<(), Fail> {
-    let text = format!(in rt.alloc(); "{C1}{H1} 41 0e10 8602 43 0d06")?;
-    let digits: Vec<u8> = text.bytes().filter(|b| *b != b' ').collect(rt.alloc())?;
+    let digits = first_row_digits(rt.alloc())?;
     assert_eq!(rt; digits.len(), 112);
     for n in 0..57usize {
-        let at = match n {
-            0 | 24 | 56 => None,
-            1..=3 => Some(0u32),
-            4..=23 => Some(4),
-            25..=27 => Some(24),
-            _ => Some(28),
-        };
+        let at = cut_off_at(n);
         let (end, written) = shown(
             rt.alloc(),
             &["dwcheck", "rows", "--hex", "f"],

@@ -3,7 +3,8 @@
 ghost use Rattle.std.specs.Prelude.{◌≡◌, length};
 
 use crate::sections::{C1, FDE, H1, ROWS, asked, shown};
-use dw_check::{End, Sink, Through, Usage, run};
+use dw_check::{End, Request, Sink, Through, Usage, run};
+use std::alloc::Global;
 use std::io;
 use std::io::{Error, ErrorKind, Write};
 use std::test::Fail;
@@ -104,6 +105,52 @@ impl Write for Little {
     }
 }
 
+/// What a run over such a writer comes to.
+#[derive(Drop)]
+pub(crate) struct LittleRun {
+    /// How it ends.
+    pub end: End,
+    /// Whether the sink stopped.
+    pub stopped: bool,
+    /// What the writer took, in an array.
+    pub bytes: [u8; 512],
+    /// How much of the array that is.
+    pub len: usize,
+}
+
+/// Runs a request over a writer that takes at most so many bytes a call, and fails after so many calls.
+pub(crate) fn run_little(
+    alloc: Global,
+    request: &Request,
+    files: &[Vec<u8>],
+    most: usize,
+    calls: usize,
+) -> Result<LittleRun, Fail> {
+    if files.len() != request.files().len() {
+        return Err("its files".into());
+    }
+    let mut sink = Through::new(Little {
+        bytes: [0; 512],
+        len: 0,
+        most,
+        calls,
+    });
+    let end = run(alloc, request, files, &mut sink);
+    let stopped = sink.stopped();
+    let Little {
+        bytes,
+        len,
+        most: _,
+        calls: _,
+    } = sink.into_inner();
+    Ok(LittleRun {
+        end,
+        stopped,
+        bytes,
+        len,
+    })
+}
+
 #[test]
 fn sinks_that_stop(rt: HostRuntime) -> Result<(), Fail> {
     let request = asked(rt.alloc(), &["dwcheck", "rows", "--hex", "f"])?
@@ -111,8 +158,6 @@ fn sinks_that_stop(rt: HostRuntime) -> Result<(), Fail> {
         .ok_or("a request")?;
     let text = format!(in rt.alloc(); "{C1}{H1} 41 0e10 8602 43 0d06")?;
     let files = vec![in rt.alloc(); Vec::from_slice(rt.alloc(), text.as_bytes())?]?;
-    let files = files.as_slice();
-    assert!(rt; files.len() == request.files().len());
     let whole = format!(in rt.alloc(); "{FDE}{ROWS}")?;
     for (most, calls, len, end) in [
         (1usize, 1000usize, whole.len(), End::Done),
@@ -121,22 +166,11 @@ fn sinks_that_stop(rt: HostRuntime) -> Result<(), Fail> {
         (500, 0, 0, End::Output),
         (0, 1, 0, End::Output),
     ] {
-        let mut sink = Through::new(Little {
-            bytes: [0; 512],
-            len: 0,
-            most,
-            calls,
-        });
-        assert_eq!(rt; run(rt.alloc(), &request, files, &mut sink), end);
-        assert_eq!(rt; sink.stopped(), end == End::Output);
-        let Little {
-            bytes,
-            len: taken,
-            most: _,
-            calls: _,
-        } = sink.into_inner();
-        assert_eq!(rt; taken, len);
-        for (a, b) in bytes.iter().take(len).zip(whole.as_bytes()) {
+        let little = run_little(rt.alloc(), &request, &files, most, calls)?;
+        assert_eq!(rt; little.end, end);
+        assert_eq!(rt; little.stopped, end == End::Output);
+        assert_eq!(rt; little.len, len);
+        for (a, b) in little.bytes.iter().take(len).zip(whole.as_bytes()) {
             assert_eq!(rt; *a, *b);
         }
     }
