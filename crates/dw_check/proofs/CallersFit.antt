@@ -1,8 +1,9 @@
 -- The numbers of a caller are below 2^w, by what is said of checked sections and of runs.
-use Rattle.std.proofs.Common.{◌≡◌, ℕ, zero, suc, pos, ◌+◌, ◌^◌, ◌<◌, ◌≤◌, ◌==◌, Bool, true, false, cond, if◌then◌else◌, List, [], ◌∷◌, length, map, All, IfSome, Contains, refl, sym, subst, arith, inl, inr}
+use Rattle.std.proofs.Common.{◌≡◌, ℕ, zero, suc, pos, negsuc, ◌+◌, ◌-◌, ◌^◌, ◌<◌, ◌≤◌, ◌==◌, Bool, true, false, cond, if◌then◌else◌, List, [], ◌∷◌, length, map, All, IfSome, Contains, refl, sym, subst, arith, inl, inr}
 use Rattle.std.specs.Prelude.{ℤ, Option, Some, None, find, nat_le, option_map}
 use Rattle.std.specs.List.{AllByRecursion}
 use Rattle.std.proofs.lemmas.List.Elements.{All-from_recursion}
+use Rattle.std.proofs.lemmas.Nat.{pow_pos, mod_below}
 use Rattle.std.proofs.lemmas.Option.{option_and_then_some}
 use Rattle.dw_bytes.specs.declared.target.Target.{Target}
 use Rattle.dw_bytes.specs.declared.target.AddressSize.{AddressSize}
@@ -12,7 +13,7 @@ use Rattle.dw_stack.specs.declared.state.Kind.{Kind}
 use Rattle.dw_stack.specs.declared.state.Kind.TheVariants.{FrameCfa, FrameRegister, Location}
 use Rattle.dw_stack.specs.Expressions.{IsGoodExpression, operations_in}
 use Rattle.dw_stack.specs.Located.{LocatedExpression}
-use Rattle.dw_stack.specs.Machine.{Configuration, EvaluationError, Unreadable, DivisionByZero, GivesResult, LocationDescription, Piece, Run}
+use Rattle.dw_stack.specs.Machine.{Configuration, entry, EvaluationError, Unreadable, DivisionByZero, GivesResult, LocationDescription, Piece, Run}
 use Rattle.dw_stack.specs.Paths.{Placed}
 use Rattle.dw_rows.specs.Expressions.{expression_at}
 use Rattle.dw_rows.specs.GivenRows.{nowhere, or_nowhere, located_at, rule_with, cfa_with, rules_with, row_with}
@@ -21,15 +22,17 @@ use Rattle.dw_rows.specs.Section.{Frame, IsChecked, cie_in, covers, rows_behind,
 use Rattle.dw_rows.specs.UnwindRows.{has_address}
 use Rattle.dw_eval.specs.Fits.{NumbersFit}
 use Rattle.dw_eval.specs.Meaning.{meaning_of}
-use Rattle.dw_eval.specs.Numbers.{width_of}
+use Rattle.dw_eval.specs.Numbers.{reduced, width_of}
 use Rattle.dw_eval.specs.Results.{Outcome, located, no_answer, result_of, first_stack, started, RunsFrom, IsRun}
 use Rattle.dw_eval.specs.World.{World, width, number_at}
-use Rattle.dw_eval.proofs.Entries.{entry_below}
-use Rattle.dw_eval.proofs.Pushes.{reduced_below}
 use Rattle.dw_check.specs.Caller.{Answer, value, undefined, unreadable, division_by_zero, machine, with_cfa, under, moved, moved_content, word, behind, answer_of, Gives, IsCfa, NeedsCfa, IsRegister, AreRegisters, Caller, IsCaller, Unwinds}
 use Rattle.dw_check.specs.CallerFits.{AnswerFits, CallerFits}
 
 -- ---- answers without a run
+
+reduced_below : (w : ℕ) (z : ℤ) → reduced w z < 2 ^ w
+reduced_below w (pos n) = mod_below n (2 ^ w) (pow_pos w)
+reduced_below w (negsuc n) = omega (arith, pow_pos w)
 
 content_fits : (e : World) (by : ℤ) (o : Option ℕ) → AnswerFits (2 ^ width e) (moved_content e by o)
 content_fits e by (Some n) = reduced_below (width e) _
@@ -140,6 +143,9 @@ row_is_with s a row is =
 
 -- ---- runs
 
+top_below : (m : ℕ) (s : List ℕ) → 1 ≤ length s → All (λ v. v < m) s → entry s 0 < m
+top_below m s some all = all (length s - 1 - 0) 0 (omega (arith, some))
+
 located_fits : (m : ℕ) (empty : Bool) (p : Option LocationDescription) (ps : List Piece) (s : List ℕ)
     → AnswerFits m (answer_of (located empty p ps s))
 located_fits m true p ps s = tt
@@ -149,8 +155,8 @@ located_fits m false None [] s = tt
 
 result_fits : (m : ℕ) (kind : Kind) (empty : Bool) (c : Configuration) → GivesResult kind empty c → All (λ n. n < m) c.stack
     → AnswerFits m (answer_of (result_of kind empty c))
-result_fits m FrameCfa empty c there fits = entry_below m c.stack 0 (omega (arith, there.1)) fits
-result_fits m FrameRegister empty c there fits = entry_below m c.stack 0 (omega (arith, there.1)) fits
+result_fits m FrameCfa empty c there fits = top_below m c.stack there.1 fits
+result_fits m FrameRegister empty c there fits = top_below m c.stack there.1 fits
 result_fits m Location empty c there fits = located_fits m empty c.pending c.pieces c.stack
 
 none_fits : (m : ℕ) (why : EvaluationError) (at : ℕ) → AnswerFits m (answer_of (no_answer why at))
