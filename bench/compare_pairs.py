@@ -23,8 +23,9 @@ ANSWERED = {
 }
 REGISTERS = [*range(12), 15, 16, 30, 31, 63, 64, 127, 300, 65535]
 BAD_LINES = [
-    "reg 65536 0x1", "reg 000001 0x1", "reg 1  0x1", "reg 1 0x", "reg 1 1", "reg 1 0X1", "reg 0x1 0x1", "reg 1 0x1 ", " ", "reg 1 0x1\r", "Reg 1 0x1",
-    "mem 0x10 abc", "mem 0x10 ", "mem 0x10", "mem 0x10 0g", "mem 0x10 00 00", "mem 10 00", "cfa", "cfa 0x00000000000000001", "object 1", "keep 6", "sp 7",
+    "reg 65536 0x1", "reg 000001 0x1", "reg 1  0x1", "reg 1 0x", "reg 1 1", "reg 1 0X1", "reg 0x1 0x1", "reg 1 0x1 ", "reg 1 0x1\r",
+    "Reg 1 0x1", " ", "mem 0x10 abc", "mem 0x10 ", "mem 0x10", "mem 0x10 0g", "mem 0x10 00 00", "mem 10 00", "cfa",
+    "cfa 0x00000000000000001", "object 1", "keep 6", "sp 7",
 ]
 
 

@@ -1,6 +1,7 @@
-"""What the comparing scripts share: random cases, what the program writes of each against what is wanted, and the count of each kind.
+"""What the comparing scripts share: random cases, what the program writes of each against what is wanted, and counts of what came.
 
-A script calls compare(usage, make, case_of): its usage, what makes a maker of random things from a seed, and what gives a maker's next case.
+A script calls compare(usage, make, case_of): its usage, what makes a maker of random things from a seed, and what gives a maker's
+next case.
 """
 import collections
 import subprocess
@@ -9,7 +10,7 @@ import tempfile
 
 # Files by name; runs of the program on them; and the kinds under which the case is counted.
 Case = collections.namedtuple("Case", "files runs kinds")
-# What to say where the texts differ; the program's words but for flags, where a file's name stands for its path; and the text that is wanted.
+# What to say where the texts differ; the program's words but for flags, in which a file's name stands for its path; the text wanted.
 Run = collections.namedtuple("Run", "said words wanted")
 
 

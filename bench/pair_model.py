@@ -1,5 +1,4 @@
-"""Two sections checked together, and callers, by the rules of docs/PROFILE.md alone, in plain Python: nothing here was taken from the
-program.
+"""Two sections checked together, and callers, by the rules of docs/PROFILE.md alone: nothing here was taken from the program.
 
 check_text(frame, lists, big, size) gives the text that `dwcheck check` has to write, and unwind_text(frame, address, state, big, size)
 that of `dwcheck unwind`. state_of(content, size) reads a state file.
