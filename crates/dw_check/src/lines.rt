@@ -158,7 +158,7 @@ fn push_register(line: &mut String, register: u16, rule: RegisterRule<'_>) -> Re
     push_rule(line, rule)
 }
 
-fn push_rules(line: &mut String, rules: RegisterRules<'_>) -> Result<(), AllocError>
+fn push_rules(line: &mut String, rules: RegisterRules<'_, '_>) -> Result<(), AllocError>
     ensures { OnOk result (string_bytes line.new ≡ string_bytes line.old
         ++ flat_map register_text rules.entry) }
 {
@@ -173,7 +173,7 @@ fn push_rules(line: &mut String, rules: RegisterRules<'_>) -> Result<(), AllocEr
 pub(crate) fn push_row(
     line: &mut String,
     size: AddressSize,
-    row: &UnwindTableRow<'_>,
+    row: &UnwindTableRow<'_, '_>,
 ) -> Result<(), AllocError>
     requires { Fits size row.now }
     ensures { OnOk result (string_bytes line.new ≡ string_bytes line.old ++ row_line size row.now) }

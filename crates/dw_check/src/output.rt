@@ -51,7 +51,10 @@ fn write_fde<S: Sink>(
 }
 
 /// Writes the line of a row.
-fn write_row<S: Sink>(out: &mut Writer<'_, S>, row: &UnwindTableRow<'_>) -> Result<(), ReportFault>
+fn write_row<S: Sink>(
+    out: &mut Writer<'_, S>,
+    row: &UnwindTableRow<'_, '_>,
+) -> Result<(), ReportFault>
     requires fits { Fits out.old.size row.now }
     requires runs { S.has_stopped out.old.sink.now ≡ false }
     ensures same { IsSame out.old out.new }
@@ -65,10 +68,10 @@ fn write_row<S: Sink>(out: &mut Writer<'_, S>, row: &UnwindTableRow<'_>) -> Resu
 }
 
 /// Writes the lines of the rows that are to come, each read into the same place.
-fn write_rows<'a, S: Sink>(
+fn write_rows<'f, 'a, S: Sink>(
     out: &mut Writer<'_, S>,
-    rows: &mut Rows<'a>,
-    row: &mut UnwindTableRow<'a>,
+    rows: &mut Rows<'f, 'a>,
+    row: &mut UnwindTableRow<'f, 'a>,
 ) -> Result<(), ReportFault>
     requires fit { All (λ row. Fits out.old.size row) rows.old }
     requires runs { S.has_stopped out.old.sink.now ≡ false }
@@ -84,12 +87,12 @@ fn write_rows<'a, S: Sink>(
 }
 
 /// Writes the lines of an FDE of a section and of its rows, which are made in the places of others.
-fn write_fde_and_rows<'a, S: Sink>(
+fn write_fde_and_rows<'f, 'a, S: Sink>(
     out: &mut Writer<'_, S>,
-    frame: &'a CheckedFrame<'a>,
+    frame: &'f CheckedFrame<'a>,
     fde: &FrameDescriptionEntry<'a>,
-    rows: &mut Rows<'a>,
-    row: &mut UnwindTableRow<'a>,
+    rows: &mut Rows<'f, 'a>,
+    row: &mut UnwindTableRow<'f, 'a>,
 ) -> Result<(), ReportFault>
     requires inside { Contains frame.now.fdes (fde_of fde.now) }
     requires fits { (fde_of fde.now).initial + (fde_of fde.now).range ≤ top_of frame.now.target }
@@ -106,9 +109,9 @@ fn write_fde_and_rows<'a, S: Sink>(
 }
 
 /// Writes the lines of the FDEs of a section and of their rows, in the order of the section.
-pub(crate) fn write_frame<'a, S: Sink>(
+pub(crate) fn write_frame<S: Sink>(
     out: &mut Writer<'_, S>,
-    frame: &'a CheckedFrame<'a>,
+    frame: &CheckedFrame<'_>,
 ) -> Result<(), ReportFault>
     requires size { out.old.size ≡ frame.now.target.address_size }
     requires runs { S.has_stopped out.old.sink.now ≡ false }
@@ -130,9 +133,9 @@ pub(crate) fn write_frame<'a, S: Sink>(
 }
 
 /// Writes the line of the row of an address, or that there is none.
-pub(crate) fn write_lookup<'a, S: Sink>(
+pub(crate) fn write_lookup<S: Sink>(
     out: &mut Writer<'_, S>,
-    frame: &'a CheckedFrame<'a>,
+    frame: &CheckedFrame<'_>,
     address: u64,
 ) -> Result<(), ReportFault>
     requires size { out.old.size ≡ frame.now.target.address_size }

@@ -144,7 +144,7 @@ impl<'m, R: Registers, M: Memory> Present<'m, R, M> {
     }
 
     /// The registers of these rules, in their order.
-    pub fn registers(&self, cfa: Answer, rules: RegisterRules<'_>) -> FoundRegisters
+    pub fn registers(&self, cfa: Answer, rules: RegisterRules<'_, '_>) -> FoundRegisters
         requires few { length rules ≤ MAX_RULES }
         requires kinds { All IsEntryOfKind rules }
         ensures { AreRegisters (machine_in R.contents M.bytes self.now) (answer_in cfa) rules.entry

@@ -23,7 +23,7 @@ use dw_stack::{CheckedExpression, Kind};
 use std::alloc::{AllocError, Global};
 
 /// How many rows are still to come, each made in the same place.
-fn count_rows_of<'a>(rows: &mut Rows<'a>, row: &mut UnwindTableRow<'a>) -> u64
+fn count_rows_of<'f, 'a>(rows: &mut Rows<'f, 'a>, row: &mut UnwindTableRow<'f, 'a>) -> u64
     requires { length rows.old < 2 ^ 64 }
     ensures { result ≡ length rows.old }
 {
@@ -35,7 +35,7 @@ fn count_rows_of<'a>(rows: &mut Rows<'a>, row: &mut UnwindTableRow<'a>) -> u64
 }
 
 /// How many rows all FDEs of a section have together.
-fn count_rows<'a>(frame: &'a CheckedFrame<'a>) -> u128
+fn count_rows(frame: &CheckedFrame<'_>) -> u128
     ensures { result ≡ row_count frame.now }
 {
     rows_cover();

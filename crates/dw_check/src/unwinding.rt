@@ -66,8 +66,8 @@ fn callers_fit(frame: &CheckedFrame<'_>)
 /// Contents and sums are taken modulo 2^w, and what is saved is an address-sized word. A rule that needs the CFA has the CFA's
 /// answer where that has no value. One halving finds the FDE and one its CIE, its program is run once, up to the row of the
 /// address, and nothing is allocated.
-pub fn unwind<'a, R: Registers, M: Memory>(
-    checked: &'a Checked<'a>,
+pub fn unwind<R: Registers, M: Memory>(
+    checked: &Checked<'_>,
     address: u64,
     registers: &R,
     memory: &M,

@@ -10,14 +10,14 @@ use dw_stack::CheckedExpression;
 /// The checked expressions of a section's CIEs and of its FDEs (DWARF 5, sections 6.4.2.2 and 6.4.2.3), each with the offset of
 /// its first byte in the section, and both parts in order of these offsets. It keeps no memory: the expressions are lent.
 #[derive(Clone, Copy, Debug)]
-pub struct LentExpressions<'a> {
-    cies: &'a [(u32, CheckedExpression<'a>)],
-    fdes: &'a [(u32, CheckedExpression<'a>)],
+pub struct LentExpressions<'f, 'a> {
+    cies: &'f [(u32, CheckedExpression<'a>)],
+    fdes: &'f [(u32, CheckedExpression<'a>)],
     pub ghost cies_in_order: { AreInOrder cies.now } by { in_order_prop cies.now },
     pub ghost fdes_in_order: { AreInOrder fdes.now } by { in_order_prop fdes.now },
 }
 
-impl<'a> LentExpressions<'a> {
+impl<'f, 'a> LentExpressions<'f, 'a> {
     ghost use Rattle.std.specs.Prelude.{[], ◌++◌};
     ghost use Rattle.dw_rows.specs.LentExpressions.{lent_by};
 
@@ -33,8 +33,8 @@ impl<'a> LentExpressions<'a> {
 
     /// Those of CIEs and those of FDEs, each in order of offset.
     pub(crate) fn new(
-        cies: &'a [(u32, CheckedExpression<'a>)],
-        fdes: &'a [(u32, CheckedExpression<'a>)],
+        cies: &'f [(u32, CheckedExpression<'a>)],
+        fdes: &'f [(u32, CheckedExpression<'a>)],
     ) -> Self
         requires cies { AreInOrder cies.now }
         requires fdes { AreInOrder fdes.now }

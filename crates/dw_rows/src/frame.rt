@@ -315,7 +315,7 @@ impl<'a> CheckedFrame<'a> {
     }
 
     /// The expressions, as rows lend them.
-    pub(crate) fn lent(&self) -> LentExpressions<'_>
+    pub(crate) fn lent(&self) -> LentExpressions<'_, 'a>
         ensures { lent_by result ≡ self.now.expressions }
     {
         let (cies, fdes) = self.expressions.split_at(self.in_cies);
@@ -325,7 +325,7 @@ impl<'a> CheckedFrame<'a> {
     /// The rows of one of the FDEs, in the order of their addresses. Each call runs the FDE's program again as the rows are
     /// asked for, behind what was kept of its CIE's, and takes no memory.
     #[inline(always)]
-    pub fn rows(&'a self, fde: &FrameDescriptionEntry<'a>) -> Rows<'a>
+    pub fn rows(&self, fde: &FrameDescriptionEntry<'a>) -> Rows<'_, 'a>
         requires { Contains self.now.fdes (fde_of fde.now) }
         ensures { result ≡ rows_in self.now (fde_of fde.now) }
     {
@@ -333,10 +333,10 @@ impl<'a> CheckedFrame<'a> {
     }
 
     /// The rows of one of the FDEs as `rows` gives them, in the place of others. The answer is the FDE's CIE, as `cie_of`.
-    pub fn rows_into(
-        &'a self,
+    pub fn rows_into<'f>(
+        &'f self,
         fde: &FrameDescriptionEntry<'a>,
-        rows: &mut Rows<'a>,
+        rows: &mut Rows<'f, 'a>,
     ) -> CommonInformationEntry<'a>
         requires { Contains self.now.fdes (fde_of fde.now) }
         ensures rows { rows.new ≡ rows_in self.now (fde_of fde.now) }
@@ -348,7 +348,7 @@ impl<'a> CheckedFrame<'a> {
 
     /// The row of an address, or none where no FDE covers it. It takes no memory: the FDE is found by halving, and its
     /// program is run up to that row, behind what was kept of its CIE's.
-    pub fn row_for_address(&'a self, address: u64) -> Option<UnwindTableRow<'a>>
+    pub fn row_for_address(&self, address: u64) -> Option<UnwindTableRow<'_, 'a>>
         ensures row { result ≡ row_of self.now address }
         ensures fit { IfSome result (λ row. (row.start ≤ top_of self.now.target)
             × (row.end ≤ top_of self.now.target)) }
@@ -360,10 +360,10 @@ impl<'a> CheckedFrame<'a> {
 
     /// Writes the row of an address into the place of another, and answers the FDE that covers the address and its CIE.
     /// Where none does it answers none, and the place is as before. One halving finds the FDE, and one its CIE.
-    pub fn row_for_address_into(
-        &'a self,
+    pub fn row_for_address_into<'f>(
+        &'f self,
         address: u64,
-        row: &mut UnwindTableRow<'a>,
+        row: &mut UnwindTableRow<'f, 'a>,
     ) -> Option<(CommonInformationEntry<'a>, FrameDescriptionEntry<'a>)>
         ensures only { IsCoverOf self.now.fdes address
             (option_map (λ found. fde_of found.1) result) }
@@ -382,11 +382,11 @@ impl<'a> CheckedFrame<'a> {
     /// Writes the row of an address that an FDE covers into the place of another, and answers the FDE's CIE. It stays a call:
     /// room for a state is then made once, and only where an FDE is found.
     #[inline(never)]
-    fn write_row_of(
-        &'a self,
+    fn write_row_of<'f>(
+        &'f self,
         fde: &FrameDescriptionEntry<'a>,
         address: u64,
-        row: &mut UnwindTableRow<'a>,
+        row: &mut UnwindTableRow<'f, 'a>,
     ) -> CommonInformationEntry<'a>
         requires among { Contains self.now.fdes (fde_of fde.now) }
         requires low { fde.now.initial_location ≤ address }

@@ -18,13 +18,13 @@ use dw_frame::{CommonInformationEntry, FrameDescriptionEntry, Instructions};
 
 /// Writes the row that has an address into the place of another. The FDE covers the address, and the state has kept what
 /// the CIE's program leaves.
-pub(crate) fn write_row_at<'a>(
+pub(crate) fn write_row_at<'f, 'a>(
     state: &mut UnwindState,
     cie: &CommonInformationEntry<'a>,
     fde: &FrameDescriptionEntry<'a>,
     address: u64,
-    expressions: LentExpressions<'a>,
-    row: &mut UnwindTableRow<'a>,
+    expressions: LentExpressions<'f, 'a>,
+    row: &mut UnwindTableRow<'f, 'a>,
 )
     requires lent { Lends (lent_by expressions) (cie_of cie.now) (fde_of fde.now) }
     requires left { IsLeftBy (cie_of cie.now) state.old.first }
@@ -57,14 +57,14 @@ pub(crate) fn write_row_at<'a>(
 /// The same where the row isn't before the remember_state at the state. Most programs have none: only here is room made for
 /// what is remembered.
 #[inline(never)]
-fn write_row_behind<'a>(
+fn write_row_behind<'f, 'a>(
     state: &UnwindState,
     mut instructions: Instructions<'a>,
     cie: &CommonInformationEntry<'a>,
     fde: &FrameDescriptionEntry<'a>,
     address: u64,
-    expressions: LentExpressions<'a>,
-    row: &mut UnwindTableRow<'a>,
+    expressions: LentExpressions<'f, 'a>,
+    row: &mut UnwindTableRow<'f, 'a>,
 )
     requires lent { Lends (lent_by expressions) (cie_of cie.now) (fde_of fde.now) }
     requires fde { fde_fault (cie_of cie.now) (fde_of fde.now) ≡ None }

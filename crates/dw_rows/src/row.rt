@@ -63,7 +63,7 @@ pub enum CfaRule<'a> {
 }
 
 /// The rule of a register, with the expression that it names.
-fn given_rule<'a>(rule: KeptRule, expressions: &LentExpressions<'a>) -> RegisterRule<'a>
+fn given_rule<'a>(rule: KeptRule, expressions: &LentExpressions<'_, 'a>) -> RegisterRule<'a>
     requires { LendsRule (lent_by expressions.now) (kept_rule_of rule) }
     ensures { rule_of result ≡ rule_with (lent_by expressions.now) (kept_rule_of rule) }
 {
@@ -86,7 +86,7 @@ fn given_rule<'a>(rule: KeptRule, expressions: &LentExpressions<'a>) -> Register
 }
 
 /// The rule of the CFA, likewise.
-fn given_cfa<'a>(cfa: KeptCfa, expressions: &LentExpressions<'a>) -> CfaRule<'a>
+fn given_cfa<'a>(cfa: KeptCfa, expressions: &LentExpressions<'_, 'a>) -> CfaRule<'a>
     requires { LendsCfa (lent_by expressions.now) (kept_cfa_of cfa) }
     ensures { cfa_rule_of result ≡ cfa_with (lent_by expressions.now) (kept_cfa_of cfa) }
 {
@@ -102,7 +102,7 @@ fn given_cfa<'a>(cfa: KeptCfa, expressions: &LentExpressions<'a>) -> CfaRule<'a>
 }
 
 /// The expression that a rule names, by halving.
-fn given_expression<'a>(offset: u32, expressions: &LentExpressions<'a>) -> CheckedExpression<'a>
+fn given_expression<'a>(offset: u32, expressions: &LentExpressions<'_, 'a>) -> CheckedExpression<'a>
     requires { (e : LocatedExpression) × (expression_at (lent_by expressions.now) offset ≡ Some e) }
     ensures { located_of (offset, result) ≡ located_at (lent_by expressions.now) offset }
 {
@@ -114,15 +114,15 @@ fn given_expression<'a>(offset: u32, expressions: &LentExpressions<'a>) -> Check
 
 /// The addresses from a start to before an end, and the rules that hold there.
 #[derive(Debug, Drop)]
-pub struct UnwindTableRow<'a> {
+pub struct UnwindTableRow<'f, 'a> {
     start: u64,
     end: u64,
     cfa: KeptCfa,
     rules: RegisterRuleMap,
-    expressions: LentExpressions<'a>,
+    expressions: LentExpressions<'f, 'a>,
 }
 
-impl<'a> Model for UnwindTableRow<'a> {
+impl<'f, 'a> Model for UnwindTableRow<'f, 'a> {
     ghost use Rattle.std.specs.Prelude.{Some};
     ghost use Rattle.dw_rows.specs.Rules.{Row};
 
@@ -143,7 +143,7 @@ impl<'a> Model for UnwindTableRow<'a> {
         × LendsEach (lent_by row.expressions) row.rules };
 }
 
-impl<'a> UnwindTableRow<'a> {
+impl<'f, 'a> UnwindTableRow<'f, 'a> {
     /// A row of no address, as a place for others: `Rows::next_into` writes a row there.
     #[inline(always)]
     pub fn empty() -> Self
@@ -173,7 +173,7 @@ impl<'a> UnwindTableRow<'a> {
         end: u64,
         cfa: KeptCfa,
         rules: &RegisterRuleMap,
-        expressions: LentExpressions<'a>,
+        expressions: LentExpressions<'f, 'a>,
     )
         requires cfa { LendsCfa (lent_by expressions) (kept_cfa_of cfa) }
         requires rules { LendsEach (lent_by expressions) rules.now }
@@ -222,7 +222,7 @@ impl<'a> UnwindTableRow<'a> {
     }
 
     /// The rules other than `Default`, each with its register, in ascending order of registers: at most `MAX_RULES`.
-    pub fn rules(&self) -> RegisterRules<'_>
+    pub fn rules(&self) -> RegisterRules<'_, 'a>
         ensures rules { result ≡ self.now.rules }
         ensures ascending { IsTable 0 self.now.rules }
         ensures few { length self.now.rules ≤ MAX_RULES }
@@ -237,12 +237,12 @@ impl<'a> UnwindTableRow<'a> {
 
 /// Rules that are still to come, each with its register.
 #[derive(Debug, Drop)]
-pub struct RegisterRules<'a> {
-    entries: &'a [RuleEntry],
-    expressions: LentExpressions<'a>,
+pub struct RegisterRules<'f, 'a> {
+    entries: &'f [RuleEntry],
+    expressions: LentExpressions<'f, 'a>,
 }
 
-impl<'a> Model for RegisterRules<'a> {
+impl<'f, 'a> Model for RegisterRules<'f, 'a> {
     ghost use Rattle.std.specs.Prelude.{ℕ, List};
     ghost use Rattle.dw_rows.specs.Rules.{Rule};
 
@@ -257,7 +257,7 @@ impl<'a> Model for RegisterRules<'a> {
     ghost invariant = { λ r. LendsEach (lent_by r.expressions) (entries_of r.entries.now) };
 }
 
-impl<'a> Iterator for RegisterRules<'a> {
+impl<'f, 'a> Iterator for RegisterRules<'f, 'a> {
     type Item = (u16, RegisterRule<'a>);
 
     ghost use Rattle.std.specs.Iterator.{YieldsFirstBy, item_count};

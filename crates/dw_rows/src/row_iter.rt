@@ -17,16 +17,16 @@ use std::marker::Model;
 /// The rows of an FDE that are still to come, in the order of their addresses. It runs the program
 /// again, and takes no memory.
 #[derive(Drop)]
-pub struct Rows<'a> {
+pub struct Rows<'f, 'a> {
     cie: CommonInformationEntry<'a>,
     fde: FrameDescriptionEntry<'a>,
     context: UnwindContext,
     instructions: Instructions<'a>,
-    expressions: LentExpressions<'a>,
+    expressions: LentExpressions<'f, 'a>,
     given: u64,
 }
 
-impl<'a> Model for Rows<'a> {
+impl<'f, 'a> Model for Rows<'f, 'a> {
     ghost use Rattle.std.specs.Prelude.{List, drop, map, ◌+◌};
     ghost use Rattle.dw_rows.specs.Rules.{Row};
 
@@ -50,7 +50,7 @@ impl<'a> Model for Rows<'a> {
         }) r.given × Lends (lent_by r.expressions) (cie_of r.cie) (fde_of r.fde) };
 }
 
-impl<'a> Rows<'a> {
+impl<'f, 'a> Rows<'f, 'a> {
     ghost use Rattle.std.specs.Prelude.{◌≡◌, None, Some, [], ◌∷◌, Contains};
     ghost use Rattle.std.specs.Bool.{OnTrue, OnFalse};
     ghost use Rattle.dw_frame.specs.Views.{cie_of, fde_of};
@@ -60,7 +60,7 @@ impl<'a> Rows<'a> {
 
     /// All rows of an FDE of a checked section.
     #[inline(always)]
-    pub(crate) fn of(frame: &'a CheckedFrame<'a>, fde: &FrameDescriptionEntry<'a>) -> Self
+    pub(crate) fn of(frame: &'f CheckedFrame<'a>, fde: &FrameDescriptionEntry<'a>) -> Self
         requires { Contains frame.now.fdes (fde_of fde.now) }
         ensures { result ≡ rows_in frame.now (fde_of fde.now) }
     {
@@ -80,7 +80,7 @@ impl<'a> Rows<'a> {
     /// Begins with the rows of an FDE of a checked section, in the same place, and gives its CIE.
     pub(crate) fn restart_in(
         &mut self,
-        frame: &'a CheckedFrame<'a>,
+        frame: &'f CheckedFrame<'a>,
         fde: &FrameDescriptionEntry<'a>,
     ) -> CommonInformationEntry<'a>
         requires { Contains frame.now.fdes (fde_of fde.now) }
@@ -100,7 +100,7 @@ impl<'a> Rows<'a> {
     /// Writes the next row into the place of another, if there is one, and answers whether there was. Only
     /// the rules that are there are copied, so one place serves for many rows.
     #[inline(always)]
-    pub fn next_into(&mut self, row: &mut UnwindTableRow<'a>) -> bool
+    pub fn next_into(&mut self, row: &mut UnwindTableRow<'f, 'a>) -> bool
         ensures some { OnTrue result (self.old ≡ row.new ∷ self.new) }
         ensures none { OnFalse result ((self.old ≡ []) × (self.new ≡ []) × (row.new ≡ row.old)) }
     {
@@ -116,8 +116,8 @@ impl<'a> Rows<'a> {
     }
 }
 
-impl<'a> Iterator for Rows<'a> {
-    type Item = UnwindTableRow<'a>;
+impl<'f, 'a> Iterator for Rows<'f, 'a> {
+    type Item = UnwindTableRow<'f, 'a>;
 
     ghost use Rattle.std.specs.Iterator.{YieldsFirst, item_count};
 
@@ -126,7 +126,7 @@ impl<'a> Iterator for Rows<'a> {
     ghost remaining = { item_count (λ rows. rows) };
 
     #[inline(always)]
-    fn next(&mut self) -> Option<UnwindTableRow<'a>> {
+    fn next(&mut self) -> Option<UnwindTableRow<'f, 'a>> {
         let mut row = UnwindTableRow::empty();
         if self.next_into(&mut row) {
             Some(row)
@@ -136,4 +136,4 @@ impl<'a> Iterator for Rows<'a> {
     }
 }
 
-impl<'a> FusedIterator for Rows<'a> {}
+impl<'f, 'a> FusedIterator for Rows<'f, 'a> {}

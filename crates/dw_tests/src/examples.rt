@@ -15,7 +15,7 @@ use dw_stack::CheckedExpression;
 ///
 /// It is the rule of the one row that has the address (`dw_rows::laws::exact_rows`): the look-up can't fail, so `None` says
 /// that no FDE covers the address, or that the register has another rule.
-pub fn saved_offset<'a>(frame: &'a CheckedFrame<'a>, address: u64, register: u16) -> Option<i64>
+pub fn saved_offset(frame: &CheckedFrame<'_>, address: u64, register: u16) -> Option<i64>
     ensures { IfSome result (λ n. (row : Row) × (row_of frame.now address ≡ Some row)
         × (rule_in row.rules register ≡ offset n)) }
 {

@@ -60,7 +60,7 @@ fn first_fault(alloc: Global, program: [u8; 8]) -> Result<Option<(FaultKind, u32
 }
 
 /// The rows of the FDE of 0x1000 as text.
-fn text_of<'a>(alloc: Global, frame: &'a CheckedFrame<'a>) -> Result<String, Fail> {
+fn text_in(alloc: Global, frame: &CheckedFrame<'_>) -> Result<String, Fail> {
     let fde = frame.fde_for_address(0x1000).ok_or("an FDE")?;
     let mut text = String::new(alloc);
     for row in frame.rows(&fde) {
@@ -74,10 +74,6 @@ fn text_of<'a>(alloc: Global, frame: &'a CheckedFrame<'a>) -> Result<String, Fai
         text.push_str("\n")?;
     }
     Ok(text)
-}
-
-fn text_in(alloc: Global, frame: &CheckedFrame<'_>) -> Result<String, Fail> {
-    text_of(alloc, frame)
 }
 
 /// The rows of a section as text.
@@ -166,13 +162,9 @@ fn push_fde(section: &mut Vec<u8>, initial: u64, range: u64) -> Result<(), Fail>
 }
 
 /// Where the row of an address begins and ends.
-fn range_of<'a>(frame: &'a CheckedFrame<'a>, address: u64) -> Option<(u64, u64)> {
+fn range_at(frame: &CheckedFrame<'_>, address: u64) -> Option<(u64, u64)> {
     let row = frame.row_for_address(address)?;
     Some((row.start_address(), row.end_address()))
-}
-
-fn range_at(frame: &CheckedFrame<'_>, address: u64) -> Option<(u64, u64)> {
-    range_of(frame, address)
 }
 
 /// The offset of a rule that says where a register is saved.
@@ -184,10 +176,7 @@ fn saved_at(rule: RegisterRule<'_>) -> Option<i64> {
 }
 
 /// Of the row of an address: how far the CFA is from register 7, and where registers 16 and 6 are saved.
-fn rules_of<'a>(
-    frame: &'a CheckedFrame<'a>,
-    address: u64,
-) -> Option<(i64, Option<i64>, Option<i64>)> {
+fn rules_at(frame: &CheckedFrame<'_>, address: u64) -> Option<(i64, Option<i64>, Option<i64>)> {
     let row = frame.row_for_address(address)?;
     match row.cfa() {
         CfaRule::RegisterAndOffset {
@@ -202,12 +191,8 @@ fn rules_of<'a>(
     }
 }
 
-fn rules_at(frame: &CheckedFrame<'_>, address: u64) -> Option<(i64, Option<i64>, Option<i64>)> {
-    rules_of(frame, address)
-}
-
 /// How many rows the FDE of an address has.
-fn row_count_of<'a>(frame: &'a CheckedFrame<'a>, address: u64) -> Option<u32> {
+fn row_count(frame: &CheckedFrame<'_>, address: u64) -> Option<u32> {
     let fde = frame.fde_for_address(address)?;
     let mut count = 0u32;
     for _ in frame.rows(&fde) {
@@ -216,12 +201,8 @@ fn row_count_of<'a>(frame: &'a CheckedFrame<'a>, address: u64) -> Option<u32> {
     Some(count)
 }
 
-fn row_count(frame: &CheckedFrame<'_>, address: u64) -> Option<u32> {
-    row_count_of(frame, address)
-}
-
 /// Where the first two rows of an FDE end, and where the first one ends once more, in the place of others.
-fn ends_of<'a>(frame: &'a CheckedFrame<'a>, address: u64) -> Option<(u64, u64, u64)> {
+fn ends_at(frame: &CheckedFrame<'_>, address: u64) -> Option<(u64, u64, u64)> {
     let fde = frame.fde_for_address(address)?;
     let mut rows = frame.rows(&fde);
     let first = rows.next()?.end_address();
@@ -235,26 +216,14 @@ fn ends_of<'a>(frame: &'a CheckedFrame<'a>, address: u64) -> Option<(u64, u64, u
     }
 }
 
-fn ends_at(frame: &CheckedFrame<'_>, address: u64) -> Option<(u64, u64, u64)> {
-    ends_of(frame, address)
-}
-
 /// Where the CIE and the FDE of an address begin, and where its row ends; and then where the same place ends, when it was asked
 /// for the row of another address.
-fn places_of<'a>(
-    frame: &'a CheckedFrame<'a>,
-    address: u64,
-    other: u64,
-) -> Option<(u32, u32, u64, u64)> {
+fn places_at(frame: &CheckedFrame<'_>, address: u64, other: u64) -> Option<(u32, u32, u64, u64)> {
     let mut row = UnwindTableRow::empty();
     let (cie, fde) = frame.row_for_address_into(address, &mut row)?;
     let end = row.end_address();
     let _ = frame.row_for_address_into(other, &mut row);
     Some((cie.offset, fde.offset, end, row.end_address()))
-}
-
-fn places_at(frame: &CheckedFrame<'_>, address: u64, other: u64) -> Option<(u32, u32, u64, u64)> {
-    places_of(frame, address, other)
 }
 
 #[test]

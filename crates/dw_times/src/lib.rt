@@ -76,7 +76,7 @@ pub extern "C" fn bench_check_lists(alloc: Global, section: &[u8]) -> usize {
 }
 
 /// The ends of all rows by the iterator, added up.
-fn iterated_sum_of<'a>(frame: &'a CheckedFrame<'a>) -> u64 {
+fn iterated_sum(frame: &CheckedFrame<'_>) -> u64 {
     let mut sum = 0u64;
     for fde in frame.fdes() {
         for row in frame.rows(fde) {
@@ -84,10 +84,6 @@ fn iterated_sum_of<'a>(frame: &'a CheckedFrame<'a>) -> u64 {
         }
     }
     sum
-}
-
-fn iterated_sum(frame: &CheckedFrame<'_>) -> u64 {
-    iterated_sum_of(frame)
 }
 
 /// The check, and all rows by the iterator.
@@ -100,7 +96,7 @@ pub extern "C" fn bench_rows(alloc: Global, section: &[u8]) -> u64 {
 }
 
 /// The ends of the rows that are to come, added up.
-fn sum_of<'a>(rows: &mut Rows<'a>, row: &mut UnwindTableRow<'a>) -> u64 {
+fn sum_of<'f, 'a>(rows: &mut Rows<'f, 'a>, row: &mut UnwindTableRow<'f, 'a>) -> u64 {
     let mut sum = 0u64;
     'rows: while rows.next_into(row) {
         sum = sum.wrapping_add(row.end_address());
@@ -109,7 +105,7 @@ fn sum_of<'a>(rows: &mut Rows<'a>, row: &mut UnwindTableRow<'a>) -> u64 {
 }
 
 /// The ends of all rows in the place of one, added up.
-fn streamed_sum_of<'a>(frame: &'a CheckedFrame<'a>) -> u64 {
+fn streamed_sum(frame: &CheckedFrame<'_>) -> u64 {
     let Some(first) = frame.fdes().first() else {
         return 0;
     };
@@ -123,10 +119,6 @@ fn streamed_sum_of<'a>(frame: &'a CheckedFrame<'a>) -> u64 {
     sum
 }
 
-fn streamed_sum(frame: &CheckedFrame<'_>) -> u64 {
-    streamed_sum_of(frame)
-}
-
 /// The check, and all rows in the place of one.
 #[unsafe(no_mangle)]
 pub extern "C" fn bench_rows_into(alloc: Global, section: &[u8]) -> u64 {
@@ -137,7 +129,7 @@ pub extern "C" fn bench_rows_into(alloc: Global, section: &[u8]) -> u64 {
 }
 
 /// The ends of the rows of all these addresses so many times, added up.
-fn found_sum_of<'a>(frame: &'a CheckedFrame<'a>, addresses: &[u64], times: u32) -> u64 {
+fn found_sum(frame: &CheckedFrame<'_>, addresses: &[u64], times: u32) -> u64 {
     let mut row = UnwindTableRow::empty();
     let mut sum = 0u64;
     for _ in 0..times {
@@ -148,10 +140,6 @@ fn found_sum_of<'a>(frame: &'a CheckedFrame<'a>, addresses: &[u64], times: u32) 
         }
     }
     sum
-}
-
-fn found_sum(frame: &CheckedFrame<'_>, addresses: &[u64], times: u32) -> u64 {
-    found_sum_of(frame, addresses, times)
 }
 
 /// The check, and so many times the rows of all these addresses.

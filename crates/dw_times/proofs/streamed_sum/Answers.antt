@@ -2,7 +2,7 @@ use Rattle.std.proofs.Common.{◌∙◌, ◌<◌, ap, length, map, subst, sym}
 use Rattle.std.specs.List.{Contains}
 use Rattle.std.proofs.lemmas.List.{get_or-map, length-map}
 use Rattle.dw_frame.specs.Views.{fde_of}
-use Rattle.dw_times.proofs.streamed_sum_of.Goals as goal
+use Rattle.dw_times.proofs.streamed_sum.Goals as goal
 
 -- The FDE is one of the section's.
 pub rows_into-requires : goal.rows_into-requires
