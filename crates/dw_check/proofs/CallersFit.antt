@@ -186,12 +186,12 @@ module _ (numbers : (e : World) (kind : Kind) (ops : List Placed) (len n : ℕ) 
             (none_fits (2 ^ width e) fail.why fail.last.offset)
       ]
 
-  gives_fit : (e : World) (size : AddressSize) (x : LocatedExpression) (a : Answer) → IsWithin size x → Gives e x a
+  gives_fit : (e : World) (size : AddressSize) (kind : Kind) (x : LocatedExpression) (a : Answer) → IsWithin size x → Gives e kind x a
       → AnswerFits (2 ^ width_of size) a
-  gives_fit e size x a within g =
+  gives_fit e size kind x a within g =
       subst (AnswerFits (2 ^ width_of size)) (sym g.3)
       (more_fits (2 ^ width_of x.target.address_size) (2 ^ width_of size) (answer_of g.0) within
-      (run_fits (under x.target e) x.kind (operations_in x.target x.bytes) (length x.bytes) g.0 g.1 g.2))
+      (run_fits (under x.target e) kind (operations_in x.target x.bytes) (length x.bytes) g.0 g.1 g.2))
 
   -- ---- the parts of a caller
 
@@ -201,7 +201,7 @@ module _ (numbers : (e : World) (kind : Kind) (ops : List Placed) (len n : ℕ) 
 
     cfa_fits : (rule : Option Cfa) (a : Answer) → CfaWithin e.target.address_size rule → IsCfa e rule a → AnswerFits m a
     cfa_fits (Some (register_and_offset r n)) a within h = subst (AnswerFits m) (sym h) (content_fits e n (e.registers r))
-    cfa_fits (Some (cfa_expression x)) a within h = gives_fit e e.target.address_size x a within h
+    cfa_fits (Some (cfa_expression x)) a within h = gives_fit e e.target.address_size FrameCfa x a within h
     cfa_fits None a within h = subst (AnswerFits m) (sym h) tt
 
     register_fits : (cfa : Answer) (r : ℕ) (rule : Rule) (a : Answer) → RuleWithin e.target.address_size rule → IsRegister e cfa r rule a
@@ -215,10 +215,11 @@ module _ (numbers : (e : World) (kind : Kind) (ops : List Placed) (len n : ℕ) 
         subst (AnswerFits m) (sym h) (behind_fits m cfa (λ c. value (moved e n c)) (λ c. reduced_below (width e) _))
     register_fits cfa r (register other) a within h = subst (AnswerFits m) (sym h) (content_fits e (pos 0) (e.registers other))
     register_fits cfa r (expression x) a within h =
-        needs_fit m cfa (λ c b. (address : Answer) × Gives (with_cfa e c) x address × (b ≡ behind address (word e))) a
+        needs_fit m cfa (λ c b. (address : Answer) × Gives (with_cfa e c) FrameRegister x address × (b ≡ behind address (word e))) a
         (λ c k. subst (AnswerFits m) (sym k.2) (behind_fits m k.0 (word e) (word_fits e))) h
     register_fits cfa r (val_expression x) a within h =
-        needs_fit m cfa (λ c b. Gives (with_cfa e c) x b) a (λ c k. gives_fit (with_cfa e c) e.target.address_size x a within k) h
+        needs_fit m cfa (λ c b. Gives (with_cfa e c) FrameRegister x b) a
+        (λ c k. gives_fit (with_cfa e c) e.target.address_size FrameRegister x a within k) h
 
     registers_fit : (cfa : Answer) (rules : List (ℕ × Rule)) (found : List (ℕ × Answer)) → RulesWithin e.target.address_size rules
         → AreRegisters e cfa rules found → AllByRecursion (λ (x : ℕ × Answer). AnswerFits m x.1) found
