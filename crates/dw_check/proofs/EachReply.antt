@@ -1,5 +1,5 @@
 -- A request has a reply.
-use Rattle.std.proofs.Common.{◌≡◌, ℕ, ◌^◌, ◌<◌, Bool, true, false, List, length, Option, Some, None, Result, Ok, Err, refl, nat_lt, arith}
+use Rattle.std.proofs.Common.{◌≡◌, ℕ, ◌^◌, ◌<◌, Bool, true, false, List, [], length, Option, Some, None, Result, Ok, Err, refl, nat_lt, arith}
 use Rattle.std.proofs.lemmas.Bool.Decides.{nat_tests}
 use Rattle.dw_bytes.specs.declared.target.Target.{Target}
 use Rattle.dw_bytes.specs.declared.fault.Fault.{Fault}
@@ -10,17 +10,20 @@ use Rattle.dw_stack.specs.FirstFault.{expression_fault}
 use Rattle.dw_stack.proofs.Named.{good_if_none}
 use Rattle.dw_check.specs.Requests.{Asked}
 use Rattle.dw_check.specs.StateFile.{StateFact}
-use Rattle.dw_check.specs.Runs.{Reply, text, refusal, not_hex, bad_line, frame_reply, IsOutcome, OfSection, OfState, OfChecked, IsCheckReply, IsRowsReply, IsFound, IsLocsReply, IsEvalReply, IsReplyTo, IsReply}
+use Rattle.dw_check.specs.Runs.{Reply, text, refusal, not_hex, bad_line, frame_reply, IsOutcome, OfSection, OfState, OfChecked, ShowsCaller, machine_of, IsCheckReply, IsRowsReply, IsFound, IsLocsReply, IsEvalReply, IsUnwindReply, IsReplyTo, IsReply}
 use Rattle.dw_check.specs.Files.{section_bytes, state_facts}
 use Rattle.dw_check.specs.Report.{IsReport}
 use Rattle.dw_loclists.specs.Reading.{ListSection, IsChecked}
 use Rattle.dw_rows.specs.Section.{Frame, frame_of}
+use Rattle.dw_eval.specs.World.{World}
+use Rattle.dw_check.specs.Caller.{Caller, Unwinds}
+use Rattle.dw_check.specs.CallerText.{caller_text}
 use Rattle.dw_rows.specs.Section as rows
 use Rattle.std.specs.Prelude.{slice_get}
 use Rattle.dw_check.specs.declared.stop.Section.TheVariants.{Expression}
 use Rattle.dw_check.specs.declared.requests.ListLookup.{ListLookup}
 use Rattle.dw_check.specs.declared.requests.Task.{Task}
-use Rattle.dw_check.specs.declared.requests.Task.TheVariants.{Check, Rows, Row, Locs, Eval}
+use Rattle.dw_check.specs.declared.requests.Task.TheVariants.{Check, Rows, Row, Locs, Eval, Unwind}
 use Rattle.dw_check.proofs.Evaluated.{each_text, refused_short, refused_long}
 use Rattle.dw_check.proofs.Found.{each_found}
 use Rattle.dw_check.proofs.BothSections.{each_of_checked}
@@ -77,7 +80,11 @@ each_locs lookup target hex files =
 abbrev EachReport : Type 0
 EachReport = (frame : Frame) (lists : ListSection) → rows.IsChecked frame → IsChecked lists → (t : List ℕ) × IsReport frame lists t
 
-module _ (report : EachReport) where
+-- and of unwindings
+abbrev EachUnwinding : Type 0
+EachUnwinding = (e : World) (frame : Frame) (address : ℕ) → rows.IsChecked frame → (c : Option Caller) × Unwinds e frame address c
+
+module _ (report : EachReport) (unwinding : EachUnwinding) where
   each_check : (target : Target) (hex : Bool) (files : List (List ℕ)) → (r : Reply) × IsCheckReply target hex files r
   each_check target hex files =
       each_of_section 0 (section_bytes hex (slice_get files 0))
@@ -86,12 +93,28 @@ module _ (report : EachReport) where
       (λ lists. each_of_checked target frame lists IsReport
       (λ checked. report (frame_of target frame) (record { target = target; section = lists }) checked.0 checked.1)))
 
+  each_shown : (gs : List StateFact) (address : ℕ) (frame : Frame) (lists : ListSection) → rows.IsChecked frame
+      → (t : List ℕ) × ShowsCaller gs address frame lists t
+  each_shown gs address frame lists checked =
+      let found = unwinding (machine_of frame.target gs) frame address checked in
+      (caller_text frame.target.address_size found.0, (found.0, found.1, refl))
+
+  each_unwind : (address : ℕ) (target : Target) (hex : Bool) (files : List (List ℕ))
+      → (r : Reply) × IsUnwindReply address target hex files r
+  each_unwind address target hex files =
+      each_of_section 0 (section_bytes hex (slice_get files 0))
+      (λ section. OfState (state_facts target (slice_get files 1)) (λ gs. OfChecked target section [] (ShowsCaller gs address)))
+      (λ section. each_of_state (state_facts target (slice_get files 1)) (λ gs. OfChecked target section [] (ShowsCaller gs address))
+      (λ gs. each_of_checked target section [] (ShowsCaller gs address)
+      (λ checked. each_shown gs address (frame_of target section) (record { target = target; section = [] }) checked.0)))
+
   each_to : (task : Task) (target : Target) (hex : Bool) (files : List (List ℕ)) → (r : Reply) × IsReplyTo task target hex files r
   each_to Check target hex files = each_check target hex files
   each_to Rows target hex files = each_rows None target hex files
   each_to (Row a) target hex files = each_rows (Some a) target hex files
   each_to (Locs lookup) target hex files = each_locs lookup target hex files
   each_to (Eval kind) target hex files = each_eval kind target hex files
+  each_to (Unwind address) target hex files = each_unwind address target hex files
 
   pub each_reply : (asked : Asked) (files : List (List ℕ)) → (r : Reply) × IsReply asked files r
   each_reply asked files = each_to asked.task asked.target asked.hex files

@@ -2,12 +2,14 @@ pub mod Assembled
 pub mod BothSections
 pub mod Callers
 pub mod CallersFit
+pub mod EachCaller
 pub mod EachReply
 pub mod EachReport
 pub mod Evaluated
 pub mod Found
 pub mod GoodLocations
 pub mod Growth
+pub mod KnownMachine
 pub mod KnownState
 pub mod Lengths
 pub mod Lined

@@ -1,5 +1,5 @@
 -- A request has one reply.
-use Rattle.std.proofs.Common.{◌≡◌, ℕ, ◌^◌, List, length, Option, Some, None, Result, Ok, Err, ap, sym, ◌∙◌}
+use Rattle.std.proofs.Common.{◌≡◌, ℕ, ◌^◌, List, [], length, Option, Some, None, Result, Ok, Err, ap, sym, ◌∙◌}
 use borrow.Author.Tests.{lt-ltb}
 use Rattle.dw_bytes.specs.declared.target.Target.{Target}
 use Rattle.dw_bytes.specs.declared.fault.Fault.{Fault}
@@ -9,15 +9,19 @@ use Rattle.dw_stack.proofs.Named.{none_if_good}
 use Rattle.dw_check.specs.Requests.{Asked}
 use Rattle.dw_check.specs.StateFile.{StateFact}
 use Rattle.dw_check.specs.Evaluations.{Evaluates}
-use Rattle.dw_check.specs.Runs.{Reply, text, refusal, not_hex, bad_line, frame_reply, expression_refusal, IsOutcome, OfSection, OfState, OfChecked, IsCheckReply, IsRowsReply, IsFound, IsLocsReply, IsEvalReply, IsReplyTo, IsReply}
+use Rattle.dw_check.specs.Runs.{Reply, text, refusal, not_hex, bad_line, frame_reply, expression_refusal, IsOutcome, OfSection, OfState, OfChecked, ShowsCaller, machine_of, IsCheckReply, IsRowsReply, IsFound, IsLocsReply, IsEvalReply, IsUnwindReply, IsReplyTo, IsReply}
 use Rattle.dw_check.specs.Files.{section_bytes, state_facts}
 use Rattle.dw_check.specs.Report.{IsReport}
 use Rattle.dw_loclists.specs.Reading.{ListSection}
 use Rattle.dw_rows.specs.Section.{Frame, frame_of}
+use Rattle.dw_rows.specs.Section as rows
+use Rattle.dw_eval.specs.World.{World}
+use Rattle.dw_check.specs.Caller.{Caller, Unwinds}
+use Rattle.dw_check.specs.CallerText.{caller_text}
 use Rattle.std.specs.Prelude.{slice_get, Bool}
 use Rattle.dw_check.specs.declared.requests.ListLookup.{ListLookup}
 use Rattle.dw_check.specs.declared.requests.Task.{Task}
-use Rattle.dw_check.specs.declared.requests.Task.TheVariants.{Check, Rows, Row, Locs, Eval}
+use Rattle.dw_check.specs.declared.requests.Task.TheVariants.{Check, Rows, Row, Locs, Eval, Unwind}
 use Rattle.dw_check.proofs.Evaluated.{same_text}
 use Rattle.dw_check.proofs.Found.{one_found}
 use Rattle.dw_check.proofs.BothSections.{one_of_checked}
@@ -83,7 +87,12 @@ one_locs lookup target hex files r s h k =
 abbrev OneReport : Type 0
 OneReport = (frame : Frame) (lists : ListSection) (s t : List ℕ) → IsReport frame lists s → IsReport frame lists t → s ≡ t
 
-module _ (report : OneReport) where
+-- and of callers
+abbrev OneCaller : Type 0
+OneCaller = (e : World) (frame : Frame) (address : ℕ) (c d : Option Caller) → rows.IsChecked frame → Unwinds e frame address c
+    → Unwinds e frame address d → c ≡ d
+
+module _ (report : OneReport) (caller : OneCaller) where
   one_check : (target : Target) (hex : Bool) (files : List (List ℕ)) (r s : Reply) → IsCheckReply target hex files r
       → IsCheckReply target hex files s → r ≡ s
   one_check target hex files r s h k =
@@ -93,6 +102,22 @@ module _ (report : OneReport) where
       (λ lists. one_of_checked target frame lists IsReport
       (λ checked. report (frame_of target frame) (record { target = target; section = lists })))) r s h k
 
+  one_shown : (gs : List StateFact) (address : ℕ) (frame : Frame) (lists : ListSection) → rows.IsChecked frame → (s t : List ℕ)
+      → ShowsCaller gs address frame lists s → ShowsCaller gs address frame lists t → s ≡ t
+  one_shown gs address frame lists checked s t (c, h, is) (d, k, same) =
+      is
+      ∙ ap (caller_text frame.target.address_size) (caller (machine_of frame.target gs) frame address c d checked h k)
+      ∙ sym same
+
+  one_unwind : (address : ℕ) (target : Target) (hex : Bool) (files : List (List ℕ)) (r s : Reply)
+      → IsUnwindReply address target hex files r → IsUnwindReply address target hex files s → r ≡ s
+  one_unwind address target hex files r s h k =
+      one_of_section 0 (section_bytes hex (slice_get files 0))
+      (λ section. OfState (state_facts target (slice_get files 1)) (λ gs. OfChecked target section [] (ShowsCaller gs address)))
+      (λ section. one_of_state (state_facts target (slice_get files 1)) (λ gs. OfChecked target section [] (ShowsCaller gs address))
+      (λ gs. one_of_checked target section [] (ShowsCaller gs address)
+      (λ checked. one_shown gs address (frame_of target section) (record { target = target; section = [] }) checked.0))) r s h k
+
   one_to : (task : Task) (target : Target) (hex : Bool) (files : List (List ℕ)) (r s : Reply) → IsReplyTo task target hex files r
       → IsReplyTo task target hex files s → r ≡ s
   one_to Check target hex files r s h k = one_check target hex files r s h k
@@ -100,6 +125,7 @@ module _ (report : OneReport) where
   one_to (Row a) target hex files r s h k = one_rows (Some a) target hex files r s h k
   one_to (Locs lookup) target hex files r s h k = one_locs lookup target hex files r s h k
   one_to (Eval kind) target hex files r s h k = one_eval kind target hex files r s h k
+  one_to (Unwind address) target hex files r s h k = one_unwind address target hex files r s h k
 
   pub one_reply : (asked : Asked) (files : List (List ℕ)) (r s : Reply) → IsReply asked files r → IsReply asked files s → r ≡ s
   one_reply asked files r s h k = one_to asked.task asked.target asked.hex files r s h k

@@ -29,9 +29,11 @@ kind_of name =
     else (if bytes_eq name (codes "location") then Some Location
     else None))
 
--- What a word is: a file's name, an address of the target, an offset in a section, or a kind of expressions.
+-- What a word is: the name of a file with a section or an expression, or of a state file; an address of the target; an offset in a
+-- section; or a kind of expressions.
 pub data Word : Type 0 where
   file : Word
+  state_file : Word
   address : Word
   offset : Word
   kind : Word
@@ -39,6 +41,7 @@ pub data Word : Type 0 where
 -- the file, the address, the offset and the kind at the word of this name
 abbrev pub file_at : List Row → Text × Word → Option Text
 file_at rows (name, file) = first_of name rows
+file_at rows (name, state_file) = first_of name rows
 file_at rows (name, _) = None
 
 abbrev pub address_at : Text → List Row → Option ℕ
@@ -53,6 +56,7 @@ kind_at name rows = option_and_then kind_of (first_of name rows)
 -- a word is there, and is none of those that its place takes
 abbrev pub IsBad : List Row → Text × Word → Type 0
 IsBad rows (name, file) = ⊥
+IsBad rows (name, state_file) = ⊥
 IsBad rows (name, address) = IsSomeAnd (first_of name rows) (λ text. address_of (target_of rows) text ≡ None)
 IsBad rows (name, offset) = IsSomeAnd (first_of name rows) (λ text. offset_of text ≡ None)
 IsBad rows (name, kind) = IsSomeAnd (first_of name rows) (λ text. kind_of text ≡ None)

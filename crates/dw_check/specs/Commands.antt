@@ -3,12 +3,12 @@ use Rattle.std.specs.Prelude.{ℕ, Bool, true, false, List, [], ◌∷◌, Optio
 use Rattle.clap.specs.declared.builder.ArgAction.TheVariants.{Set, SetTrue}
 use Rattle.clap.specs.Simple.{on_top}
 use Rattle.clap.specs.Words.{App, Row, Rule, Text, new_app, new_rule, with_rule, with_subcommand}
-use Rattle.dw_check.specs.Arguments.{Word, file, address, offset, kind, address_at, offset_at, kind_at}
+use Rattle.dw_check.specs.Arguments.{Word, file, state_file, address, offset, kind, address_at, offset_at, kind_at}
 use Rattle.dw_check.specs.declared.requests.ListLookup.{ListLookup}
 use Rattle.dw_check.specs.declared.requests.Task.{Task}
 use Rattle.dw_check.specs.declared.requests.Task.TheVariants as tasks
 
--- A command by its name: its words in their order, each with a name of its own, whether it takes a state file, and what it
+-- A command by its name: its words in their order, each with a name of its own, whether it takes the option of a state file, and what it
 -- does.
 pub record Command : Type 0 where
   pub name : Text
@@ -64,8 +64,16 @@ eval_command = record {
   task = λ rows. option_map tasks.Eval (kind_at (codes "KIND") rows);
 }
 
+abbrev pub unwind_command : Command
+unwind_command = record {
+  name = codes "unwind";
+  words = (codes "FRAME", file) ∷ (codes "ADDRESS", address) ∷ (codes "STATE", state_file) ∷ [];
+  has_state = false;
+  task = λ rows. option_map tasks.Unwind (address_at (codes "ADDRESS") rows);
+}
+
 abbrev pub commands : List Command
-commands = check_command ∷ rows_command ∷ row_command ∷ locs_command ∷ eval_command ∷ []
+commands = check_command ∷ rows_command ∷ row_command ∷ locs_command ∷ eval_command ∷ unwind_command ∷ []
 
 -- ---- in clap's words
 

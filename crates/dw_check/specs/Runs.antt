@@ -11,10 +11,13 @@ use Rattle.dw_stack.specs.FirstFault.{expression_fault}
 use Rattle.dw_check.specs.Requests.{Asked}
 use Rattle.dw_check.specs.Checked.{check_fault}
 use Rattle.dw_check.specs.Report.{IsReport}
+use Rattle.dw_check.specs.Caller.{Caller, Unwinds, machine}
+use Rattle.dw_check.specs.CallerText.{caller_text}
+use Rattle.dw_eval.specs.World.{World}
 use Rattle.dw_check.specs.Evaluations.{Evaluates}
 use Rattle.dw_check.specs.Files.{section_bytes, state_facts}
 use Rattle.dw_check.specs.Lookups.{ShowsList, list_at}
-use Rattle.dw_check.specs.StateFile.{StateFact}
+use Rattle.dw_check.specs.StateFile.{StateFact, first_that, content_in, byte_in}
 use Rattle.dw_check.specs.SinkBytes.{AppendsFront}
 use Rattle.dw_check.specs.Text.{refused_line, frame_text, lookup_text}
 use Rattle.dw_check.specs.declared.stop.Section.{Section}
@@ -23,7 +26,7 @@ use Rattle.dw_check.specs.declared.stop.Stop.{Stop}
 use Rattle.dw_check.specs.declared.stop.Stop.TheVariants as stops
 use Rattle.dw_check.specs.declared.requests.ListLookup.{ListLookup}
 use Rattle.dw_check.specs.declared.requests.Task.{Task}
-use Rattle.dw_check.specs.declared.requests.Task.TheVariants.{Check, Rows, Row, Locs, Eval}
+use Rattle.dw_check.specs.declared.requests.Task.TheVariants.{Check, Rows, Row, Locs, Eval, Unwind}
 use Rattle.dw_check.specs.declared.requests.End.{End}
 use Rattle.dw_check.specs.declared.requests.End.TheVariants.{Done, Refused, BadHex, StateLine, Memory, Output}
 
@@ -118,6 +121,15 @@ OfChecked target frame lists Shows (refusal section fault) =
     check_fault target frame lists ≡ Some (record { section = section; fault = fault })
 OfChecked target frame lists Shows _ = ⊥
 
+-- registers and memory, of which this was given
+abbrev pub machine_of : Target → List StateFact → World
+machine_of target gs = machine target (λ n. first_that (content_in n) gs) (λ a. first_that (byte_in a) gs)
+
+-- the text shows the caller at an address, or that no FDE covers it, on a machine of which this was given
+abbrev pub ShowsCaller : List StateFact → ℕ → Frame → ListSection → List ℕ → Type 0
+ShowsCaller gs address frame lists written = (caller : Option Caller) × Unwinds (machine_of frame.target gs) frame address caller
+    × (written ≡ caller_text frame.target.address_size caller)
+
 -- ---- requests: a definition for each command
 
 -- `check`
@@ -143,12 +155,19 @@ IsLocsReply lookup target hex files reply =
     OfSection 0 (section_bytes hex (slice_get files 0))
     (λ section. OfState (state_facts target (slice_get files 1)) (IsFound lookup target section)) reply
 
+-- `unwind`, whose section is checked as `check` does, with no lists
+abbrev pub IsUnwindReply : ℕ → Target → Bool → List (List ℕ) → Reply → Type 0
+IsUnwindReply address target hex files reply =
+    OfSection 0 (section_bytes hex (slice_get files 0))
+    (λ section. OfState (state_facts target (slice_get files 1)) (λ gs. OfChecked target section [] (ShowsCaller gs address))) reply
+
 abbrev pub IsReplyTo : Task → Target → Bool → List (List ℕ) → Reply → Type 0
 IsReplyTo Check target hex files reply = IsCheckReply target hex files reply
 IsReplyTo Rows target hex files reply = IsRowsReply None target hex files reply
 IsReplyTo (Row address) target hex files reply = IsRowsReply (Some address) target hex files reply
 IsReplyTo (Locs lookup) target hex files reply = IsLocsReply lookup target hex files reply
 IsReplyTo (Eval kind) target hex files reply = IsEvalReply kind target hex files reply
+IsReplyTo (Unwind address) target hex files reply = IsUnwindReply address target hex files reply
 
 -- The reply to a request with one content for each of its files.
 abbrev pub IsReply : Asked → List (List ℕ) → Reply → Type 0

@@ -5,14 +5,14 @@ ghost use Rattle.std.specs.Option.{IsSomeAnd, option_to_list};
 ghost use Rattle.std.specs.String.{string_bytes};
 ghost use Rattle.clap.specs.Words.{found_of, rows_of, first_of, kind_of, subcommand_rows_of};
 ghost use Rattle.dw_check.specs.Arguments.{flag_of, target_of, kind_of as kind_named, address_at, offset_at, IsBad, address, offset, kind};
-ghost use Rattle.dw_check.specs.Commands.{check_command, rows_command, row_command, locs_command, eval_command, lookup_in};
+ghost use Rattle.dw_check.specs.Commands.{check_command, rows_command, row_command, locs_command, eval_command, unwind_command, lookup_in};
 ghost use Rattle.dw_check.specs.Requests.{asked_of, asked_by, HasBad, HasBadWord, IsUsageOf, AsksFor};
 ghost use Rattle.dw_check.specs.declared.requests.Usage.TheVariants.{Memory, BadArgument};
 
 use crate::addresses::{parse_address, parse_offset};
 use crate::command_line::{
     ADDR4, ADDRESS, BASE, BIG, CHECK, EVAL, EXPR, FRAME, HEX, KIND, LIST, LISTS, LOCS, ROW, ROWS,
-    STATE, whole_command,
+    STATE, STATE_FILE, UNWIND, whole_command,
 };
 use crate::requests::{ListLookup, Request, Task, Usage};
 use clap::error::ErrorKind;
@@ -271,6 +271,21 @@ fn eval_request(alloc: Global, matches: &ArgMatches<'_>) -> Result<Request, Usag
     request_with_state(alloc, matches, Task::Eval { kind }, file)
 }
 
+/// What `unwind` asks for.
+fn unwind_request(alloc: Global, matches: &ArgMatches<'_>) -> Result<Request, Usage>
+    ensures ok { IfOk result (λ r. asked_of unwind_command (rows_of (found_of matches.now))
+        ≡ Some r) }
+    ensures err { IfErr result (λ e. (e ≡ Memory)
+        ⊎ ((e ≡ BadArgument) × IsBad (rows_of (found_of matches.now)) (codes "ADDRESS", address))) }
+{
+    let (Some(frame), Some(state)) = (word_text(matches, FRAME), word_text(matches, STATE_FILE))
+    else {
+        return Err(Usage::Memory);
+    };
+    let address = address_word(matches, ADDRESS)?;
+    request_over_both(alloc, matches, Task::Unwind { address }, frame, state)
+}
+
 /// The request of a subcommand. The arms that answer `Memory` without asking for any are never reached:
 /// clap takes no other subcommand, and none without its words.
 fn request_of(alloc: Global, name: &str, matches: &ArgMatches<'_>) -> Result<Request, Usage>
@@ -292,6 +307,9 @@ fn request_of(alloc: Global, name: &str, matches: &ArgMatches<'_>) -> Result<Req
     }
     if name == EVAL {
         return eval_request(alloc, matches);
+    }
+    if name == UNWIND {
+        return unwind_request(alloc, matches);
     }
     Err(Usage::Memory)
 }

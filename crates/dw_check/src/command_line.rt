@@ -4,7 +4,7 @@ ghost use Rattle.std.specs.Prelude.{◌≡◌, ◌∷◌, [], IfOk, true, false,
 ghost use Rattle.clap.specs.Words.{with_rule, with_subcommand, app_of, rule_of};
 ghost use Rattle.clap.specs.declared.builder.Command.TheViews.{out-Command as fields_of};
 ghost use Rattle.dw_check.specs.Arguments.{file, offset};
-ghost use Rattle.dw_check.specs.Commands.{flag_rule, option_rule, word_rule, with_flags, with_words, with_state, app_of_command, check_command, rows_command, row_command, locs_command, eval_command, dwcheck};
+ghost use Rattle.dw_check.specs.Commands.{flag_rule, option_rule, word_rule, with_flags, with_words, with_state, app_of_command, check_command, rows_command, row_command, locs_command, eval_command, unwind_command, with_commands, dwcheck};
 
 use clap::{Arg, ArgAction, Command};
 use std::alloc::{AllocError, Global};
@@ -20,6 +20,8 @@ pub(crate) const LOCS: &str = "locs";
 
 pub(crate) const EVAL: &str = "eval";
 
+pub(crate) const UNWIND: &str = "unwind";
+
 pub(crate) const FRAME: &str = "FRAME";
 
 pub(crate) const ADDRESS: &str = "ADDRESS";
@@ -33,6 +35,8 @@ pub(crate) const BASE: &str = "BASE";
 pub(crate) const KIND: &str = "KIND";
 
 pub(crate) const EXPR: &str = "EXPR";
+
+pub(crate) const STATE_FILE: &str = "STATE";
 
 pub(crate) const STATE: &str = "state";
 
@@ -196,6 +200,48 @@ fn eval_command<'a>(alloc: Global) -> Result<Command<'a>, AllocError>
     with_state(alloc, command)
 }
 
+fn unwind_command<'a>(alloc: Global) -> Result<Command<'a>, AllocError>
+    ensures app { IfOk result (λ c. app_of c ≡ app_of_command unwind_command) }
+    ensures local { IfOk result (λ c. (fields_of c).has_globals ≡ false) }
+{
+    let command = with_flags(
+        alloc,
+        Command::new(alloc, UNWIND).about("Show the caller of the frame at an address"),
+    )?;
+    let command = with_word(alloc, command, FRAME, FRAME_HELP)?;
+    let command = with_word(
+        alloc,
+        command,
+        ADDRESS,
+        "The address where the frame stands",
+    )?;
+    with_word(alloc, command, STATE_FILE, STATE_HELP)
+}
+
+/// With the commands that show frame sections.
+fn with_frame_commands<'a>(alloc: Global, command: Command<'a>) -> Result<Command<'a>, AllocError>
+    requires { (fields_of command).has_globals ≡ false }
+    ensures app { IfOk result (λ c. app_of c ≡ with_commands (app_of command.entry)
+        (check_command ∷ rows_command ∷ row_command ∷ [])) }
+    ensures local { IfOk result (λ c. (fields_of c).has_globals ≡ false) }
+{
+    let command = with_command(command, check_command(alloc)?)?;
+    let command = with_command(command, rows_command(alloc)?)?;
+    with_command(command, row_command(alloc)?)
+}
+
+/// With the commands that take a state file.
+fn with_state_commands<'a>(alloc: Global, command: Command<'a>) -> Result<Command<'a>, AllocError>
+    requires { (fields_of command).has_globals ≡ false }
+    ensures app { IfOk result (λ c. app_of c ≡ with_commands (app_of command.entry)
+        (locs_command ∷ eval_command ∷ unwind_command ∷ [])) }
+    ensures local { IfOk result (λ c. (fields_of c).has_globals ≡ false) }
+{
+    let command = with_command(command, locs_command(alloc)?)?;
+    let command = with_command(command, eval_command(alloc)?)?;
+    with_command(command, unwind_command(alloc)?)
+}
+
 /// The whole command line. One of its subcommands has to be named.
 pub(crate) fn whole_command<'a>(alloc: Global) -> Result<Command<'a>, AllocError>
     ensures app { IfOk result (λ c. app_of c ≡ dwcheck) }
@@ -204,10 +250,7 @@ pub(crate) fn whole_command<'a>(alloc: Global) -> Result<Command<'a>, AllocError
     let command = Command::new(alloc, "dwcheck").about(
         "Check DWARF 5 unwind tables and location lists, and evaluate expressions",
     );
-    let command = with_command(command, check_command(alloc)?)?;
-    let command = with_command(command, rows_command(alloc)?)?;
-    let command = with_command(command, row_command(alloc)?)?;
-    let command = with_command(command, locs_command(alloc)?)?;
-    let command = with_command(command, eval_command(alloc)?)?;
+    let command = with_frame_commands(alloc, command)?;
+    let command = with_state_commands(alloc, command)?;
     Ok(command.subcommand_required(true))
 }

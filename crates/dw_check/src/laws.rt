@@ -21,6 +21,7 @@ pub fn one_reply()
         → IsReply asked files s → r ≡ s }
 {
     one_report();
+    one_caller();
 }
 
 /// And it has one.
@@ -28,6 +29,7 @@ pub fn each_has_a_reply()
     ensures { (asked : Asked) (files : List (List ℕ)) → (r : Reply) × IsReply asked files r }
 {
     each_has_a_report();
+    each_address_has_an_unwinding();
 }
 
 /// Two sections have no fault exactly where they are well formed.
@@ -75,6 +77,15 @@ pub fn each_row_has_a_caller()
     dw_rows::laws::rows_have_good_expressions();
     dw_stack::laws::each_has_a_depth();
     dw_eval::laws::each_has_an_evaluation();
+}
+
+/// At each address of a section that is accepted an unwinding has an answer.
+pub fn each_address_has_an_unwinding()
+    ensures { (e : World) (frame : Frame) (address : ℕ) → rows.IsChecked frame
+        → (c : Option Caller) × Unwinds e frame address c }
+{
+    dw_rows::laws::exact_rows();
+    each_row_has_a_caller();
 }
 
 /// There is one report on two sections.

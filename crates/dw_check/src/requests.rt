@@ -35,6 +35,8 @@ pub enum Task {
     Locs { lookup: ListLookup },
     /// What an expression of this kind comes to.
     Eval { kind: Kind },
+    /// The caller of the frame at an address.
+    Unwind { address: u64 },
 }
 
 /// What a command line asks for.

@@ -1,24 +1,29 @@
 //! Requests carried out.
 
-ghost use Rattle.std.specs.Prelude.{◌≡◌, ◌<◌, ◌^◌, false, None, IfOk, IfErr, length, map};
+ghost use Rattle.std.specs.Prelude.{◌≡◌, ◌<◌, ◌^◌, ℕ, List, false, None, IfOk, IfErr, length, map};
 ghost use Rattle.dw_rows.specs.Section.{frame_of};
 ghost use Rattle.dw_stack.specs.Certificates.{checked_of};
 ghost use Rattle.dw_stack.specs.Expressions.{IsOf};
-ghost use Rattle.dw_check.specs.Runs.{Ends, Goes, IsPlaceIn, IsReply, IsReplyTo, IsCheckReply, IsRowsReply, IsLocsReply, IsEvalReply, frame_refusal, lists_refusal, expression_refusal, rows_text};
+ghost use Rattle.dw_check.specs.Runs.{Ends, Goes, IsPlaceIn, IsReply, IsReplyTo, IsCheckReply, IsRowsReply, IsLocsReply, IsEvalReply, IsUnwindReply, ShowsCaller, frame_refusal, lists_refusal, expression_refusal, rows_text};
 ghost use Rattle.dw_check.specs.Checked.{check_fault};
+ghost use Rattle.dw_check.specs.StateFile.{StateFact, IsGivenBy};
+ghost use Rattle.dw_check.specs.StateViews.{known_state_of};
 ghost use Rattle.dw_check.specs.Stops.{IsFirstFault, IsRefusal, ended_by, is_output};
-ghost use Rattle.dw_check.specs.WriteResults.{IsSame, Writes, is_write};
+ghost use Rattle.dw_check.specs.WriteResults.{IsSame, Writes, WritesWhole, is_write};
 ghost use Rattle.dw_check.specs.declared.stop.Section.TheVariants as sections;
 
+use crate::caller_text::write_caller;
 use crate::evaluations::write_outcome;
 use crate::files::{Files, section_at, state_at};
 use crate::laws::one_report;
 use crate::locations::write_found;
+use crate::machine_state::MachineState;
 use crate::output::{write_frame, write_lookup, write_refused};
 use crate::reports::write_report;
 use crate::requests::{End, ListLookup, Request, Task};
 use crate::sink::Sink;
 use crate::stop::{ReportFault, Section, Stop};
+use crate::unwinding::unwind;
 use crate::whole_check::{Checked, check};
 use crate::writer::Writer;
 use dw_bytes::{Fault, FaultKind, Target};
@@ -235,6 +240,47 @@ fn show_outcome<S: Sink>(
     ended(write_outcome(out, &checked, &state))
 }
 
+/// Writes the caller of the frame at an address over what is known, or that no FDE covers the address.
+fn write_unwound<S: Sink>(
+    out: &mut Writer<'_, S>,
+    checked: &Checked<'_>,
+    address: u64,
+    state: &MachineState,
+) -> Result<(), ReportFault>
+    requires size { out.old.size ≡ checked.now.frame.target.address_size }
+    requires runs { S.has_stopped out.old.sink.now ≡ false }
+    ensures same { IsSame out.old out.new }
+    ensures written { (gs : List StateFact) → IsGivenBy (known_state_of state.now) gs
+        → (text : List ℕ) × ShowsCaller gs address checked.now.frame checked.now.lists text
+        × WritesWhole (S.taken out.old.sink.now) (S.taken out.new.sink.now) result text }
+    ensures stops { S.has_stopped out.new.sink.now ≡ is_write result }
+{
+    let caller = unwind(checked, address, state, state);
+    write_caller(out, caller.as_ref())
+}
+
+/// Shows the caller of the frame at an address, on a machine of which a state file says something.
+fn show_caller<S: Sink>(
+    alloc: Global,
+    address: u64,
+    files: &Files<'_>,
+    out: &mut Writer<'_, S>,
+) -> Result<(), Stop>
+    requires size { out.old.size ≡ files.now.target.address_size }
+    requires runs { S.has_stopped out.old.sink.now ≡ false }
+    ensures same { IsSame out.old out.new }
+    ensures goes { Goes (length files.now.contents.now)
+        (IsUnwindReply address files.now.target files.now.hex
+        (map (λ file. file.items) files.now.contents.now))
+        (S.taken out.old.sink.now) (S.taken out.new.sink.now) result }
+    ensures stops { S.has_stopped out.new.sink.now ≡ is_output result }
+{
+    let section = section_at(alloc, files.hex, files.contents, 0)?;
+    let state = state_at(alloc, files.target, files.contents, 1)?;
+    let checked = checked_sections(alloc, files.target, section.as_slice(), &[])?;
+    ended(write_unwound(out, &checked, address, &state))
+}
+
 /// Does a task with these files.
 fn show<S: Sink>(
     alloc: Global,
@@ -257,6 +303,7 @@ fn show<S: Sink>(
         Task::Row { address } => show_rows(alloc, Some(address), files, out),
         Task::Locs { lookup } => show_locations(alloc, lookup, files, out),
         Task::Eval { kind } => show_outcome(alloc, kind, files, out),
+        Task::Unwind { address } => show_caller(alloc, address, files, out),
     }
 }
 
