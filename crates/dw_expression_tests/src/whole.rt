@@ -2,7 +2,7 @@
 
 use crate::evaluation::{Bytes, LITTLE, OneRegister};
 use dw_bytes::{AddressSize, Fault, FaultKind, Order, Target};
-use dw_check::{Answer, Caller, CheckFault, Checked, Section, Through, check, report, unwind};
+use dw_check::{Answer, Caller, CheckFault, Section, Through, check, report, unwind};
 use std::alloc::Global;
 use std::test::Fail;
 
@@ -71,16 +71,6 @@ fn counts(
     ))
 }
 
-/// The caller at an address of two sections that were checked.
-fn caller_in(
-    checked: &Checked<'_>,
-    address: u64,
-    register: &OneRegister,
-    memory: &Bytes<'_>,
-) -> Option<Caller> {
-    unwind(checked, address, register, memory)
-}
-
 /// The caller at an address of a frame section, where one register is known, and the bytes of memory from an address on.
 fn caller(
     alloc: Global,
@@ -93,7 +83,7 @@ fn caller(
     let checked = check(alloc, frame, &[], target)
         .ok()
         .ok_or("a frame section")?;
-    Ok(caller_in(&checked, address, &register, &memory))
+    Ok(unwind(&checked, address, &register, &memory))
 }
 
 /// The report on two sections.
