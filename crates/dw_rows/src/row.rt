@@ -112,7 +112,8 @@ fn given_expression<'a>(offset: u32, expressions: &LentExpressions<'_, 'a>) -> C
     }
 }
 
-/// The addresses from a start to before an end, and the rules that hold there.
+/// The addresses from a start to before an end, and the rules that hold there. `'f` is the loan of the checked section, `'a` that of
+/// the section's bytes: the expression of a rule lives as long as these.
 #[derive(Debug, Drop)]
 pub struct UnwindTableRow<'f, 'a> {
     start: u64,

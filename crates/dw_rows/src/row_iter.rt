@@ -15,7 +15,7 @@ use std::iter::FusedIterator;
 use std::marker::Model;
 
 /// The rows of an FDE that are still to come, in the order of their addresses. It runs the program
-/// again, and takes no memory.
+/// again, and takes no memory. `'f` is the loan of the checked section, `'a` that of its bytes.
 #[derive(Drop)]
 pub struct Rows<'f, 'a> {
     cie: CommonInformationEntry<'a>,
