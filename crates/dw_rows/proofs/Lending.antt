@@ -15,9 +15,9 @@ use Rattle.dw_rows.specs.Rules.{PlacedRule, PlacedCfa, PlacedRow, rule_in, rule_
 use Rattle.dw_rows.specs.Effects.{Effect, sets, defines_cfa, effect_of, effects_by, effects_of}
 use Rattle.dw_rows.specs.Expressions.{expression_in, cie_expressions, fde_expressions, expression_at, frame_expressions}
 use Rattle.dw_rows.specs.ExpressionOrder.{expression_offset}
-use Rattle.dw_rows.specs.InForce.{Start, rule_at}
-use Rattle.dw_rows.specs.Judgement.{cie_start, left_by, fde_start}
-use Rattle.dw_rows.specs.GivenRows.{LendsRule, LendsCfa, LendsEach, LendsRules}
+use Rattle.dw_rows.specs.InForce.{Start, rule_at, cie_start, left_by, fde_start}
+use Rattle.dw_rows.specs.RuleSet.{LendsRules}
+use Rattle.dw_rows.specs.GivenRows.{LendsRule, LendsCfa, LendsEach}
 use Rattle.dw_rows.specs.Good.{beginning, rule_after, IsGoodFdeProgram}
 use Rattle.dw_rows.specs.Clauses.{IsRowAt, start_in, program_in}
 use Rattle.dw_rows.specs.Section.{Frame, IsChecked, frame_of}

@@ -1,5 +1,5 @@
 -- Rows as they are handed out: with the expressions themselves, where programs name them by their offsets.
-use Rattle.std.specs.Prelude.{◌≡◌, ℕ, List, [], map, Option, Some, None, All, IfSome}
+use Rattle.std.specs.Prelude.{◌≡◌, ℕ, List, [], map, Option, Some, None, All}
 use Rattle.std.specs.Option.{option_map}
 use Rattle.dw_bytes.specs.declared.target.Order.TheVariants.{Little}
 use Rattle.dw_bytes.specs.declared.target.AddressSize.TheVariants.{Four}
@@ -7,7 +7,6 @@ use Rattle.dw_stack.specs.declared.state.Kind.{Kind}
 use Rattle.dw_stack.specs.declared.state.Kind.TheVariants.{FrameCfa, FrameRegister}
 use Rattle.dw_stack.specs.Located.{LocatedExpression}
 use Rattle.dw_rows.specs.Expressions.{expression_at}
-use Rattle.dw_rows.specs.RuleSet.{KeptRules}
 use Rattle.dw_rows.specs.Rules.{PlacedRule, PlacedCfa, PlacedRow, Rule, Cfa, Row, default, undefined, same_value, offset, val_offset, register, expression, val_expression, register_and_offset, cfa_expression}
 
 -- an expression that is nowhere, as that of an offset where none begins, which no rule names
@@ -90,8 +89,3 @@ LendsEntry expressions entry = LendsRule expressions entry.1
 
 abbrev pub LendsEach : List LocatedExpression → List (ℕ × PlacedRule) → Type 0
 LendsEach expressions rules = All (LendsEntry expressions) rules
-
--- those of a row that is kept
-pub record LendsRules (expressions : List LocatedExpression) (kept : KeptRules) : Type 0 where
-  pub cfa : IfSome kept.cfa (LendsCfa expressions)
-  pub rules : LendsEach expressions kept.rules
