@@ -64,7 +64,8 @@ module _ (target : Target) (frame lists : List ℕ) (Shows : Frame → ListSecti
   one_of_checked one (text a) (text b) h k = ap text (one (accepted h.0) a b h.1 k.1)
   one_of_checked one (text a) (refusal q g) h k = absurd (never (record { section = q; fault = g }) h.0 k)
   one_of_checked one (refusal p f) (text b) h k = absurd (never (record { section = p; fault = f }) k.0 h)
-  one_of_checked one (refusal p f) (refusal q g) h k = same (record { section = p; fault = f }) (record { section = q; fault = g }) (sym h ∙ k)
+  one_of_checked one (refusal p f) (refusal q g) h k =
+      same (record { section = p; fault = f }) (record { section = q; fault = g }) (sym h ∙ k)
     where
       same : (a b : CheckFault) → Some a ≡ Some b → refusal a.section a.fault ≡ refusal b.section b.fault
       same a b both = let one : a ≡ b = cc in ap (λ (c : CheckFault). refusal c.section c.fault) one

@@ -1,5 +1,6 @@
 -- The numbers of a caller are below 2^w, by what is said of checked sections and of runs.
-use Rattle.std.proofs.Common.{◌≡◌, ℕ, zero, suc, pos, negsuc, ◌+◌, ◌-◌, ◌^◌, ◌<◌, ◌≤◌, ◌==◌, Bool, true, false, cond, if◌then◌else◌, List, [], ◌∷◌, length, map, All, IfSome, Contains, refl, sym, subst, arith, inl, inr}
+use Rattle.std.proofs.Common.{◌≡◌, ℕ, zero, suc, pos, negsuc, ◌+◌, ◌-◌, ◌^◌, ◌<◌, ◌≤◌, ◌==◌, Bool, true, false, cond, if◌then◌else◌, List}
+use Rattle.std.proofs.Common.{[], ◌∷◌, length, map, All, IfSome, Contains, refl, sym, subst, arith, inl, inr}
 use Rattle.std.specs.Prelude.{ℤ, Option, Some, None, find, nat_le, option_map}
 use Rattle.std.specs.List.{AllByRecursion}
 use Rattle.std.proofs.lemmas.List.Elements.{All-from_recursion}
@@ -13,11 +14,13 @@ use Rattle.dw_stack.specs.declared.state.Kind.{Kind}
 use Rattle.dw_stack.specs.declared.state.Kind.TheVariants.{FrameCfa, FrameRegister, Location}
 use Rattle.dw_stack.specs.Expressions.{IsGoodExpression, operations_in}
 use Rattle.dw_stack.specs.Located.{LocatedExpression}
-use Rattle.dw_stack.specs.Machine.{Configuration, entry, EvaluationError, Unreadable, DivisionByZero, GivesResult, LocationDescription, Piece, Run}
+use Rattle.dw_stack.specs.Machine.{Configuration, entry, EvaluationError, Unreadable, DivisionByZero, GivesResult, LocationDescription}
+use Rattle.dw_stack.specs.Machine.{Piece, Run}
 use Rattle.dw_stack.specs.Paths.{Placed}
 use Rattle.dw_rows.specs.Expressions.{expression_at}
 use Rattle.dw_rows.specs.GivenRows.{nowhere, or_nowhere, located_at, rule_with, cfa_with, rules_with, row_with}
-use Rattle.dw_rows.specs.Rules.{PlacedRule, PlacedCfa, PlacedRow, Rule, Cfa, Row, RuleOver, register_and_offset, cfa_expression, rule_in, default, same_value, offset, val_offset, register, expression, val_expression}
+use Rattle.dw_rows.specs.Rules.{PlacedRule, PlacedCfa, PlacedRow, Rule, Cfa, Row, RuleOver, register_and_offset, cfa_expression, rule_in}
+use Rattle.dw_rows.specs.Rules.{default, same_value, offset, val_offset, register, expression, val_expression}
 use Rattle.dw_rows.specs.Section.{Frame, IsChecked, cie_in, covers, rows_behind, rows_in, row_of}
 use Rattle.dw_rows.specs.UnwindRows.{has_address}
 use Rattle.dw_eval.specs.Fits.{NumbersFit}
@@ -25,7 +28,8 @@ use Rattle.dw_eval.specs.Meaning.{meaning_of}
 use Rattle.dw_eval.specs.Numbers.{reduced, width_of}
 use Rattle.dw_eval.specs.Results.{Outcome, located, no_answer, result_of, first_stack, started, RunsFrom, IsRun}
 use Rattle.dw_eval.specs.World.{World, width, number_at}
-use Rattle.dw_check.specs.Caller.{Answer, value, undefined, unreadable, division_by_zero, machine, with_cfa, under, moved, moved_content, word, behind, answer_of, Gives, IsCfa, NeedsCfa, IsRegister, AreRegisters, Caller, IsCaller, Unwinds}
+use Rattle.dw_check.specs.Caller.{Answer, value, undefined, unreadable, division_by_zero, machine, with_cfa, under, moved, moved_content}
+use Rattle.dw_check.specs.Caller.{word, behind, answer_of, Gives, IsCfa, NeedsCfa, IsRegister, AreRegisters, Caller, IsCaller, Unwinds}
 use Rattle.dw_check.specs.CallerFits.{AnswerFits, CallerFits}
 
 -- ---- answers without a run

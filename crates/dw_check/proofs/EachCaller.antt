@@ -1,5 +1,6 @@
 -- At each address of a section that is accepted there is a caller, or no FDE covers it, by what is said of rows and of callers.
-use Rattle.std.proofs.Common.{◌≡◌, ℕ, zero, suc, ◌+◌, ◌<◌, ◌≤◌, ◌==◌, nat_le, nat_lt, Bool, true, false, cond, List, [], ◌∷◌, length, refl, ap, sym, subst, ◌∙◌, arith, inl, inr}
+use Rattle.std.proofs.Common.{◌≡◌, ℕ, zero, suc, ◌+◌, ◌<◌, ◌≤◌, ◌==◌, nat_le, nat_lt, Bool, true, false, cond, List, [], ◌∷◌, length}
+use Rattle.std.proofs.Common.{refl, ap, sym, subst, ◌∙◌, arith, inl, inr}
 use Rattle.std.specs.Prelude.{◌⊎◌, Option, Some, None, Contains, filter}
 use Rattle.std.proofs.lemmas.Bool.Decides.{nat_tests}
 use Rattle.dw_frame.specs.Records.{Cie, Fde}
@@ -74,7 +75,8 @@ module _ (covered : (s : Frame) (a : ℕ) → IsChecked s → (f : Fde) → Cont
   by_cover : (e : World) (frame : Frame) (a : ℕ) → IsChecked frame → HasOneRow frame a → (c : Option Caller) × Unwinds e frame a c
   by_cover e frame a checked one =
       let cie = some_cie one.fde.cie_pointer frame.cies one.cie one.among one.pointed in
-      let caller = has e cie.0.return_register frame one.fde one.row checked one.covers.0 (kept_among _ (rows_in frame one.fde) one.row [] one.one) in (
+      let caller = has e cie.0.return_register frame one.fde one.row checked one.covers.0
+      (kept_among _ (rows_in frame one.fde) one.row [] one.one) in (
         Some caller.0,
         record {
           fde = one.fde;

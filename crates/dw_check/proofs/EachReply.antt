@@ -1,5 +1,6 @@
 -- A request has a reply.
-use Rattle.std.proofs.Common.{◌≡◌, ℕ, ◌^◌, ◌<◌, Bool, true, false, List, [], length, Option, Some, None, Result, Ok, Err, refl, nat_lt, arith}
+use Rattle.std.proofs.Common.{◌≡◌, ℕ, ◌^◌, ◌<◌, Bool, true, false, List, [], length, Option, Some, None, Result, Ok, Err, refl, nat_lt}
+use Rattle.std.proofs.Common.{arith}
 use Rattle.std.proofs.lemmas.Bool.Decides.{nat_tests}
 use Rattle.dw_bytes.specs.declared.target.Target.{Target}
 use Rattle.dw_bytes.specs.declared.fault.Fault.{Fault}
@@ -10,7 +11,9 @@ use Rattle.dw_stack.specs.FirstFault.{expression_fault}
 use Rattle.dw_stack.proofs.Named.{good_if_none}
 use Rattle.dw_check.specs.Requests.{Asked}
 use Rattle.dw_check.specs.StateFile.{StateFact}
-use Rattle.dw_check.specs.Runs.{Reply, text, refusal, not_hex, bad_line, frame_reply, IsOutcome, OfSection, OfState, OfChecked, ShowsCaller, machine_of, IsCheckReply, IsRowsReply, IsFound, IsLocsReply, IsEvalReply, IsUnwindReply, IsReplyTo, IsReply}
+use Rattle.dw_check.specs.Runs.{Reply, text, refusal, not_hex, bad_line, frame_reply, IsOutcome, OfSection, OfState, OfChecked}
+use Rattle.dw_check.specs.Runs.{ShowsCaller, machine_of, IsCheckReply, IsRowsReply, IsFound, IsLocsReply, IsEvalReply, IsUnwindReply}
+use Rattle.dw_check.specs.Runs.{IsReplyTo, IsReply}
 use Rattle.dw_check.specs.Files.{section_bytes, state_facts}
 use Rattle.dw_check.specs.Report.{IsReport}
 use Rattle.dw_loclists.specs.Reading.{ListSection, IsChecked}

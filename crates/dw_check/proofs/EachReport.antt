@@ -72,7 +72,8 @@ module _ (deepest : (kind : Kind) (target : Target) (bytes : List ℕ) → IsGoo
       → Contains l.entries e → expression_in e ≡ Some b → IsGoodExpression Location b.target b.bytes)
       → (lists : ListSection) → IsChecked lists → (t : List ℕ) × AreLines sections.Lists (located_in lists) t
   list_lines_some good lists checked =
-      lines_some sections.Lists (located_in lists) (lists_good (lists_in lists) (λ l e b listed at is. good lists l e b checked listed at is))
+      lines_some sections.Lists (located_in lists)
+      (lists_good (lists_in lists) (λ l e b listed at is. good lists l e b checked listed at is))
 
   pub report_some : ((s : ListSection) (l : Loclist) (e : Entry) (b : Block) → IsChecked s → Contains (lists_in s) l → Contains l.entries e
       → expression_in e ≡ Some b → IsGoodExpression Location b.target b.bytes)

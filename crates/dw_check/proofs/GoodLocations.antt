@@ -1,5 +1,6 @@
 -- What a list of an accepted section gives is read under the section's target, is shorter than the section, and is good.
-use Rattle.std.proofs.Common.{◌≡◌, ℕ, ◌+◌, ◌^◌, ◌<◌, Bool, true, false, cond, List, [], ◌∷◌, ◌++◌, length, Contains, Option, Some, None, refl, sym, ap, subst, ◌∙◌, arith}
+use Rattle.std.proofs.Common.{◌≡◌, ℕ, ◌+◌, ◌^◌, ◌<◌, Bool, true, false, cond, List, [], ◌∷◌, ◌++◌, length, Contains, Option, Some, None}
+use Rattle.std.proofs.Common.{refl, sym, ap, subst, ◌∙◌, arith}
 use Rattle.std.specs.Prelude.{◌==◌, map}
 use Rattle.std.specs.List.{AllByRecursion, cons_option}
 use Rattle.std.proofs.lemmas.List.{length-append}
@@ -7,9 +8,11 @@ use Rattle.dw_bytes.specs.declared.target.Target.{Target}
 use Rattle.dw_bytes.specs.Operands.{Kind, unsigned, block, Block, Operands, Line, line, none, one, AreOperands}
 use Rattle.dw_bytes.specs.Operands as operands
 use Rattle.dw_bytes.specs.Sequence.{Sequence}
-use Rattle.dw_loclists.specs.Entries.{Entry, end_of_list, offset_pair, default_location, base_address, start_end, start_length, entry_line, IsEntry, is_default, expression_in, IsGoodLocation}
+use Rattle.dw_loclists.specs.Entries.{Entry, end_of_list, offset_pair, default_location, base_address, start_end, start_length}
+use Rattle.dw_loclists.specs.Entries.{entry_line, IsEntry, is_default, expression_in, IsGoodLocation}
 use Rattle.dw_loclists.specs.Lists.{Loclist}
-use Rattle.dw_loclists.specs.Locations.{location_of, expressions_of, base_after, holds, held_by, bounded_at, default_of, defaults_in, or_else_all, locations_of}
+use Rattle.dw_loclists.specs.Locations.{location_of, expressions_of, base_after, holds, held_by, bounded_at, default_of, defaults_in}
+use Rattle.dw_loclists.specs.Locations.{or_else_all, locations_of}
 use Rattle.dw_stack.specs.Located.{LocatedExpression}
 use Rattle.dw_loclists.specs.Reading.{ListSection, IsChecked, tables_in, lists_in}
 use Rattle.dw_loclists.proofs.Checked.{checked-tables}

@@ -1,5 +1,6 @@
 -- What a state file says, as maps keep it.
-use Rattle.std.proofs.Common.{◌≡◌, ℕ, zero, suc, ◌+◌, ◌-◌, ◌<◌, ◌==◌, nat_lt, nat_le, Bool, true, false, Option, Some, None, List, [], ◌∷◌, ◌++◌, length, take, slice_index, ap, refl, sym, ◌∙◌, arith}
+use Rattle.std.proofs.Common.{◌≡◌, ℕ, zero, suc, ◌+◌, ◌-◌, ◌<◌, ◌==◌, nat_lt, nat_le, Bool, true, false, Option, Some, None, List, []}
+use Rattle.std.proofs.Common.{◌∷◌, ◌++◌, length, take, slice_index, ap, refl, sym, ◌∙◌, arith}
 use Rattle.std.specs.Prelude.{MatchOption, if◌then◌else◌, slice_get}
 use Rattle.std.specs.Option.{option_or}
 use Rattle.std.specs.declared.cmp.Ordering.TheVariants.{Less, Equal, Greater}
@@ -8,7 +9,8 @@ use Rattle.std.specs.Cmp.{nat_cmp_is}
 use Rattle.std.specs.Map.{lookup}
 use Rattle.std.specs.BTreeMap.{BTreeMap, get, Updates, IsUnchanged}
 use Rattle.std.proofs.lemmas.Bool.Decides.{nat_tests}
-use Rattle.dw_check.specs.StateFile.{StateFact, bytes, first_that, content_in, byte_in, cfa_in, frame_base_in, object_in, KnownState, IsGivenBy}
+use Rattle.dw_check.specs.StateFile.{StateFact, bytes, first_that, content_in, byte_in, cfa_in, frame_base_in, object_in, KnownState}
+use Rattle.dw_check.specs.StateFile.{IsGivenBy}
 
 cmp_lt : (k q : ℕ) → k < q → is_eq (nat_cmp k q) ≡ (k == q)
 cmp_lt k q h = let other : (k == q) ≡ false = grind (arith, nat_tests) in rw (sym (nat_cmp_is k q Less h), other) refl

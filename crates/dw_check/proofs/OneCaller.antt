@@ -5,7 +5,8 @@ use Rattle.std.specs.List.{AllByRecursion}
 use Rattle.std.proofs.lemmas.List.Elements.{recursion_from_All}
 use Rattle.dw_bytes.specs.declared.target.Target.{Target}
 use Rattle.dw_frame.specs.Records.{Cie}
-use Rattle.dw_rows.specs.Rules.{Rule, Cfa, register_and_offset, cfa_expression, Row, RuleOver, rule_in, default, same_value, offset, val_offset, register, expression, val_expression}
+use Rattle.dw_rows.specs.Rules.{Rule, Cfa, register_and_offset, cfa_expression, Row, RuleOver, rule_in, default, same_value, offset}
+use Rattle.dw_rows.specs.Rules.{val_offset, register, expression, val_expression}
 use Rattle.dw_stack.specs.Located.{LocatedExpression}
 use Rattle.dw_rows.specs.GoodRows.{IsGoodAmong, IsGoodRule, IsGoodCfa, IsGoodEntry, HasGoodExpressions}
 use Rattle.dw_rows.specs.Section.{Frame, cie_in, row_of}
@@ -14,7 +15,8 @@ use Rattle.dw_stack.specs.declared.state.Kind.TheVariants.{FrameCfa, FrameRegist
 use Rattle.dw_stack.specs.Expressions.{Checked, IsChecked, IsGoodExpression, IsDepthOf}
 use Rattle.dw_eval.specs.World.{World}
 use Rattle.dw_eval.specs.Results.{Outcome, IsEvaluation}
-use Rattle.dw_check.specs.Caller.{Answer, value, undefined, unreadable, division_by_zero, moved_content, content, word, moved, behind, answer_of, under, Gives, with_cfa, IsCfa, NeedsCfa, IsRegister, AreRegisters, Caller, IsCaller, Unwinds}
+use Rattle.dw_check.specs.Caller.{Answer, value, undefined, unreadable, division_by_zero, moved_content, content, word, moved, behind}
+use Rattle.dw_check.specs.Caller.{answer_of, under, Gives, with_cfa, IsCfa, NeedsCfa, IsRegister, AreRegisters, Caller, IsCaller, Unwinds}
 use Rattle.dw_check.proofs.Sound.{known}
 
 -- ---- rules of a list are good

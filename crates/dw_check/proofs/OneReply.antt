@@ -9,7 +9,9 @@ use Rattle.dw_stack.proofs.Named.{none_if_good}
 use Rattle.dw_check.specs.Requests.{Asked}
 use Rattle.dw_check.specs.StateFile.{StateFact}
 use Rattle.dw_check.specs.Evaluations.{Evaluates}
-use Rattle.dw_check.specs.Runs.{Reply, text, refusal, not_hex, bad_line, frame_reply, expression_refusal, IsOutcome, OfSection, OfState, OfChecked, ShowsCaller, machine_of, IsCheckReply, IsRowsReply, IsFound, IsLocsReply, IsEvalReply, IsUnwindReply, IsReplyTo, IsReply}
+use Rattle.dw_check.specs.Runs.{Reply, text, refusal, not_hex, bad_line, frame_reply, expression_refusal, IsOutcome, OfSection, OfState}
+use Rattle.dw_check.specs.Runs.{OfChecked, ShowsCaller, machine_of, IsCheckReply, IsRowsReply, IsFound, IsLocsReply, IsEvalReply}
+use Rattle.dw_check.specs.Runs.{IsUnwindReply, IsReplyTo, IsReply}
 use Rattle.dw_check.specs.Files.{section_bytes, state_facts}
 use Rattle.dw_check.specs.Report.{IsReport}
 use Rattle.dw_loclists.specs.Reading.{ListSection}

@@ -1,5 +1,6 @@
 -- What a loop over things has sent: the texts of those that came.
-use Rattle.std.proofs.Common.{◌≡◌, ℕ, suc, ◌+◌, ◌<◌, ◌≤◌, List, [], ◌∷◌, ◌++◌, length, map, drop, get_or, ap, sym, ◌∙◌, subst, arith, length-append, drop-cons, add-one}
+use Rattle.std.proofs.Common.{◌≡◌, ℕ, suc, ◌+◌, ◌<◌, ◌≤◌, List, [], ◌∷◌, ◌++◌, length, map, drop, get_or, ap, sym, ◌∙◌, subst, arith}
+use Rattle.std.proofs.Common.{length-append, drop-cons, add-one}
 use Rattle.std.specs.Prelude.{Option}
 use Rattle.std.specs.List.{All, Contains, flat_map}
 use Rattle.std.proofs.Math.Seq.{get_or-append_seam}

@@ -1,7 +1,15 @@
 -- The names of faults.
 use Rattle.std.specs.Prelude.{ℕ, List, codes}
 use Rattle.dw_bytes.specs.declared.fault.FaultKind.{FaultKind}
-use Rattle.dw_bytes.specs.declared.fault.FaultKind.TheVariants.{Truncated, LebRange, ReservedLength, Version, Augmentation, AddressSize, SegmentSize, NoSuchCie, RegisterNumber, RangePastTop, UnknownInstruction, NotInCie, LocationBack, LocationPastEnd, RestoreWithoutRemember, Unrestored, RememberTooDeep, CfaNotRegister, OffsetRange, TooManyRules, NoCfa, Overlap, UnknownOperation, NotInFrame, BadSize, Backward, TargetNotStart, Underflow, TooDeep, Mismatch, Unreachable, NotAlone, EndsEmpty, TooManyPieces, PieceSize, ListVersion, UnknownEntry, BackRange, SecondDefault, NoEnd, BadOffsetEntry, Memory, SectionTooLong, CertLength, CertState}
+use Rattle.dw_bytes.specs.declared.fault.FaultKind.TheVariants.{Truncated, LebRange, ReservedLength, Version, Augmentation, AddressSize}
+use Rattle.dw_bytes.specs.declared.fault.FaultKind.TheVariants.{SegmentSize, NoSuchCie, RegisterNumber, RangePastTop, UnknownInstruction}
+use Rattle.dw_bytes.specs.declared.fault.FaultKind.TheVariants.{NotInCie, LocationBack, LocationPastEnd, RestoreWithoutRemember}
+use Rattle.dw_bytes.specs.declared.fault.FaultKind.TheVariants.{Unrestored, RememberTooDeep, CfaNotRegister, OffsetRange, TooManyRules}
+use Rattle.dw_bytes.specs.declared.fault.FaultKind.TheVariants.{NoCfa, Overlap, UnknownOperation, NotInFrame, BadSize, Backward}
+use Rattle.dw_bytes.specs.declared.fault.FaultKind.TheVariants.{TargetNotStart, Underflow, TooDeep, Mismatch, Unreachable, NotAlone}
+use Rattle.dw_bytes.specs.declared.fault.FaultKind.TheVariants.{EndsEmpty, TooManyPieces, PieceSize, ListVersion, UnknownEntry, BackRange}
+use Rattle.dw_bytes.specs.declared.fault.FaultKind.TheVariants.{SecondDefault, NoEnd, BadOffsetEntry, Memory, SectionTooLong, CertLength}
+use Rattle.dw_bytes.specs.declared.fault.FaultKind.TheVariants.{CertState}
 
 abbrev pub name_of : FaultKind → List ℕ
 name_of Truncated = codes "Truncated"

@@ -1,5 +1,6 @@
 -- The texts that a run writes, a definition a form of line.
-use Rattle.std.specs.Prelude.{ℕ, zero, suc, ◌+◌, ◌/◌, ◌%◌, ◌<◌, ◌^◌, ℤ, pos, negsuc, if◌then◌else◌, nat_lt, List, [], ◌∷◌, ◌++◌, Option, Some, None, codes, decimal}
+use Rattle.std.specs.Prelude.{ℕ, zero, suc, ◌+◌, ◌/◌, ◌%◌, ◌<◌, ◌^◌, ℤ, pos, negsuc, if◌then◌else◌, nat_lt, List, [], ◌∷◌, ◌++◌, Option}
+use Rattle.std.specs.Prelude.{Some, None, codes, decimal}
 use Rattle.std.specs.List.{flat_map}
 use Rattle.hex.specs.Hex.{encode_lower}
 use Rattle.dw_bytes.specs.Faults.{number_of}
@@ -8,7 +9,8 @@ use Rattle.dw_bytes.specs.declared.fault.FaultKind.{FaultKind}
 use Rattle.dw_bytes.specs.declared.target.AddressSize.{AddressSize}
 use Rattle.dw_bytes.specs.declared.target.AddressSize.TheVariants.{Four, Eight}
 use Rattle.dw_frame.specs.Records.{Cie, Fde}
-use Rattle.dw_rows.specs.Rules.{Rule, Cfa, Row, default, undefined, same_value, offset, val_offset, register, expression, val_expression, register_and_offset, cfa_expression}
+use Rattle.dw_rows.specs.Rules.{Rule, Cfa, Row, default, undefined, same_value, offset, val_offset, register, expression, val_expression}
+use Rattle.dw_rows.specs.Rules.{register_and_offset, cfa_expression}
 use Rattle.dw_rows.specs.Section.{Frame, cie_in, rows_in, row_of}
 use Rattle.dw_check.specs.Names.{name_of}
 use Rattle.dw_check.specs.declared.stop.Section.{Section}

@@ -4,7 +4,9 @@ ghost use Rattle.std.specs.Prelude.{◌≡◌, ◌∷◌, [], IfOk, true, false,
 ghost use Rattle.clap.specs.Words.{with_rule, with_subcommand, app_of, rule_of};
 ghost use Rattle.clap.specs.declared.builder.Command.TheViews.{out-Command as fields_of};
 ghost use Rattle.dw_check.specs.Arguments.{file, offset};
-ghost use Rattle.dw_check.specs.Commands.{flag_rule, option_rule, word_rule, with_flags, with_words, with_state, app_of_command, check_command, rows_command, row_command, locs_command, eval_command, unwind_command, with_commands, dwcheck};
+ghost use Rattle.dw_check.specs.Commands.{flag_rule, option_rule, word_rule, with_flags, with_words, with_state, app_of_command};
+ghost use Rattle.dw_check.specs.Commands.{check_command, rows_command, row_command, locs_command, eval_command, unwind_command};
+ghost use Rattle.dw_check.specs.Commands.{with_commands, dwcheck};
 
 use clap::{Arg, ArgAction, Command};
 use std::alloc::{AllocError, Global};

@@ -6,7 +6,8 @@ ghost use Rattle.std.specs.String.{string_bytes};
 ghost use Rattle.dw_frame.specs.Views.{cie_of, fde_of};
 ghost use Rattle.dw_stack.specs.Certificates.{checked_of};
 ghost use Rattle.dw_rows.specs.Views.{rule_of, cfa_rule_of};
-ghost use Rattle.dw_check.specs.Text.{kind_text, refused_line, expression_text, expression_line, records_text, fde_line, cfa_text, rule_text, register_text, row_line, digits_of, Fits};
+ghost use Rattle.dw_check.specs.Text.{kind_text, refused_line, expression_text, expression_line, records_text, fde_line, cfa_text};
+ghost use Rattle.dw_check.specs.Text.{rule_text, register_text, row_line, digits_of, Fits};
 
 use crate::names::name;
 use crate::numbers::{push_decimal, push_offset, push_range, push_signed};

@@ -4,7 +4,8 @@ ghost use Rattle.std.specs.Prelude.{◌≡◌, ◌<◌, ◌^◌, ℕ, List, fals
 ghost use Rattle.dw_rows.specs.Section.{frame_of};
 ghost use Rattle.dw_stack.specs.Certificates.{checked_of};
 ghost use Rattle.dw_stack.specs.Expressions.{IsOf};
-ghost use Rattle.dw_check.specs.Runs.{Ends, Goes, IsPlaceIn, IsReply, IsReplyTo, IsCheckReply, IsRowsReply, IsLocsReply, IsEvalReply, IsUnwindReply, ShowsCaller, frame_refusal, lists_refusal, expression_refusal, rows_text};
+ghost use Rattle.dw_check.specs.Runs.{Ends, Goes, IsPlaceIn, IsReply, IsReplyTo, IsCheckReply, IsRowsReply, IsLocsReply, IsEvalReply};
+ghost use Rattle.dw_check.specs.Runs.{IsUnwindReply, ShowsCaller, frame_refusal, lists_refusal, expression_refusal, rows_text};
 ghost use Rattle.dw_check.specs.Checked.{check_fault};
 ghost use Rattle.dw_check.specs.StateFile.{StateFact, IsGivenBy};
 ghost use Rattle.dw_check.specs.StateViews.{known_state_of};

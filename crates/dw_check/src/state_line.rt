@@ -1,7 +1,8 @@
 //! The lines of a state file.
 
 ghost use Rattle.std.specs.Prelude.{◌≡◌, IfOk, IfSome, option_map};
-ghost use Rattle.dw_check.specs.StateFile.{FitsAddresses, register_number, bytes_fact, register_fact, memory_fact, numbered, named, fact_of_line};
+ghost use Rattle.dw_check.specs.StateFile.{FitsAddresses, register_number, bytes_fact, register_fact, memory_fact, numbered, named};
+ghost use Rattle.dw_check.specs.StateFile.{fact_of_line};
 ghost use Rattle.dw_check.specs.StateViews.{fact_of};
 
 use crate::addresses::{parse_address, parse_number};

@@ -147,7 +147,8 @@ entry-in : (target : Target) (at : ℕ) (bytes : List ℕ) (e : Entry) → IsEnt
 unfolding Holds
 entry-in target at bytes e (code, front, operands, parts, first, second) =
     subst (AreIn target at bytes) (sym (as-located e))
-    (within target at (at + length front) front operands [] bytes (located-of (expression_in e)) (behind-all front operands bytes parts) refl
+    (within target at (at + length front) front operands [] bytes (located-of (expression_in e))
+    (behind-all front operands bytes parts) refl
     (all-lines target code (at + length front) operands e second))
 
 -- ---- those of lists and of tables

@@ -55,7 +55,8 @@ pub list-kept : (k old new : Kept) (ls : List Loclist) (l : Loclist) → old ≡
     → new ≡ kept-as old.tables (old.lists ++ l.offset ∷ []) → new ≡ with_lists k (ls ++ l ∷ [])
 list-kept k old new ls l so_far more =
     more ∙ (ap (λ (o : Kept). kept-as o.tables (o.lists ++ l.offset ∷ [])) so_far
-    ∙ ap (kept-as k.tables) (append_assoc k.lists (starts_of ls) (l.offset ∷ []) ∙ ap (λ (t : List ℕ). k.lists ++ t) (sym (starts-more ls l))))
+    ∙ ap (kept-as k.tables)
+    (append_assoc k.lists (starts_of ls) (l.offset ∷ []) ∙ ap (λ (t : List ℕ). k.lists ++ t) (sym (starts-more ls l))))
 
 -- and its expressions
 pub keeps-list : (ls : List Loclist) (l : Loclist) (old mid new : List KeptExpression) → KeepsMore (expressions_in ls) old mid

@@ -1,5 +1,6 @@
 -- The rows of a program lie one behind another, and cover what the FDE covers.
-use Rattle.std.proofs.Common.{◌≡◌, ℕ, ◌+◌, ◌<◌, ◌≤◌, Bool, true, false, cond, List, [], ◌∷◌, ◌++◌, refl, arith, ltb, leb, inl, inr, Option, Some, None, Result, Ok, Err, subst, ◌↔◌, IsSome}
+use Rattle.std.proofs.Common.{◌≡◌, ℕ, ◌+◌, ◌<◌, ◌≤◌, Bool, true, false, cond, List, [], ◌∷◌, ◌++◌, refl, arith, ltb, leb, inl, inr}
+use Rattle.std.proofs.Common.{Option, Some, None, Result, Ok, Err, subst, ◌↔◌, IsSome}
 use Rattle.std.proofs.lemmas.Bool.{cases_lt, lt-ltb, le-ltb}
 use Rattle.std.proofs.lemmas.Bool.Decides.{nat_tests}
 use Rattle.std.specs.Prelude.{◌&&◌, find}
@@ -87,7 +88,8 @@ none-some : {A : Type 0} (o : Option A) → o ≡ None → IsSome o → ⊥
 none-some None e h = cc
 none-some (Some x) e h = cc
 
-pub find-covered : (a from to : ℕ) (rows : List PlacedRow) → Cover from rows to → IsSome (find (has_address a) rows) ↔ ((from ≤ a) × (a < to))
+pub find-covered : (a from to : ℕ) (rows : List PlacedRow) → Cover from rows to
+    → IsSome (find (has_address a) rows) ↔ ((from ≤ a) × (a < to))
 find-covered a from to rows h = (
   (λ some. (
     elim (cases_lt a from) [ inl below ↦ absurd (none-some _ (find-below a from to rows h below) some) | inr ok ↦ ok ],
@@ -97,7 +99,8 @@ find-covered a from to rows h = (
 )
 
 -- the same of what was found
-pub covered-found : (c : Cie) (f : Fde) (a : ℕ) (found : Option PlacedRow) → fde_fault c f ≡ None → found ≡ find (has_address a) (rows_of c f)
+pub covered-found : (c : Cie) (f : Fde) (a : ℕ) (found : Option PlacedRow) → fde_fault c f ≡ None
+    → found ≡ find (has_address a) (rows_of c f)
     → IsSome found ↔ ((f.initial ≤ a) × (a < f.initial + f.range))
 covered-found c f a found none e = rw e (find-covered a f.initial (f.initial + f.range) (rows_of c f) (cover-rows c f none))
 
@@ -115,7 +118,8 @@ not-missed c f a none low high missed = none-some _ missed
     (find-some a f.initial (f.initial + f.range) (rows_of c f) (cover-rows c f none) low high)
 
 -- a row that is found among rows up to an address begins and ends by it
-pub found-by : {E : Type 0} (p : RowOver E → Bool) (from to : ℕ) (rows : List (RowOver E)) (row : RowOver E) → Cover from rows to → find p rows ≡ Some row
+pub found-by : {E : Type 0} (p : RowOver E → Bool) (from to : ℕ) (rows : List (RowOver E)) (row : RowOver E) → Cover from rows to
+    → find p rows ≡ Some row
     → (row.start ≤ to) × (row.end ≤ to)
 found-by {E = E} p from to [] row covered found = cc
 found-by {E = E} p from to (first ∷ rows) row covered found =

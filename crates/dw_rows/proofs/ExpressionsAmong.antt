@@ -13,7 +13,8 @@ at-front : (o : Option LocatedExpression) (es : List LocatedExpression) (e : Loc
 at-front None es e is = let no : None ≡ Some e = is in cc
 at-front (Some x) es e is = let same : x ≡ e = cc in (0, omega arith, same)
 
-further : (o : Option LocatedExpression) (es : List LocatedExpression) (e : LocatedExpression) → Contains es e → Contains (cons_option o es) e
+further : (o : Option LocatedExpression) (es : List LocatedExpression) (e : LocatedExpression) → Contains es e
+    → Contains (cons_option o es) e
 further None es e among = among
 further (Some x) es e (k, lt, is) = (suc k, omega arith, is)
 

@@ -1,5 +1,6 @@
 -- First faults of lists, and the CIE at an offset.
-use Rattle.std.proofs.Common.{◌≡◌, ◌≢◌, ℕ, zero, suc, ◌+◌, ◌<◌, ◌≤◌, ◌==◌, List, [], ◌∷◌, length, get_or, drop, map, Option, Some, None, Contains, true, false, refl, sym, ap, ◌∙◌, subst, arith, drop-cons, if◌then◌else◌}
+use Rattle.std.proofs.Common.{◌≡◌, ◌≢◌, ℕ, zero, suc, ◌+◌, ◌<◌, ◌≤◌, ◌==◌, List, [], ◌∷◌, length, get_or, drop, map, Option, Some, None}
+use Rattle.std.proofs.Common.{Contains, true, false, refl, sym, ap, ◌∙◌, subst, arith, drop-cons, if◌then◌else◌}
 use Rattle.std.specs.Prelude.{find}
 use Rattle.std.proofs.lemmas.Bool.Decides.{nat_tests}
 use Rattle.std.proofs.lemmas.Bool.{eqb-true}

@@ -1,5 +1,6 @@
 -- Rows with their expressions in the place of offsets.
-use Rattle.std.proofs.Common.{◌≡◌, ◌≢◌, ℕ, ◌+◌, ◌-◌, ◌<◌, List, [], ◌∷◌, length, map, Option, Some, Bool, true, false, cond, refl, sym, ap, subst, ◌∙◌, eqb, take, drop, get_or, arith}
+use Rattle.std.proofs.Common.{◌≡◌, ◌≢◌, ℕ, ◌+◌, ◌-◌, ◌<◌, List, [], ◌∷◌, length, map, Option, Some, Bool, true, false, cond, refl, sym}
+use Rattle.std.proofs.Common.{ap, subst, ◌∙◌, eqb, take, drop, get_or, arith}
 use Rattle.std.specs.List.{AllByRecursion}
 use Rattle.std.proofs.Math.Seq.{take-length}
 use Rattle.std.proofs.lemmas.List.Elements.{All-from_recursion, recursion_from_All}
@@ -7,9 +8,11 @@ use Rattle.dw_rows.specs.declared.map.RuleEntry.{RuleEntry}
 use Rattle.dw_rows.specs.Views.{rule_by, entries_of}
 use Rattle.std.specs.Prelude.{All, find, filter}
 use Rattle.dw_stack.specs.Located.{LocatedExpression}
-use Rattle.dw_rows.specs.Rules.{PlacedRule, PlacedCfa, PlacedRow, Rule, default, undefined, same_value, offset, val_offset, register, expression, val_expression, register_and_offset, cfa_expression, rule_in, IsTable}
+use Rattle.dw_rows.specs.Rules.{PlacedRule, PlacedCfa, PlacedRow, Rule, default, undefined, same_value, offset, val_offset, register}
+use Rattle.dw_rows.specs.Rules.{expression, val_expression, register_and_offset, cfa_expression, rule_in, IsTable}
 use Rattle.dw_rows.specs.UnwindRows.{has_address, Cover}
-use Rattle.dw_rows.specs.GivenRows.{or_nowhere, rule_with, cfa_with, rules_with, row_with, LendsRule, LendsCfa, LendsEntry, LendsEach, IsRuleOfKind, IsCfaOfKind, IsEntryOfKind}
+use Rattle.dw_rows.specs.GivenRows.{or_nowhere, rule_with, cfa_with, rules_with, row_with, LendsRule, LendsCfa, LendsEntry, LendsEach}
+use Rattle.dw_rows.specs.GivenRows.{IsRuleOfKind, IsCfaOfKind, IsEntryOfKind}
 
 -- ---- rules
 
@@ -34,7 +37,8 @@ with-some es (register r) other e = cc
 with-some es (expression at) other e = cc
 with-some es (val_expression at) other e = cc
 
-pub table-with : (es : List LocatedExpression) (low : ℕ) (rules : List (ℕ × PlacedRule)) → IsTable low rules → IsTable low (rules_with es rules)
+pub table-with : (es : List LocatedExpression) (low : ℕ) (rules : List (ℕ × PlacedRule)) → IsTable low rules
+    → IsTable low (rules_with es rules)
 table-with es low [] t = tt
 table-with es low (x ∷ rules) t = (t.0, t.1, with-some es x.1 t.2, table-with es (x.0 + 1) rules t.3)
 
@@ -60,7 +64,8 @@ pub filter-with : (es : List LocatedExpression) (a : ℕ) (rows : List PlacedRow
 filter-with es a [] = refl
 filter-with es a (x ∷ rows) = go (filter-with es a rows) (has_address a x)
   where
-    go : filter (has_address a) (map (row_with es) rows) ≡ map (row_with es) (filter (has_address a) rows) → (b : Bool) → cond b (row_with es x ∷ filter (has_address a) (map (row_with es) rows)) (filter (has_address a) (map (row_with es) rows))
+    go : filter (has_address a) (map (row_with es) rows) ≡ map (row_with es) (filter (has_address a) rows) → (b : Bool)
+        → cond b (row_with es x ∷ filter (has_address a) (map (row_with es) rows)) (filter (has_address a) (map (row_with es) rows))
         ≡ map (row_with es) (cond b (x ∷ filter (has_address a) rows) (filter (has_address a) rows))
     go rest true = ap (λ l. row_with es x ∷ l) rest
     go rest false = rest
@@ -94,7 +99,8 @@ kinds-by : (es : List LocatedExpression) (rules : List (ℕ × PlacedRule)) → 
 kinds-by es [] h = tt
 kinds-by es (x ∷ rules) h = (rule-of-kind es x.1 h.0, kinds-by es rules h.1)
 
-pub kinds-with : (es : List LocatedExpression) (rules : List (ℕ × PlacedRule)) → LendsEach es rules → All IsEntryOfKind (rules_with es rules)
+pub kinds-with : (es : List LocatedExpression) (rules : List (ℕ × PlacedRule)) → LendsEach es rules
+    → All IsEntryOfKind (rules_with es rules)
 kinds-with es rules h = All-from_recursion IsEntryOfKind (rules_with es rules)
     (kinds-by es rules (recursion_from_All (LendsEntry es) rules h))
 
@@ -108,7 +114,8 @@ lends-by es [] r h = tt
 lends-by es (x ∷ rules) r h = chosen-lent es (eqb x.0 r) x.1 (rule_in rules r) h.0 (lends-by es rules r h.1)
 
 -- the rule of a register names what is lent
-pub lends-rule_in : (es : List LocatedExpression) (rules : List (ℕ × PlacedRule)) (r : ℕ) → LendsEach es rules → LendsRule es (rule_in rules r)
+pub lends-rule_in : (es : List LocatedExpression) (rules : List (ℕ × PlacedRule)) (r : ℕ) → LendsEach es rules
+    → LendsRule es (rule_in rules r)
 lends-rule_in es rules r h = lends-by es rules r (recursion_from_All (LendsEntry es) rules h)
 
 -- the first of entries, and those behind it

@@ -1,15 +1,18 @@
 -- The rows of a checked section have good expressions, each of the kind of its rule.
-use Rattle.std.proofs.Common.{◌≡◌, ℕ, zero, suc, ◌+◌, ◌==◌, Bool, true, false, cond, List, [], ◌∷◌, map, Option, Some, None, Contains, refl, sym, ap, subst, arith}
+use Rattle.std.proofs.Common.{◌≡◌, ℕ, zero, suc, ◌+◌, ◌==◌, Bool, true, false, cond, List, [], ◌∷◌, map, Option, Some, None, Contains}
+use Rattle.std.proofs.Common.{refl, sym, ap, subst, arith}
 use Rattle.std.specs.Prelude.{All, IfSome, find, option_and_then, option_map}
 use Rattle.std.specs.List.{AllByRecursion}
 use Rattle.std.proofs.lemmas.List.Elements.{All-from_recursion, recursion_from_All}
 use Rattle.dw_frame.specs.Records.{Fde}
 use Rattle.dw_stack.specs.declared.state.Kind.{Kind}
 use Rattle.dw_stack.specs.declared.state.Kind.TheVariants.{FrameCfa, FrameRegister}
-use Rattle.dw_rows.specs.Rules.{PlacedRule, PlacedCfa, PlacedRow, Row, default, undefined, same_value, offset, val_offset, register, expression, val_expression, register_and_offset, cfa_expression}
+use Rattle.dw_rows.specs.Rules.{PlacedRule, PlacedCfa, PlacedRow, Row, default, undefined, same_value, offset, val_offset, register}
+use Rattle.dw_rows.specs.Rules.{expression, val_expression, register_and_offset, cfa_expression}
 use Rattle.dw_rows.specs.Effects.{Effect}
 use Rattle.dw_rows.specs.InForce.{Start}
-use Rattle.dw_rows.specs.GivenRows.{or_nowhere, located_at, rule_with, cfa_with, rules_with, row_with, IsLent, LendsRule, LendsCfa, LendsEntry, LendsEach}
+use Rattle.dw_rows.specs.GivenRows.{or_nowhere, located_at, rule_with, cfa_with, rules_with, row_with, IsLent, LendsRule, LendsCfa}
+use Rattle.dw_rows.specs.GivenRows.{LendsEntry, LendsEach}
 use Rattle.dw_rows.specs.GoodRows.{IsGoodAmong, IsGoodRule, IsGoodCfa, IsGoodEntry, HasGoodExpressions}
 use Rattle.dw_rows.specs.UnwindRows.{rows_of, has_address}
 use Rattle.dw_rows.specs.Clauses.{IsRow, AreRowsFrom, start_in, program_in}

@@ -1,11 +1,14 @@
 -- The index: filtered and sorted.
-use Rattle.std.proofs.Common.{◌≡◌, ◌≢◌, ℕ, zero, suc, ◌+◌, ◌-◌, ◌<◌, ◌≤◌, List, [], ◌∷◌, length, get_or, take, map, ◌++◌, Contains, refl, sym, ap, subst, ◌∙◌, arith, inl, inr, ◌⊎◌, ◌==◌, Bool, true, false, nat_lt, ltb-true, lt-ltb, leb, leb-true, leb-false, ◌*◌, filter, if◌then◌else◌, Option, Some, None}
+use Rattle.std.proofs.Common.{◌≡◌, ◌≢◌, ℕ, zero, suc, ◌+◌, ◌-◌, ◌<◌, ◌≤◌, List, [], ◌∷◌, length, get_or, take, map, ◌++◌, Contains, refl}
+use Rattle.std.proofs.Common.{sym, ap, subst, ◌∙◌, arith, inl, inr, ◌⊎◌, ◌==◌, Bool, true, false, nat_lt, ltb-true, lt-ltb, leb, leb-true}
+use Rattle.std.proofs.Common.{leb-false, ◌*◌, filter, if◌then◌else◌, Option, Some, None}
 use Rattle.std.specs.Prelude.{All}
 use Rattle.std.specs.List.{AllByRecursion, swap}
 use Rattle.std.specs.List.Sorted.{IsPermutation, IsNonDecreasingBy}
 use Rattle.std.proofs.lemmas.List.{get_or_default, get_or-map, length-map, take_more, map-append, append-nil}
 use Rattle.std.proofs.lemmas.List.Edits.{swapped_from_swap, length-swap, Swapped}
-use Rattle.std.proofs.lemmas.List.Elements.{All-append, All-filter, All-get_or, All-contains_itself, All-contains, filter-append, filter_passes}
+use Rattle.std.proofs.lemmas.List.Elements.{All-append, All-filter, All-get_or, All-contains_itself, All-contains, filter-append}
+use Rattle.std.proofs.lemmas.List.Elements.{filter_passes}
 use Rattle.std.proofs.lemmas.List.Sorted.{IsPermutation-keeps, IsPermutation-sym, Contains-permutation}
 use Rattle.std.proofs.lemmas.Bool.Decides.{nat_tests}
 use Rattle.dw_rows.specs.Section.{Covers, CoversOnce, IsCoverOf}

@@ -1,5 +1,6 @@
 -- The expressions of a section are lent to the rules that name them.
-use Rattle.std.proofs.Common.{◌≡◌, ℕ, zero, suc, List, [], ◌∷◌, length, reverse, take, drop, Some, Contains, refl, sym, ap, subst, ◌∙◌, arith, inl, inr}
+use Rattle.std.proofs.Common.{◌≡◌, ℕ, zero, suc, List, [], ◌∷◌, length, reverse, take, drop, Some, Contains, refl, sym, ap, subst, ◌∙◌}
+use Rattle.std.proofs.Common.{arith, inl, inr}
 use Rattle.std.specs.Prelude.{IfSome}
 use Rattle.std.proofs.Math.Seq.{take-append_seam, drop-append_seam}
 use Rattle.std.proofs.lemmas.List.Elements.{Contains-append_cases}
@@ -119,14 +120,17 @@ effect-lent es cie Instruction.restore_state found = tt
 effect-lent es cie (Instruction.def_cfa a b) found = tt
 effect-lent es cie (Instruction.def_cfa_register a) found = tt
 effect-lent es cie (Instruction.def_cfa_offset a) found = tt
-effect-lent es cie (Instruction.def_cfa_expression a) found = record { lent = located_as FrameCfa a; found = found (located_as FrameCfa a) refl; of_kind = refl }
-effect-lent es cie (Instruction.expression a b) found = record { lent = located_as FrameRegister b; found = found (located_as FrameRegister b) refl; of_kind = refl }
+effect-lent es cie (Instruction.def_cfa_expression a) found =
+    record { lent = located_as FrameCfa a; found = found (located_as FrameCfa a) refl; of_kind = refl }
+effect-lent es cie (Instruction.expression a b) found =
+    record { lent = located_as FrameRegister b; found = found (located_as FrameRegister b) refl; of_kind = refl }
 effect-lent es cie (Instruction.offset_extended_sf a b) found = tt
 effect-lent es cie (Instruction.def_cfa_sf a b) found = tt
 effect-lent es cie (Instruction.def_cfa_offset_sf a) found = tt
 effect-lent es cie (Instruction.val_offset a b) found = tt
 effect-lent es cie (Instruction.val_offset_sf a b) found = tt
-effect-lent es cie (Instruction.val_expression a b) found = record { lent = located_as FrameRegister b; found = found (located_as FrameRegister b) refl; of_kind = refl }
+effect-lent es cie (Instruction.val_expression a b) found =
+    record { lent = located_as FrameRegister b; found = found (located_as FrameRegister b) refl; of_kind = refl }
 
 -- what instructions are read of a program
 read-lent : (es : List LocatedExpression) (cie : Cie) (items : List (ℕ × Instruction))

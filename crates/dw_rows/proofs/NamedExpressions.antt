@@ -61,7 +61,8 @@ with-offset : (P : PlacedCfa → Type 0) → ((r : ℕ) (n : ℤ) → P (registe
 with-offset P sums n (Some (register_and_offset r m)) h = sums r n
 with-offset P sums n c h = h
 
-pub cfa-has : (P : PlacedCfa → Type 0) → ((r : ℕ) (n : ℤ) → P (register_and_offset r n)) → (s : Start) → IfSome s.cfa P → (before : List Effect)
+pub cfa-has : (P : PlacedCfa → Type 0) → ((r : ℕ) (n : ℤ) → P (register_and_offset r n)) → (s : Start) → IfSome s.cfa P
+    → (before : List Effect)
     → EachDefined P before → (d : ℕ) → IfSome (cfa_at s before d) P
 cfa-has P sums s start [] each d = start
 cfa-has P sums s start (restores_state ∷ before) each d =

@@ -4,7 +4,8 @@ use Rattle.std.specs.Prelude.{is_some}
 use Rattle.dw_bytes.specs.declared.fault.Fault.{Fault}
 use Rattle.dw_frame.specs.Records.{Cie, Fde}
 use Rattle.dw_rows.specs.Judgement.{or_else, cie_fault, fde_fault}
-use Rattle.dw_rows.specs.Section.{first_fault, cie_at, pointer_fault, program_fault, fault_behind, overlap_fault, programs_fault, parts_fault, CoversOnce}
+use Rattle.dw_rows.specs.Section.{first_fault, cie_at, pointer_fault, program_fault, fault_behind, overlap_fault, programs_fault}
+use Rattle.dw_rows.specs.Section.{parts_fault, CoversOnce}
 use Rattle.dw_rows.specs.Overlap.{fde_offset}
 use Rattle.dw_frame.specs.Bounds.{Ascends}
 use Rattle.dw_rows.proofs.Faults.{none-each, at-found}

@@ -7,7 +7,8 @@ use Rattle.dw_frame.specs.Sections.{entries_of}
 use Rattle.dw_frame.proofs.EachRecord.{sections-are-records}
 use Rattle.dw_rows.specs.Judgement.{cie_fault, fde_fault}
 use Rattle.dw_rows.specs.Good.{IsGoodCieProgram, IsGoodFdeProgram}
-use Rattle.dw_rows.specs.Section.{cie_at, pointer_fault, program_fault, fault_behind, parts_fault, section_fault, frame_of, CoversOnce, cies_among, fdes_among}
+use Rattle.dw_rows.specs.Section.{cie_at, pointer_fault, program_fault, fault_behind, parts_fault, section_fault, frame_of, CoversOnce}
+use Rattle.dw_rows.specs.Section.{cies_among, fdes_among}
 use Rattle.dw_rows.specs.WellFormed.{IsWellFormed}
 use Rattle.dw_rows.specs.Overlap.{cie_offset, fde_offset, AreApart}
 use Rattle.dw_frame.specs.Bounds.{Ascends}

@@ -1,5 +1,6 @@
 -- A whole `.debug_frame` section: what is right in it, and its first fault (DWARF 5, section 6.4.1).
-use Rattle.std.specs.Prelude.{◌≡◌, ℕ, ◌+◌, ◌<◌, ◌≤◌, ◌==◌, ◌&&◌, nat_lt, nat_le, Bool, if◌then◌else◌, Option, Some, None, is_some, List, [], ◌∷◌, Contains, find, map, option_and_then}
+use Rattle.std.specs.Prelude.{◌≡◌, ℕ, ◌+◌, ◌<◌, ◌≤◌, ◌==◌, ◌&&◌, nat_lt, nat_le, Bool, if◌then◌else◌, Option, Some, None, is_some, List}
+use Rattle.std.specs.Prelude.{[], ◌∷◌, Contains, find, map, option_and_then}
 use Rattle.std.specs.List.{filter_map, list_any}
 use Rattle.dw_bytes.specs.declared.target.Target.{Target}
 use Rattle.dw_bytes.specs.declared.fault.Fault.{Fault}

@@ -1,7 +1,8 @@
 //! What the definitions say, in the standard's words: functions that do nothing, each with the law as
 //! its contract.
 
-ghost use Rattle.std.specs.Prelude.{◌≡◌, ◌⊎◌, false, ℕ, ◌+◌, ◌<◌, ◌≤◌, ◌↔◌, List, length, Option, Some, None, slice_get, filter, [], ◌∷◌, Err, Contains};
+ghost use Rattle.std.specs.Prelude.{◌≡◌, ◌⊎◌, false, ℕ, ◌+◌, ◌<◌, ◌≤◌, ◌↔◌, List, length, Option, Some, None, slice_get, filter, [], ◌∷◌};
+ghost use Rattle.std.specs.Prelude.{Err, Contains};
 ghost use Rattle.dw_frame.specs.Records.{Cie, Fde};
 ghost use Rattle.dw_rows.specs.Rules.{PlacedRule, PlacedCfa, PlacedRow, Row, IsTable, rule_in, rule_list};
 ghost use Rattle.dw_bytes.specs.declared.fault.FaultKind.{FaultKind};

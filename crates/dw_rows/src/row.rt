@@ -4,7 +4,8 @@ ghost use Rattle.std.specs.Prelude.{◌≡◌, ◌≤◌, Some, All, [], length,
 ghost use Rattle.dw_rows.specs.Rules.{CfaOver, IsTable, rule_in};
 ghost use Rattle.dw_rows.specs.Views.{rule_of, cfa_rule_of, kept_rule_of, kept_cfa_of};
 ghost use Rattle.dw_rows.specs.Expressions.{expression_at};
-ghost use Rattle.dw_rows.specs.GivenRows.{row_with, rule_with, cfa_with, located_at, LendsRule, LendsCfa, LendsEach, IsRuleOfKind, IsCfaOfKind, IsEntryOfKind};
+ghost use Rattle.dw_rows.specs.GivenRows.{row_with, rule_with, cfa_with, located_at, LendsRule, LendsCfa, LendsEach, IsRuleOfKind};
+ghost use Rattle.dw_rows.specs.GivenRows.{IsCfaOfKind, IsEntryOfKind};
 ghost use Rattle.dw_rows.specs.LentExpressions.{lent_by};
 ghost use Rattle.dw_stack.specs.Located.{LocatedExpression, located_of};
 

@@ -56,7 +56,8 @@ returns-clause-goes g c =
     let gs = c.in_ok-state.ensures.state.0 in
     let bytes = c.in_ok-section.ensures.bytes ∙ ap Some (sym c.as_slice.ensures.value) in
     let written = c.write_unwound.ensures.written gs c.in_ok-state.ensures.state.2 in
-    let caller = subst (λ (f : Frame). ShowsCaller gs c.args.address f c.in_ok-checked.checked.lists written.0) c.in_ok-checked.ensures.frame
+    let caller = subst (λ (f : Frame). ShowsCaller gs c.args.address f c.in_ok-checked.checked.lists written.0)
+    c.in_ok-checked.ensures.frame
     written.1 in
     let shown : shows section gs (text written.0) = (c.in_ok-checked.ensures.whole, caller) in
     rw c.ended.ensures

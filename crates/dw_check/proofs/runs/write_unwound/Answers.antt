@@ -19,6 +19,7 @@ returns-clause-written g c = λ gs given.
     c.unwind-caller.ensures.unwinds in
     let lent = subst (λ z. WritesWhole old new c.write_caller.result (caller_text z (option_map caller_in (option_copied c.as_ref.result))))
     c.requires.size c.write_caller.ensures.written in
-    let written = subst (λ o. WritesWhole old new c.write_caller.result (caller_text size (option_map caller_in o))) c.as_ref.ensures.value lent
+    let written = subst (λ o. WritesWhole old new c.write_caller.result (caller_text size (option_map caller_in o)))
+    c.as_ref.ensures.value lent
     in
     (caller_text size caller, (caller, unwinds, refl), written)

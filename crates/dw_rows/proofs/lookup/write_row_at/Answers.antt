@@ -48,7 +48,8 @@ returns-then-address-end c =
       instructions = c.next_plain.new.instructions;
     } in
     find-with (lent_by c.args.expressions) c.args.address (rows_of cie fde) _
-    (seeks-found cie fde c.args.address w new c.in-Row.start c.in-Row.end c.loop-start.invariant.seeks c.in-Row.ensures c.if-address-end.true)
+    (seeks-found cie fde c.args.address w new c.in-Row.start c.in-Row.end c.loop-start.invariant.seeks c.in-Row.ensures
+    c.if-address-end.true)
     ∙ ap Some (sym c.write_row.ensures)
 
 pub loop-start-smaller : goal.loop-start-smaller

@@ -1,4 +1,5 @@
-use Rattle.std.proofs.Common.{◌≡◌, ◌+◌, [], ◌∷◌, ◌++◌, map, take, drop, false, Result, Ok, Err, MatchResult, sym, ap, subst, ◌∙◌, arith, append_assoc}
+use Rattle.std.proofs.Common.{◌≡◌, ◌+◌, [], ◌∷◌, ◌++◌, map, take, drop, false, Result, Ok, Err, MatchResult, sym, ap, subst, ◌∙◌, arith}
+use Rattle.std.proofs.Common.{append_assoc}
 use Rattle.std.specs.Result.{is_err}
 use Rattle.dw_frame.specs.Views.{cie_of}
 use Rattle.dw_rows.specs.Expressions.{expressions_of, cie_expressions}
@@ -24,7 +25,8 @@ loop-cie-preserved c =
     let front : map cie_of (take (i + 1) cies) ≡ map cie_of (take i cies) ++ cie_of x ∷ [] =
     front-map cie_of cies i x (omega arith) (sym c.cie-item.is) in
     record {
-      fault = c.loop-cie.invariant.fault ∙ passed cie_of cie_fault cies i x (omega arith) (sym c.cie-item.is) c.in_ok-judge_cie.ensures.fault;
+      fault = c.loop-cie.invariant.fault
+          ∙ passed cie_of cie_fault cies i x (omega arith) (sym c.cie-item.is) c.in_ok-judge_cie.ensures.fault;
       left = rw (front, kept) (left-one (map cie_of (take i cies)) c.loop-cie.left
           (cie_of x) c.first.result.now c.loop-cie.invariant.left one);
       kept =
