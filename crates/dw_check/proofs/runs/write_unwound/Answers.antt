@@ -1,4 +1,4 @@
-use Rattle.std.proofs.Common.{◌≡◌, ap, refl, subst}
+use Rattle.std.proofs.Common.{refl, subst}
 use Rattle.std.specs.Prelude.{option_copied, option_map}
 use Rattle.dw_check.specs.Caller.{Unwinds}
 use Rattle.dw_check.specs.CallerText.{caller_text}

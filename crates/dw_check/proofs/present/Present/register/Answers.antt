@@ -1,7 +1,6 @@
 use Rattle.std.proofs.Common.{◌≡◌, ℕ, refl, sym, ap, ◌∙◌}
 use Rattle.dw_check.specs.declared.unwinding.Answer as declared
 use Rattle.dw_check.specs.declared.unwinding.Answer.TheVariants as answers
-use Rattle.std.specs.Prelude.{Some}
 use Rattle.dw_stack.specs.declared.state.Kind.TheVariants.{FrameRegister}
 use Rattle.dw_stack.specs.Located.{located_of}
 use Rattle.dw_check.specs.Caller.{Answer, behind, word, with_cfa}
