@@ -19,6 +19,3 @@ pub use instructions::Instructions;
 pub use program::Program;
 pub use records::Entries;
 pub use sections::{cie_at, entries};
-
-#[cfg(test)]
-mod tests;

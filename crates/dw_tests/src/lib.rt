@@ -10,6 +10,8 @@ mod expression_bytes;
 #[cfg(test)]
 mod frame_bytes;
 #[cfg(test)]
+mod instructions;
+#[cfg(test)]
 mod lists;
 #[cfg(test)]
 mod rows;
