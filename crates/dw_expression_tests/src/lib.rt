@@ -2,6 +2,8 @@
 #![tactic(auto)]
 
 #[cfg(test)]
+mod bad_rules;
+#[cfg(test)]
 mod certificates;
 #[cfg(test)]
 mod evaluation;
