@@ -1,11 +1,25 @@
 -- What holds of two sections that a check accepts, by what is said of each layer.
-use Rattle.std.proofs.Common.{◌≡◌, ℕ, ◌≤◌, List, length, refl}
+use Rattle.std.proofs.Common.{◌≡◌, ℕ, ◌≤◌, List, [], ◌∷◌, length, map, refl, ap, ◌∙◌}
+use Rattle.std.specs.Prelude.{Result, Ok}
 use Rattle.dw_bytes.specs.declared.target.Target.{Target}
+use Rattle.dw_bytes.specs.declared.fault.Fault.{Fault}
+use Rattle.dw_bytes.specs.Answers.{values_in}
 use Rattle.dw_stack.specs.declared.state.Kind.{Kind}
 use Rattle.dw_stack.specs.Expressions.{Checked, IsChecked, IsGoodExpression, IsDepthOf, RunsWellWithin, operations_in}
 use Rattle.dw_eval.specs.World.{World}
 use Rattle.dw_eval.specs.Results.{Outcome, IsEvaluation}
+use Rattle.dw_check.specs.Caller.{under}
 use Rattle.dw_check.specs.Headline.{IsSafe}
+
+-- what is given without a fault
+values_given : {X : Type 0} (xs : List X) → values_in {X = X} (map Ok xs) ≡ xs
+values_given [] = refl
+values_given (x ∷ xs) = ap (λ l. x ∷ l) (values_given xs)
+
+-- what is made of the values of items that are without a fault
+pub made_of : {X Y : Type 0} (make : List X → Y) (items : List (Result X Fault)) (xs : List X) → items ≡ map Ok xs
+    → make (values_in items) ≡ make xs
+made_of make items xs are = ap (λ its. make (values_in its)) are ∙ ap make (values_given xs)
 
 -- a good expression with its depth and its number of operations
 abbrev pub known : Kind → Target → List ℕ → ℕ → Checked
@@ -30,12 +44,13 @@ safe has_depth runs_well has_one only_one kind target bytes good =
       deepest = deepest.1;
       runs = runs_well kind target bytes deepest.0 good deepest.1;
       ends = λ e.
-          let found = has_one c e checked in
+          let w : World = under target e in
+          let found = has_one c w checked in
           record {
             outcome = found.0;
             steps = found.1;
             run = found.2;
             within = found.3;
-            only = λ other n run. only_one c e found.0 other found.1 n good found.2 run;
+            only = λ other n run. only_one c w found.0 other found.1 n good found.2 run;
           };
     }

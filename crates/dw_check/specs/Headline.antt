@@ -2,20 +2,22 @@
 use Rattle.std.specs.Prelude.{◌≡◌, ℕ, ◌≤◌, List, length, Some, None, Contains}
 use Rattle.dw_bytes.specs.declared.target.Target.{Target}
 use Rattle.dw_bytes.specs.Operands.{Block}
-use Rattle.dw_frame.specs.Records.{Fde}
-use Rattle.dw_rows.specs.Section.{Covers, frame_of, row_of}
+use Rattle.dw_frame.specs.Records.{Fde, Record}
+use Rattle.dw_frame.specs.Sections.{AreRecords}
+use Rattle.dw_rows.specs.Section.{Covers, cies_among, fdes_among, frame_of, row_of}
 use Rattle.dw_rows.specs.ExactRows.{HasOneRow}
 use Rattle.dw_stack.specs.declared.state.Kind.{Kind}
 use Rattle.dw_stack.specs.Located.{LocatedExpression}
 use Rattle.dw_stack.specs.declared.state.Kind.TheVariants.{Location}
 use Rattle.dw_stack.specs.Expressions.{IsGoodExpression, IsDepthOf, RunsWellWithin, operations_in}
 use Rattle.dw_loclists.specs.Entries.{Entry, expression_in}
-use Rattle.dw_loclists.specs.Lists.{Loclist}
-use Rattle.dw_loclists.specs.Reading.{lists_in}
+use Rattle.dw_loclists.specs.Lists.{Loclist, AreTables}
+use Rattle.dw_loclists.specs.Reading.{ListSection, tables_in, lists_in}
 use Rattle.dw_eval.specs.World.{World}
 use Rattle.dw_eval.specs.Results.{Outcome, IsRun}
+use Rattle.dw_check.specs.Caller.{under}
 
--- Whatever is handed in, the expression comes to one outcome, within its number of operations.
+-- With what is handed in, the expression comes to one outcome, within its number of operations.
 pub record ComesToOne (kind : Kind) (target : Target) (bytes : List ℕ) (e : World) : Type 0 where
   pub outcome : Outcome
   pub steps : ℕ
@@ -30,16 +32,26 @@ pub record IsSafe (kind : Kind) (target : Target) (bytes : List ℕ) : Type 0 wh
   pub depth : ℕ
   pub deepest : IsDepthOf kind target bytes depth
   pub runs : RunsWellWithin kind target bytes depth
-  pub ends : (e : World) → ComesToOne kind target bytes e
+  pub ends : (e : World) → ComesToOne kind target bytes (under target e)
 
--- Each address that an FDE covers has exactly one row, the standard's, with remember and restore balanced and locations never
--- going back; any other address has none. Each expression of a rule and each of a list is of that target, and safe.
+-- the lists' section
+abbrev pub list_section : Target → List ℕ → ListSection
+list_section target bytes = record { target = target; section = bytes }
+
+-- What is read of both sections is what their bytes encode: records, and tables. Each address that an FDE covers has exactly one row,
+-- the standard's, with remember and restore balanced and locations never going back; any other address has none. Each expression
+-- of a rule and each of a list is of that target, and safe.
 pub record AreSound (target : Target) (frame_bytes list_bytes : List ℕ) : Type 0 where
+  pub records : List Record
+  pub encoded : AreRecords target 0 frame_bytes records
+  pub cies : (frame_of target frame_bytes).cies ≡ cies_among records
+  pub fdes : (frame_of target frame_bytes).fdes ≡ fdes_among records
+  pub tables : AreTables target 0 list_bytes (tables_in (list_section target list_bytes))
   pub rows : (a : ℕ) (f : Fde) → Contains (frame_of target frame_bytes).fdes f → Covers f a → HasOneRow (frame_of target frame_bytes) a
   pub others : (a : ℕ) → ((f : Fde) → Contains (frame_of target frame_bytes).fdes f → ¬ Covers f a)
       → row_of (frame_of target frame_bytes) a ≡ None
   pub frame_expressions : (x : LocatedExpression) → Contains (frame_of target frame_bytes).expressions x
       → (x.target ≡ target) × IsSafe x.kind x.target x.bytes
   pub list_expressions : (l : Loclist) (e : Entry) (b : Block)
-      → Contains (lists_in (record { target = target; section = list_bytes })) l → Contains l.entries e → expression_in e ≡ Some b
+      → Contains (lists_in (list_section target list_bytes)) l → Contains l.entries e → expression_in e ≡ Some b
       → (b.target ≡ target) × IsSafe Location b.target b.bytes

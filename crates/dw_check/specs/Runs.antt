@@ -181,8 +181,8 @@ abbrev pub IsPlaceIn : ℕ → End → Type 0
 IsPlaceIn count (BadHex place) = place < count
 IsPlaceIn count other = Unit {0}
 
--- What was written over so many files where a run went so whose reply is one of these: all of a text, or nothing yet of another reply; for
--- want of memory a beginning of a text, whichever it is; and a beginning where the sink stopped.
+-- How a run goes, where `Is` says what its reply may be and there are `count` files: it has written all of a text, or nothing yet of a reply
+-- that is no text; for want of memory a beginning of whatever text is the reply; and a beginning where the sink stopped.
 abbrev pub Goes : ℕ → (Reply → Type 0) → Option (List ℕ) → Option (List ℕ) → Result (Unit {0}) Stop → Type 0
 Goes count Is old new (Ok _) = (bytes : List ℕ) × Is (text bytes) × Appends old new bytes
 Goes count Is old new (Err (stops.Refused section fault)) = Is (refusal section fault) × Appends old new []
@@ -191,8 +191,8 @@ Goes count Is old new (Err (stops.StateLine n)) = Is (bad_line n) × Appends old
 Goes count Is old new (Err stops.Memory) = (reply : Reply) → Is reply → AppendsFront old new (accepted_text reply)
 Goes count Is old new (Err stops.Output) = (reply : Reply) × Is reply × AppendsFront old new (text_of reply)
 
--- What was written, and whether the sink stopped, where a run ends so whose reply is one of these: all of the reply's text;
--- for want of memory a beginning of it, whichever it is, and nothing where it is a refusal; and a beginning where the sink stopped.
+-- How a run ends, where `Is` says what its reply may be: it has written all of the reply's text; for want of memory a beginning of it,
+-- whichever it is, and nothing where it is a refusal; and a beginning where the sink stopped, which it has in that case alone.
 abbrev pub Ends : (Reply → Type 0) → Option (List ℕ) → Option (List ℕ) → Bool → End → Type 0
 Ends Is old new stopped Done = (bytes : List ℕ) × Is (text bytes) × Appends old new bytes × (stopped ≡ false)
 Ends Is old new stopped Refused = (section : Section) × (fault : Fault) × Is (refusal section fault)

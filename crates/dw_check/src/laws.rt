@@ -41,13 +41,14 @@ pub fn sections_without_fault_are_well_formed()
     dw_loclists::laws::sections_without_fault_are_well_formed();
 }
 
-/// What holds of two sections without a fault, which are those that `check` accepts. Each address that an FDE covers has
-/// exactly one row, the standard's, and any other address has none. Each expression of a rule and each of a list, for all
+/// What holds of two sections without a fault, which are those that `check` accepts. What is read of them is what their bytes
+/// encode. Each address that an FDE covers has exactly one row, the standard's, and any other address has none. Each expression of a rule and each of a list, for all
 /// registers and memory, ends within its number of operations, is never stuck, stays within its depth, and comes to one outcome.
 pub fn accepted_sections_are_sound()
     ensures { (target : Target) (frame lists : List ℕ) → check_fault target frame lists ≡ None
         → AreSound target frame lists }
 {
+    dw_frame::laws::sections_are_records();
     dw_rows::laws::exact_rows();
     dw_rows::laws::checked_sections();
     dw_loclists::laws::checked_sections();

@@ -1,4 +1,4 @@
-//! The texts of checked sections and expressions: what is asked for, and where the text goes.
+//! Two sections checked together, the frames that called by them, and the texts of what is asked for.
 #![tactic(auto)]
 
 mod addresses;

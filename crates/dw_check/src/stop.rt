@@ -50,7 +50,7 @@ pub(crate) enum Stop {
 }
 
 impl Section {
-    /// The name that a refusal has it by.
+    /// The section's name in the line of a refusal.
     pub fn text(self) -> &'static str
         ensures { result.now ≡ section_text self }
     {

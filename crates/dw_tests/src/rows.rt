@@ -1,8 +1,10 @@
 ghost use Rattle.std.specs.Prelude.{◌<◌, ◌^◌, length};
 
-use dw_bytes::{AddressSize, FaultKind, Order, Target};
+use dw_bytes::{AddressSize, Fault, FaultKind, Order, Target};
 use dw_frame::{CommonInformationEntry, Entry, FrameDescriptionEntry, entries};
-use dw_rows::{CfaRule, CheckedFrame, RegisterRule, UnwindTableRow, check_fde, check_frame};
+use dw_rows::{
+    CfaRule, CheckedFrame, RegisterRule, UnwindTableRow, check_cie, check_fde, check_frame,
+};
 use std::alloc::Global;
 use std::test::Fail;
 
@@ -127,6 +129,24 @@ fn names_the_first_fault(rt: HostRuntime) -> Result<(), Fail> {
         first_fault(rt.alloc(), [0, 0x16, 6, 1, 0x12, 0, 0, 0])?,
         None
     );
+    Ok(())
+}
+
+#[test]
+fn checks_a_cie_and_its_fde(rt: HostRuntime) -> Result<(), Fail> {
+    let (cie, fde) = records(&FUNCTION)?;
+    assert_eq!(rt; check_cie(rt.alloc(), &cie), Ok(()));
+    assert_eq!(rt; check_fde(rt.alloc(), &cie, &fde), Ok(()));
+    let mut section = FUNCTION;
+    // An advance in the CIE's program.
+    section[15] = 0x41;
+    let (cie, fde) = records(&section)?;
+    let refused = Err(Fault {
+        kind: FaultKind::NotInCie,
+        at: 15,
+    });
+    assert_eq!(rt; check_cie(rt.alloc(), &cie), refused);
+    assert_eq!(rt; check_fde(rt.alloc(), &cie, &fde), refused);
     Ok(())
 }
 
