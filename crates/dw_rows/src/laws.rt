@@ -135,7 +135,7 @@ pub fn matches_are_unique()
 /// At most so many registers of a row have a rule other than default, and at most so many rows are remembered at once.
 pub fn limits()
     ensures rules { MAX_RULES ≡ 128 }
-    ensures remembered { MAX_REMEMBERED ≡ 8 }
+    ensures remembered { MAX_REMEMBERED ≡ 16 }
 {}
 
 /// Each fault of a program stands in it or at its end, and each of a section likewise.

@@ -30,21 +30,23 @@ pub enum RuleKind {
 }
 
 /// A register and its rule, in 16 bytes: an offset and a number are there whatever the kind. The number is the other register, or
-/// the offset in the section where the expression begins.
+/// the offset in the section where the expression begins. Fields lie in this order, the widest first, so that none is padded.
 #[derive(Clone, Copy, Debug)]
 pub struct RuleEntry {
     pub offset: i64,
-    pub register: u16,
     pub number: u32,
+    pub register: u16,
     pub kind: RuleKind,
 }
+
+const _: () = prove!(size_of::<RuleEntry>() == 16);
 
 impl Default for RuleEntry {
     fn default() -> Self {
         RuleEntry {
             offset: 0,
-            register: 0,
             number: 0,
+            register: 0,
             kind: RuleKind::Default,
         }
     }
@@ -67,8 +69,8 @@ fn entry(register: u16, rule: KeptRule) -> RuleEntry
     };
     RuleEntry {
         offset,
-        register,
         number,
+        register,
         kind,
     }
 }

@@ -7,7 +7,7 @@ use crate::rule_set::RuleSet;
 use std::marker::Model;
 
 /// At most this many rows are remembered at a time.
-pub const MAX_REMEMBERED: usize = 8;
+pub const MAX_REMEMBERED: usize = 16;
 
 /// The rules of rows that are remembered, the last first. Rules take their room when they are remembered,
 /// and not before.
@@ -37,7 +37,7 @@ impl RememberStack {
         ensures { result ≡ [] }
     {
         RememberStack {
-            rows: [None, None, None, None, None, None, None, None],
+            rows: Default::default(),
             depth: 0,
         }
     }

@@ -8,8 +8,9 @@ ghost use Rattle.dw_rows.specs.UnwindRows.{rows_of};
 use crate::expressions::LentExpressions;
 use crate::frame::CheckedFrame;
 use crate::row::UnwindTableRow;
-use crate::row_cursor::{begin, next_range};
+use crate::row_cursor::{begin, begin_at, next_range};
 use crate::unwind_context::UnwindContext;
+use crate::unwind_state::UnwindState;
 use dw_frame::{CommonInformationEntry, FrameDescriptionEntry, Instructions};
 use std::iter::FusedIterator;
 use std::marker::Model;
@@ -64,13 +65,13 @@ impl<'f, 'a> Rows<'f, 'a> {
         requires { Contains frame.now.fdes (fde_of fde.now) }
         ensures { result ≡ rows_in frame.now (fde_of fde.now) }
     {
-        let mut context = UnwindContext::new();
-        let cie = frame.begin_with_cie(&mut context.state, fde);
-        let instructions = begin(&mut context, fde);
+        let mut state = UnwindState::new();
+        let cie = frame.begin_with_cie(&mut state, fde);
+        let instructions = begin_at(&mut state, fde);
         Rows {
             cie,
             fde: *fde,
-            context,
+            context: UnwindContext::at(state),
             instructions,
             expressions: frame.lent(),
             given: 0,

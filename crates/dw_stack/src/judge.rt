@@ -13,7 +13,7 @@ use dw_bytes::FaultKind;
 use dw_ops::Operation;
 
 /// The greatest height of a stack.
-pub const MAX_HEIGHT: u16 = 64;
+pub const MAX_HEIGHT: u16 = 128;
 
 /// The greatest count of piece operations.
 pub const MAX_PIECES: usize = 32;

@@ -58,7 +58,7 @@ pub fn runs_are_determined()
 
 /// The numbers of this checker's two limits.
 pub fn limits()
-    ensures height { MAX_HEIGHT ≡ 64 }
+    ensures height { MAX_HEIGHT ≡ 128 }
     ensures pieces { MAX_PIECES ≡ 32 }
 {}
 
