@@ -81,7 +81,8 @@ fn list_count(lists: &CheckedLists<'_>) -> usize
 
 /// How many expressions both sections have. Each takes a byte of its section at least, or more.
 fn expression_count(checked: &Checked<'_>) -> u128
-    ensures { result ≡ length checked.now.frame.expressions + length (located_in checked.now.lists) }
+    ensures { result ≡ length checked.now.frame.expressions
+        + length (located_in checked.now.lists) }
 {
     let of_frame = checked.frame().expressions().len();
     let of_lists = checked.lists().expressions().len();

@@ -31,7 +31,8 @@ ghost use Rattle.dw_rows.specs.declared.remember_stack.TheConstants.{MAX_REMEMBE
 pub fn rules_by_instruction()
     ensures meet { (s : Start) (program : List Effect)
         → AreRules s program (rule_after s program) (cfa_after s program) }
-    ensures only { (s : Start) (program : List Effect) (rule : ℕ → ℕ → PlacedRule) (cfa : ℕ → Option PlacedCfa)
+    ensures only { (s : Start) (program : List Effect)
+        (rule : ℕ → ℕ → PlacedRule) (cfa : ℕ → Option PlacedCfa)
         → AreRules s program rule cfa →
         ((j : ℕ) → slice_get program j ≡ Some restores_state → (i : ℕ) × Match program i j) →
         (k : ℕ) → k ≤ length program → ((r : ℕ) → rule k r ≡ rule_after s program k r)
@@ -78,7 +79,8 @@ pub fn rows_cover()
 pub fn rule_lists_are_rules()
     ensures list { (entries : List (ℕ × PlacedRule)) → IsTable 0 entries
         → rule_list (rule_in entries) ≡ entries }
-    ensures rules { (rules : ℕ → PlacedRule) (r : ℕ) → r < 65536 → rule_in (rule_list rules) r ≡ rules r }
+    ensures rules { (rules : ℕ → PlacedRule) (r : ℕ) → r < 65536
+        → rule_in (rule_list rules) r ≡ rules r }
     ensures table { (rules : ℕ → PlacedRule) → IsTable 0 (rule_list rules) }
 {}
 

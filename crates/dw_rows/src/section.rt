@@ -120,7 +120,8 @@ pub fn check_fdes<'a>(
 ) -> Result<(), Fault>
     requires order { Ascends cie_offset (map cie_of cies.now) }
     requires left { AreLeftBy (map cie_of cies.now) initial.now }
-    requires pointed { first_fault (pointer_fault (map cie_of cies.now)) (map fde_of fdes.now) ≡ None }
+    requires pointed { first_fault (pointer_fault (map cie_of cies.now))
+        (map fde_of fdes.now) ≡ None }
     ensures answer { Answers (first_fault (program_fault (map cie_of cies.now))
         (map fde_of fdes.now)) result }
     ensures kept { OnOk result (judged.new ≡ judged.old ++ fde_expressions (map fde_of fdes.now)) }
