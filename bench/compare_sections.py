@@ -57,6 +57,10 @@ class SectionMaker(Maker):
             return self.unsigned(self.random.choice([65536, 65537, 1 << 32, self.number()]))
         return self.unsigned(self.random.choice([*range(12), *range(12), 31, 63, 64, 127, 128, 300, 65535]))
 
+    def column(self, version):
+        """That of the return address: a byte in version 1."""
+        return bytes([self.random.choice([16, 14, 0, 127, 128, 255])]) if version == 1 else self.register()
+
     def factored(self, factor, signed):
         """A number whose product with a factor fits 64 signed bits, at times just so."""
         number = self.random.choice([0, 1, 2, 3, 8, 20, 0x1234])
@@ -195,10 +199,11 @@ class SectionMaker(Maker):
         """What is behind its id, and what its FDEs have to know."""
         self.code, self.data = self.factors()
         self.common, self.cfa, self.saved, self.at, self.end = True, None, [], 0, 0
-        head = bytearray([4, 0, self.size, 0])
-        if self.slips() and self.chance(0.2):
-            head[self.random.randrange(4)] = self.random.getrandbits(8)
-        head += self.unsigned(self.code) + self.number_of(self.data) + self.register()
+        version = self.random.choice([1, 1, 3, 3, 4, 4])
+        head = bytearray([version, 0] + [self.size, 0] * (version == 4))
+        if self.slips() and self.chance(0.3):
+            head[self.random.randrange(len(head))] = self.random.choice([1, 2, 3, 4, 5, self.random.getrandbits(8)])
+        head += self.unsigned(self.code) + self.number_of(self.data) + self.column(version)
         if self.chance(0.7):
             head += self.cfa_rule()
         return bytes(head) + self.program(), (self.code, self.data, self.cfa)

@@ -9,16 +9,19 @@ use Rattle.dw_bytes.specs.declared.target.Target.{Target}
 use Rattle.dw_bytes.specs.declared.target.Format.{Format}
 use Rattle.dw_bytes.specs.declared.target.Format.TheVariants.{Dwarf32, Dwarf64}
 use Rattle.dw_bytes.specs.declared.fault.Fault.{Fault}
+use Rattle.dw_bytes.specs.declared.fault.FaultKind.TheVariants.{Version, AddressSize, SegmentSize}
 use Rattle.dw_bytes.specs.declared.fault.FaultKind.TheVariants.{RegisterNumber, RangePastTop}
-use Rattle.dw_bytes.specs.Encoding.{bytes_of_offset}
+use Rattle.dw_bytes.specs.Encoding.{bytes_of_address, bytes_of_offset}
 use Rattle.dw_bytes.specs.Reading.{ReadPosition, ◌>>=◌, section_from}
 use Rattle.dw_bytes.specs.Bodies.{framed_at}
-use Rattle.dw_bytes.specs.Fields.{Encodes}
+use Rattle.dw_bytes.specs.Operands.{fixed, unsigned}
+use Rattle.dw_bytes.specs.Fields.{made, field, byte, Encodes}
 use Rattle.dw_bytes.proofs.Bounds.{Stays, AlwaysStays, end-of, each-along}
 use Rattle.dw_bytes.proofs.FieldsOf.{passed, fields-stay}
 use Rattle.dw_bytes.proofs.Bodies.{bind-err, not-err, framed-found, framed-refused}
-use Rattle.dw_frame.specs.Records.{Record}
-use Rattle.dw_frame.specs.Sections.{Header, cie_fields, fde_fields, cie_id, top_of, ends_by, is_register, cie_header, fde_header}
+use Rattle.dw_frame.specs.Records.{is_version, Record}
+use Rattle.dw_frame.specs.Sections.{Header, cie_fields, fde_fields, cie_id, top_of, ends_by, is_register, column_fault, factors}
+use Rattle.dw_frame.specs.Sections.{cie_header, fde_header}
 use Rattle.dw_frame.specs.Sections.{header_fields, header_at, IsHeader, record_from, IsRecord, AreRecords, record_at, entries_from}
 use Rattle.dw_frame.specs.Sections.{entries_of, cie_among}
 use Rattle.dw_frame.specs.Bounds.{IsSoundRecord, IsSound, offset_of, Ascends}
@@ -60,14 +63,35 @@ record-refused r fault is =
 -- ---- headers
 
 abbrev InRange : Target → Header → Type 0
-InRange target (cie_fields h) = h.return_register ≤ 65535
+InRange target (cie_fields h) = (is_version h.version ≡ true) × (h.return_register ≤ 65535)
 InRange target (fde_fields h) = h.initial + h.range ≤ top_of target
+
+column-range : (target : Target) (at : ℕ) (is_byte : Bool) (make : ℕ → Header) (bytes : List ℕ) (h : Header)
+    → Encodes target (cond is_byte (field (fixed 1) column_fault (λ n. made (make n)))
+    (field unsigned column_fault (λ n. made (make n)))) at bytes h
+    → (n : ℕ) × (n ≤ 65535) × (h ≡ make n)
+column-range target at true make bytes h s = (s.0, leb-true s.0 65535 (passed (is_register s.0) RegisterNumber s.5), s.6.1)
+column-range target at false make bytes h s = (s.0, leb-true s.0 65535 (passed (is_register s.0) RegisterNumber s.5), s.6.1)
+
+factors-range : (target : Target) (version at : ℕ) (bytes : List ℕ) (h : Header) → is_version version ≡ true
+    → Encodes target (factors version) at bytes h → InRange target h
+factors-range target version at bytes h known s =
+    let make : ℕ → Header = λ n. cie_fields
+    (record { version = version; code_factor = s.0; data_factor = s.6.0; return_register = n }) in
+    let column = column-range target _ (version == 1) make s.6.2 h s.6.6 in
+    subst (InRange target) (sym column.2) (known, column.1)
+
+behind-range : (target : Target) (version at : ℕ) (has_sizes : Bool) (bytes : List ℕ) (h : Header) → is_version version ≡ true
+    → Encodes target (cond has_sizes
+    (byte AddressSize (bytes_of_address target.address_size) (byte SegmentSize 0 (factors version))) (factors version)) at bytes h
+    → InRange target h
+behind-range target version at true bytes h known s = factors-range target version _ s.6.2 h known s.6.6
+behind-range target version at false bytes h known s = factors-range target version at bytes h known s
 
 from-id-range : (target : Target) (id at : ℕ) (is_cie : Bool) (bytes : List ℕ) (h : Header)
     → Encodes target (cond is_cie (cie_header target) (fde_header target id)) at bytes h → InRange target h
 from-id-range target id at true bytes h s =
-    let last = s.6.6.6.6.6.6 in
-    subst (InRange target) (sym last.6.1) (leb-true last.0 65535 (passed (is_register last.0) RegisterNumber last.5))
+    behind-range target s.0 _ (s.0 == 4) s.6.2 h (passed (is_version s.0) Version s.5) s.6.6
 from-id-range target id at false bytes h s =
     let last = s.6 in
     subst (InRange target) (sym last.6.1) (leb-true (s.0 + last.0) (top_of target)
@@ -88,7 +112,11 @@ sound-from : (target : Target) (size at body : ℕ) (format : Format) (h : Heade
     → body < program.position → end-of program ≤ size → program.target ≡ target
     → IsSoundRecord target size (record_from at format body h program)
 sound-from target size at body format (cie_fields h) program range before behind ends same =
-    record { program = record { begins = omega arith; ends = ends; target_is = same }; return_register = range }
+    record {
+      program = record { begins = omega arith; ends = ends; target_is = same };
+      version = range.0;
+      return_register = range.1;
+    }
 sound-from target size at body format (fde_fields h) program range before behind ends same =
     record {
       program = record { begins = omega arith; ends = ends; target_is = same };

@@ -1,12 +1,12 @@
 -- Where things stand in their program or section.
-use Rattle.std.specs.Prelude.{◌≤◌, ◌<◌, ◌+◌, ◌≡◌, ℕ, List, [], ◌∷◌, length, Result, Ok, Err}
+use Rattle.std.specs.Prelude.{◌≤◌, ◌<◌, ◌+◌, ◌≡◌, ℕ, true, List, [], ◌∷◌, length, Result, Ok, Err}
 use Rattle.std.specs.List.{AllByRecursion}
 use Rattle.dw_bytes.specs.declared.target.Target.{Target}
 use Rattle.dw_bytes.specs.declared.fault.Fault.{Fault}
 use Rattle.dw_bytes.specs.Operands.{Block}
 use Rattle.dw_bytes.specs.Reading.{ReadPosition, section_from}
 use Rattle.dw_frame.specs.Instructions.{Instruction}
-use Rattle.dw_frame.specs.Records.{Cie, Fde, Record, cie_record, fde_record}
+use Rattle.dw_frame.specs.Records.{is_version, Cie, Fde, Record, cie_record, fde_record}
 use Rattle.dw_frame.specs.Sections.{top_of}
 
 -- An instruction begins in its program. A fault may stand at its end, too.
@@ -41,6 +41,7 @@ pub record LiesIn (target : Target) (size offset : ℕ) (program : ReadPosition)
 
 pub record IsSoundCie (target : Target) (size : ℕ) (c : Cie) : Type 0 where
   pub program : LiesIn target size c.offset c.program
+  pub version : is_version c.version ≡ true
   pub return_register : c.return_register ≤ 65535
 
 -- The CIE_pointer of an FDE stands between its offset and its program, and its addresses are addresses of the target.

@@ -7,6 +7,7 @@ use Rattle.dw_frame.specs.Sections.{Header, cie_fields, fde_fields}
 
 abbrev pub cie_head : CieHeader → Header
 cie_head h = cie_fields (record {
+  version = h.version;
   code_factor = h.code_alignment_factor;
   data_factor = h.data_alignment_factor;
   return_register = h.return_address_register;

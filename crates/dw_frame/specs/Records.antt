@@ -1,12 +1,17 @@
 -- The records of a `.debug_frame` section as they are encoded (DWARF 5, section 6.4.1).
-use Rattle.std.specs.Prelude.{ℕ, ℤ}
+use Rattle.std.specs.Prelude.{◌==◌, ◌||◌, ℕ, ℤ, Bool}
 use Rattle.dw_bytes.specs.declared.target.Format.{Format}
 use Rattle.dw_bytes.specs.Reading.{ReadPosition}
+
+-- The versions of a CIE, which count by themselves (Appendix F): that of DWARF 2, of DWARF 3, and of DWARF 4 and 5.
+abbrev pub is_version : ℕ → Bool
+is_version number = number == 1 || number == 3 || number == 4
 
 -- A CIE: the offset of its record, its header, and what its body has left behind the header, which is its program.
 pub record Cie : Type 0 where
   pub offset : ℕ
   pub format : Format
+  pub version : ℕ
   pub code_factor : ℕ
   pub data_factor : ℤ
   pub return_register : ℕ

@@ -5,6 +5,7 @@ use Rattle.dw_bytes.specs.declared.target.Target.{Target}
 use Rattle.dw_bytes.specs.declared.target.Format.{Format}
 use Rattle.dw_bytes.specs.declared.target.Format.TheVariants.{Dwarf32, Dwarf64}
 use Rattle.dw_bytes.specs.declared.fault.Fault.{Fault}
+use Rattle.dw_bytes.specs.declared.fault.FaultKind.{FaultKind}
 use Rattle.dw_bytes.specs.declared.fault.FaultKind.TheVariants.{Version, Augmentation, AddressSize, SegmentSize, RegisterNumber}
 use Rattle.dw_bytes.specs.declared.fault.FaultKind.TheVariants.{RangePastTop}
 use Rattle.dw_bytes.specs.Encoding.{max_address, Length, bytes_of_address, bytes_of_offset}
@@ -13,12 +14,13 @@ use Rattle.dw_bytes.specs.Operands.{address, fixed, unsigned, signed}
 use Rattle.dw_bytes.specs.Bodies.{framed_at}
 use Rattle.dw_bytes.specs.Fields.{Fields, made, field, any, unless, byte, Encodes, fields_at}
 use Rattle.dw_bytes.specs.Sequence.{Sequence, sequence_of}
-use Rattle.dw_frame.specs.Records.{Cie, Record, cie_record, fde_record}
+use Rattle.dw_frame.specs.Records.{is_version, Cie, Record, cie_record, fde_record}
 
 -- ---- headers
 
 -- What stands between the length of a CIE and its program, the parts that have one value alone left out.
 pub record CieHeader : Type 0 where
+  pub version : ℕ
   pub code_factor : ℕ
   pub data_factor : ℤ
   pub return_register : ℕ
@@ -48,18 +50,39 @@ ends_by top initial range = nat_le (initial + range) top
 abbrev pub is_register : ℕ → Bool
 is_register number = nat_le number 65535
 
--- Behind the id of a CIE: version 4, an augmentation that is empty, the size of an address of the target, no segment
--- selectors, and then the two factors and the column of the return address.
-abbrev pub cie_header : Target → Fields Header
-cie_header target =
-    byte Version 4 (
-    byte Augmentation 0 (
-    byte AddressSize (bytes_of_address target.address_size) (
-    byte SegmentSize 0 (
+abbrev pub column_fault : ℕ → Option FaultKind
+column_fault number = unless (is_register number) RegisterNumber
+
+-- The column of the return address is a byte in version 1, and LEB128 since version 3.
+abbrev pub return_column : ℕ → (ℕ → Fields Header) → Fields Header
+return_column version next =
+    if version == 1 then field (fixed 1) column_fault next else field unsigned column_fault next
+
+-- In every version the header of a CIE ends with the two factors and that column.
+abbrev pub factors : ℕ → Fields Header
+factors version =
     any unsigned (λ code.
     any signed (λ data_factor.
-    field unsigned (λ number. unless (is_register number) RegisterNumber) (λ return_register.
-    made (cie_fields (record { code_factor = code; data_factor = data_factor; return_register = return_register })))))))))
+    return_column version (λ return_register.
+    made (cie_fields (record {
+      version = version;
+      code_factor = code;
+      data_factor = data_factor;
+      return_register = return_register;
+    })))))
+
+-- Before these, version 4 alone has the sizes: of an address, which is the target's, and of a segment selector, 0.
+abbrev pub behind_augmentation : Target → ℕ → Fields Header
+behind_augmentation target version =
+    if version == 4
+    then byte AddressSize (bytes_of_address target.address_size) (byte SegmentSize 0 (factors version))
+    else factors version
+
+-- Behind the id of a CIE: its version, which chooses the fields (6.4.1, Appendix F), and an augmentation that is empty.
+abbrev pub cie_header : Target → Fields Header
+cie_header target =
+    field (fixed 1) (λ number. unless (is_version number) Version) (λ version.
+    byte Augmentation 0 (behind_augmentation target version))
 
 -- Behind the CIE_pointer of an FDE: the first address, and how many there are, which all lie in the address space.
 abbrev pub fde_header : Target → ℕ → Fields Header
@@ -88,6 +111,7 @@ record_from at format body (cie_fields h) program =
     cie_record (record {
       offset = at;
       format = format;
+      version = h.version;
       code_factor = h.code_factor;
       data_factor = h.data_factor;
       return_register = h.return_register;

@@ -1,6 +1,7 @@
 //! The records of a section.
 
-ghost use Rattle.std.specs.Prelude.{◌+◌, ◌<◌, ◌^◌};
+ghost use Rattle.std.specs.Prelude.{◌≡◌, ◌+◌, ◌<◌, ◌^◌, true};
+ghost use Rattle.dw_frame.specs.Records.{is_version};
 
 use crate::program::Program;
 use dw_bytes::Format;
@@ -12,6 +13,7 @@ pub struct CommonInformationEntry<'a> {
     pub offset: u32,
     /// The format of the record's length.
     pub format: Format,
+    pub(crate) version: u8,
     /// What the delta of an advance is multiplied by.
     pub code_alignment_factor: u64,
     /// What a factored offset is multiplied by.
@@ -20,6 +22,19 @@ pub struct CommonInformationEntry<'a> {
     pub return_address_register: u16,
     /// The initial instructions.
     pub program: Program<'a>,
+    pub ghost known: { is_version version ≡ true },
+}
+
+impl<'a> CommonInformationEntry<'a> {
+    ghost use Rattle.dw_frame.specs.Views.{cie_of};
+
+    /// The version of its encoding (DWARF 5, section 6.4.1 and Appendix F): 1, 3 or 4.
+    pub fn version(&self) -> u8
+        ensures version { result ≡ (cie_of self.now).version }
+        ensures known { is_version result ≡ true }
+    {
+        self.version
+    }
 }
 
 /// A frame description entry (DWARF 5, section 6.4.1): a range of addresses and its program.

@@ -1,15 +1,23 @@
 //! The headers of records.
 
-ghost use Rattle.std.specs.Prelude.{◌+◌, ◌<◌, ◌^◌};
+ghost use Rattle.std.specs.Prelude.{◌≡◌, ◌+◌, ◌<◌, ◌^◌, true, IfOk};
+ghost use Rattle.dw_bytes.specs.declared.fault.FaultKind.TheVariants.{Version};
+ghost use Rattle.dw_bytes.specs.Operands.{fixed};
+ghost use Rattle.dw_bytes.specs.Reading.{MovesForward};
+ghost use Rattle.dw_bytes.specs.Readers.{ParsesBy, IsRefusedWithin};
+ghost use Rattle.dw_bytes.specs.Fields.{unless, field_at, fields_at};
+ghost use Rattle.dw_frame.specs.Records.{is_version};
 
 use dw_bytes::{Cursor, Fault, FaultKind, Format, Target};
 
 /// What stands between the length of a CIE and its program.
 #[derive(Clone, Copy, Debug)]
 pub struct CieHeader {
+    pub version: u8,
     pub code_alignment_factor: u64,
     pub data_alignment_factor: i64,
     pub return_address_register: u16,
+    ghost known: { is_version version ≡ true },
 }
 
 /// What stands between the length of an FDE and its program.
@@ -28,11 +36,28 @@ pub enum Header {
     Fde(FdeHeader),
 }
 
+/// The version of a CIE.
+fn read_version(cursor: &mut Cursor<'_>) -> Result<u8, Fault>
+    ensures exact { ParsesBy (λ version. version)
+        (field_at (fixed 1) (λ number. unless (is_version number) Version))
+        cursor.old result cursor.new }
+    ensures known { IfOk result (λ version. is_version version ≡ true) }
+    ensures within { IsRefusedWithin cursor.old result }
+    ensures goes_on { MovesForward cursor.old cursor.new }
+{
+    let at = cursor.position();
+    let version = cursor.u8()?;
+    match version {
+        1 | 3 | 4 => Ok(version),
+        _ => Err(Fault {
+            kind: FaultKind::Version,
+            at,
+        }),
+    }
+}
+
 impl CieHeader {
-    ghost use Rattle.dw_bytes.specs.Reading.{MovesForward};
-    ghost use Rattle.dw_bytes.specs.Readers.{ParsesBy, IsRefusedWithin};
-    ghost use Rattle.dw_bytes.specs.Fields.{fields_at};
-    ghost use Rattle.dw_frame.specs.Sections.{cie_header};
+    ghost use Rattle.dw_frame.specs.Sections.{cie_header, factors};
     ghost use Rattle.dw_frame.specs.Headers.{cie_head};
 
     /// What is behind the id of a CIE.
@@ -42,20 +67,39 @@ impl CieHeader {
         ensures within { IsRefusedWithin cursor.old result }
         ensures goes_on { MovesForward cursor.old cursor.new }
     {
-        cursor.byte(4, FaultKind::Version)?;
+        let version = read_version(cursor)?;
         cursor.byte(0, FaultKind::Augmentation)?;
-        cursor.byte(target.address_size.bytes(), FaultKind::AddressSize)?;
-        cursor.byte(0, FaultKind::SegmentSize)?;
+        if version == 4 {
+            cursor.byte(target.address_size.bytes(), FaultKind::AddressSize)?;
+            cursor.byte(0, FaultKind::SegmentSize)?;
+        }
+        CieHeader::read_factors(cursor, version)
+    }
+
+    /// What the header of a CIE of a version ends with.
+    fn read_factors(cursor: &mut Cursor<'_>, version: u8) -> Result<Self, Fault>
+        requires { is_version version ≡ true }
+        ensures exact { ParsesBy cie_head
+            (fields_at (factors version)) cursor.old result cursor.new }
+        ensures within { IsRefusedWithin cursor.old result }
+        ensures goes_on { MovesForward cursor.old cursor.new }
+    {
         let code_alignment_factor = cursor.uleb()?;
         let data_alignment_factor = cursor.sleb()?;
         let at = cursor.position();
-        let Ok(return_address_register) = u16::try_from(cursor.uleb()?) else {
+        let column = if version == 1 {
+            u64::from(cursor.u8()?)
+        } else {
+            cursor.uleb()?
+        };
+        let Ok(return_address_register) = u16::try_from(column) else {
             return Err(Fault {
                 kind: FaultKind::RegisterNumber,
                 at,
             });
         };
         Ok(CieHeader {
+            version,
             code_alignment_factor,
             data_alignment_factor,
             return_address_register,
@@ -64,9 +108,6 @@ impl CieHeader {
 }
 
 impl FdeHeader {
-    ghost use Rattle.dw_bytes.specs.Reading.{MovesForward};
-    ghost use Rattle.dw_bytes.specs.Readers.{ParsesBy, IsRefusedWithin};
-    ghost use Rattle.dw_bytes.specs.Fields.{fields_at};
     ghost use Rattle.dw_frame.specs.Sections.{fde_header};
     ghost use Rattle.dw_frame.specs.Headers.{fde_head};
 
@@ -96,8 +137,6 @@ impl FdeHeader {
 }
 
 impl Header {
-    ghost use Rattle.dw_bytes.specs.Reading.{MovesForward};
-    ghost use Rattle.dw_bytes.specs.Readers.{ParsesBy, IsRefusedWithin};
     ghost use Rattle.dw_frame.specs.Sections.{header_at};
     ghost use Rattle.dw_frame.specs.Headers.{head_of};
 

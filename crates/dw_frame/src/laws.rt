@@ -99,8 +99,8 @@ pub fn programs_lie_in_their_records()
         → (offset_of x ≡ at) × IsSoundRecord target (at + length bytes) x }
 {}
 
-/// Each record that a section gives, and so its program, lies inside it, an FDE's addresses are
-/// addresses of the target, and a fault stands inside the section or at its end.
+/// Each record that a section gives, and so its program, lies inside it; a CIE has version 1, 3 or 4,
+/// an FDE has addresses of the target, and a fault stands inside the section or at its end.
 pub fn records_are_sound()
     ensures { (target : Target) (section : List ℕ) (item : Result Record Fault)
         → Contains (entries_of target section) item → IsSound target (length section) item }

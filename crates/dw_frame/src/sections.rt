@@ -50,6 +50,7 @@ fn entry_from<'a>(
         Header::Cie(header) => Entry::Cie(CommonInformationEntry {
             offset: at,
             format,
+            version: header.version,
             code_alignment_factor: header.code_alignment_factor,
             data_alignment_factor: header.data_alignment_factor,
             return_address_register: header.return_address_register,
@@ -91,9 +92,9 @@ pub fn entry<'a>(section: &'a [u8], target: Target, at: u32) -> Result<(Entry<'a
 /// Of each record are judged, in this order: its length (1, 3), that its body is there (1, at the
 /// body's first byte), and then the fields of its header one after the other within its body: each
 /// that it is there and in range (1, 2, at its first byte), and for a CIE its version (4), its
-/// augmentation (5), its sizes of an address (6) and of a segment selector (7) and its return address
-/// register (10), for an FDE that its range ends in the address space (11), each at that field. Its
-/// program isn't read, nor is its CIE looked for. Takes no memory.
+/// augmentation (5), in version 4 its sizes of an address (6) and of a segment selector (7), and its
+/// return address register (10), for an FDE that its range ends in the address space (11), each at
+/// that field. Its program isn't read, nor is its CIE looked for. Takes no memory.
 pub fn entries<'a>(section: &'a [u8], target: Target) -> Entries<'a>
     requires { length section.now < 2 ^ 32 }
     ensures { result ≡ entries_of target section.now }

@@ -1,7 +1,7 @@
 ghost use Rattle.std.specs.Prelude.{◌<◌, ◌^◌, length};
 
 use dw_bytes::{AddressSize, Fault, FaultKind, Format, Order, Target};
-use dw_frame::{CallFrameInstruction, Entry, cie_at, entries};
+use dw_frame::{CallFrameInstruction, CommonInformationEntry, Entry, cie_at, entries};
 use std::test::Fail;
 
 const LITTLE: Target = Target {
@@ -206,8 +206,154 @@ const LONG_BIG: [u8; 55] = [
     0, 0, 0, 0, 0, 0, 0x80, 0, 0, 0, 0, 0x10,
 ];
 
+/// CIEs of versions 1 and 3 in both formats and orders: the column of their return address, where the last byte of their length
+/// stands, and where the length and each field of the header end. The column has a byte more in version 3.
+const OLDER: [(&[u8], Target, u16, usize, &[usize]); 8] = [
+    (
+        &[
+            0x14, 0, 0, 0, 0xff, 0xff, 0xff, 0xff, 1, 0, 1, 0x78, 0x90, 0x0c, 7, 8, 0x90, 1, 0, 0,
+            0, 0, 0, 0,
+        ],
+        LITTLE,
+        144,
+        0,
+        &[4, 8, 9, 10, 11, 12, 13],
+    ),
+    (
+        &[
+            0x14, 0, 0, 0, 0xff, 0xff, 0xff, 0xff, 3, 0, 1, 0x78, 0x90, 1, 0x0c, 7, 8, 0x90, 1, 0,
+            0, 0, 0, 0,
+        ],
+        LITTLE,
+        144,
+        0,
+        &[4, 8, 9, 10, 11, 12, 14],
+    ),
+    (
+        &[
+            0xff, 0xff, 0xff, 0xff, 0x14, 0, 0, 0, 0, 0, 0, 0, 0xff, 0xff, 0xff, 0xff, 0xff, 0xff,
+            0xff, 0xff, 1, 0, 1, 0x78, 0x90, 0x0c, 7, 8, 0x90, 1, 0, 0,
+        ],
+        LITTLE,
+        144,
+        4,
+        &[12, 20, 21, 22, 23, 24, 25],
+    ),
+    (
+        &[
+            0xff, 0xff, 0xff, 0xff, 0x14, 0, 0, 0, 0, 0, 0, 0, 0xff, 0xff, 0xff, 0xff, 0xff, 0xff,
+            0xff, 0xff, 3, 0, 1, 0x78, 0x90, 1, 0x0c, 7, 8, 0x90, 1, 0,
+        ],
+        LITTLE,
+        144,
+        4,
+        &[12, 20, 21, 22, 23, 24, 26],
+    ),
+    (
+        &[
+            0, 0, 0, 0x10, 0xff, 0xff, 0xff, 0xff, 1, 0, 1, 0x78, 0x0e, 0x0c, 0x0d, 0, 0, 0, 0, 0,
+        ],
+        BIG,
+        14,
+        3,
+        &[4, 8, 9, 10, 11, 12, 13],
+    ),
+    (
+        &[
+            0, 0, 0, 0x10, 0xff, 0xff, 0xff, 0xff, 3, 0, 1, 0x78, 0x8e, 0, 0x0c, 0x0d, 0, 0, 0, 0,
+        ],
+        BIG,
+        14,
+        3,
+        &[4, 8, 9, 10, 11, 12, 14],
+    ),
+    (
+        &[
+            0xff, 0xff, 0xff, 0xff, 0, 0, 0, 0, 0, 0, 0, 0x0f, 0xff, 0xff, 0xff, 0xff, 0xff, 0xff,
+            0xff, 0xff, 1, 0, 1, 0x78, 0x0e, 0, 0,
+        ],
+        BIG,
+        14,
+        11,
+        &[12, 20, 21, 22, 23, 24, 25],
+    ),
+    (
+        &[
+            0xff, 0xff, 0xff, 0xff, 0, 0, 0, 0, 0, 0, 0, 0x0f, 0xff, 0xff, 0xff, 0xff, 0xff, 0xff,
+            0xff, 0xff, 3, 0, 1, 0x78, 0x8e, 0, 0,
+        ],
+        BIG,
+        14,
+        11,
+        &[12, 20, 21, 22, 23, 24, 26],
+    ),
+];
+
+/// The first CIE of a section.
+fn first_cie(section: &[u8], target: Target) -> Option<CommonInformationEntry<'_>>
+    requires { length section.now < 2 ^ 32 }
+{
+    cie_at(section, target, 0).ok().flatten()
+}
+
 #[test]
-fn bodies_cut_short(rt: HostRuntime) -> Result<(), Fail> {
+fn cies_of_older_versions(rt: HostRuntime) -> Result<(), Fail> {
+    for (place, (section, target, column, _, fields)) in OLDER.iter().enumerate() {
+        let cie = first_cie(section, *target).ok_or("a CIE")?;
+        let start = fields.last().and_then(|end| u32::try_from(*end).ok());
+        assert_eq!(rt; cie.version(), if place % 2 == 0 { 1 } else { 3 });
+        assert_eq!(rt;
+            header_of(&Entry::Cie(cie)),
+            (
+                0,
+                cie.format,
+                1,
+                -8,
+                u64::from(*column),
+                start.ok_or("an offset")?,
+                section.len() as u32
+            )
+        );
+        assert_eq!(rt; cie.format == Format::Dwarf64, fields.first() == Some(&12));
+    }
+    let cie = first_cie(&FUNCTION, LITTLE).ok_or("a CIE")?;
+    assert_eq!(rt; cie.version(), 4);
+    Ok(())
+}
+
+/// The first size of a record, cut in its header, for which the fault isn't `Truncated` at the field that is cut.
+fn misjudged(
+    section: &[u8],
+    target: Target,
+    start: usize,
+    low: usize,
+    fields: &[usize],
+) -> Option<usize> {
+    let head = *fields.first()?;
+    let mut field = head;
+    for next in fields {
+        for end in field..*next {
+            let mut bytes = [0; 40];
+            for (byte, given) in bytes.iter_mut().zip(section.get(start..)?) {
+                *byte = *given;
+            }
+            let size = u8::try_from(end.saturating_sub(head));
+            if let (Some(byte), Ok(size)) = (bytes.get_mut(low), size) {
+                *byte = size;
+            }
+            let at = u32::try_from(field).ok()?;
+            let wanted = Some((FaultKind::Truncated, at));
+            if first_fault(bytes.get(..end)?, target) != wanted {
+                return Some(end);
+            }
+        }
+        field = *next;
+    }
+    None
+}
+
+#[test]
+fn bodies_cut_short(rt: HostRuntime) {
     // The section, its target, where the record begins, where the last byte of its length stands in
     // it, and where the length and each field of its header end.
     let headers: [(&[u8], Target, usize, usize, &[usize]); 8] = [
@@ -221,26 +367,48 @@ fn bodies_cut_short(rt: HostRuntime) -> Result<(), Fail> {
         (&LONG_BIG, BIG, 27, 11, &[12, 20, 24, 28]),
     ];
     for (section, target, start, low, fields) in headers {
-        let head = *fields.first().ok_or("a field")?;
-        let mut field = head;
-        for next in fields {
-            for end in field..*next {
-                let mut bytes = [0; 40];
-                for (byte, given) in bytes.iter_mut().zip(&section[start..]) {
-                    *byte = *given;
-                }
-                let size = u8::try_from(end.saturating_sub(head));
-                if let (Some(byte), Ok(size)) = (bytes.get_mut(low), size) {
-                    *byte = size;
-                }
-                let cut = bytes.get(..end).ok_or("a record")?;
-                let wanted = Some((FaultKind::Truncated, field as u32));
-                assert_eq!(rt; first_fault(cut, target), wanted, "{end}");
-            }
-            field = *next;
-        }
+        assert_eq!(rt; misjudged(section, target, start, low, fields), None);
     }
-    Ok(())
+    for (section, target, _, low, fields) in OLDER {
+        assert_eq!(rt; misjudged(section, target, 0, low, fields), None);
+    }
+}
+
+#[test]
+fn versions_out_of_range(rt: HostRuntime) {
+    for version in [0, 2, 5, 255] {
+        let mut bytes = FUNCTION;
+        bytes[8] = version;
+        let wanted = Some((FaultKind::Version, 8));
+        assert_eq!(rt; first_fault(&bytes, LITTLE), wanted, "{version}");
+        let mut bytes = LONG;
+        bytes[20] = version;
+        let wanted = Some((FaultKind::Version, 20));
+        assert_eq!(rt; first_fault(&bytes, LITTLE), wanted, "{version}");
+    }
+}
+
+#[test]
+fn columns_out_of_range(rt: HostRuntime) {
+    // The version, three bytes from the column's first on, and the column or its fault.
+    let columns: [(u8, [u8; 3], Result<u16, FaultKind>); 6] = [
+        (1, [0xff, 0, 0], Ok(255)),
+        (1, [0x80, 0x80, 4], Ok(128)),
+        (3, [0xff, 1, 0], Ok(255)),
+        (3, [0xff, 0xff, 3], Ok(65535)),
+        (3, [0x80, 0x80, 4], Err(FaultKind::RegisterNumber)),
+        (3, [0x80, 0x80, 0x80], Err(FaultKind::Truncated)),
+    ];
+    for (version, [first, second, third], wanted) in columns {
+        let section = [
+            11, 0, 0, 0, 0xff, 0xff, 0xff, 0xff, version, 0, 1, 0x78, first, second, third,
+        ];
+        let found = cie_at(&section, LITTLE, 0);
+        assert_eq!(rt;
+            found.map(|cie| cie.map(|cie| cie.return_address_register)),
+            wanted.map(Some).map_err(|kind| Fault { kind, at: 12 })
+        );
+    }
 }
 
 #[test]

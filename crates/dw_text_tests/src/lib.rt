@@ -4,6 +4,8 @@
 #[cfg(test)]
 mod callers;
 #[cfg(test)]
+mod cie_versions;
+#[cfg(test)]
 mod expressions;
 #[cfg(test)]
 mod lists_text;
