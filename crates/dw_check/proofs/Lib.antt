@@ -13,6 +13,7 @@ pub mod KnownMachine
 pub mod KnownState
 pub mod Lengths
 pub mod Lined
+pub mod Loading
 pub mod OneCaller
 pub mod OneReply
 pub mod Padded

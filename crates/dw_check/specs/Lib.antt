@@ -48,6 +48,8 @@ pub mod CallerViews
 pub mod Stops
 -- what a sink has taken
 pub mod SinkBytes
+-- what a source has left
+pub mod SourceBytes
 -- what a call that writes has written
 pub mod WriteResults
 -- state lines and states of the code

@@ -4,7 +4,7 @@
 ghost use Rattle.std.specs.Prelude.{◌≡◌, length, vec_len, IfOk};
 ghost use Rattle.dw_check.specs.Runs.{IsPlaceIn};
 
-use dw_check::{End, Request, Through, Usage};
+use dw_check::{End, LoadFault, Reads, Request, Through, Usage, load};
 use std::alloc::{AllocError, AllocFailed};
 use std::io::{BufWriter, ErrorKind, Write};
 use std::process::ExitCode;
@@ -76,10 +76,15 @@ fn words_of(rt: &(impl Env + AllocGlobal)) -> Result<Vec<String>, Ending> {
 
 /// The bytes of a file.
 fn content_of(rt: &(impl Files + AllocGlobal), name: &String) -> Result<Vec<u8>, Ending> {
-    match fs::read(rt, name.as_str()) {
+    let file = match fs::open(rt, name.as_str()) {
+        Ok(file) => file,
+        Err(e) if is_want_of_memory(&e) => return Err(Ending::Run(End::Memory)),
+        Err(_) => return Err(Ending::CannotRead(name.clone()?)),
+    };
+    match load(rt.alloc(), &mut Reads::new(file)) {
         Ok(bytes) => Ok(bytes),
-        Err(e) if is_want_of_memory(&e) => Err(Ending::Run(End::Memory)),
-        Err(_) => Err(Ending::CannotRead(name.clone()?)),
+        Err(LoadFault::Memory) => Err(Ending::Run(End::Memory)),
+        Err(LoadFault::Read) => Err(Ending::CannotRead(name.clone()?)),
     }
 }
 

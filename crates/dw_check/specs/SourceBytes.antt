@@ -1,0 +1,36 @@
+-- What a source has left, where its bytes are known, and how far it was read.
+use Rattle.std.specs.Prelude.{ℕ, ◌==◌, if◌then◌else◌, List, Option, Result, Ok, Err}
+use Rattle.std.specs.Io.KnownBytes.{Consumes, IsAtEnd}
+use Rattle.dw_check.specs.declared.sink.Stopped.{Stopped}
+use Rattle.dw_check.specs.declared.source.Reads.{Reads}
+use Rattle.dw_check.specs.declared.source.Reading.{Reading}
+use Rattle.dw_check.specs.declared.source.Reading.TheVariants.{Open, Ended, Failed}
+use Rattle.dw_check.specs.declared.source.LoadFault.{LoadFault}
+use Rattle.dw_check.specs.declared.source.LoadFault.TheVariants.{Read, Memory}
+
+-- these are all of the known bytes
+abbrev pub GivesAll : Option (List ℕ) → Option (List ℕ) → List ℕ → Type 0
+GivesAll old new bytes = Consumes old new bytes × IsAtEnd new
+
+-- a beginning of the known bytes is gone
+abbrev pub GivesFront : Option (List ℕ) → Option (List ℕ) → Type 0
+GivesFront old new = (front : List ℕ) × Consumes old new front
+
+-- A read that answers this leaves a source so: it has failed, or gave nothing and has ended, or is open.
+abbrev pub reading_after : Result ℕ Stopped → Reading
+reading_after (Err _) = Failed
+reading_after (Ok n) = if n == 0 then Ended else Open
+
+-- a load that answers this leaves a source so
+abbrev pub reading_after_load : {A : Type 0} → Result A LoadFault → Reading
+reading_after_load (Ok _) = Ended
+reading_after_load (Err Read) = Failed
+reading_after_load (Err Memory) = Open
+
+-- the reader that a source asks
+abbrev pub reader_of : {R : Type 0} → Reads R → R
+reader_of r = r.inner
+
+-- how far that reader was read
+abbrev pub reading_of : {R : Type 0} → Reads R → Reading
+reading_of r = r.reading
