@@ -1,0 +1,451 @@
+//! Calls that may lack memory. Where a request for memory is refused, the answer is want of memory and nothing else, and the
+//! call gives its worked answer when it is made again. `bench/refused_memory.py` runs each test with its Nth request refused,
+//! for every N; with ample memory the worked answers alone are compared.
+
+ghost use Rattle.std.specs.Prelude.{◌≡◌, ◌≤◌, length};
+
+use crate::sections::{EXPRESSIONS, FUNCTION, LITTLE, PAIR_AND_DEFAULT, Unknown};
+use dw_bytes::{Fault, FaultKind};
+use dw_check::{
+    Checked, End, LoadFault, Reading, Reads, ReportFault, Source, Through, Usage, check, load,
+    report, request, run, unwind,
+};
+use dw_eval::{Context, evaluate};
+use dw_loclists::CheckedLists;
+use dw_ops::{Expression, operations};
+use dw_rows::CheckedFrame;
+use dw_stack::{Kind, Mode, State, certify, recheck};
+use std::alloc::{AllocError, Global};
+use std::io;
+use std::io::Write;
+use std::process::Abort;
+use std::test::Fail;
+
+const MEMORY: Fault = Fault {
+    kind: FaultKind::Memory,
+    at: 0,
+};
+
+/// An expression that pushes forty times.
+const PUSHES: [u8; 40] = [0x30; 40];
+
+/// The report on the function and its lists.
+const REPORT: &str = "\
+accepted
+cies 1 fdes 1 rows 3
+tables 1 lists 1 expressions 2
+expr lists 0x00000010 location ops 1 depth 0
+expr lists 0x00000013 location ops 2 depth 1
+";
+
+/// The report on the rules with expressions.
+const REPORT_OF_EXPRESSIONS: &str = "\
+accepted
+cies 1 fdes 1 rows 1
+tables 0 lists 0 expressions 2
+expr frame 0x00000033 register ops 1 depth 1
+expr frame 0x00000038 register ops 0 depth 1
+";
+
+/// The function as hex text.
+const FUNCTION_TEXT: &str = "14000000 ffffffff 04 00 08 00 01 78 10 0c0708 9001 00000000
+1c000000 00000000 0010000000000000 2000000000000000 41 0e10 8602 43 0d06";
+
+/// Its rows.
+const ROWS: &str = "\
+fde 0x00000018 cie 0x00000000 0x0000000000001000..0x0000000000001020 ra r16
+row 0x0000000000001000..0x0000000000001001 cfa=r7+8 r16=[c-8]
+row 0x0000000000001001..0x0000000000001004 cfa=r7+16 r6=[c-16] r16=[c-8]
+row 0x0000000000001004..0x0000000000001020 cfa=r6+16 r6=[c-16] r16=[c-8]
+";
+
+/// A writer over an array, which takes no memory.
+#[derive(Drop)]
+struct Fixed {
+    bytes: [u8; 512],
+    len: usize,
+    ghost within: { len ≤ 512 },
+}
+
+impl Fixed {
+    fn new() -> Self {
+        Fixed {
+            bytes: [0; 512],
+            len: 0,
+        }
+    }
+
+    fn written(&self) -> &[u8] {
+        &self.bytes[..self.len]
+    }
+}
+
+impl Write for Fixed {
+    fn write(&mut self, piece: &[u8]) -> io::Result<usize> {
+        let n = piece.len().min(512 - self.len);
+        self.bytes[self.len..self.len + n].copy_from_slice(&piece[..n]);
+        self.len += n;
+        Ok(n)
+    }
+
+    fn flush(&mut self) -> io::Result<()> {
+        Ok(())
+    }
+}
+
+/// A call that may lack memory.
+#[derive(Clone, Copy)]
+enum Call {
+    Operations,
+    Certify,
+    Recheck,
+    Check,
+    CheckOfExpressions,
+    Report,
+    ReportOfExpressions,
+    Request,
+    Run,
+    RunOfRefused,
+    Load,
+    LookUps,
+}
+
+impl Call {
+    /// Makes the call. It has the memory that it asks for and gives its worked answer, or answers want of memory.
+    fn has_memory(self, rt: &impl Abort, alloc: Global) -> Result<bool, Fail> {
+        match self {
+            Call::Operations => Ok(reads_operations(rt, alloc)),
+            Call::Certify => Ok(certifies(rt, alloc)),
+            Call::Recheck => Ok(rechecks(rt, alloc)),
+            Call::Check => Ok(checks(rt, alloc, &FUNCTION, (1, 1, 1, 1, 2))),
+            Call::CheckOfExpressions => Ok(checks(rt, alloc, &EXPRESSIONS, (1, 1, 1, 1, 4))),
+            Call::Report => reports(rt, alloc, &FUNCTION, &PAIR_AND_DEFAULT, REPORT),
+            Call::ReportOfExpressions => reports(
+                rt,
+                alloc,
+                &EXPRESSIONS,
+                &[],
+                REPORT_OF_EXPRESSIONS,
+            ),
+            Call::Request => requests(rt, alloc),
+            Call::Run => runs(rt, alloc, FUNCTION_TEXT, End::Done, ROWS),
+            Call::RunOfRefused => {
+                let line = "refused 3 ReservedLength frame 0x00000000\n";
+                runs(rt, alloc, "f0ffffff", End::Refused, line)
+            }
+            Call::Load => Ok(loads(rt, alloc)),
+            Call::LookUps => looks_up(rt, alloc),
+        }
+    }
+}
+
+fn reads_operations(rt: &impl Abort, alloc: Global) -> bool {
+    match operations(alloc, &Expression::new(&PUSHES, LITTLE)) {
+        Ok(list) => {
+            assert_eq!(rt; list.len(), 40);
+            true
+        }
+        Err(fault) => {
+            assert_eq!(rt; fault, MEMORY);
+            false
+        }
+    }
+}
+
+/// The state before the operation with this number.
+fn state(number: u8) -> State {
+    State {
+        offset: u32::from(number),
+        height: number,
+        mode: Mode::Stack,
+        pieced: false,
+    }
+}
+
+fn certifies(rt: &impl Abort, alloc: Global) -> bool {
+    match certify(alloc, Expression::new(&PUSHES, LITTLE), Kind::Location) {
+        Ok(certificate) => {
+            let states = certificate.states();
+            assert_eq!(rt; states.len(), 40);
+            assert_eq!(rt; (states[0], states[39]), (state(0), state(39)));
+            let checked = certificate.into_checked();
+            assert_eq!(rt; (checked.depth(), checked.operation_count()), (40, 40));
+            true
+        }
+        Err(fault) => {
+            assert_eq!(rt; fault, MEMORY);
+            false
+        }
+    }
+}
+
+fn rechecks(rt: &impl Abort, alloc: Global) -> bool {
+    let mut states = [state(0); 40];
+    for i in 0..40u8 {
+        states[usize::from(i)] = state(i);
+    }
+    match recheck(
+        alloc,
+        Expression::new(&PUSHES, LITTLE),
+        Kind::Location,
+        &states,
+    ) {
+        Ok(checked) => {
+            assert_eq!(rt; (checked.depth(), checked.operation_count()), (40, 40));
+            true
+        }
+        Err(fault) => {
+            assert_eq!(rt; fault, MEMORY);
+            false
+        }
+    }
+}
+
+/// How many CIEs, FDEs, tables, lists and expressions there are.
+fn counts_of(checked: &Checked<'_>) -> (usize, usize, usize, usize, usize) {
+    let (frame, lists) = (checked.frame(), checked.lists());
+    (
+        frame.cies().len(),
+        frame.fdes().len(),
+        lists.tables().len(),
+        lists.lists().len(),
+        frame.expressions().len() + lists.expressions().len(),
+    )
+}
+
+fn checks(
+    rt: &impl Abort,
+    alloc: Global,
+    frame: &[u8],
+    counts: (usize, usize, usize, usize, usize),
+) -> bool {
+    match check(alloc, frame, &PAIR_AND_DEFAULT, LITTLE) {
+        Ok(checked) => {
+            assert_eq!(rt; counts_of(&checked), counts);
+            true
+        }
+        Err(found) => {
+            assert_eq!(rt; found.fault, MEMORY);
+            false
+        }
+    }
+}
+
+fn reports(
+    rt: &impl Abort,
+    alloc: Global,
+    frame: &[u8],
+    lists: &[u8],
+    text: &str,
+) -> Result<bool, Fail> {
+    let Ok(checked) = check(alloc, frame, lists, LITTLE) else {
+        return Ok(false);
+    };
+    let mut sink = Through::new(Fixed::new());
+    let result = report(alloc, &checked, &mut sink);
+    let fixed = sink.into_inner();
+    match result {
+        Ok(()) => {
+            assert_eq!(rt; fixed.written(), text.as_bytes());
+            Ok(true)
+        }
+        Err(fault) => {
+            assert_eq!(rt; fault, ReportFault::Memory);
+            assert!(rt; text.as_bytes().starts_with(fixed.written()));
+            Ok(false)
+        }
+    }
+}
+
+/// The words of the first of the worked examples.
+fn words(alloc: Global) -> Result<Vec<String>, AllocError> {
+    let mut words: Vec<String> = Vec::new(alloc);
+    for word in ["dwcheck", "rows", "--hex", "f"] {
+        words.push(String::from_str(alloc, word)?)?;
+    }
+    Ok(words)
+}
+
+fn requests(rt: &impl Abort, alloc: Global) -> Result<bool, Fail> {
+    let Ok(words) = words(alloc) else {
+        return Ok(false);
+    };
+    match request(alloc, words) {
+        Ok(request) => {
+            let mut names = request.files().iter();
+            assert_eq!(rt; names.next().ok_or("a name")?.as_str(), "f");
+            assert!(rt; names.next().is_none());
+            Ok(true)
+        }
+        Err(usage) => {
+            assert!(rt; matches!(usage, Usage::Memory));
+            assert_eq!(rt; usage.status(), 3);
+            Ok(false)
+        }
+    }
+}
+
+/// The one file of a request.
+fn files(alloc: Global, text: &str) -> Result<Vec<Vec<u8>>, AllocError> {
+    let mut files: Vec<Vec<u8>> = Vec::new(alloc);
+    files.push(Vec::from_slice(alloc, text.as_bytes())?)?;
+    Ok(files)
+}
+
+fn runs(rt: &impl Abort, alloc: Global, content: &str, end: End, text: &str) -> Result<bool, Fail> {
+    let Ok(words) = words(alloc) else {
+        return Ok(false);
+    };
+    let Ok(request) = request(alloc, words) else {
+        return Ok(false);
+    };
+    let Ok(files) = files(alloc, content) else {
+        return Ok(false);
+    };
+    let files = files.as_slice();
+    if files.len() != request.files().len() {
+        return Err("one file".into());
+    }
+    let mut sink = Through::new(Fixed::new());
+    let found = run(alloc, &request, files, &mut sink);
+    let fixed = sink.into_inner();
+    if found == End::Memory {
+        assert_eq!(rt; found.status(), 3);
+        assert!(rt; text.as_bytes().starts_with(fixed.written()));
+        assert!(rt; end == End::Done || fixed.written().is_empty());
+        return Ok(false);
+    }
+    assert_eq!(rt; found, end);
+    assert_eq!(rt; fixed.written(), text.as_bytes());
+    Ok(true)
+}
+
+fn loads(rt: &impl Abort, alloc: Global) -> bool {
+    let mut source = Reads::new(&FUNCTION as &[u8]);
+    match load(alloc, &mut source) {
+        Ok(bytes) => {
+            assert_eq!(rt; bytes.as_slice(), FUNCTION.as_slice());
+            assert_eq!(rt; source.state(), Reading::Ended);
+            true
+        }
+        Err(fault) => {
+            assert_eq!(rt; fault, LoadFault::Memory);
+            assert_eq!(rt; source.state(), Reading::Open);
+            false
+        }
+    }
+}
+
+/// Each expression of a frame section is evaluated.
+fn evaluates(rt: &impl Abort, frame: &CheckedFrame<'_>) {
+    let context = Context {
+        cfa: Some(0x10),
+        frame_base: None,
+        object: None,
+    };
+    for (_, expression) in frame.expressions() {
+        let steps = evaluate(expression, &context, &Unknown, &Unknown).steps;
+        assert_eq!(rt; steps, expression.operation_count());
+    }
+}
+
+/// The FDE, the rows and the row of an address.
+fn finds_rows(rt: &impl Abort, frame: &CheckedFrame<'_>) -> Result<(), Fail> {
+    let fde = frame.fde_for_address(0x1000).ok_or("an FDE")?;
+    for row in frame.rows(&fde) {
+        assert_eq!(rt; row.end_address(), 0x1020);
+    }
+    assert!(rt; frame.row_for_address(0x101f).is_some());
+    Ok(())
+}
+
+/// A list, and what it says of an address.
+fn finds_locations(rt: &impl Abort, lists: &CheckedLists<'_>) -> Result<(), Fail> {
+    let list = lists.list(0xc).ok_or("a list")?;
+    for (offset, _) in lists.locations_at(&list, 0x1000, 0x1005) {
+        assert_eq!(rt; offset, 0x10);
+    }
+    Ok(())
+}
+
+/// A check, and behind it every call that takes no memory.
+fn looks_up(rt: &impl Abort, alloc: Global) -> Result<bool, Fail> {
+    let Ok(checked) = check(alloc, &EXPRESSIONS, &PAIR_AND_DEFAULT, LITTLE) else {
+        return Ok(false);
+    };
+    evaluates(rt, checked.frame());
+    finds_rows(rt, checked.frame())?;
+    finds_locations(rt, checked.lists())?;
+    assert!(rt; unwind(&checked, 0x101f, &Unknown, &Unknown).is_some());
+    Ok(true)
+}
+
+/// A call that lacks memory is made again.
+fn is_made(rt: &(impl Abort + Print + AllocGlobal), call: Call) -> Result<(), Fail> {
+    if !call.has_memory(rt, rt.alloc())? {
+        println!(rt; "refused")?;
+        assert!(rt; call.has_memory(rt, rt.alloc())?);
+    }
+    Ok(())
+}
+
+#[test]
+fn operations_lack_memory(rt: HostRuntime) -> Result<(), Fail> {
+    is_made(&rt, Call::Operations)
+}
+
+#[test]
+fn certify_lacks_memory(rt: HostRuntime) -> Result<(), Fail> {
+    is_made(&rt, Call::Certify)
+}
+
+#[test]
+fn recheck_lacks_memory(rt: HostRuntime) -> Result<(), Fail> {
+    is_made(&rt, Call::Recheck)
+}
+
+#[test]
+fn check_lacks_memory(rt: HostRuntime) -> Result<(), Fail> {
+    is_made(&rt, Call::Check)
+}
+
+#[test]
+fn check_of_expressions_lacks_memory(rt: HostRuntime) -> Result<(), Fail> {
+    is_made(&rt, Call::CheckOfExpressions)
+}
+
+#[test]
+fn report_lacks_memory(rt: HostRuntime) -> Result<(), Fail> {
+    is_made(&rt, Call::Report)
+}
+
+#[test]
+fn report_of_expressions_lacks_memory(rt: HostRuntime) -> Result<(), Fail> {
+    is_made(&rt, Call::ReportOfExpressions)
+}
+
+#[test]
+fn request_lacks_memory(rt: HostRuntime) -> Result<(), Fail> {
+    is_made(&rt, Call::Request)
+}
+
+#[test]
+fn run_lacks_memory(rt: HostRuntime) -> Result<(), Fail> {
+    is_made(&rt, Call::Run)
+}
+
+#[test]
+fn run_of_refused_lacks_memory(rt: HostRuntime) -> Result<(), Fail> {
+    is_made(&rt, Call::RunOfRefused)
+}
+
+#[test]
+fn load_lacks_memory(rt: HostRuntime) -> Result<(), Fail> {
+    is_made(&rt, Call::Load)
+}
+
+/// These ask for as many requests as the check of the same sections alone.
+#[test]
+fn look_ups_take_no_memory(rt: HostRuntime) -> Result<(), Fail> {
+    is_made(&rt, Call::LookUps)
+}
