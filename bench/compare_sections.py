@@ -8,7 +8,8 @@ slips here and there; and some of either have a few bytes changed, or are cut.
 """
 from compare_expressions import Maker
 from comparing import Case, Run, compare, refusal
-from frame_model import answers
+from expression_model import MAX_HEIGHT
+from frame_model import MAX_REMEMBERED, answers
 
 
 class SectionMaker(Maker):
@@ -83,7 +84,7 @@ class SectionMaker(Maker):
             at = self.random.randrange(len(held) + 1)
             held = held[:at] + bytes([self.random.getrandbits(8)]) + held[at + self.random.randrange(2):]
         if self.chance(0.05):
-            held = b"\x30" * self.random.randrange(60, 66 if self.slips() else 64)
+            held = b"\x30" * self.random.randrange(MAX_HEIGHT - 4, MAX_HEIGHT + (2 if self.slips() else 0))
         if self.chance(0.05):
             held = b"" if kind == "register" or self.slips() else b"\x77\x08"
         return self.unsigned(len(held)) + held
@@ -150,8 +151,8 @@ class SectionMaker(Maker):
             return b"\x0b"
         if not self.saved and self.chance(0.01):
             return b"\x0b"
-        count = self.random.choice([1] * 12 + [2, 7, 8])
-        count = min(count, 8 - len(self.saved) + self.chance(0.1))
+        count = self.random.choice([1] * 12 + [2, MAX_REMEMBERED - 1, MAX_REMEMBERED])
+        count = min(count, MAX_REMEMBERED - len(self.saved) + self.chance(0.1))
         self.saved += [self.cfa] * count
         return b"\x0a" * count
 

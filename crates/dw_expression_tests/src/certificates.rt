@@ -72,10 +72,11 @@ fn straight_lines(rt: HostRuntime) {
         judged(alloc, &[0x18], kind),
         refusal(FaultKind::UnknownOperation, 0)
     );
-    assert_eq!(rt; judged(alloc, &[0x30; 64], kind), Ok((64, 64)));
+    assert_eq!(rt; judged(alloc, &[0x30; 65], kind), Ok((65, 65)));
+    assert_eq!(rt; judged(alloc, &[0x30; 128], kind), Ok((128, 128)));
     assert_eq!(rt;
-        judged(alloc, &[0x30; 65], kind),
-        refusal(FaultKind::TooDeep, 64)
+        judged(alloc, &[0x30; 129], kind),
+        refusal(FaultKind::TooDeep, 128)
     );
 }
 

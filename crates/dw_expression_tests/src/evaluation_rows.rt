@@ -280,5 +280,6 @@ fn control(rt: HostRuntime) {
         (&[0x31, 0x28, 4, 0, 0x31, 0x2f, 1, 0, 0x32, 0x96], 2, 2, 4),
     ];
     hold(&rt, alloc, rows);
-    assert_eq!(rt; address(alloc, &[0x30; 64], LITTLE), Some((0, 64)));
+    assert_eq!(rt; address(alloc, &[0x30; 65], LITTLE), Some((0, 65)));
+    assert_eq!(rt; address(alloc, &[0x30; 128], LITTLE), Some((0, 128)));
 }

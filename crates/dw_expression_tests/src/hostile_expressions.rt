@@ -83,7 +83,8 @@ fn far_target(rt: HostRuntime) -> Result<(), Fail> {
 /// One way of a branch pushes so many entries and takes them off again, the other goes past them.
 fn one_high_way(alloc: Global, count: u8) -> Result<Vec<u8>, Fail> {
     let mut bytes = Vec::new(alloc);
-    push_times(&mut bytes, &[0x30, 0x28, 2 * (count % 100), 0x00], 1)?;
+    let [low, high] = (2 * u16::from(count)).to_le_bytes();
+    push_times(&mut bytes, &[0x30, 0x28, low, high], 1)?;
     push_times(&mut bytes, &[0x30], usize::from(count))?;
     push_times(&mut bytes, &[0x13], usize::from(count))?;
     bytes.push(0x30)?;
@@ -92,12 +93,12 @@ fn one_high_way(alloc: Global, count: u8) -> Result<Vec<u8>, Fail> {
 
 #[test]
 fn limit_on_one_path(rt: HostRuntime) -> Result<(), Fail> {
-    let high = one_high_way(rt.alloc(), 64)?;
-    assert_eq!(rt; judged_whole(&rt, rt.alloc(), &high, 133), Ok((64, 131)));
-    let higher = one_high_way(rt.alloc(), 65)?;
+    let high = one_high_way(rt.alloc(), 128)?;
+    assert_eq!(rt; judged_whole(&rt, rt.alloc(), &high, 261), Ok((128, 259)));
+    let higher = one_high_way(rt.alloc(), 129)?;
     assert_eq!(rt;
-        judged_whole(&rt, rt.alloc(), &higher, 135),
-        refusal(FaultKind::TooDeep, 68)
+        judged_whole(&rt, rt.alloc(), &higher, 263),
+        refusal(FaultKind::TooDeep, 132)
     );
     Ok(())
 }

@@ -68,7 +68,7 @@ pub(crate) fn joined(alloc: Global, parts: &[&str]) -> Result<String, Fail> {
 }
 
 /// Sections as hex text, and the texts of their rows.
-const SHOWN: [(&[&str], &[&str]); 15] = [
+const SHOWN: [(&[&str], &[&str]); 16] = [
     (&[C1, H1, "41 0e10 8602 43 0d06"], &[FDE, ROWS]),
     (
         &[C1, "\n", H1, "\r\n\t0a 0e10 41 0b 000000"],
@@ -77,6 +77,14 @@ const SHOWN: [(&[&str], &[&str]); 15] = [
             "row 0x0000000000001000..0x0000000000001001 cfa=r7+16 r16=[c-8]\n",
             "row 0x0000000000001001..0x0000000000001020 cfa=r7+8 r16=[c-8]\n",
         ],
+    ),
+    (
+        &[
+            C1,
+            "2c000000 00000000 0010000000000000 2000000000000000",
+            "0a0a0a0a0a0a0a0a0a 0b0b0b0b0b0b0b0b0b 000000000000",
+        ],
+        &[FDE, FIRST_ROW],
     ),
     (&[C1, H1, "60 00000000000000"], &[FDE, FIRST_ROW]),
     // Expressions, of the CFA and of registers; the last one is empty.
@@ -209,10 +217,10 @@ const REFUSED: [(&[&str], &str); 17] = [
     (
         &[
             C1,
-            "2c000000 00000000 0010000000000000 2000000000000000",
-            "0a0a0a0a0a0a0a0a0a 0b0b0b0b0b0b0b0b0b 000000000000",
+            "3c000000 00000000 0010000000000000 2000000000000000",
+            "0a0a0a0a0a0a0a0a0a0a0a0a0a0a0a0a0a 0b0b0b0b0b0b0b0b0b0b0b0b0b0b0b0b0b 000000000000",
         ],
-        "18 RememberTooDeep frame 0x00000038",
+        "18 RememberTooDeep frame 0x00000040",
     ),
     (
         &[C1, H1, "61 00000000000000"],
