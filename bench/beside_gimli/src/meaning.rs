@@ -229,7 +229,7 @@ fn add_expression(
 
 fn add_named(mixed: &mut Mixed, section: Bytes<'_>, expression: &Expression<Bytes<'_>>) {
     mixed.add(expression.0.offset_from(section) as u64);
-    mixed.add_bytes(expression.0.slice());
+    mixed.add(expression.0.len() as u64);
 }
 
 fn add_row(mixed: &mut Mixed, section: Bytes<'_>, row: &UnwindTableRow<Bytes<'_>, Places>) {

@@ -43,10 +43,10 @@ fn add_fde(mixed: &mut Mixed, fde: &FrameDescriptionEntry<'_>) {
     mixed.add_three(fde.cie_pointer, fde.initial_location, fde.address_range);
 }
 
-/// Mixes in the bytes of an expression, and where they stand.
+/// Mixes in where the bytes of an expression stand, and how many they are.
 fn add_named(mixed: &mut Mixed, offset: u32, expression: &CheckedExpression<'_>) {
     mixed.add(u64::from(offset));
-    mixed.add_bytes(expression.expression().bytes());
+    mixed.add(expression.expression().bytes().len() as u64);
 }
 
 fn add_cfa(mixed: &mut Mixed, cfa: CfaRule<'_>) {
