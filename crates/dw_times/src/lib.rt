@@ -2,9 +2,16 @@
 //! it goes into.
 #![tactic(auto)]
 
+mod answers;
+mod machine;
+mod meaning;
+mod mixed;
+
 ghost use Rattle.std.specs.Prelude.{◌<◌, ◌^◌, length, Some, None};
 
+use crate::machine::Known;
 use dw_bytes::{AddressSize, Order, Target};
+use dw_check::{Answer, Checked, check, unwind};
 use dw_eval::{Context, Memory, Outcome, Registers, evaluate};
 use dw_loclists::check_lists;
 use dw_ops::Expression;
@@ -153,6 +160,43 @@ pub extern "C" fn bench_look_up(
     match checked(alloc, section) {
         Some(frame) => found_sum(&frame, addresses, times),
         None => 0,
+    }
+}
+
+fn number_of(answer: Answer) -> u64 {
+    match answer {
+        Answer::Value(value) => value,
+        _ => 0,
+    }
+}
+
+/// The callers of the frames that stand at all these addresses, so many times, each as a number, added up.
+fn callers_sum(checked: &Checked<'_>, addresses: &[u64], times: u32) -> u64 {
+    let mut sum = 0u64;
+    for _ in 0..times {
+        for address in addresses {
+            if let Some(caller) = unwind(checked, *address, &Known {}, &Known {}) {
+                sum = sum
+                    .wrapping_add(number_of(caller.cfa))
+                    .wrapping_add(number_of(caller.return_address))
+                    .wrapping_add(caller.registers.len() as u64);
+            }
+        }
+    }
+    sum
+}
+
+/// The check, with no lists, and so many times the callers of the frames that stand at all these addresses.
+#[unsafe(no_mangle)]
+pub extern "C" fn bench_unwind(
+    alloc: Global,
+    section: &[u8],
+    addresses: &[u64],
+    times: u32,
+) -> u64 {
+    match check(alloc, section, &[], TARGET) {
+        Ok(checked) => callers_sum(&checked, addresses, times),
+        Err(_) => 0,
     }
 }
 

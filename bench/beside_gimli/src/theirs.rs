@@ -1,9 +1,6 @@
-//! The same work as `driver.c` times, done with gimli, which judges nothing. Each line is a name and nanoseconds.
-//!   beside addresses SECTION    10,000 addresses of the section, one in hex a line
-//!   beside section SECTION ADDRESSES
-//!   beside lists SECTION    a `.debug_loclists`
-//!   beside expressions
+//! The work that is timed, done with gimli, which judges nothing.
 
+use crate::random::Random;
 use gimli::{
     BaseAddresses, CommonInformationEntry, CieOrFde, DebugFrame, DebugLoc, DebugLocLists,
     EndianSlice, Encoding, Evaluation, EvaluationResult, EvaluationStorage, Expression, Format,
@@ -12,22 +9,10 @@ use gimli::{
 };
 use std::collections::HashMap;
 use std::hint::black_box;
-use std::time::Instant;
 
 type Bytes<'a> = EndianSlice<'a, LittleEndian>;
 type Cie<'a> = CommonInformationEntry<Bytes<'a>>;
 type Fde<'a> = FrameDescriptionEntry<Bytes<'a>>;
-
-/// The least time of several runs, in nanoseconds.
-fn least<T>(runs: usize, mut work: impl FnMut() -> T) -> f64 {
-    let mut least = f64::MAX;
-    for _ in 0..=runs {
-        let start = Instant::now();
-        black_box(work());
-        least = least.min(start.elapsed().as_nanos() as f64);
-    }
-    least
-}
 
 /// Each FDE in order, its CIE parsed once and kept.
 fn each_fde<'a>(frame: &DebugFrame<Bytes<'a>>, mut each: impl FnMut(Fde<'a>)) {
@@ -91,37 +76,40 @@ fn look_up<'a>(
     row.expect("a row").end_address()
 }
 
-fn section(bytes: &[u8], addresses: &[u64]) {
-    let mut frame = DebugFrame::new(bytes, LittleEndian);
-    frame.set_address_size(8);
-    println!("rows {:.0}", least(15, || rows(&frame)));
-    let index = index(&frame);
-    let mut context = Box::new(UnwindContext::new());
-    let all = least(7, || {
-        let mut sum = 0u64;
-        for &address in addresses {
-            sum = sum.wrapping_add(look_up(&frame, &index, &mut context, address));
-        }
-        sum
-    });
-    println!("look-up {:.1}", all / addresses.len() as f64);
+/// A section that gimli reads, with an index of it.
+pub struct Section<'a> {
+    frame: DebugFrame<Bytes<'a>>,
+    index: Vec<(u64, u64, usize)>,
 }
 
-/// 10,000 addresses that FDEs cover, by a fixed sequence of numbers.
-fn addresses(bytes: &[u8]) {
-    let mut frame = DebugFrame::new(bytes, LittleEndian);
-    frame.set_address_size(8);
-    let index = index(&frame);
-    let mut number = 0x9e37_79b9_7f4a_7c15u64;
-    let mut next = move || {
-        number ^= number << 13;
-        number ^= number >> 7;
-        number ^= number << 17;
-        number
-    };
-    for _ in 0..10_000 {
-        let (start, end, _) = index[next() as usize % index.len()];
-        println!("{:#x}", start + next() % (end - start));
+impl<'a> Section<'a> {
+    pub fn new(bytes: &'a [u8]) -> Self {
+        let mut frame = DebugFrame::new(bytes, LittleEndian);
+        frame.set_address_size(8);
+        let index = index(&frame);
+        Section { frame, index }
+    }
+
+    /// The ends of all rows, added up.
+    pub fn rows(&self) -> u64 {
+        rows(&self.frame)
+    }
+
+    /// The ends of the rows of all these addresses, added up.
+    pub fn look_up(&self, addresses: &[u64]) -> u64 {
+        let mut context = Box::new(UnwindContext::new());
+        let found = addresses.iter().map(|&address| look_up(&self.frame, &self.index, &mut context, address));
+        found.fold(0, u64::wrapping_add)
+    }
+
+    /// 10,000 addresses that FDEs cover.
+    pub fn addresses(&self) -> Vec<u64> {
+        let mut random = Random::new(1);
+        let mut one = || {
+            let (start, end, _) = *random.of(&self.index);
+            start + random.next() % (end - start)
+        };
+        (0..10_000).map(|_| one()).collect()
     }
 }
 
@@ -160,7 +148,7 @@ fn list(lists: &LocationLists<Bytes<'_>>, section: Bytes<'_>, at: usize, encodin
 }
 
 /// All lists of all tables: how many operations there are.
-fn all_lists(bytes: &[u8]) -> u64 {
+pub fn all_lists(bytes: &[u8]) -> u64 {
     let section = EndianSlice::new(bytes, LittleEndian);
     let lists = LocationLists::new(DebugLoc::new(&[], LittleEndian), DebugLocLists::new(bytes, LittleEndian));
     let mut rest = section;
@@ -193,7 +181,7 @@ impl<R: Reader> EvaluationStorage<R> for Fixed {
 }
 
 /// What an expression gives where each register has 7.
-fn evaluate(bytes: &[u8]) -> u64 {
+pub fn evaluate(bytes: &[u8]) -> u64 {
     let encoding = Encoding { address_size: 8, format: Format::Dwarf32, version: 5 };
     let bytes = EndianSlice::new(black_box(bytes), LittleEndian);
     let mut evaluation = Evaluation::<_, Fixed>::new_in(bytes, encoding);
@@ -210,38 +198,5 @@ fn evaluate(bytes: &[u8]) -> u64 {
     match evaluation.as_result()[0].location {
         Location::Address { address } => address,
         _ => 0,
-    }
-}
-
-fn expressions() {
-    let two = [0x22, 0x1e, 0x27, 0x1c, 0x21, 0x22, 0x1e, 0x1a, 0x22, 0x24];
-    let mut sixty = vec![0x31u8];
-    for i in 0..29 {
-        sixty.extend([0x31 + i as u8 % 7, two[i % 10]]);
-    }
-    sixty.push(0x1f);
-    let plt = [0x77, 0x08, 0x80, 0x00, 0x3f, 0x1a, 0x3b, 0x2a, 0x33, 0x24, 0x22];
-    for (name, bytes) in [("7708", &[0x77, 0x08][..]), ("plt", &plt), ("sixty", &sixty)] {
-        let all = least(15, || (0..10_000).fold(0u64, |sum, _| sum.wrapping_add(evaluate(bytes))));
-        println!("evaluate-{name} {:.1}", all / 10_000.0);
-    }
-}
-
-fn main() {
-    let words: Vec<String> = std::env::args().collect();
-    let read = |place: usize| std::fs::read(&words[place]).expect("a file");
-    match words.get(1).map(String::as_str) {
-        Some("addresses") => addresses(&read(2)),
-        Some("section") => {
-            let lines = String::from_utf8(read(3)).expect("text");
-            let number = |line: &str| u64::from_str_radix(&line[2..], 16).expect("an address");
-            section(&read(2), &lines.lines().map(number).collect::<Vec<_>>());
-        }
-        Some("lists") => {
-            let bytes = read(2);
-            println!("read-lists {:.0}", least(25, || all_lists(&bytes)));
-        }
-        Some("expressions") => expressions(),
-        _ => panic!("beside addresses|section|lists|expressions"),
     }
 }

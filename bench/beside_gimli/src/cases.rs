@@ -1,0 +1,366 @@
+//! Cases made of real sections: a few records or lists, encoded for a target, and changed in some bytes.
+
+use crate::encoded::{Encoded, little, push_uleb, uleb};
+use crate::random::Random;
+use crate::target::Target;
+
+/// A made section, with where programs and expressions stand, in which changes say most.
+pub struct Case {
+    pub bytes: Vec<u8>,
+    inner: Vec<(usize, usize)>,
+}
+
+impl Case {
+    fn new() -> Self {
+        Case { bytes: Vec::new(), inner: Vec::new() }
+    }
+
+    /// Appends a program or an expression.
+    fn push_inner(&mut self, bytes: &[u8]) {
+        let start = self.bytes.len();
+        self.bytes.extend(bytes);
+        if !bytes.is_empty() {
+            self.inner.push((start, self.bytes.len()));
+        }
+    }
+
+    /// An expression alone.
+    pub fn of(bytes: Vec<u8>) -> Self {
+        let mut case = Case::new();
+        case.push_inner(&bytes);
+        case
+    }
+
+    /// Changes some bytes, or none. Most changes are in programs and expressions.
+    pub fn change(&mut self, random: &mut Random) -> bool {
+        let before = self.bytes.clone();
+        let count = *random.of(&[0, 1, 1, 1, 1, 2, 2, 2, 3, 5]);
+        for _ in 0..count.min(self.bytes.len()) {
+            let place = if !self.inner.is_empty() && !random.one_of(5) {
+                let &(start, end) = random.of(&self.inner);
+                start + random.below(end - start)
+            } else {
+                random.below(self.bytes.len())
+            };
+            self.bytes[place] = match random.below(6) {
+                0 => self.bytes[place] ^ 1 << random.below(8),
+                1 => self.bytes[place].wrapping_add(1),
+                2 => self.bytes[place].wrapping_sub(1),
+                3 => self.bytes[random.below(self.bytes.len())],
+                4 => *random.of(&[0, 1, 2, 8, 0x0a, 0x0b, 0x0f, 0x10, 0x11, 0x16, 0x40, 0x7f, 0x80, 0xc0, 0xff]),
+                _ => random.next() as u8,
+            };
+        }
+        self.bytes != before
+    }
+}
+
+struct Cie {
+    /// The factors and the register.
+    fields: Vec<u8>,
+    program: Encoded,
+}
+
+struct Fde {
+    cie: usize,
+    start: u64,
+    range: u64,
+    program: Encoded,
+}
+
+/// The records of real sections.
+#[derive(Default)]
+pub struct Frames {
+    cies: Vec<Cie>,
+    fdes: Vec<Fde>,
+    /// Those FDEs that have expressions.
+    with_expressions: Vec<usize>,
+}
+
+/// The factors and the register of a CIE: three numbers.
+fn factors(body: &[u8]) -> Option<usize> {
+    (0..3).try_fold(0, |at, _| Some(at + uleb(body.get(at..)?)?.1))
+}
+
+impl Frames {
+    /// Adds the records of a little-endian section with addresses of 8 bytes, but those that the profile doesn't have.
+    pub fn add(&mut self, section: &[u8]) {
+        let mut cies = Vec::new();
+        let mut at = 0;
+        while let Some(length) = little(&section[at..], 4) {
+            let body = &section[at + 4..at + 4 + length as usize];
+            let id = little(body, 4).expect("an id");
+            if id == 0xffff_ffff {
+                if let Some(cie) = Self::cie(body) {
+                    cies.push((at as u64, self.cies.len()));
+                    self.cies.push(cie);
+                }
+            } else if let Some((_, cie)) = cies.iter().find(|(place, _)| *place == id) {
+                self.add_fde(*cie, body);
+            }
+            at += 4 + length as usize;
+        }
+    }
+
+    fn cie(body: &[u8]) -> Option<Cie> {
+        // version 4, no augmentation, addresses of 8 bytes, no segments
+        if body.get(4..8)? != [4, 0, 8, 0] {
+            return None;
+        }
+        let end = 8 + factors(&body[8..])?;
+        Some(Cie { fields: body[8..end].to_vec(), program: Encoded::program(&body[end..])? })
+    }
+
+    fn add_fde(&mut self, cie: usize, body: &[u8]) {
+        let (start, range) = (little(&body[4..], 8).expect("an address"), little(&body[12..], 8).expect("a range"));
+        if let Some(program) = Encoded::program(&body[20..]) {
+            if program.has_expression() || self.cies[cie].program.has_expression() {
+                self.with_expressions.push(self.fdes.len());
+            }
+            self.fdes.push(Fde { cie, start, range, program });
+        }
+    }
+
+    /// A CIE and one to three FDEs of it, in either format.
+    pub fn case(&self, random: &mut Random, target: Target) -> Case {
+        let first = if !self.with_expressions.is_empty() && random.one_of(3) {
+            *random.of(&self.with_expressions)
+        } else {
+            random.below(self.fdes.len())
+        };
+        let cie = self.fdes[first].cie;
+        let count = 1 + random.below(3);
+        let fdes = self.fdes[first..].iter().filter(|fde| fde.cie == cie).take(count);
+        let mut case = Case::new();
+        push_cie(&mut case, random, target, &self.cies[cie]);
+        for fde in fdes {
+            push_fde(&mut case, random, target, fde);
+        }
+        case
+    }
+}
+
+/// Appends a record in either format: what its body begins with, and its program.
+fn push_record(case: &mut Case, wide: bool, target: Target, head: &[u8], program: &[u8]) {
+    let length = (head.len() + program.len()) as u64;
+    if wide {
+        case.bytes.extend([0xff; 4]);
+        case.bytes.extend(target.number(length, 8));
+    } else {
+        case.bytes.extend(target.number(length, 4));
+    }
+    case.bytes.extend(head);
+    case.push_inner(program);
+}
+
+fn push_cie(case: &mut Case, random: &mut Random, target: Target, cie: &Cie) {
+    let wide = random.one_of(8);
+    let mut head = target.number(u64::MAX, if wide { 8 } else { 4 });
+    head.extend([4, 0, target.size(), 0]);
+    head.extend(&cie.fields);
+    push_record(case, wide, target, &head, &cie.program.bytes(target));
+}
+
+fn push_fde(case: &mut Case, random: &mut Random, target: Target, fde: &Fde) {
+    let wide = random.one_of(8);
+    // the CIE is the first record
+    let mut head = target.number(0, if wide { 8 } else { 4 });
+    head.extend(target.number(fde.start, target.size().into()));
+    head.extend(target.number(fde.range, target.size().into()));
+    push_record(case, wide, target, &head, &fde.program.bytes(target));
+}
+
+struct Entry {
+    code: u8,
+    operands: Operands,
+    expression: Encoded,
+}
+
+enum Operands {
+    None,
+    Base(u64),
+    Pair(u64, u64),
+    Addresses(u64, u64),
+    Length(u64, u64),
+}
+
+/// The lists of real sections.
+#[derive(Default)]
+pub struct Lists {
+    lists: Vec<Vec<Entry>>,
+}
+
+/// An entry, and how many bytes it has; none where its code or its expression isn't known.
+fn entry(bytes: &[u8]) -> Option<(Entry, usize)> {
+    let code = *bytes.first()?;
+    let (operands, mut at) = match code {
+        0 => (Operands::None, 1),
+        4 => {
+            let (begin, first) = uleb(&bytes[1..])?;
+            let (end, second) = uleb(&bytes[1 + first..])?;
+            (Operands::Pair(begin, end), 1 + first + second)
+        }
+        5 => (Operands::None, 1),
+        6 => (Operands::Base(little(&bytes[1..], 8)?), 9),
+        7 => (Operands::Addresses(little(&bytes[1..], 8)?, little(&bytes[9..], 8)?), 17),
+        8 => {
+            let (length, size) = uleb(&bytes[9..])?;
+            (Operands::Length(little(&bytes[1..], 8)?, length), 9 + size)
+        }
+        _ => return None,
+    };
+    let mut expression = Encoded::default();
+    if !matches!(code, 0 | 6) {
+        let (length, size) = uleb(&bytes[at..])?;
+        at += size;
+        expression = Encoded::expression(bytes.get(at..at + length as usize)?)?;
+        at += length as usize;
+    }
+    Some((Entry { code, operands, expression }, at))
+}
+
+impl Lists {
+    /// Adds the lists of a little-endian section with addresses of 8 bytes.
+    pub fn add(&mut self, section: &[u8]) {
+        let mut at = 0;
+        while let Some(length) = little(&section[at..], 4) {
+            let end = at + 4 + length as usize;
+            let count = little(&section[at + 8..], 4).expect("a count") as usize;
+            at += 12 + 4 * count;
+            let mut list = Vec::new();
+            while at < end {
+                let (entry, length) = entry(&section[at..end]).expect("an entry of the profile");
+                at += length;
+                let last = entry.code == 0;
+                list.push(entry);
+                if last {
+                    self.lists.push(std::mem::take(&mut list));
+                }
+            }
+        }
+    }
+
+    /// A table, or two, of one to three lists each, some with an array of offsets.
+    pub fn case(&self, random: &mut Random, target: Target) -> Case {
+        let mut case = Case::new();
+        for _ in 0..1 + usize::from(random.one_of(4)) {
+            self.push_table(&mut case, random, target);
+        }
+        case
+    }
+
+    fn push_table(&self, case: &mut Case, random: &mut Random, target: Target) {
+        let first = random.below(self.lists.len());
+        let lists: Vec<_> = self.lists[first..].iter().take(1 + random.below(3)).collect();
+        let (wide, array) = (random.one_of(8), random.one_of(3));
+        let size = if wide { 8 } else { 4 };
+        let count = if array { lists.len() } else { 0 };
+        let mut body = Case::new();
+        let mut offsets = Vec::new();
+        for list in lists {
+            offsets.push((count * size + body.bytes.len()) as u64);
+            for entry in list.iter().take(6).chain(list.iter().skip(6).filter(|entry| entry.code == 0)) {
+                push_entry(&mut body, target, entry);
+            }
+        }
+        if wide {
+            case.bytes.extend([0xff; 4]);
+        }
+        case.bytes.extend(target.number((8 + count * size + body.bytes.len()) as u64, size));
+        case.bytes.extend(target.number(5, 2));
+        case.bytes.extend([target.size(), 0]);
+        case.bytes.extend(target.number(count as u64, 4));
+        for offset in offsets.into_iter().take(count) {
+            case.bytes.extend(target.number(offset, size));
+        }
+        let start = case.bytes.len();
+        case.inner.extend(body.inner.iter().map(|(begin, end)| (start + begin, start + end)));
+        case.bytes.extend(body.bytes);
+    }
+
+    /// One to three expressions of lists, one behind the other.
+    pub fn expression(&self, random: &mut Random, target: Target) -> Vec<u8> {
+        let mut bytes = Vec::new();
+        for _ in 0..1 + random.below(3) {
+            let list = random.of(&self.lists);
+            bytes.extend(random.of(list).expression.bytes(target));
+        }
+        bytes
+    }
+}
+
+fn push_entry(case: &mut Case, target: Target, entry: &Entry) {
+    let start = case.bytes.len();
+    case.bytes.push(entry.code);
+    let size = target.size().into();
+    match entry.operands {
+        Operands::None => {}
+        Operands::Base(base) => case.bytes.extend(target.number(base, size)),
+        Operands::Pair(begin, end) => {
+            push_uleb(&mut case.bytes, begin);
+            push_uleb(&mut case.bytes, end);
+        }
+        Operands::Addresses(begin, end) => {
+            case.bytes.extend(target.number(begin, size));
+            case.bytes.extend(target.number(end, size));
+        }
+        Operands::Length(begin, length) => {
+            case.bytes.extend(target.number(begin, size));
+            push_uleb(&mut case.bytes, length);
+        }
+    }
+    case.inner.push((start, case.bytes.len()));
+    if !matches!(entry.code, 0 | 6) {
+        let expression = entry.expression.bytes(target);
+        push_uleb(&mut case.bytes, expression.len() as u64);
+        case.push_inner(&expression);
+    }
+}
+
+/// An expression of literals and what computes with them, which has an entry at its end.
+pub fn made_expression(random: &mut Random, target: Target) -> Vec<u8> {
+    let mut bytes = vec![0x30 + random.below(32) as u8];
+    let mut height = 1;
+    for _ in 0..random.below(12) {
+        match random.below(if height > 1 { 6 } else { 4 }) {
+            0 => {
+                push_constant(&mut bytes, random, target);
+                height += 1;
+            }
+            1 => {
+                bytes.push(*random.of(&[0x19, 0x1f, 0x20, 0x06, 0x96]));
+            }
+            2 => {
+                bytes.push(0x23);
+                push_uleb(&mut bytes, random.next() >> random.below(64));
+            }
+            3 => {
+                bytes.extend([0x70 + random.below(32) as u8, random.below(128) as u8]);
+                height += 1;
+            }
+            4 => {
+                bytes.push(*random.of(&[
+                    0x1a, 0x1b, 0x1b, 0x1c, 0x1d, 0x1d, 0x1e, 0x21, 0x22, 0x24, 0x25, 0x26, 0x27, 0x29, 0x2a, 0x2b, 0x2c,
+                    0x2d, 0x2e,
+                ]));
+                height -= 1;
+            }
+            _ => {
+                bytes.push(*random.of(&[0x12, 0x14, 0x16]));
+                height += usize::from(bytes.last() != Some(&0x16));
+            }
+        }
+    }
+    if random.one_of(3) {
+        bytes.push(0x9f);
+    }
+    bytes
+}
+
+fn push_constant(bytes: &mut Vec<u8>, random: &mut Random, target: Target) {
+    let number = *random.of(&[0, 1, 0x7f, 0x80, 0x7fff_ffff, 0x8000_0000, 0xffff_ffff, 1 << 63, u64::MAX]);
+    let number = if random.one_of(2) { random.next() >> random.below(64) } else { number };
+    let (code, size) = *random.of(&[(0x08, 1), (0x09, 1), (0x0a, 2), (0x0b, 2), (0x0c, 4), (0x0d, 4), (0x0e, 8), (0x0f, 8)]);
+    bytes.push(code);
+    bytes.extend(target.number(number, size));
+}

@@ -1,0 +1,119 @@
+//! The differential run: made cases through dwcheck's libraries and through gimli.
+//!
+//! Where dwcheck accepts, gimli has to read the same; so what gimli can't read has to be refused. That dwcheck refuses what gimli
+//! reads is no difference: gimli judges little.
+
+use crate::cases::{Case, Frames, Lists, made_expression};
+use crate::meaning::{self, Kind};
+use crate::ours;
+use crate::random::Random;
+use crate::target::{TARGETS, Target};
+use std::collections::BTreeMap;
+
+/// What came of the cases of a kind.
+#[derive(Default)]
+struct Counts {
+    cases: u64,
+    accepted: u64,
+    accepted_changed: u64,
+    /// Refused, by the number of the fault; and how many of these gimli reads.
+    refused: BTreeMap<u64, (u64, u64)>,
+    differences: u64,
+    /// Differences of expressions in which gimli may shift by more.
+    shifts: u64,
+}
+
+impl Counts {
+    fn add(&mut self, what: &str, case: &Case, target: Target, changed: bool, ours: u64, theirs: Result<u64, gimli::Error>) {
+        self.cases += 1;
+        if ours >> 63 == 0 {
+            let count = self.refused.entry(ours).or_default();
+            count.0 += 1;
+            count.1 += u64::from(theirs.is_ok());
+            return;
+        }
+        self.accepted += 1;
+        self.accepted_changed += u64::from(changed);
+        if theirs != Ok(ours) {
+            if what == "expressions" && theirs.is_ok() && meaning::may_shift_further(&case.bytes, target) {
+                self.shifts += 1;
+                return;
+            }
+            self.differences += 1;
+            if self.differences <= 20 {
+                let bytes: String = case.bytes.iter().map(|byte| format!("{byte:02x}")).collect();
+                println!("difference: {what} {target:?} gimli {theirs:?}\n{bytes}");
+            }
+        }
+    }
+
+    fn print(&self, what: &str) {
+        println!(
+            "{what}: {} cases, {} accepted, {} of them changed, {} differences, {} more by shifts",
+            self.cases, self.accepted, self.accepted_changed, self.differences, self.shifts
+        );
+        for (number, (refused, read)) in &self.refused {
+            println!("{what}: fault {number}: {refused} refused, of which gimli reads {read}");
+        }
+    }
+}
+
+fn frame_case(frames: &Frames, random: &mut Random, target: Target, counts: &mut Counts) {
+    let mut case = frames.case(random, target);
+    let changed = case.change(random);
+    let ours = ours::frame_answer(&case.bytes, target.big, target.small);
+    counts.add("frames", &case, target, changed, ours, meaning::frame_answer(&case.bytes, target));
+}
+
+fn lists_case(lists: &Lists, random: &mut Random, target: Target, counts: &mut Counts) {
+    let mut case = lists.case(random, target);
+    let changed = case.change(random);
+    let base = *random.of(&[0, 0x1000, 0x40_0000, target.greatest() - 0x100]);
+    let read = meaning::Lists::read(&case.bytes, target);
+    let mut addresses = vec![random.next() & target.greatest(), base];
+    if let Ok(lists) = &read {
+        let bounds = lists.bounds(base);
+        if !bounds.is_empty() {
+            addresses.extend((0..4).map(|_| *random.of(&bounds)));
+        }
+    }
+    let ours = ours::lists_answer(&case.bytes, target.big, target.small, base, &addresses);
+    counts.add("lists", &case, target, changed, ours, read.and_then(|lists| lists.answer(base, &addresses)));
+}
+
+fn expression_case(lists: &Lists, random: &mut Random, target: Target, counts: &mut Counts) {
+    let bytes = if random.one_of(3) { lists.expression(random, target) } else { made_expression(random, target) };
+    let mut case = Case::of(bytes);
+    let changed = case.change(random);
+    let location = !random.one_of(3);
+    let kind = if location { Kind::Location } else { Kind::Register };
+    let ours = ours::expression_answer(&case.bytes, target.big, target.small, location);
+    counts.add("expressions", &case, target, changed, ours, meaning::expression_answer(&case.bytes, kind, target));
+}
+
+/// So many cases of frames, and so many of lists and of expressions, in turn under each target.
+pub fn run(sections: &[(String, Vec<u8>)], frame_count: u64, list_count: u64, expression_count: u64, seed: u64) -> bool {
+    let (mut frames, mut lists) = (Frames::default(), Lists::default());
+    for (name, section) in sections {
+        if name.ends_with(".lists") {
+            lists.add(section);
+        } else {
+            frames.add(section);
+        }
+    }
+    let mut random = Random::new(seed);
+    let mut counts: [Counts; 3] = Default::default();
+    for number in 0..frame_count {
+        frame_case(&frames, &mut random, TARGETS[number as usize % 4], &mut counts[0]);
+    }
+    for number in 0..list_count {
+        lists_case(&lists, &mut random, TARGETS[number as usize % 4], &mut counts[1]);
+    }
+    for number in 0..expression_count {
+        expression_case(&lists, &mut random, TARGETS[number as usize % 4], &mut counts[2]);
+    }
+    for (what, counts) in ["frames", "lists", "expressions"].iter().zip(&counts) {
+        counts.print(what);
+    }
+    counts.iter().all(|counts| counts.differences == 0)
+}

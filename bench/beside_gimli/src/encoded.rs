@@ -1,0 +1,155 @@
+//! Programs and expressions of real sections, taken apart where their encoding hangs on the target, so that they can be
+//! encoded for another.
+
+use crate::target::Target;
+
+/// A part of a program or an expression.
+#[derive(Clone, Debug)]
+enum Part {
+    /// The same under every target.
+    Bytes(Vec<u8>),
+    /// A number of so many bytes.
+    Fixed(u64, usize),
+    Address(u64),
+    /// A counted expression.
+    Block(Encoded),
+}
+
+#[derive(Clone, Debug, Default)]
+pub struct Encoded {
+    parts: Vec<Part>,
+}
+
+/// The operands of a call frame instruction: an address, numbers of so many bytes, LEB128 numbers (u) or blocks (b).
+fn instruction_operands(code: u8) -> Option<&'static str> {
+    Some(match code {
+        0x40..=0x7f | 0xc0..=0xff => "",
+        0x80..=0xbf => "u",
+        0x00 | 0x0a | 0x0b => "",
+        0x01 => "a",
+        0x02 => "1",
+        0x03 => "2",
+        0x04 => "4",
+        0x06 | 0x07 | 0x08 | 0x0d | 0x0e | 0x13 => "u",
+        0x05 | 0x09 | 0x0c | 0x11 | 0x12 | 0x14 | 0x15 => "uu",
+        0x0f => "b",
+        0x10 | 0x16 => "ub",
+        _ => return None,
+    })
+}
+
+/// The operands of an operation; i is a counted run of bytes.
+fn operation_operands(code: u8) -> Option<&'static str> {
+    Some(match code {
+        0x03 => "a",
+        0x08 | 0x09 | 0x15 | 0x94 => "1",
+        0x0a | 0x0b | 0x28 | 0x2f => "2",
+        0x0c | 0x0d => "4",
+        0x0e | 0x0f => "8",
+        0x10 | 0x11 | 0x23 | 0x70..=0x91 | 0x93 => "u",
+        0x92 | 0x9d => "uu",
+        0x9e => "i",
+        0x06 | 0x12..=0x14 | 0x16..=0x17 | 0x19..=0x22 | 0x24..=0x27 | 0x29..=0x2e => "",
+        0x30..=0x6f | 0x96 | 0x97 | 0x9c | 0x9f => "",
+        _ => return None,
+    })
+}
+
+/// An unsigned LEB128 number, and how many bytes it has.
+pub fn uleb(bytes: &[u8]) -> Option<(u64, usize)> {
+    let mut number = 0;
+    for (place, byte) in bytes.iter().take(9).enumerate() {
+        number |= u64::from(byte & 0x7f) << (7 * place);
+        if byte & 0x80 == 0 {
+            return Some((number, place + 1));
+        }
+    }
+    None
+}
+
+pub fn push_uleb(bytes: &mut Vec<u8>, mut number: u64) {
+    while number >= 0x80 {
+        bytes.push(number as u8 | 0x80);
+        number >>= 7;
+    }
+    bytes.push(number as u8);
+}
+
+/// A number of so many bytes, the least first.
+pub fn little(bytes: &[u8], size: usize) -> Option<u64> {
+    let bytes = bytes.get(..size)?;
+    Some(bytes.iter().rev().fold(0, |number, byte| number << 8 | u64::from(*byte)))
+}
+
+impl Encoded {
+    /// Of a little-endian program, with addresses of 8 bytes; none where it has a code that isn't known.
+    pub fn program(bytes: &[u8]) -> Option<Self> {
+        Self::read(bytes, instruction_operands)
+    }
+
+    /// Of such an expression.
+    pub fn expression(bytes: &[u8]) -> Option<Self> {
+        Self::read(bytes, operation_operands)
+    }
+
+    fn read(mut bytes: &[u8], operands: fn(u8) -> Option<&'static str>) -> Option<Self> {
+        let mut parts = Vec::new();
+        while let Some((&code, rest)) = bytes.split_first() {
+            parts.push(Part::Bytes(vec![code]));
+            bytes = rest;
+            for operand in operands(code)?.bytes() {
+                let (part, length) = Self::operand(operand, bytes)?;
+                parts.push(part);
+                bytes = bytes.get(length..)?;
+            }
+        }
+        Some(Encoded { parts })
+    }
+
+    fn operand(operand: u8, bytes: &[u8]) -> Option<(Part, usize)> {
+        Some(match operand {
+            b'a' => (Part::Address(little(bytes, 8)?), 8),
+            b'u' => {
+                let end = bytes.iter().position(|byte| byte & 0x80 == 0)? + 1;
+                (Part::Bytes(bytes[..end].to_vec()), end)
+            }
+            b'b' => {
+                let (length, begin) = uleb(bytes)?;
+                let end = begin + length as usize;
+                (Part::Block(Self::expression(bytes.get(begin..end)?)?), end)
+            }
+            b'i' => {
+                let (length, begin) = uleb(bytes)?;
+                let end = begin + length as usize;
+                (Part::Bytes(bytes.get(..end)?.to_vec()), end)
+            }
+            digit => {
+                let size = usize::from(digit - b'0');
+                (Part::Fixed(little(bytes, size)?, size), size)
+            }
+        })
+    }
+
+    /// Whether an expression stands in it.
+    pub fn has_expression(&self) -> bool {
+        self.parts.iter().any(|part| matches!(part, Part::Block(_)))
+    }
+
+    /// Its bytes under a target.
+    pub fn bytes(&self, target: Target) -> Vec<u8> {
+        let mut bytes = Vec::new();
+        for part in &self.parts {
+            match part {
+                Part::Bytes(same) => bytes.extend(same),
+                Part::Fixed(number, size) => bytes.extend(target.number(*number, *size)),
+                Part::Address(address) => bytes.extend(target.number(*address, target.size().into())),
+                Part::Block(block) => {
+                    let inner = block.bytes(target);
+                    push_uleb(&mut bytes, inner.len() as u64);
+                    bytes.extend(inner);
+                }
+            }
+        }
+        bytes
+    }
+}

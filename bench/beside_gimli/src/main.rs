@@ -1,0 +1,45 @@
+//! The libraries of dwcheck beside gimli, in one process.
+//!   beside times SECTION ..
+//!   beside differ FRAMES LISTS EXPRESSIONS SEED SECTION ..    how many cases of each, made of these sections
+//!   beside read SECTION     gimli alone: all rows and rules, or entries, and all expressions
+//! A section is raw and little-endian with addresses of 8 bytes: a `.debug_loclists` where its name ends with `.lists`, else a
+//! `.debug_frame`.
+
+mod cases;
+mod differ;
+mod encoded;
+mod meaning;
+mod ours;
+mod random;
+mod target;
+mod theirs;
+mod times;
+
+fn sections(paths: &[String]) -> Vec<(String, Vec<u8>)> {
+    let name = |path: &str| path.rsplit('/').next().unwrap_or(path).to_string();
+    paths.iter().map(|path| (name(path), std::fs::read(path).expect("a section"))).collect()
+}
+
+fn read((name, bytes): &(String, Vec<u8>)) {
+    let target = target::TARGETS[0];
+    let answer = if name.ends_with(".lists") {
+        meaning::Lists::read(bytes, target).and_then(|lists| lists.answer(0, &[]))
+    } else {
+        meaning::frame_answer(bytes, target)
+    };
+    println!("{answer:?}");
+}
+
+fn main() {
+    let words: Vec<String> = std::env::args().skip(1).collect();
+    match words.first().map(String::as_str) {
+        Some("times") => times::run(&sections(&words[1..])),
+        Some("read") if words.len() == 2 => read(&sections(&words[1..])[0]),
+        Some("differ") if words.len() > 5 => {
+            let number = |place: usize| words[place].parse().expect("a number");
+            let same = differ::run(&sections(&words[5..]), number(1), number(2), number(3), number(4));
+            std::process::exit(i32::from(!same));
+        }
+        _ => panic!("beside times|read|differ .."),
+    }
+}

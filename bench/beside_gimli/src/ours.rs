@@ -1,0 +1,90 @@
+//! The exports of crates/dw_times. A section or an expression is handed over as a pointer and a length.
+
+
+type Start = *const u8;
+
+unsafe extern "C" {
+    fn bench_check(section: Start, n: usize) -> usize;
+    fn bench_check_lists(section: Start, n: usize) -> usize;
+    fn bench_rows(section: Start, n: usize) -> u64;
+    fn bench_rows_into(section: Start, n: usize) -> u64;
+    fn bench_look_up(section: Start, n: usize, addresses: *const u64, m: usize, times: u32) -> u64;
+    fn bench_unwind(section: Start, n: usize, addresses: *const u64, m: usize, times: u32) -> u64;
+    fn bench_evaluate(bytes: Start, n: usize, times: u32) -> u64;
+    fn bench_check_expression(bytes: Start, n: usize, times: u32) -> u64;
+    fn bench_certify(bytes: Start, n: usize, times: u32) -> u64;
+    fn bench_frame_answer(section: Start, n: usize, big: bool, small: bool) -> u64;
+    fn bench_lists_answer(
+        section: Start,
+        n: usize,
+        big: bool,
+        small: bool,
+        base: u64,
+        addresses: *const u64,
+        m: usize,
+    ) -> u64;
+    fn bench_expression_answer(bytes: Start, n: usize, big: bool, small: bool, location: bool) -> u64;
+}
+
+/// How many FDEs a section has, 0 where it is refused.
+pub fn check(section: &[u8]) -> usize {
+    unsafe { bench_check(section.as_ptr(), section.len()) }
+}
+
+/// How many expressions a section of lists has, 0 where it is refused.
+pub fn check_lists(section: &[u8]) -> usize {
+    unsafe { bench_check_lists(section.as_ptr(), section.len()) }
+}
+
+/// The check, and all rows by the iterator.
+pub fn rows(section: &[u8]) -> u64 {
+    unsafe { bench_rows(section.as_ptr(), section.len()) }
+}
+
+/// The check, and all rows into one place.
+pub fn rows_into(section: &[u8]) -> u64 {
+    unsafe { bench_rows_into(section.as_ptr(), section.len()) }
+}
+
+/// The check, and so many times the rows of all addresses.
+pub fn look_up(section: &[u8], addresses: &[u64], times: u32) -> u64 {
+    unsafe { bench_look_up(section.as_ptr(), section.len(), addresses.as_ptr(), addresses.len(), times) }
+}
+
+/// The check, and so many times the callers at all addresses.
+pub fn unwind(section: &[u8], addresses: &[u64], times: u32) -> u64 {
+    unsafe { bench_unwind(section.as_ptr(), section.len(), addresses.as_ptr(), addresses.len(), times) }
+}
+
+/// One judgement of a register's expression, and so many evaluations.
+pub fn evaluate(bytes: &[u8], times: u32) -> u64 {
+    unsafe { bench_evaluate(bytes.as_ptr(), bytes.len(), times) }
+}
+
+/// So many judgements without states.
+pub fn check_expression(bytes: &[u8], times: u32) -> u64 {
+    unsafe { bench_check_expression(bytes.as_ptr(), bytes.len(), times) }
+}
+
+/// So many certificates.
+pub fn certify(bytes: &[u8], times: u32) -> u64 {
+    unsafe { bench_certify(bytes.as_ptr(), bytes.len(), times) }
+}
+
+/// What a section of frames holds, or the number of its fault.
+pub fn frame_answer(section: &[u8], big: bool, small: bool) -> u64 {
+    unsafe { bench_frame_answer(section.as_ptr(), section.len(), big, small) }
+}
+
+/// What a section of lists holds and says of some addresses, or the number of its fault.
+pub fn lists_answer(section: &[u8], big: bool, small: bool, base: u64, addresses: &[u64]) -> u64 {
+    unsafe {
+        let (start, n) = (section.as_ptr(), section.len());
+        bench_lists_answer(start, n, big, small, base, addresses.as_ptr(), addresses.len())
+    }
+}
+
+/// What an expression says, of a location or a register's rule, or the number of its fault.
+pub fn expression_answer(bytes: &[u8], big: bool, small: bool, location: bool) -> u64 {
+    unsafe { bench_expression_answer(bytes.as_ptr(), bytes.len(), big, small, location) }
+}

@@ -1,0 +1,168 @@
+//! What an expression says, mixed into a number: its operations, and what it comes to on a known machine.
+
+use crate::machine::{CONTEXT, Known};
+use crate::mixed::Mixed;
+use dw_eval::{Location, Outcome, PieceSize, evaluate};
+use dw_ops::{Expression, Operation, operations};
+use dw_stack::CheckedExpression;
+use std::alloc::Global;
+
+/// What an operation is told apart by: a number of its own, and its operands.
+type Parts = (u64, u64, u64);
+
+/// Those that push a number.
+fn pushing(operation: Operation<'_>) -> Option<Parts> {
+    match operation {
+        Operation::Addr { address } => Some((1, address, 0)),
+        Operation::Const1u { value } => Some((2, u64::from(value), 0)),
+        Operation::Const2u { value } => Some((2, u64::from(value), 0)),
+        Operation::Const4u { value } => Some((2, u64::from(value), 0)),
+        Operation::Const8u { value } => Some((2, value, 0)),
+        Operation::Constu { value } => Some((2, value, 0)),
+        Operation::Lit { value } => Some((2, u64::from(value), 0)),
+        Operation::Const1s { value } => Some((3, i64::from(value).cast_unsigned(), 0)),
+        Operation::Const2s { value } => Some((3, i64::from(value).cast_unsigned(), 0)),
+        Operation::Const4s { value } => Some((3, i64::from(value).cast_unsigned(), 0)),
+        Operation::Const8s { value } => Some((3, value.cast_unsigned(), 0)),
+        Operation::Consts { value } => Some((3, value.cast_unsigned(), 0)),
+        Operation::Dup => Some((4, 0, 0)),
+        Operation::Over => Some((4, 1, 0)),
+        Operation::Pick { index } => Some((4, u64::from(index), 0)),
+        Operation::Breg { register, offset } => {
+            Some((5, u64::from(register), offset.cast_unsigned()))
+        }
+        Operation::Bregx { register, offset } => {
+            Some((5, u64::from(register), offset.cast_unsigned()))
+        }
+        Operation::Fbreg { offset } => Some((6, offset.cast_unsigned(), 0)),
+        Operation::PushObjectAddress => Some((7, 0, 0)),
+        Operation::CallFrameCfa => Some((8, 0, 0)),
+        _ => None,
+    }
+}
+
+/// Those that compute.
+fn computing(operation: Operation<'_>) -> Option<Parts> {
+    match operation {
+        Operation::Abs => Some((20, 0, 0)),
+        Operation::And => Some((21, 0, 0)),
+        Operation::Div => Some((22, 0, 0)),
+        Operation::Minus => Some((23, 0, 0)),
+        Operation::Mod => Some((24, 0, 0)),
+        Operation::Mul => Some((25, 0, 0)),
+        Operation::Neg => Some((26, 0, 0)),
+        Operation::Not => Some((27, 0, 0)),
+        Operation::Or => Some((28, 0, 0)),
+        Operation::Plus => Some((29, 0, 0)),
+        Operation::PlusUconst { value } => Some((30, value, 0)),
+        Operation::Shl => Some((31, 0, 0)),
+        Operation::Shr => Some((32, 0, 0)),
+        Operation::Shra => Some((33, 0, 0)),
+        Operation::Xor => Some((34, 0, 0)),
+        Operation::Eq => Some((35, 0, 0)),
+        Operation::Ge => Some((36, 0, 0)),
+        Operation::Gt => Some((37, 0, 0)),
+        Operation::Le => Some((38, 0, 0)),
+        Operation::Lt => Some((39, 0, 0)),
+        Operation::Ne => Some((40, 0, 0)),
+        _ => None,
+    }
+}
+
+/// All others. A word has so many bytes.
+fn other(operation: Operation<'_>, word: u64) -> Parts {
+    match operation {
+        Operation::Deref => (50, word, 0),
+        Operation::DerefSize { size } => (50, u64::from(size), 0),
+        Operation::Drop => (51, 0, 0),
+        Operation::Swap => (52, 0, 0),
+        Operation::Rot => (53, 0, 0),
+        Operation::Nop => (54, 0, 0),
+        Operation::Bra { offset } => (55, i64::from(offset).cast_unsigned(), 0),
+        Operation::Skip { offset } => (56, i64::from(offset).cast_unsigned(), 0),
+        Operation::Reg { register } => (57, u64::from(register), 0),
+        Operation::Regx { register } => (57, u64::from(register), 0),
+        Operation::Piece { size } => (58, u64::from(size) * 8, 0),
+        Operation::BitPiece { size, offset } => (59, u64::from(size), u64::from(offset)),
+        Operation::ImplicitValue { bytes } => (60, bytes.len() as u64, 0),
+        Operation::StackValue => (61, 0, 0),
+        _ => (0, 0, 0),
+    }
+}
+
+fn parts_of(operation: Operation<'_>, word: u64) -> Parts {
+    match pushing(operation) {
+        Some(parts) => parts,
+        None => match computing(operation) {
+            Some(parts) => parts,
+            None => other(operation, word),
+        },
+    }
+}
+
+/// Mixes in the operations of an expression, each with its offset.
+fn add_operations(alloc: Global, mixed: &mut Mixed, expression: Expression<'_>) {
+    let word = u64::from(expression.target().address_size.bytes());
+    if let Ok(list) = operations(alloc, &expression) {
+        for (at, operation) in list.as_slice() {
+            let (code, first, second) = parts_of(*operation, word);
+            mixed.add(u64::from(*at));
+            mixed.add_three(code, first, second);
+        }
+    }
+}
+
+/// Mixes in where an object is.
+fn add_location(mixed: &mut Mixed, location: Location<'_>) {
+    match location {
+        Location::Empty => mixed.add(1),
+        Location::Address(address) => mixed.add_three(2, address, 0),
+        Location::Register(register) => mixed.add_three(3, u64::from(register), 0),
+        Location::Value(value) => mixed.add_three(4, value, 0),
+        Location::Bytes(bytes) => mixed.add_bytes(bytes),
+    }
+}
+
+/// Mixes in how much of an object a piece is: bits, and from where.
+fn add_size(mixed: &mut Mixed, size: PieceSize) {
+    match size {
+        PieceSize::Bytes(bytes) => mixed.add_three(1, u64::from(bytes) * 8, 0),
+        PieceSize::Bits { size, offset } => mixed.add_three(2, u64::from(size), u64::from(offset)),
+    }
+}
+
+/// Mixes in what an evaluation comes to.
+fn add_outcome(mixed: &mut Mixed, outcome: &Outcome<'_>) {
+    match outcome {
+        Outcome::Value(value) => mixed.add_three(1, *value, 0),
+        Outcome::Single(location) => {
+            mixed.add(2);
+            add_location(mixed, *location);
+        }
+        Outcome::Pieces(pieces) => {
+            mixed.add(3);
+            for piece in pieces.as_slice() {
+                add_location(mixed, piece.location);
+                add_size(mixed, piece.size);
+            }
+        }
+        Outcome::Unreadable { .. } => mixed.add(4),
+        Outcome::DivisionByZero { .. } => mixed.add(5),
+    }
+}
+
+/// Mixes in an expression that was checked: where it stands, its operations, and what it comes to.
+pub(crate) fn add_expression(
+    alloc: Global,
+    mixed: &mut Mixed,
+    offset: u32,
+    expression: &CheckedExpression<'_>,
+) {
+    mixed.add(u64::from(offset));
+    mixed.add(u64::from(expression.operation_count()));
+    add_operations(alloc, mixed, expression.expression());
+    add_outcome(
+        mixed,
+        &evaluate(expression, &CONTEXT, &Known {}, &Known {}).outcome,
+    );
+}
