@@ -322,7 +322,7 @@ pub fn made_expression(random: &mut Random, target: Target) -> Vec<u8> {
     let mut bytes = vec![0x30 + random.below(32) as u8];
     let mut height = 1;
     for _ in 0..random.below(12) {
-        match random.below(if height > 1 { 6 } else { 4 }) {
+        match random.below(if height > 1 { 7 } else { 5 }) {
             0 => {
                 push_constant(&mut bytes, random, target);
                 height += 1;
@@ -339,6 +339,16 @@ pub fn made_expression(random: &mut Random, target: Target) -> Vec<u8> {
                 height += 1;
             }
             4 => {
+                // a branch over as many nops, or to the next of them
+                push_constant(&mut bytes, random, target);
+                let count = random.below(3);
+                bytes.push(if random.one_of(4) { 0x13 } else { 0x28 });
+                if bytes.last() == Some(&0x28) {
+                    bytes.extend(target.number(random.below(count + 1) as u64, 2));
+                }
+                bytes.extend(vec![0x96; count]);
+            }
+            5 => {
                 bytes.push(*random.of(&[
                     0x1a, 0x1b, 0x1b, 0x1c, 0x1d, 0x1d, 0x1e, 0x21, 0x22, 0x24, 0x25, 0x26, 0x27, 0x29, 0x2a, 0x2b, 0x2c,
                     0x2d, 0x2e,
