@@ -14,7 +14,11 @@ use dw_ops::Operation;
 
 /// Where the operation leads, which may be a jump forward.
 #[inline(always)]
-pub fn next_offset(operation: &Operation<'_>, stack: &Stack, next: u32) -> u32
+pub fn next_offset<const PLACES: usize>(
+    operation: &Operation<'_>,
+    stack: &Stack<PLACES>,
+    next: u32,
+) -> u32
     requires needs { (effect_of (operation_of operation.now)).needs ≤ length stack.now }
     requires target { GoesForward (operation_of operation.now) stack.now next }
     ensures { LeadsTo (operation_of operation.now) stack.now next result }
@@ -34,7 +38,10 @@ pub fn next_offset(operation: &Operation<'_>, stack: &Stack, next: u32) -> u32
 
 /// The location that the operation names.
 #[inline(always)]
-pub fn location_named<'a>(operation: &Operation<'a>, stack: &Stack) -> Option<Location<'a>>
+pub fn location_named<'a, const PLACES: usize>(
+    operation: &Operation<'a>,
+    stack: &Stack<PLACES>,
+) -> Option<Location<'a>>
     requires { (effect_of (operation_of operation.now)).needs ≤ length stack.now }
     ensures { option_map location_description_of result ≡ named
         (operation_of operation.now) stack.now }

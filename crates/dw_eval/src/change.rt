@@ -13,7 +13,6 @@ use crate::evaluation_error::EvaluationError;
 use crate::stack::Stack;
 use crate::width::Width;
 use dw_ops::Operation;
-use dw_stack::MAX_HEIGHT;
 
 /// What becomes of the stack.
 #[derive(Clone, Copy)]
@@ -98,10 +97,10 @@ fn pushed<R: Registers, M: Memory>(
 /// The change of an operation that puts one value in the place of all that it needs: a read, arithmetic, or nothing needed.
 #[tactic(auto, using(crate::proofs::Entries::entry_below))]
 #[inline(always)]
-fn computed<R: Registers, M: Memory>(
+fn computed<R: Registers, M: Memory, const PLACES: usize>(
     environment: &Environment<'_, R, M>,
     operation: &Operation<'_>,
-    stack: &Stack,
+    stack: &Stack<PLACES>,
 ) -> Result<Change, EvaluationError>
     requires all { (effect_of (operation_of operation.now)).takes ≡
         (effect_of (operation_of operation.now)).needs }
@@ -159,10 +158,10 @@ fn computed<R: Registers, M: Memory>(
 
 /// The change of an operation whose entries are there.
 #[inline(always)]
-pub fn change_of<R: Registers, M: Memory>(
+pub fn change_of<R: Registers, M: Memory, const PLACES: usize>(
     environment: &Environment<'_, R, M>,
     operation: &Operation<'_>,
-    stack: &Stack,
+    stack: &Stack<PLACES>,
 ) -> Result<Change, EvaluationError>
     requires needs { (effect_of (operation_of operation.now)).needs ≤ length stack.now }
     requires sized { IsSized (operation_of operation.now) }
@@ -195,9 +194,9 @@ pub fn change_of<R: Registers, M: Memory>(
 
 /// Makes the change.
 #[inline(always)]
-pub fn make(change: Change, stack: &mut Stack)
+pub fn make<const PLACES: usize>(change: Change, stack: &mut Stack<PLACES>)
     requires enough { taken_by change ≤ length stack.old }
-    requires room { length stack.old - taken_by change + added_by change ≤ MAX_HEIGHT }
+    requires room { length stack.old - taken_by change + added_by change ≤ PLACES }
     ensures { Ok stack.new ≡ changed change stack.old }
 {
     match change {

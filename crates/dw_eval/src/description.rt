@@ -1,6 +1,6 @@
 //! The runs of location descriptions.
 
-ghost use Rattle.std.specs.Prelude.{◌<◌, ◌∷◌, [], length};
+ghost use Rattle.std.specs.Prelude.{◌≡◌, ◌<◌, ◌∷◌, [], length, None};
 ghost use Rattle.dw_ops.specs.Views.{bytes_of};
 ghost use Rattle.dw_eval.specs.UnderWay.{CanRun, IsUnderWay, RunsTo};
 ghost use Rattle.dw_eval.specs.Steps.{configured};
@@ -17,15 +17,15 @@ use dw_ops::Expression;
 use dw_stack::Kind;
 
 /// Runs a location on behind its first piece, at this offset and after so many steps.
-fn run_on<'a, R: Registers, M: Memory>(
+fn run_on<'a, R: Registers, M: Memory, const PLACES: usize>(
     expression: &Expression<'a>,
     environment: &Environment<'_, R, M>,
-    run: &mut Run<'a>,
+    run: &mut Run<'a, PLACES>,
     first: Piece<'a>,
     from: u32,
     before: u32,
 ) -> Evaluation<'a>
-    requires can { CanRun Kind.Location
+    requires can { CanRun PLACES Kind.Location
         (world_in R.contents M.bytes environment.now) expression.now }
     requires some { 0 < length (bytes_of expression.now) }
     requires under_way { IsUnderWay (world_in R.contents M.bytes environment.now)
@@ -63,19 +63,21 @@ fn run_on<'a, R: Registers, M: Memory>(
     }
 }
 
-/// Runs a location from its start. The places of its pieces are made with the first: most have none, and the places take
+/// Runs a location from its start, with a run that has done nothing. The places of its pieces are made with the first: most have none, and the places take
 /// longer to make than their steps.
-pub fn run_location<'a, R: Registers, M: Memory>(
+pub fn run_location<'a, R: Registers, M: Memory, const PLACES: usize>(
     expression: &Expression<'a>,
     environment: &Environment<'_, R, M>,
+    run: &mut Run<'a, PLACES>,
 ) -> Evaluation<'a>
-    requires can { CanRun Kind.Location
+    requires can { CanRun PLACES Kind.Location
         (world_in R.contents M.bytes environment.now) expression.now }
+    requires stack { run.old.stack ≡ [] }
+    requires pending { run.old.pending ≡ None }
     ensures { RunsTo Kind.Location
         (world_in R.contents M.bytes environment.now) expression.now result }
 {
     let end = expression.bytes().len() as u32;
-    let mut run = Run::new();
     let mut at = 0;
     let mut steps = 0;
     while at < end {
@@ -84,7 +86,7 @@ pub fn run_location<'a, R: Registers, M: Memory>(
             Ok(step) => match step {
                 Step::To(to) => at = to,
                 Step::Ends(piece, to) => {
-                    return run_on(expression, environment, &mut run, piece, to, steps);
+                    return run_on(expression, environment, run, piece, to, steps);
                 }
             },
             Err(why) => {

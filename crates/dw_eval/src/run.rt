@@ -12,8 +12,8 @@ use dw_ops::{Expression, Operation};
 
 /// Where a run stands, but for its offset and its pieces.
 #[derive(Drop)]
-pub struct Run<'a> {
-    pub stack: Stack,
+pub struct Run<'a, const PLACES: usize> {
+    pub stack: Stack<PLACES>,
     /// The location that waits for a piece, or for the end.
     pub pending: Option<Location<'a>>,
 }
@@ -27,7 +27,7 @@ pub enum Step<'a> {
     Ends(Piece<'a>, u32),
 }
 
-impl<'a> Run<'a> {
+impl<'a, const PLACES: usize> Run<'a, PLACES> {
     ghost use Rattle.std.specs.Prelude.{◌≡◌, ◌<◌, ◌≤◌, [], length, None, Err, MatchResult};
     ghost use Rattle.std.specs.Option.{option_map};
     ghost use Rattle.dw_ops.specs.Views.{bytes_of, operation_of};
@@ -99,7 +99,7 @@ impl<'a> Run<'a> {
         operation: &Operation<'a>,
         next: u32,
     ) -> Result<Step<'a>, EvaluationError>
-        requires can { CanExecute (operation_of operation.now) next self.old.stack }
+        requires can { CanExecute PLACES (operation_of operation.now) next self.old.stack }
         requires alone { CanDo (effect_of (operation_of operation.now)).role (length self.old.stack)
             (option_map location_description_of self.old.pending) }
         requires below { AllFit (world_in R.contents M.bytes environment.now) self.old.stack }

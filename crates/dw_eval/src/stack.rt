@@ -1,19 +1,15 @@
 //! The stack of a run.
 
-use dw_stack::MAX_HEIGHT;
 use std::marker::Model;
-
-/// How many places the stack has.
-const PLACES: usize = MAX_HEIGHT as usize;
 
 /// The entries of a run, the top last, in places of a fixed number.
 #[derive(Drop)]
-pub struct Stack {
+pub struct Stack<const PLACES: usize> {
     places: [u64; PLACES],
     height: usize,
 }
 
-impl Model for Stack {
+impl<const PLACES: usize> Model for Stack<PLACES> {
     ghost use Rattle.std.specs.Prelude.{ℕ, List, ◌≤◌, take, length};
 
     ghost Value = { List ℕ };
@@ -23,7 +19,7 @@ impl Model for Stack {
     ghost invariant = { λ s. s.height ≤ length s.places };
 }
 
-impl Stack {
+impl<const PLACES: usize> Stack<PLACES> {
     ghost use Rattle.std.specs.Prelude.{◌≡◌, ◌+◌, ◌-◌, ◌<◌, ◌≤◌, ◌==◌, [], ◌∷◌, ◌++◌, length, take};
     ghost use Rattle.dw_stack.specs.Machine.{entry};
 
@@ -57,7 +53,7 @@ impl Stack {
     #[inline(always)]
     pub fn put(&mut self, taken: usize, value: u64)
         requires taken { taken ≤ length self.old }
-        requires room { length self.old - taken < MAX_HEIGHT }
+        requires room { length self.old - taken < PLACES }
         ensures { self.new ≡ take (length self.old - taken) self.old ++ value ∷ [] }
     {
         let place = self.height - taken;

@@ -1,18 +1,19 @@
 //! The rows of an FDE whose program is good.
 
-ghost use Rattle.std.specs.Prelude.{◌≡◌, ◌+◌, ◌<◌, ◌≤◌, Some, find, map};
+ghost use Rattle.std.specs.Prelude.{◌≡◌, ◌+◌, ◌<◌, ◌≤◌, List, ◌∷◌, Some, find, map};
+ghost use Rattle.std.specs.Bool.{OnTrue, OnFalse};
 ghost use Rattle.dw_frame.specs.Views.{cie_of, fde_of};
 ghost use Rattle.dw_rows.specs.Judgement.{fde_fault};
 ghost use Rattle.dw_rows.specs.UnwindRows.{rows_of, has_address};
 ghost use Rattle.dw_rows.specs.ProgramState.{IsLeftBy};
-ghost use Rattle.dw_rows.specs.RowCursors.{remembering, Seeks, Lends};
+ghost use Rattle.dw_rows.specs.RuleSet.{KeptRules};
+ghost use Rattle.dw_rows.specs.RowCursors.{above, Seeks, GoesBehind, Lends};
 ghost use Rattle.dw_rows.specs.GivenRows.{row_with};
 ghost use Rattle.dw_rows.specs.LentExpressions.{lent_by};
 
 use crate::expressions::LentExpressions;
 use crate::row::UnwindTableRow;
-use crate::row_cursor::{Next, begin_at, next_plain, next_range};
-use crate::unwind_context::UnwindContext;
+use crate::row_cursor::{Next, begin_at, next_plain};
 use crate::unwind_state::UnwindState;
 use dw_frame::{CommonInformationEntry, FrameDescriptionEntry, Instructions};
 
@@ -46,50 +47,84 @@ pub(crate) fn write_row_at<'f, 'a>(
                 }
             }
             Next::Remembers => {
-                write_row_behind(state, instructions, cie, fde, address, expressions, row);
-                return;
+                if write_row_in_bracket(
+                    state,
+                    &mut instructions,
+                    cie,
+                    fde,
+                    address,
+                    expressions,
+                    row,
+                ) {
+                    return;
+                }
             }
-            Next::End => unreachable!(),
+            Next::Restores | Next::End => unreachable!(),
         }
     }
 }
 
-/// The same where the row isn't before the remember_state at the state. Most programs have none: only here is room made for
-/// what is remembered.
+/// The same from behind a remember_state, where the row is before the restore_state that matches it; whether it is. If it isn't,
+/// it goes behind that. Only here are rules remembered, those of one bracket: one in it is another call.
 #[inline(never)]
-fn write_row_behind<'f, 'a>(
-    state: &UnwindState,
-    mut instructions: Instructions<'a>,
+fn write_row_in_bracket<'f, 'a>(
+    state: &mut UnwindState,
+    instructions: &mut Instructions<'a>,
     cie: &CommonInformationEntry<'a>,
     fde: &FrameDescriptionEntry<'a>,
     address: u64,
     expressions: LentExpressions<'f, 'a>,
     row: &mut UnwindTableRow<'f, 'a>,
-)
+) -> bool
     requires lent { Lends (lent_by expressions) (cie_of cie.now) (fde_of fde.now) }
     requires fde { fde_fault (cie_of cie.now) (fde_of fde.now) ≡ None }
     requires low { fde.now.initial_location ≤ address }
     requires high { address < fde.now.initial_location + fde.now.address_range }
-    requires seeks { Seeks (cie_of cie.now) (fde_of fde.now) address
-        (remembering (record {
+    requires seeks { (ks : List KeptRules) × Seeks (cie_of cie.now) (fde_of fde.now) address
+        (above (state.old.current ∷ ks)
+        (record {
           cie = cie_of cie.now;
           end = fde.now.initial_location + fde.now.address_range;
-          context = state.now;
-          instructions =
-              instructions;
+          context = state.old;
+          instructions = instructions.old;
         })) }
-    ensures { find (has_address address)
+    ensures found { OnTrue result (find (has_address address)
         (map (row_with (lent_by expressions.entry)) (rows_of (cie_of cie.now) (fde_of fde.now)))
-        ≡ Some row.new }
+        ≡ Some row.new) }
+    ensures behind { OnFalse result (GoesBehind (cie_of cie.now) (fde_of fde.now) address
+        (record {
+          cie = cie_of cie.now;
+          end = fde.now.initial_location + fde.now.address_range;
+          context = state.old;
+          instructions = instructions.old;
+        })
+        (record {
+          cie = cie_of cie.now;
+          end = fde.now.initial_location + fde.now.address_range;
+          context = state.new;
+          instructions = instructions.new;
+        })) }
 {
     let limit = fde.initial_location + fde.address_range;
-    let mut context = UnwindContext::new();
-    context.remember_at(state);
-    while let Some((start, end)) = next_range(&mut context, &mut instructions, cie, limit) {
-        if address < end {
-            context.write_row(start, end, expressions, row);
-            return;
+    let rules = state.rules().copy();
+    loop {
+        match next_plain(state, instructions, cie, limit) {
+            Next::Row(start, end) => {
+                if address < end {
+                    state.write_row(start, end, expressions, row);
+                    return true;
+                }
+            }
+            Next::Remembers => {
+                if write_row_in_bracket(state, instructions, cie, fde, address, expressions, row) {
+                    return true;
+                }
+            }
+            Next::Restores => {
+                state.set_rules(&rules);
+                return false;
+            }
+            Next::End => unreachable!(),
         }
     }
-    unreachable!()
 }

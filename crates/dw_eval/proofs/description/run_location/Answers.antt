@@ -33,12 +33,13 @@ overflow_add-steps g c =
       c.args.expression.now.short,
     )
 
-pub step-requires-clause-can : goal.step-requires-clause-can
-step-requires-clause-can g c =
+pub step-requires : goal.step-requires
+step-requires g c =
     let e = world_in g.R.Registers.contents g.M.Memory.bytes c.args.environment.now in
     let test = before c.loop-at.at (bytes_of c.args.expression.now) c.bytes.result.now c.bytes.ensures c.loop-at-test.true in
-    can_step_here e c.args.expression.now c.requires.can.depth c.requires.can.good c.requires.can.runs c.requires.can.target c.loop-at.steps
-    c.loop-at.at c.loop-at.run [] c.loop-at.invariant test
+    let can = can_step_here e c.args.expression.now c.requires.can.depth c.requires.can.good c.requires.can.runs c.requires.can.target
+    c.loop-at.steps c.loop-at.at c.loop-at.run [] c.loop-at.invariant test c.requires.can.room in
+    (search rules, (test, (can, c.loop-at.invariant.fits.stack)))
 
 pub loop-at-preserved : goal.loop-at-preserved
 loop-at-preserved g c =
@@ -58,13 +59,15 @@ loop-at-smaller g c =
       c.loop-at-test.true,
     )
 
-pub run_on-requires-clause-under_way : goal.run_on-requires-clause-under_way
-run_on-requires-clause-under_way g c =
+pub run_on-requires : goal.run_on-requires
+run_on-requires g c =
     let e = world_in g.R.Registers.contents g.M.Memory.bytes c.args.environment.now in
     let test = before c.loop-at.at (bytes_of c.args.expression.now) c.bytes.result.now c.bytes.ensures c.loop-at-test.true in
-    (goes_behind e c.args.expression.now c.requires.can.depth c.requires.can.good c.requires.can.runs c.requires.can.target c.loop-at.steps
-    c.loop-at.at c.loop-at.run [] c.loop-at.invariant test c.in-Ok.step c.step.new.self c.in-Ok.ensures c.in-Ends.piece c.in-Ends.to
-    c.in-Ends.is).0
+    let way = (goes_behind e c.args.expression.now c.requires.can.depth c.requires.can.good c.requires.can.runs c.requires.can.target
+    c.loop-at.steps c.loop-at.at c.loop-at.run [] c.loop-at.invariant test c.in-Ok.step c.step.new.self c.in-Ok.ensures c.in-Ends.piece
+    c.in-Ends.to c.in-Ends.is).0 in
+    let some : 0 < length (bytes_of c.args.expression.now) = omega (arith, test) in
+    (search rules, (c.requires.can, (some, way)))
 
 pub returns-in-Err : goal.returns-in-Err
 returns-in-Err g c =
@@ -93,8 +96,9 @@ result-requires g c =
     let end = ends e Location
     (bytes_of c.args.expression.now) c.requires.can.depth c.requires.can.good c.requires.can.runs c.args.expression.now.short [] refl
     c.loop-at.steps (configured c.loop-at.at c.loop-at.run []) c.loop-at.invariant past in
-    subst (λ (xs : List ℕ). GivesResult Location (length xs == 0) (configured 0 c.loop-at.run [])) (sym c.bytes.ensures)
-    (same_end (length (bytes_of c.args.expression.now) == 0) c.loop-at.at c.loop-at.run [] end)
+    let gives = subst (λ (xs : List ℕ). GivesResult Location (length xs == 0) (configured 0 c.loop-at.run [])) (sym c.bytes.ensures)
+    (same_end (length (bytes_of c.args.expression.now) == 0) c.loop-at.at c.loop-at.run [] end) in
+    (search rules, gives)
 
 pub returns : goal.returns
 returns g c =

@@ -1,13 +1,17 @@
-use Rattle.std.proofs.Common.{◌≡◌, ◌+◌, Some, None, sym, ap, ◌∙◌}
+use Rattle.std.proofs.Common.{◌≡◌, ◌+◌, [], Some, None, sym, ap, ◌∙◌, arith, inl, inr}
 use Rattle.std.specs.Prelude.{find}
 use Rattle.dw_frame.specs.Views.{cie_of, fde_of}
 use Rattle.dw_rows.specs.UnwindRows.{rows_of, has_address}
-use Rattle.dw_rows.specs.RowCursors.{RowCursor}
+use Rattle.dw_rows.specs.RowCursors.{RowCursor, above}
 use Rattle.dw_rows.specs.LentExpressions.{lent_by}
 use Rattle.dw_rows.proofs.GivenRows.{find-with}
 use Rattle.dw_rows.proofs.Covering.{not-missed}
-use Rattle.dw_rows.proofs.Coming.{seeks-found, seeks-on, seeks-cursor, seeks-nearer, seeks-cfa, seeks-lent, seeks-remembers, seeks-end}
+use Rattle.dw_rows.proofs.Coming.{plain-row, seeks-found, seeks-on, seeks-cursor, seeks-nearer, seeks-cfa, seeks-lent, seeks-remembers}
+use Rattle.dw_rows.proofs.Coming.{seeks-no-restore, seeks-end}
 use Rattle.dw_rows.proofs.lookup.write_row_at.Goals as goal
+
+pub next_plain-requires : goal.next_plain-requires
+next_plain-requires c = ([], seeks-cursor _ _ _ _ c.loop-start.invariant)
 
 pub write_row-requires : goal.write_row-requires
 write_row-requires c =
@@ -25,10 +29,11 @@ write_row-requires c =
       context = c.next_plain.new.state;
       instructions = c.next_plain.new.instructions;
     } in
+    let step = plain-row w new c.in-Row.start c.in-Row.end [] c.in-Row.ensures.next in
     record {
-      cfa = seeks-cfa cie fde c.args.address w new c.in-Row.start c.in-Row.end c.loop-start.invariant.seeks c.in-Row.ensures;
-      lent = seeks-lent cie fde c.args.address w new c.in-Row.start c.in-Row.end (lent_by c.args.expressions) c.loop-start.invariant.seeks
-          c.in-Row.ensures c.requires.lent;
+      cfa = seeks-cfa cie fde c.args.address (above [] w) (above [] new) c.in-Row.start c.in-Row.end c.loop-start.invariant step;
+      lent = seeks-lent cie fde c.args.address (above [] w) (above [] new) c.in-Row.start c.in-Row.end (lent_by c.args.expressions)
+          c.loop-start.invariant step c.requires.lent;
     }
 
 pub returns-then-address-end : goal.returns-then-address-end
@@ -47,10 +52,72 @@ returns-then-address-end c =
       context = c.next_plain.new.state;
       instructions = c.next_plain.new.instructions;
     } in
+    let step = plain-row w new c.in-Row.start c.in-Row.end [] c.in-Row.ensures.next in
     find-with (lent_by c.args.expressions) c.args.address (rows_of cie fde) _
-    (seeks-found cie fde c.args.address w new c.in-Row.start c.in-Row.end c.loop-start.invariant.seeks c.in-Row.ensures
+    (seeks-found cie fde c.args.address (above [] w) (above [] new) c.in-Row.start c.in-Row.end c.loop-start.invariant step
     c.if-address-end.true)
     ∙ ap Some (sym c.write_row.ensures)
+
+pub loop-start-smaller-else-address-end : goal.loop-start-smaller-else-address-end
+loop-start-smaller-else-address-end c =
+    let cie = cie_of c.args.cie.now in
+    let fde = fde_of c.args.fde.now in
+    let w : RowCursor = record {
+      cie = cie;
+      end = fde.initial + fde.range;
+      context = c.loop-start.state;
+      instructions = c.loop-start.instructions;
+    } in
+    let new : RowCursor = record {
+      cie = cie;
+      end = fde.initial + fde.range;
+      context = c.next_plain.new.state;
+      instructions = c.next_plain.new.instructions;
+    } in
+    let step = plain-row w new c.in-Row.start c.in-Row.end [] c.in-Row.ensures.next in
+    omega (
+      arith,
+      seeks-nearer cie fde c.args.address (above [] w) (above [] new) c.in-Row.start c.in-Row.end c.loop-start.invariant step,
+      c.in-Row.ensures.on,
+    )
+
+pub loop-start-preserved-else-address-end : goal.loop-start-preserved-else-address-end
+loop-start-preserved-else-address-end c =
+    let cie = cie_of c.args.cie.now in
+    let fde = fde_of c.args.fde.now in
+    let w : RowCursor = record {
+      cie = cie;
+      end = fde.initial + fde.range;
+      context = c.loop-start.state;
+      instructions = c.loop-start.instructions;
+    } in
+    let new : RowCursor = record {
+      cie = cie;
+      end = fde.initial + fde.range;
+      context = c.next_plain.new.state;
+      instructions = c.next_plain.new.instructions;
+    } in
+    let step = plain-row w new c.in-Row.start c.in-Row.end [] c.in-Row.ensures.next in
+    seeks-on cie fde c.args.address (above [] w) (above [] new) c.in-Row.start c.in-Row.end c.loop-start.invariant step
+    c.if-address-end.false
+
+pub write_row_in_bracket-requires-clause-seeks : goal.write_row_in_bracket-requires-clause-seeks
+write_row_in_bracket-requires-clause-seeks c =
+    let cie = cie_of c.args.cie.now in
+    let fde = fde_of c.args.fde.now in
+    let w : RowCursor = record {
+      cie = cie;
+      end = fde.initial + fde.range;
+      context = c.loop-start.state;
+      instructions = c.loop-start.instructions;
+    } in
+    let new : RowCursor = record {
+      cie = cie;
+      end = fde.initial + fde.range;
+      context = c.next_plain.new.state;
+      instructions = c.next_plain.new.instructions;
+    } in
+    ([], seeks-remembers cie fde c.args.address w new [] c.loop-start.invariant c.in-Remembers.ensures.next)
 
 pub loop-start-smaller : goal.loop-start-smaller
 loop-start-smaller c =
@@ -68,7 +135,10 @@ loop-start-smaller c =
       context = c.next_plain.new.state;
       instructions = c.next_plain.new.instructions;
     } in
-    seeks-nearer cie fde c.args.address w new c.in-Row.start c.in-Row.end c.loop-start.invariant.seeks c.in-Row.ensures
+    let h = c.loop-start.invariant in
+    let went = c.in-Remembers.ensures.next [] cie fde h.before h.is_at in
+    let behind = c.if-write_row_in_bracket.ensures.behind in
+    omega (arith, c.in-Remembers.ensures.on, went.here, behind.location, behind.shorter)
 
 pub loop-start-preserved : goal.loop-start-preserved
 loop-start-preserved c =
@@ -86,27 +156,8 @@ loop-start-preserved c =
       context = c.next_plain.new.state;
       instructions = c.next_plain.new.instructions;
     } in
-    let k = seeks-on cie fde c.args.address w new c.in-Row.start c.in-Row.end c.loop-start.invariant.seeks c.in-Row.ensures
-    c.if-address-end.false in
-    record { cursor = seeks-cursor cie fde c.args.address new k; seeks = k }
-
-pub write_row_behind-requires-clause-seeks : goal.write_row_behind-requires-clause-seeks
-write_row_behind-requires-clause-seeks c =
-    let cie = cie_of c.args.cie.now in
-    let fde = fde_of c.args.fde.now in
-    let w : RowCursor = record {
-      cie = cie;
-      end = fde.initial + fde.range;
-      context = c.loop-start.state;
-      instructions = c.loop-start.instructions;
-    } in
-    let new : RowCursor = record {
-      cie = cie;
-      end = fde.initial + fde.range;
-      context = c.next_plain.new.state;
-      instructions = c.next_plain.new.instructions;
-    } in
-    seeks-remembers cie fde c.args.address w new c.loop-start.invariant.seeks c.in-Remembers.ensures
+    c.if-write_row_in_bracket.ensures.behind.seeks []
+    (seeks-remembers cie fde c.args.address w new [] c.loop-start.invariant c.in-Remembers.ensures.next)
 
 pub unreachable-requires : goal.unreachable-requires
 unreachable-requires c =
@@ -124,6 +175,10 @@ unreachable-requires c =
       context = c.next_plain.new.state;
       instructions = c.next_plain.new.instructions;
     } in
-    let none : find (has_address c.args.address) (rows_of cie fde) ≡ None =
-    seeks-end cie fde c.args.address w new c.loop-start.invariant.seeks c.in-End.ensures in
-    not-missed cie fde c.args.address c.requires.fde c.requires.low c.requires.high none
+    elim c.in-Restores.is [
+      | inl restores ↦ seeks-no-restore cie fde c.args.address w new c.loop-start.invariant (rw restores at c.next_plain.ensures.next)
+      | inr ends ↦
+          let none : find (has_address c.args.address) (rows_of cie fde) ≡ None =
+          seeks-end cie fde c.args.address w new [] c.loop-start.invariant (rw ends at c.next_plain.ensures.next) in
+          not-missed cie fde c.args.address c.requires.fde c.requires.low c.requires.high none
+    ]

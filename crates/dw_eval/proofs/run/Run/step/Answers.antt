@@ -1,24 +1,26 @@
-use Rattle.std.proofs.Common.{ℕ, ◌+◌, ◌-◌, ◌≤◌, List, length, get_or, sym, ap, rules}
+use Rattle.std.proofs.Common.{ℕ, ◌+◌, ◌-◌, ◌≤◌, List, length, get_or, sym, ap, subst, rules}
+use Rattle.std.specs.Option.{option_map}
 use Rattle.dw_ops.specs.Operations.{Operation}
-use Rattle.dw_ops.specs.Views.{operation_of}
-use Rattle.dw_stack.specs.declared.judge.TheConstants.{MAX_HEIGHT}
+use Rattle.dw_ops.specs.Views.{operation_of, reading_from}
 use Rattle.dw_stack.specs.Effects.{effect_of}
+use Rattle.dw_stack.specs.Machine.{CanDo}
 use Rattle.dw_eval.specs.StackChanges.{error_of}
 use Rattle.dw_eval.specs.Handed.{world_in}
+use Rattle.dw_eval.specs.Views.{location_description_of}
+use Rattle.dw_eval.proofs.Ahead.{same_read}
 use Rattle.dw_eval.proofs.Codes.{bare_has, bare_moves, bare_fails, can_read, applied_at, if_so, if_not}
 use Rattle.dw_eval.proofs.run.Run.step.Goals as goal
 
-pub execute_bare-requires-clause-needs : goal.execute_bare-requires-clause-needs
-execute_bare-requires-clause-needs g c =
-    bare_has c.args.expression.now c.args.at _ c.requires.can.executes.operation c.requires.can.executes.next
+pub execute_bare-requires : goal.execute_bare-requires
+execute_bare-requires g c =
+    let here = c.requires.can.executes in
+    let needs = bare_has c.args.expression.now c.args.at _ here.operation here.next
     (λ (op : Operation). (effect_of op).needs ≤ length c.args.self.now.stack) c.requires.inside
-    (ap (λ (xs : List ℕ). get_or xs c.args.at 0) (sym c.bytes.ensures)) c.requires.can.executes.read c.requires.can.executes.can.needs
-
-pub execute_bare-requires-clause-room : goal.execute_bare-requires-clause-room
-execute_bare-requires-clause-room g c =
-    bare_has c.args.expression.now c.args.at _ c.requires.can.executes.operation c.requires.can.executes.next
-    (λ (op : Operation). length c.args.self.now.stack - (effect_of op).takes + (effect_of op).adds ≤ MAX_HEIGHT) c.requires.inside
-    (ap (λ (xs : List ℕ). get_or xs c.args.at 0) (sym c.bytes.ensures)) c.requires.can.executes.read c.requires.can.executes.can.room
+    (ap (λ (xs : List ℕ). get_or xs c.args.at 0) (sym c.bytes.ensures)) here.read here.can.needs in
+    let room = bare_has c.args.expression.now c.args.at _ here.operation here.next
+    (λ (op : Operation). length c.args.self.now.stack - (effect_of op).takes + (effect_of op).adds ≤ g.row.PLACES) c.requires.inside
+    (ap (λ (xs : List ℕ). get_or xs c.args.at 0) (sym c.bytes.ensures)) here.read here.can.room in
+    (search rules, (needs, (room, c.requires.below)))
 
 pub returns-in_err-execute_bare : goal.returns-in_err-execute_bare
 returns-in_err-execute_bare g c =
@@ -35,10 +37,19 @@ returns-then-branch g c =
     (ap (λ (xs : List ℕ). get_or xs c.args.at 0) (sym c.bytes.ensures)) c.requires.can
     (if_so _ _ _ c.if-branch.true c.in_ok-execute_bare.ensures)
 
-pub apply-requires-clause-can : goal.apply-requires-clause-can
-apply-requires-clause-can g c = can_read c.args.expression.now c.args.at c.args.self.now.stack c.execute_bare.new.stack
-    (operation_of c.read-next.result.0) c.read-next.result.1 c.requires.can.executes
-    (if_not _ _ _ c.if-branch.false c.in_ok-execute_bare.ensures) c.read-next.ensures
+pub apply-requires : goal.apply-requires
+apply-requires g c =
+    let same = if_not _ _ _ c.if-branch.false c.in_ok-execute_bare.ensures in
+    let can = can_read c.args.expression.now g.row.PLACES c.args.at c.args.self.now.stack c.execute_bare.new.stack
+    (operation_of c.read-next.result.0) c.read-next.result.1 c.requires.can.executes same c.read-next.ensures in
+    let here = c.requires.can.executes in
+    let one = same_read (reading_from c.args.expression.now c.args.at) here.operation (operation_of c.read-next.result.0)
+    (reading_from c.args.expression.now here.next) (reading_from c.args.expression.now c.read-next.result.1) here.read
+    c.read-next.ensures in
+    let pending = option_map location_description_of c.args.self.now.pending in
+    let alone : CanDo (effect_of (operation_of c.read-next.result.0)).role (length c.args.self.now.stack) pending =
+    subst (λ (o : Operation). CanDo (effect_of o).role (length c.args.self.now.stack) pending) one.0 c.requires.can.can in
+    (search rules, (can, (rw same alone, rw same c.requires.below)))
 
 pub returns : goal.returns
 returns g c =

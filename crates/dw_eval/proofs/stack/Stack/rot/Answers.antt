@@ -4,7 +4,7 @@ use Rattle.dw_eval.proofs.Writes.{rotated, high}
 use Rattle.dw_eval.proofs.stack.Stack.rot.Goals as goal
 
 pub returns : goal.returns
-returns c =
+returns g c =
     let s : List ℕ = c.self.inside.places in
     let h : ℕ = c.self.inside.height in
     let tall : 3 ≤ h = high s h 3 c.args.self.now c.self.view_is c.requires in

@@ -4,7 +4,7 @@ use Rattle.dw_eval.proofs.Writes.{swapped, high}
 use Rattle.dw_eval.proofs.stack.Stack.swap.Goals as goal
 
 pub returns : goal.returns
-returns c =
+returns g c =
     let s : List ℕ = c.self.inside.places in
     let h : ℕ = c.self.inside.height in
     subst (λ (old : List ℕ). take h (set (set s (h - 1) (get_or s (h - 2) 0)) (h - 2) (get_or s (h - 1) 0)) ≡ take (length old - 2) old

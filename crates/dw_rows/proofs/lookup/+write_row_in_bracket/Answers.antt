@@ -1,0 +1,269 @@
+use Rattle.std.proofs.Common.{◌≡◌, ◌+◌, ◌∷◌, Some, None, sym, ap, ◌∙◌, arith, List}
+use Rattle.std.specs.Prelude.{find}
+use Rattle.dw_frame.specs.Views.{cie_of, fde_of}
+use Rattle.dw_rows.specs.UnwindRows.{rows_of, has_address}
+use Rattle.dw_rows.specs.RuleSet.{KeptRules}
+use Rattle.dw_rows.specs.RowCursors.{RowCursor, above}
+use Rattle.dw_rows.specs.LentExpressions.{lent_by}
+use Rattle.dw_rows.proofs.GivenRows.{find-with}
+use Rattle.dw_rows.proofs.Covering.{not-missed}
+use Rattle.dw_rows.proofs.Coming.{plain-row, seeks-found, seeks-on, seeks-cursor, seeks-nearer, seeks-cfa, seeks-lent, seeks-remembers}
+use Rattle.dw_rows.proofs.Coming.{seeks-restores, seeks-end}
+use Rattle.dw_rows.proofs.lookup.+write_row_in_bracket.Goals as goal
+
+pub next_plain-requires : goal.next_plain-requires
+next_plain-requires t c =
+    let h = c.loop-start.invariant.seeks c.requires.seeks.0 c.requires.seeks.1 in
+    (c.copy-rules.result ∷ c.requires.seeks.0, seeks-cursor _ _ _ _ h)
+
+pub write_row-requires-clause-cfa : goal.write_row-requires-clause-cfa
+write_row-requires-clause-cfa t c =
+    let cie = cie_of c.args.cie.now in
+    let fde = fde_of c.args.fde.now in
+    let w : RowCursor = record {
+      cie = cie;
+      end = fde.initial + fde.range;
+      context = c.loop-start.state;
+      instructions = c.loop-start.instructions;
+    } in
+    let new : RowCursor = record {
+      cie = cie;
+      end = fde.initial + fde.range;
+      context = c.next_plain.new.state;
+      instructions = c.next_plain.new.instructions;
+    } in
+    let rules = c.copy-rules.result in
+    let ks : List KeptRules = rules ∷ c.requires.seeks.0 in
+    let h = c.loop-start.invariant.seeks c.requires.seeks.0 c.requires.seeks.1 in
+    let step = plain-row w new c.in-Row.start c.in-Row.end ks c.in-Row.ensures.next in
+    seeks-cfa cie fde c.args.address (above ks w) (above ks new) c.in-Row.start c.in-Row.end h step
+
+pub write_row-requires-clause-lent : goal.write_row-requires-clause-lent
+write_row-requires-clause-lent t c =
+    let cie = cie_of c.args.cie.now in
+    let fde = fde_of c.args.fde.now in
+    let w : RowCursor = record {
+      cie = cie;
+      end = fde.initial + fde.range;
+      context = c.loop-start.state;
+      instructions = c.loop-start.instructions;
+    } in
+    let new : RowCursor = record {
+      cie = cie;
+      end = fde.initial + fde.range;
+      context = c.next_plain.new.state;
+      instructions = c.next_plain.new.instructions;
+    } in
+    let rules = c.copy-rules.result in
+    let ks : List KeptRules = rules ∷ c.requires.seeks.0 in
+    let h = c.loop-start.invariant.seeks c.requires.seeks.0 c.requires.seeks.1 in
+    let step = plain-row w new c.in-Row.start c.in-Row.end ks c.in-Row.ensures.next in
+    seeks-lent cie fde c.args.address (above ks w) (above ks new) c.in-Row.start c.in-Row.end (lent_by c.args.expressions) h step
+    c.requires.lent
+
+pub returns-then-address-end-clause-found : goal.returns-then-address-end-clause-found
+returns-then-address-end-clause-found t c =
+    let cie = cie_of c.args.cie.now in
+    let fde = fde_of c.args.fde.now in
+    let w : RowCursor = record {
+      cie = cie;
+      end = fde.initial + fde.range;
+      context = c.loop-start.state;
+      instructions = c.loop-start.instructions;
+    } in
+    let new : RowCursor = record {
+      cie = cie;
+      end = fde.initial + fde.range;
+      context = c.next_plain.new.state;
+      instructions = c.next_plain.new.instructions;
+    } in
+    let rules = c.copy-rules.result in
+    let ks : List KeptRules = rules ∷ c.requires.seeks.0 in
+    let h = c.loop-start.invariant.seeks c.requires.seeks.0 c.requires.seeks.1 in
+    let step = plain-row w new c.in-Row.start c.in-Row.end ks c.in-Row.ensures.next in
+    find-with (lent_by c.args.expressions) c.args.address (rows_of cie fde) _
+    (seeks-found cie fde c.args.address (above ks w) (above ks new) c.in-Row.start c.in-Row.end h step c.if-address-end.true)
+    ∙ ap Some (sym c.write_row.ensures)
+
+pub loop-start-smaller-else-address-end : goal.loop-start-smaller-else-address-end
+loop-start-smaller-else-address-end t c =
+    let cie = cie_of c.args.cie.now in
+    let fde = fde_of c.args.fde.now in
+    let w : RowCursor = record {
+      cie = cie;
+      end = fde.initial + fde.range;
+      context = c.loop-start.state;
+      instructions = c.loop-start.instructions;
+    } in
+    let new : RowCursor = record {
+      cie = cie;
+      end = fde.initial + fde.range;
+      context = c.next_plain.new.state;
+      instructions = c.next_plain.new.instructions;
+    } in
+    let rules = c.copy-rules.result in
+    let ks : List KeptRules = rules ∷ c.requires.seeks.0 in
+    let h = c.loop-start.invariant.seeks c.requires.seeks.0 c.requires.seeks.1 in
+    let step = plain-row w new c.in-Row.start c.in-Row.end ks c.in-Row.ensures.next in
+    omega (
+      arith,
+      seeks-nearer cie fde c.args.address (above ks w) (above ks new) c.in-Row.start c.in-Row.end h step,
+      c.in-Row.ensures.on,
+    )
+
+pub loop-start-preserved-else-address-end : goal.loop-start-preserved-else-address-end
+loop-start-preserved-else-address-end t c =
+    let cie = cie_of c.args.cie.now in
+    let fde = fde_of c.args.fde.now in
+    let w : RowCursor = record {
+      cie = cie;
+      end = fde.initial + fde.range;
+      context = c.loop-start.state;
+      instructions = c.loop-start.instructions;
+    } in
+    let new : RowCursor = record {
+      cie = cie;
+      end = fde.initial + fde.range;
+      context = c.next_plain.new.state;
+      instructions = c.next_plain.new.instructions;
+    } in
+    let rules = c.copy-rules.result in
+    let ks : List KeptRules = rules ∷ c.requires.seeks.0 in
+    let h = c.loop-start.invariant.seeks c.requires.seeks.0 c.requires.seeks.1 in
+    let step = plain-row w new c.in-Row.start c.in-Row.end ks c.in-Row.ensures.next in
+    let i = c.loop-start.invariant in
+    let passed = step cie fde h.before h.is_at in
+    record {
+      seeks = λ others s.
+          seeks-on cie fde c.args.address (above (rules ∷ others) w) (above (rules ∷ others) new) c.in-Row.start c.in-Row.end
+          (i.seeks others s) (plain-row w new c.in-Row.start c.in-Row.end (rules ∷ others) c.in-Row.ensures.next)
+          c.if-address-end.false;
+      location = omega (arith, i.location, passed.from, passed.to, passed.some);
+      shorter = omega (arith, i.shorter, c.in-Row.ensures.on);
+    }
+
+pub write_row_in_bracket-requires : goal.write_row_in_bracket-requires
+write_row_in_bracket-requires t c =
+    let cie = cie_of c.args.cie.now in
+    let fde = fde_of c.args.fde.now in
+    let w : RowCursor = record {
+      cie = cie;
+      end = fde.initial + fde.range;
+      context = c.loop-start.state;
+      instructions = c.loop-start.instructions;
+    } in
+    let new : RowCursor = record {
+      cie = cie;
+      end = fde.initial + fde.range;
+      context = c.next_plain.new.state;
+      instructions = c.next_plain.new.instructions;
+    } in
+    let rules = c.copy-rules.result in
+    let ks : List KeptRules = rules ∷ c.requires.seeks.0 in
+    let h = c.loop-start.invariant.seeks c.requires.seeks.0 c.requires.seeks.1 in
+    let there = seeks-remembers cie fde c.args.address w new ks h c.in-Remembers.ensures.next in
+    let i = c.loop-start.invariant in
+    (omega (arith, c.decreases, i.shorter, c.in-Remembers.ensures.on), (c.requires.lent, (c.requires.fde, (c.requires.low, (c.requires.high, (ks, there))))))
+
+pub loop-start-smaller : goal.loop-start-smaller
+loop-start-smaller t c =
+    let cie = cie_of c.args.cie.now in
+    let fde = fde_of c.args.fde.now in
+    let w : RowCursor = record {
+      cie = cie;
+      end = fde.initial + fde.range;
+      context = c.loop-start.state;
+      instructions = c.loop-start.instructions;
+    } in
+    let new : RowCursor = record {
+      cie = cie;
+      end = fde.initial + fde.range;
+      context = c.next_plain.new.state;
+      instructions = c.next_plain.new.instructions;
+    } in
+    let rules = c.copy-rules.result in
+    let ks : List KeptRules = rules ∷ c.requires.seeks.0 in
+    let h = c.loop-start.invariant.seeks c.requires.seeks.0 c.requires.seeks.1 in
+    let went = c.in-Remembers.ensures.next ks cie fde h.before h.is_at in
+    let behind = c.if-write_row_in_bracket.ensures.behind in
+    omega (arith, c.in-Remembers.ensures.on, went.here, behind.location, behind.shorter)
+
+pub loop-start-preserved : goal.loop-start-preserved
+loop-start-preserved t c =
+    let cie = cie_of c.args.cie.now in
+    let fde = fde_of c.args.fde.now in
+    let w : RowCursor = record {
+      cie = cie;
+      end = fde.initial + fde.range;
+      context = c.loop-start.state;
+      instructions = c.loop-start.instructions;
+    } in
+    let new : RowCursor = record {
+      cie = cie;
+      end = fde.initial + fde.range;
+      context = c.next_plain.new.state;
+      instructions = c.next_plain.new.instructions;
+    } in
+    let rules = c.copy-rules.result in
+    let ks : List KeptRules = rules ∷ c.requires.seeks.0 in
+    let h = c.loop-start.invariant.seeks c.requires.seeks.0 c.requires.seeks.1 in
+    let i = c.loop-start.invariant in
+    let went = c.in-Remembers.ensures.next ks cie fde h.before h.is_at in
+    let behind = c.if-write_row_in_bracket.ensures.behind in
+    record {
+      seeks = λ others s. behind.seeks (rules ∷ others)
+          (seeks-remembers cie fde c.args.address w new (rules ∷ others) (i.seeks others s) c.in-Remembers.ensures.next);
+      location = omega (arith, i.location, went.here, behind.location);
+      shorter = omega (arith, i.shorter, c.in-Remembers.ensures.on, behind.shorter);
+    }
+
+pub returns-in-Restores-clause-behind : goal.returns-in-Restores-clause-behind
+returns-in-Restores-clause-behind t c =
+    let cie = cie_of c.args.cie.now in
+    let fde = fde_of c.args.fde.now in
+    let w : RowCursor = record {
+      cie = cie;
+      end = fde.initial + fde.range;
+      context = c.loop-start.state;
+      instructions = c.loop-start.instructions;
+    } in
+    let new : RowCursor = record {
+      cie = cie;
+      end = fde.initial + fde.range;
+      context = c.next_plain.new.state;
+      instructions = c.next_plain.new.instructions;
+    } in
+    let rules = c.copy-rules.result in
+    let ks : List KeptRules = rules ∷ c.requires.seeks.0 in
+    let h = c.loop-start.invariant.seeks c.requires.seeks.0 c.requires.seeks.1 in
+    let i = c.loop-start.invariant in
+    let went = c.in-Restores.ensures.next ks cie fde h.before h.is_at in
+    rw c.set_rules.ensures (record {
+      seeks = λ others s.
+          seeks-restores cie fde c.args.address w new rules others (i.seeks others s) c.in-Restores.ensures.next;
+      location = omega (arith, i.location, went.goes.here);
+      shorter = omega (arith, i.shorter, c.in-Restores.ensures.on);
+    })
+
+pub unreachable-requires : goal.unreachable-requires
+unreachable-requires t c =
+    let cie = cie_of c.args.cie.now in
+    let fde = fde_of c.args.fde.now in
+    let w : RowCursor = record {
+      cie = cie;
+      end = fde.initial + fde.range;
+      context = c.loop-start.state;
+      instructions = c.loop-start.instructions;
+    } in
+    let new : RowCursor = record {
+      cie = cie;
+      end = fde.initial + fde.range;
+      context = c.next_plain.new.state;
+      instructions = c.next_plain.new.instructions;
+    } in
+    let rules = c.copy-rules.result in
+    let ks : List KeptRules = rules ∷ c.requires.seeks.0 in
+    let h = c.loop-start.invariant.seeks c.requires.seeks.0 c.requires.seeks.1 in
+    let none : find (has_address c.args.address) (rows_of cie fde) ≡ None =
+    seeks-end cie fde c.args.address w new ks h c.in-End.ensures.next in
+    not-missed cie fde c.args.address c.requires.fde c.requires.low c.requires.high none

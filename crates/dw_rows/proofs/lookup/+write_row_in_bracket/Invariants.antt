@@ -1,0 +1,22 @@
+use Rattle.std.proofs.Common.{◌+◌, ◌-◌, ◌≤◌, List, ◌∷◌, length}
+use Rattle.dw_frame.specs.Views.{cie_of, fde_of}
+use Rattle.dw_rows.specs.RuleSet.{KeptRules}
+use Rattle.dw_rows.specs.RowCursors.{Seeks, above}
+use Rattle.dw_rows.proofs.lookup.+write_row_in_bracket.Given as goal
+
+abbrev pub decreases-write_row_in_bracket : goal.decreases-write_row_in_bracket
+decreases-write_row_in_bracket l = length l.instructions.now
+
+abbrev pub invariant-loop-start : goal.invariant-loop-start
+invariant-loop-start l = record {
+  seeks : (ks : List KeptRules) → Seeks (cie_of l.cie) (fde_of l.fde) l.address
+      (above (l.initial.state.current ∷ ks)
+      (record { cie = cie_of l.cie; end = l.limit; context = l.initial.state; instructions = l.initial.instructions }))
+      → Seeks (cie_of l.cie) (fde_of l.fde) l.address
+      (above (l.rules ∷ ks) (record { cie = cie_of l.cie; end = l.limit; context = l.state; instructions = l.instructions }));
+  location : l.initial.state.location ≤ l.state.location;
+  shorter : length l.instructions ≤ length l.initial.instructions;
+}
+
+abbrev pub decreases-loop-start : goal.decreases-loop-start
+decreases-loop-start l = l.limit - l.state.location + length l.instructions
