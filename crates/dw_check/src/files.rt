@@ -33,7 +33,9 @@ fn is_kept(byte: u8) -> bool
 fn kept(alloc: Global, text: &[u8]) -> Result<Vec<u8>, AllocError>
     ensures { IfOk result (λ v. v.items ≡ without_blanks text.now) }
 {
-    text.iter().copied().filter(|b| is_kept(*b)).collect(alloc)
+    let mut bytes = Vec::from_slice(alloc, text)?;
+    bytes.retain(|b| is_kept(*b));
+    Ok(bytes)
 }
 
 /// The bytes of the section or expression in the file at a place, none where no file is there. Hex text is

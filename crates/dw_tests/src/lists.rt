@@ -1,4 +1,4 @@
-//! Sections of location lists: worked answers, first faults, and changed bytes.
+//! Sections of location lists: worked answers and first faults.
 
 ghost use Rattle.std.specs.Prelude.{◌<◌, ◌^◌, length};
 
@@ -29,15 +29,6 @@ const OVERLAPPING: [u8; 58] = [
     0x20, 0, 0, 0, 0, 0, 0, 0x10, 1, 0x51, 7, 0, 0x20, 0, 0, 0, 0, 0, 0, 0, 0x20, 0, 0, 0, 0, 0, 0,
     1, 0x52, 0,
 ];
-
-/// The same with another byte.
-fn with(at: usize, byte: u8) -> [u8; 22]
-    requires { at < 22 }
-{
-    let mut section = PAIR_AND_DEFAULT;
-    section[at] = byte;
-    section
-}
 
 /// The first fault of a section, and where it stands.
 fn first_fault(alloc: Global, section: &[u8]) -> Option<(FaultKind, u32)>
@@ -181,45 +172,4 @@ fn faults_of_tables(rt: HostRuntime) {
     );
     let named = [0x0d, 0, 0, 0, 5, 0, 8, 0, 1, 0, 0, 0, 4, 0, 0, 0, 0];
     assert_eq!(rt; counts(alloc, &named, LITTLE), Some((1, 1, 0)));
-}
-
-#[test]
-fn changed_bytes(rt: HostRuntime) {
-    let alloc = rt.alloc();
-    assert_eq!(rt;
-        first_fault(alloc, &with(0, 0x11)),
-        Some((FaultKind::NoEnd, 21))
-    );
-    assert_eq!(rt;
-        first_fault(alloc, &with(4, 4)),
-        Some((FaultKind::ListVersion, 4))
-    );
-    assert_eq!(rt;
-        first_fault(alloc, &with(6, 4)),
-        Some((FaultKind::AddressSize, 6))
-    );
-    assert_eq!(rt;
-        first_fault(alloc, &with(8, 1)),
-        Some((FaultKind::UnknownEntry, 16))
-    );
-    assert_eq!(rt;
-        first_fault(alloc, &with(12, 1)),
-        Some((FaultKind::UnknownEntry, 12))
-    );
-    assert_eq!(rt;
-        first_fault(alloc, &with(13, 0x11)),
-        Some((FaultKind::BackRange, 12))
-    );
-    assert_eq!(rt;
-        first_fault(alloc, &with(15, 0)),
-        Some((FaultKind::UnknownEntry, 16))
-    );
-    assert_eq!(rt;
-        first_fault(alloc, &with(16, 0x12)),
-        Some((FaultKind::Underflow, 16))
-    );
-    assert_eq!(rt;
-        first_fault(alloc, &with(21, 5)),
-        Some((FaultKind::Truncated, 22))
-    );
 }

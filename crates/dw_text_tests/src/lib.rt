@@ -12,6 +12,8 @@ mod lists_text;
 #[cfg(test)]
 mod operations;
 #[cfg(test)]
+mod reads_and_writes;
+#[cfg(test)]
 mod sections;
 #[cfg(test)]
 mod whole_checks;

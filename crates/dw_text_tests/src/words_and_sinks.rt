@@ -27,6 +27,12 @@ fn bad_addresses(rt: HostRuntime) -> Result<(), Fail> {
         assert_eq!(rt; usage.status(), 2);
     }
     for words in [
+        &["dwcheck", "eval", "foo", "X"] as &[&str],
+        &["dwcheck", "row", "F", "0x"],
+    ] {
+        assert!(rt; matches!(asked(rt.alloc(), words)?, Err(Usage::BadArgument)));
+    }
+    for words in [
         ["dwcheck", "row", "--big", "f", "0xFFFFffffFFFFffff"],
         ["dwcheck", "row", "--addr4", "f", "0x00000000ffffffff"],
     ] {
@@ -49,7 +55,9 @@ fn words_that_ask_for_nothing(rt: HostRuntime) -> Result<(), Fail> {
         &["dwcheck", "row", "a", "0x0", "b"],
         &["dwcheck", "rows", "--help"],
         &["dwcheck", "rows", "--state", "s", "a"],
+        &["dwcheck", "row", "F", "0x1", "Z"],
         &["dwcheck", "eval"],
+        &["dwcheck", "eval", "foo"],
         &["dwcheck", "eval", "location"],
         &["dwcheck", "eval", "location", "e", "f"],
         &["dwcheck", "eval", "location", "e", "--state"],
