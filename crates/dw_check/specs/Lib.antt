@@ -29,6 +29,8 @@ pub mod Commands
 pub mod Requests
 -- what the files of a request contain
 pub mod Files
+-- how much of a long file decides
+pub mod LongFiles
 -- what a state file says
 pub mod StateFile
 -- what an expression comes to

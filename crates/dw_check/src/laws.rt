@@ -12,6 +12,7 @@ ghost use Rattle.dw_rows.specs.Rules.{Row};
 ghost use Rattle.dw_rows.specs.Section.{Frame};
 ghost use Rattle.dw_rows.specs.Section as rows;
 ghost use Rattle.dw_check.specs.Caller.{Caller, IsCaller, Unwinds};
+ghost use Rattle.dw_check.specs.LongFiles.{needed_parts};
 ghost use Rattle.dw_check.specs.Requests.{Asked};
 ghost use Rattle.dw_check.specs.Runs.{Reply, IsReply};
 
@@ -31,6 +32,13 @@ pub fn each_has_a_reply()
     each_has_a_report();
     each_address_has_an_unwinding();
 }
+
+/// What follows the needed part of a long file changes no reply.
+pub fn needed_parts_decide()
+    ensures { (asked : Asked) (files : List (List ℕ)) (reply : Reply)
+        → IsReply asked files reply
+        ↔ IsReply asked (needed_parts asked.task asked.hex 0 files) reply }
+{}
 
 /// Two sections have no fault exactly where they are well formed.
 pub fn sections_without_fault_are_well_formed()

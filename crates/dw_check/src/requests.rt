@@ -2,6 +2,7 @@
 
 ghost use Rattle.std.specs.Prelude.{◌≡◌, length, map};
 ghost use Rattle.std.specs.String.{string_bytes};
+ghost use Rattle.dw_check.specs.LongFiles.{needed_length};
 ghost use Rattle.dw_check.specs.Requests.{Asked};
 ghost use Rattle.dw_check.specs.Statuses.{status_of_usage, status_of_end};
 ghost use Rattle.dw_check.specs.declared.requests.Usage.TheVariants.{Memory};
@@ -70,6 +71,19 @@ impl Request {
         ensures count { length result.now ≡ length self.now.files }
     {
         self.files.as_slice()
+    }
+
+    /// How many bytes of the file at this place of `files` decide what `run` makes of it, whatever follows. A section or an
+    /// expression of 2^32 bytes is too long. All of hex text and of a state file counts, which is `None`.
+    pub fn needed_length(&self, place: usize) -> Option<u64>
+        ensures { result ≡ needed_length self.now.task self.now.hex place }
+    {
+        let is_state = !matches!(self.task, Task::Check) && place > 0;
+        if self.hex || is_state {
+            None
+        } else {
+            Some(1 << 32)
+        }
     }
 }
 

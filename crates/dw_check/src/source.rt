@@ -3,7 +3,8 @@
 ghost use Rattle.std.specs.Prelude.{◌≡◌, ◌<◌, ℕ, List, Option, length, IfOk, OnErr};
 ghost use Rattle.std.specs.Io.{ReadsAtMost};
 ghost use Rattle.std.specs.Io.KnownBytes.{ReadConsumes};
-ghost use Rattle.dw_check.specs.SourceBytes.{GivesAll, GivesFront, reader_of, reading_after, reading_after_load, reading_of};
+ghost use Rattle.dw_check.specs.SourceBytes.{GivesAll, GivesFront, reader_of, reading_of};
+ghost use Rattle.dw_check.specs.SourceBytes.{reading_after, reading_after_load};
 ghost use Rattle.dw_check.specs.declared.source.LoadFault.TheVariants as faults;
 
 use crate::sink::Stopped;

@@ -180,3 +180,22 @@ fn long_files(rt: HostRuntime) -> Result<(), Fail> {
     assert!(rt; !reads(&rt, rt.alloc(), &bytes, 1_000, 200));
     Ok(())
 }
+
+/// How much of its files a request needs.
+#[test]
+fn needed_lengths(rt: HostRuntime) -> Result<(), Fail> {
+    for (words, first, second) in [
+        (
+            &["dwcheck", "check", "f", "l"] as &[&str],
+            Some(1 << 32),
+            Some(1 << 32),
+        ),
+        (&["dwcheck", "unwind", "f", "0x0", "s"], Some(1 << 32), None),
+        (CHECK, None, None),
+    ] {
+        let request = asked(rt.alloc(), words)?.ok().ok_or("a request")?;
+        assert_eq!(rt; request.needed_length(0), first);
+        assert_eq!(rt; request.needed_length(1), second);
+    }
+    Ok(())
+}

@@ -6,7 +6,7 @@ ghost use Rattle.dw_check.specs.Runs.{IsPlaceIn};
 
 use dw_check::{End, LoadFault, Reads, Request, Through, Usage, load};
 use std::alloc::{AllocError, AllocFailed};
-use std::io::{BufWriter, ErrorKind, Write};
+use std::io::{BufWriter, ErrorKind, Read, Write};
 use std::process::ExitCode;
 use std::rt::{Env, Files};
 use std::{env, fs, io};
@@ -74,27 +74,32 @@ fn words_of(rt: &(impl Env + AllocGlobal)) -> Result<Vec<String>, Ending> {
     Ok(words)
 }
 
-/// The bytes of a file.
-fn content_of(rt: &(impl Files + AllocGlobal), name: &String) -> Result<Vec<u8>, Ending> {
+/// The bytes of a file, this many at most.
+fn content_of(
+    rt: &(impl Files + AllocGlobal),
+    name: &String,
+    most: u64,
+) -> Result<Vec<u8>, Ending> {
     let file = match fs::open(rt, name.as_str()) {
         Ok(file) => file,
         Err(e) if is_want_of_memory(&e) => return Err(Ending::Run(End::Memory)),
         Err(_) => return Err(Ending::CannotRead(name.clone()?)),
     };
-    match load(rt.alloc(), &mut Reads::new(file)) {
+    match load(rt.alloc(), &mut Reads::new(file.take(most))) {
         Ok(bytes) => Ok(bytes),
         Err(LoadFault::Memory) => Err(Ending::Run(End::Memory)),
         Err(LoadFault::Read) => Err(Ending::CannotRead(name.clone()?)),
     }
 }
 
-/// The bytes of each file.
-fn contents_of(rt: &(impl Files + AllocGlobal), names: &[String]) -> Result<Vec<Vec<u8>>, Ending>
-    ensures { IfOk result (λ contents. vec_len contents ≡ length names.now) }
+/// What is needed of the bytes of each file.
+fn contents_of(rt: &(impl Files + AllocGlobal), request: &Request) -> Result<Vec<Vec<u8>>, Ending>
+    ensures { IfOk result (λ contents. vec_len contents ≡ length request.now.files) }
 {
     let mut contents = Vec::new(rt.alloc());
-    for name in names {
-        contents.push(content_of(rt, name)?)?;
+    for name in request.files() {
+        let most = request.needed_length(contents.len()).unwrap_or(u64::MAX);
+        contents.push(content_of(rt, name, most)?)?;
     }
     Ok(contents)
 }
@@ -119,7 +124,7 @@ fn run(rt: &(impl Print + AllocGlobal), request: &Request, files: &[Vec<u8>]) ->
 /// Does what the words ask for.
 fn work(rt: &(impl Env + Files + Print + AllocGlobal)) -> Result<Ending, Ending> {
     let request = dw_check::request(rt.alloc(), words_of(rt)?)?;
-    let files = contents_of(rt, request.files())?;
+    let files = contents_of(rt, &request)?;
     match run(rt, &request, files.as_slice()) {
         End::BadHex(place) => Ok(Ending::NotHex(request.files()[place].clone()?)),
         end => Ok(Ending::Run(end)),

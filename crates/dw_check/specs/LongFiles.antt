@@ -1,0 +1,25 @@
+-- How much of a long file decides what a request comes to.
+use Rattle.std.specs.Prelude.{ℕ, zero, suc, ◌^◌, ◌||◌, Bool, true, false, if◌then◌else◌, List, [], ◌∷◌, take, Option, Some, None}
+use Rattle.dw_check.specs.declared.requests.Task.{Task}
+use Rattle.dw_check.specs.declared.requests.Task.TheVariants.{Check}
+
+-- the file at this place is a state file
+abbrev pub is_state : Task → ℕ → Bool
+is_state task zero = false
+is_state Check (suc n) = false
+is_state other (suc n) = true
+
+-- A section or an expression of 2^32 bytes is too long, whatever these are and whatever follows. All of hex text and of a state file
+-- counts.
+abbrev pub needed_length : Task → Bool → ℕ → Option ℕ
+needed_length task hex place = if hex || is_state task place then None else Some (2 ^ 32)
+
+-- the beginning of a file that has this length, or all of it
+abbrev pub beginning : Option ℕ → List ℕ → List ℕ
+beginning None file = file
+beginning (Some n) file = take n file
+
+-- what is needed of each file, from the one at this place on
+unfoldable pub needed_parts : Task → Bool → ℕ → List (List ℕ) → List (List ℕ)
+needed_parts task hex place [] = []
+needed_parts task hex place (file ∷ files) = beginning (needed_length task hex place) file ∷ needed_parts task hex (suc place) files
