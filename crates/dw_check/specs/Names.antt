@@ -8,8 +8,8 @@ use Rattle.dw_bytes.specs.declared.fault.FaultKind.TheVariants.{Unrestored, Reme
 use Rattle.dw_bytes.specs.declared.fault.FaultKind.TheVariants.{NoCfa, Overlap, UnknownOperation, NotInFrame, BadSize, Backward}
 use Rattle.dw_bytes.specs.declared.fault.FaultKind.TheVariants.{TargetNotStart, Underflow, TooDeep, Mismatch, Unreachable, NotAlone}
 use Rattle.dw_bytes.specs.declared.fault.FaultKind.TheVariants.{EndsEmpty, TooManyPieces, PieceSize, ListVersion, UnknownEntry, BackRange}
-use Rattle.dw_bytes.specs.declared.fault.FaultKind.TheVariants.{SecondDefault, NoEnd, BadOffsetEntry, Memory, SectionTooLong, CertLength}
-use Rattle.dw_bytes.specs.declared.fault.FaultKind.TheVariants.{CertState}
+use Rattle.dw_bytes.specs.declared.fault.FaultKind.TheVariants.{SecondDefault, NoEnd, BadOffsetEntry, Memory, SectionTooLong, AbiTooLarge}
+use Rattle.dw_bytes.specs.declared.fault.FaultKind.TheVariants.{AbiTwice, CertLength, CertState}
 
 abbrev pub name_of : FaultKind → List ℕ
 name_of Truncated = codes "Truncated"
@@ -55,5 +55,7 @@ name_of NoEnd = codes "NoEnd"
 name_of BadOffsetEntry = codes "BadOffsetEntry"
 name_of Memory = codes "Memory"
 name_of SectionTooLong = codes "SectionTooLong"
+name_of AbiTooLarge = codes "AbiTooLarge"
+name_of AbiTwice = codes "AbiTwice"
 name_of CertLength = codes "CertLength"
 name_of CertState = codes "CertState"

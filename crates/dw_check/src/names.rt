@@ -53,6 +53,8 @@ pub(crate) fn name(kind: FaultKind) -> &'static str
         FaultKind::BadOffsetEntry => "BadOffsetEntry",
         FaultKind::Memory => "Memory",
         FaultKind::SectionTooLong => "SectionTooLong",
+        FaultKind::AbiTooLarge => "AbiTooLarge",
+        FaultKind::AbiTwice => "AbiTwice",
         FaultKind::CertLength => "CertLength",
         FaultKind::CertState => "CertState",
     }
