@@ -4,7 +4,7 @@
 ghost use Rattle.std.specs.Prelude.{◌≡◌, ◌⊎◌, false, ℕ, ◌+◌, ◌<◌, ◌≤◌, ◌↔◌, List, length, Option, Some, None, slice_get, filter, [], ◌∷◌};
 ghost use Rattle.std.specs.Prelude.{Err, Contains};
 ghost use Rattle.dw_frame.specs.Records.{Cie, Fde};
-ghost use Rattle.dw_rows.specs.Abi.{abi_rule, rules_under};
+ghost use Rattle.dw_rows.specs.Abi.{no_abi, rules_under};
 ghost use Rattle.dw_rows.specs.Rules.{Rule, PlacedRule, PlacedCfa, PlacedRow, Row, IsTable, rule_in, rule_list};
 ghost use Rattle.dw_bytes.specs.declared.fault.FaultKind.{FaultKind};
 ghost use Rattle.dw_frame.specs.Instructions.{Instruction};
@@ -86,12 +86,9 @@ pub fn rule_lists_are_rules()
     ensures table { (rules : ℕ → PlacedRule) → IsTable 0 (rule_list rules) }
 {}
 
-/// Under an ABI that says nothing a row has its own rules. Each register that an ABI names has the ABI's rule there, and no other has.
-pub fn rules_under_abis()
-    ensures none { (rules : List (ℕ × Rule)) → IsTable 0 rules → rules_under [] rules ≡ rules }
-    ensures named { (kept : List ℕ) (stack_pointer : Option ℕ) (r : ℕ) → r < 65536
-        → rule_in (rule_list (abi_rule kept stack_pointer)) r
-        ≡ abi_rule {E = LocatedExpression} kept stack_pointer r }
+/// Under an ABI that says nothing a row has its own rules.
+pub fn rules_under_no_abi()
+    ensures { (rules : List (ℕ × Rule)) → IsTable 0 rules → rules_under no_abi rules ≡ rules }
 {}
 
 /// A section has no fault exactly where it is well formed: a concatenation of records whose CIE_pointers point to CIEs,
