@@ -3,6 +3,7 @@
 
 mod addresses;
 mod arguments;
+mod backtrace;
 mod caller_text;
 mod command_line;
 mod evaluations;
@@ -29,11 +30,12 @@ mod whole_check;
 mod writer;
 
 pub use arguments::request;
+pub use backtrace::{Backtrace, Frame, Stop};
 pub use reports::report;
 pub use requests::{End, ListLookup, Request, Task, Usage};
 pub use runs::run;
 pub use sink::{Sink, Stopped, Through};
 pub use source::{LoadFault, Reading, Reads, Source, load};
 pub use stop::{ReportFault, Section};
-pub use unwinding::{Answer, Caller, FoundRegisters, unwind};
+pub use unwinding::{Answer, Caller, FoundRegisters, MAX_FOUND, unwind, unwind_with};
 pub use whole_check::{CheckFault, Checked, check};

@@ -1,0 +1,7 @@
+use Rattle.dw_rows.specs.Abi.{rule_under}
+use Rattle.dw_rows.proofs.Tables.{rule_list-each}
+use Rattle.dw_rows.proofs.Under.{either-alone}
+use Rattle.dw_rows.proofs.laws.rules_under_abis.Goals as goal
+
+pub returns : goal.returns
+returns c = record { each = λ abi rules. rule_list-each (rule_under abi rules); none = either-alone }
