@@ -84,7 +84,7 @@ pub by_row : (registers memory : ℕ → Option ℕ) (target : Target) (frame gi
     (rule : Cfa) (abi : Abi) (rules : List (ℕ × Rule)) (back : Rule) (cfa returned : Answer) (answers : List (ℕ × Answer)) → given ≡ frame
     → target ≡ given.target → IsCoverOf given.fdes address (Some fde) → cie_in given fde ≡ Some cie → row_of given address ≡ Some row
     → row.cfa ≡ Some rule → IsCfa (machine target registers memory) (Some rule) cfa → rules ≡ rules_under abi row.rules
-    → AreRegisters (machine target registers memory) cfa rules answers 
+    → AreRegisters (machine target registers memory) cfa rules answers
     → back ≡ or_rule (rule_under abi row.rules cie.return_register) undefined
     → IsRegister (machine target registers memory) cfa cie.return_register back returned
     → IsCallerAt (machine frame.target registers memory) abi frame address

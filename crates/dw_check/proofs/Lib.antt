@@ -32,3 +32,4 @@ pub mod StateLines
 pub mod Within
 pub mod WholeCheck
 pub mod Writing
+mod Walking

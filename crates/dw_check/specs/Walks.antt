@@ -4,8 +4,8 @@ use Rattle.std.specs.Prelude.{◌≡◌, ℕ, zero, suc, ◌≤◌, ◌==◌, if
 use Rattle.dw_rows.specs.Abi.{Abi}
 use Rattle.dw_rows.specs.Section.{Frame}
 use Rattle.dw_check.specs.Caller.{Answer, value, undefined, unreadable, division_by_zero, Caller, Unwinds, machine}
-use Rattle.dw_check.specs.declared.backtrace.Stop.{Stop}
-use Rattle.dw_check.specs.declared.backtrace.Stop.TheVariants.{Limit, NotCovered, ReturnUndefined, ReturnUnreadable, ReturnDivisionByZero}
+use Rattle.dw_check.specs.declared.frames.Stop.{Stop}
+use Rattle.dw_check.specs.declared.frames.Stop.TheVariants.{Limit, NotCovered, ReturnUndefined, ReturnUnreadable, ReturnDivisionByZero}
 
 -- what stays the same on a walk: the checked section, the ABI and the memory
 pub record Surroundings : Type 0 where
@@ -59,14 +59,21 @@ abbrev pub UnwindsAt : Surroundings → (ℕ → Option ℕ) → Option ℕ → 
 UnwindsAt s registers None caller = caller ≡ None
 UnwindsAt s registers (Some a) caller = Unwinds (machine s.frame.target registers s.memory) s.abi s.frame a caller
 
+-- a frame at a place
+abbrev pub IsFrameAt : Surroundings → Place → WalkedFrame → Type 0
+IsFrameAt s p f = (f.address ≡ p.address) × UnwindsAt s p.registers p.looked_up f.caller
+
 -- ---- the frames of a walk
 
 -- These are frames from a place on, each behind the one before it. Behind the last one there may be more.
 abbrev pub AreFrames : Surroundings → Option Place → List WalkedFrame → Type 0
 AreFrames s p [] = Unit {0}
 AreFrames s None (f ∷ frames) = ⊥
-AreFrames s (Some p) (f ∷ frames) = (f.address ≡ p.address) × UnwindsAt s p.registers p.looked_up f.caller
-    × AreFrames s (next_place f.caller) frames
+AreFrames s (Some p) (f ∷ frames) = IsFrameAt s p f × AreFrames s (next_place f.caller) frames
+
+-- the next of one
+abbrev pub IsFrameBehind : Surroundings → WalkedFrame → WalkedFrame → Type 0
+IsFrameBehind s f next = (p : Place) × (next_place f.caller ≡ Some p) × IsFrameAt s p next
 
 -- why there is no frame behind one, if there is none
 abbrev pub stop_of_return : Answer → Option Stop
@@ -83,7 +90,7 @@ stop_of_caller (Some caller) = stop_of_return caller.return_address
 abbrev pub stop_behind : List WalkedFrame → Option Stop
 stop_behind [] = None
 stop_behind (f ∷ []) = stop_of_caller f.caller
-stop_behind (f ∷ frames) = stop_behind frames
+stop_behind (f ∷ g ∷ frames) = stop_behind (g ∷ frames)
 
 -- What a walk gives: its first frames, as many as the limit or all, and why these end, which is the limit wherever it is reached.
 pub record Walks (s : Surroundings) (first : Place) (limit : ℕ) (frames : List WalkedFrame) (stop : Stop) : Type 0 where

@@ -3,11 +3,11 @@
 
 mod addresses;
 mod arguments;
-mod backtrace;
 mod caller_text;
 mod command_line;
 mod evaluations;
 mod files;
+mod frames;
 pub mod laws;
 mod lines;
 mod locations;
@@ -26,11 +26,12 @@ mod source;
 mod state_line;
 mod stop;
 mod unwinding;
+mod walk;
 mod whole_check;
 mod writer;
 
 pub use arguments::request;
-pub use backtrace::{Backtrace, Frame, Stop};
+pub use frames::{Backtrace, Frame, Stop};
 pub use reports::report;
 pub use requests::{End, ListLookup, Request, Task, Usage};
 pub use runs::run;
@@ -38,4 +39,5 @@ pub use sink::{Sink, Stopped, Through};
 pub use source::{LoadFault, Reading, Reads, Source, load};
 pub use stop::{ReportFault, Section};
 pub use unwinding::{Answer, Caller, FoundRegisters, MAX_FOUND, unwind, unwind_with};
+pub use walk::backtrace;
 pub use whole_check::{CheckFault, Checked, check};
