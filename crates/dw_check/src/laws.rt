@@ -13,6 +13,8 @@ ghost use Rattle.dw_rows.specs.Section.{Frame};
 ghost use Rattle.dw_rows.specs.Section as rows;
 ghost use Rattle.dw_rows.specs.Abi.{Abi};
 ghost use Rattle.dw_check.specs.Caller.{Caller, IsCaller, Unwinds};
+ghost use Rattle.dw_check.specs.declared.frames.Stop.{Stop};
+ghost use Rattle.dw_check.specs.Walks.{Surroundings, Place, WalkedFrame, Walks};
 ghost use Rattle.dw_check.specs.LongFiles.{needed_parts};
 ghost use Rattle.dw_check.specs.Requests.{Asked};
 ghost use Rattle.dw_check.specs.Runs.{Reply, IsReply};
@@ -98,6 +100,23 @@ pub fn each_address_has_an_unwinding()
 {
     dw_rows::laws::exact_rows();
     each_row_has_a_caller();
+}
+
+/// Over a section that is accepted a walk is determined by where it begins and by its limit.
+pub fn one_walk()
+    ensures { (s : Surroundings) (first : Place) (limit : ℕ) (xs ys : List WalkedFrame)
+        (a b : Stop) → rows.IsChecked s.frame → Walks s first limit xs a
+        → Walks s first limit ys b → (xs ≡ ys) × (a ≡ b) }
+{
+    one_caller();
+}
+
+/// And there is one.
+pub fn each_has_a_walk()
+    ensures { (s : Surroundings) (first : Place) (limit : ℕ) → rows.IsChecked s.frame
+        → (xs : List WalkedFrame) × (stop : Stop) × Walks s first limit xs stop }
+{
+    each_address_has_an_unwinding();
 }
 
 /// There is one report on two sections.

@@ -1,0 +1,177 @@
+-- There is one walk from a place with a limit, by what is said of callers.
+use Rattle.std.proofs.Common.{◌≡◌, ℕ, zero, suc, ◌≤◌, ◌==◌, List, [], ◌∷◌, length, Option, None, Some, Bool, true, false, cond, inl, inr}
+use Rattle.std.proofs.Common.{refl, sym, ap, subst, ◌∙◌, arith}
+use Rattle.std.proofs.lemmas.Bool.Decides.{nat_tests}
+use Rattle.std.specs.Prelude.{◌⊎◌, if◌then◌else◌, option_map}
+use Rattle.dw_eval.specs.World.{World}
+use Rattle.dw_rows.specs.Abi.{Abi}
+use Rattle.dw_rows.specs.Section.{Frame, IsChecked}
+use Rattle.dw_check.specs.Caller.{Answer, value, undefined, unreadable, division_by_zero, Caller, Unwinds, machine}
+use Rattle.dw_check.specs.declared.frames.Stop.{Stop}
+use Rattle.dw_check.specs.declared.frames.Stop.TheVariants.{Limit, NotCovered, ReturnUndefined, ReturnUnreadable, ReturnDivisionByZero}
+use Rattle.dw_check.specs.Walks.{Surroundings, Place, WalkedFrame, AreFrames, IsFrameAt, UnwindsAt, Walks, next_place, place_of_caller}
+use Rattle.dw_check.specs.Walks.{content_of, stop_of_return, stop_of_caller, stop_behind}
+
+-- ---- where frames end
+
+-- why these frames end, if they do
+ends : ℕ → List WalkedFrame → Option Stop
+ends limit frames = if length frames == limit then Some Limit else stop_behind frames
+
+-- These frames are all behind one with this caller, or as many as the limit.
+Ended : ℕ → Option Caller → List WalkedFrame → Type 0
+Ended n caller [] = (n ≡ 0) ⊎ ((stop : Stop) × (stop_of_caller caller ≡ Some stop))
+Ended zero caller (f ∷ frames) = ⊥
+Ended (suc n) caller (f ∷ frames) = Ended n f.caller frames
+
+ended_behind : (n : ℕ) (f : WalkedFrame) (frames : List WalkedFrame) (stop : Stop) → length frames ≤ n
+    → (if length (f ∷ frames) == suc n then Some Limit else stop_behind (f ∷ frames)) ≡ Some stop → Ended n f.caller frames
+unfolding Ended
+ended_behind zero f [] stop few is = inl refl
+ended_behind (suc n) f [] stop few is =
+    let other : (length (f ∷ []) == suc (suc n)) ≡ false = grind (arith, nat_tests) in inr (stop, rw other at is)
+ended_behind zero f (g ∷ frames) stop few is = absurd (omega (arith, few))
+ended_behind (suc n) f (g ∷ frames) stop few is = ended_behind n g frames stop (omega (arith, few)) (same (length (g ∷ frames)) (suc n) is)
+  where
+    same : (k m : ℕ) → (if suc k == suc m then Some Limit else stop_behind (g ∷ frames)) ≡ Some stop
+        → (if k == m then Some Limit else stop_behind (g ∷ frames)) ≡ Some stop
+    same k m h = let one : (suc k == suc m) ≡ (k == m) = grind (arith, nat_tests) in rw one at h
+
+-- no frames are the end of none
+none_ends : (n : ℕ) (stop : Stop) → (if 0 == suc n then Some Limit else None) ≡ Some stop → ⊥
+none_ends n stop is =
+    let other : (0 == suc n) ≡ false = grind (arith, nat_tests) in
+    let no : ◌≡◌ {A = Option Stop} None (Some stop) = rw other at is in cc
+
+-- an end leaves no place
+no_place : (c : Option Caller) (stop : Stop) → stop_of_caller c ≡ Some stop → next_place c ≡ None
+no_place None stop is = refl
+no_place (Some caller) stop is = go caller.return_address is
+  where
+    go : (a : Answer) → stop_of_return a ≡ Some stop → option_map (place_of_caller caller) (content_of a) ≡ None
+    go (value n) h = absurd (cc)
+    go undefined h = refl
+    go unreadable h = refl
+    go division_by_zero h = refl
+
+-- and where there is no place is an end
+some_end : (c : Option Caller) → next_place c ≡ None → (stop : Stop) × (stop_of_caller c ≡ Some stop)
+some_end None is = (NotCovered, refl)
+some_end (Some caller) is = go caller.return_address is
+  where
+    go : (a : Answer) → option_map (place_of_caller caller) (content_of a) ≡ None → (stop : Stop) × (stop_of_return a ≡ Some stop)
+    go (value n) h = absurd (cc)
+    go undefined h = (ReturnUndefined, refl)
+    go unreadable h = (ReturnUnreadable, refl)
+    go division_by_zero h = (ReturnDivisionByZero, refl)
+
+-- ---- one
+
+module _ (s : Surroundings)
+    (one : (registers : ℕ → Option ℕ) (a : ℕ) (c d : Option Caller) → Unwinds (machine s.frame.target registers s.memory) s.abi s.frame a c
+    → Unwinds (machine s.frame.target registers s.memory) s.abi s.frame a d → c ≡ d) where
+  one_caller_at : (registers : ℕ → Option ℕ) (o : Option ℕ) (c d : Option Caller) → UnwindsAt s registers o c → UnwindsAt s registers o d
+      → c ≡ d
+  one_caller_at registers None c d g h = g ∙ sym h
+  one_caller_at registers (Some a) c d g h = one registers a c d g h
+
+  made : (a b : ℕ) (c d : Option Caller) → a ≡ b → c ≡ d
+      → ◌≡◌ {A = WalkedFrame} (record { address = a; caller = c }) (record { address = b; caller = d })
+  made a b c d x y = rw (x, y) refl
+
+  one_frame_at : (p : Place) (f g : WalkedFrame) → IsFrameAt s p f → IsFrameAt s p g → f ≡ g
+  one_frame_at p f g h k =
+      made f.address g.address f.caller g.caller (h.0 ∙ sym k.0) (one_caller_at p.registers p.looked_up f.caller g.caller h.1 k.1)
+
+  one_behind : (n : ℕ) (c : Option Caller) (xs ys : List WalkedFrame) → AreFrames s (next_place c) xs → AreFrames s (next_place c) ys
+      → Ended n c xs → Ended n c ys → xs ≡ ys
+  unfolding Ended
+  one_behind n c [] [] g h e k = refl
+  one_behind zero c [] (y ∷ ys) g h e k = absurd k
+  one_behind (suc n) c [] (y ∷ ys) g h (inl none) k = absurd (omega (arith, none))
+  one_behind (suc n) c [] (y ∷ ys) g h (inr (stop, is)) k = absurd (subst (λ p. AreFrames s p (y ∷ ys)) (no_place c stop is) h)
+  one_behind zero c (x ∷ xs) ys g h e k = absurd e
+  one_behind (suc n) c (x ∷ xs) [] g h e (inl none) = absurd (omega (arith, none))
+  one_behind (suc n) c (x ∷ xs) [] g h e (inr (stop, is)) = absurd (subst (λ p. AreFrames s p (x ∷ xs)) (no_place c stop is) g)
+  one_behind (suc n) c (x ∷ xs) (y ∷ ys) g h e k = go (one_behind n y.caller xs ys) (next_place c) g h
+    where
+      go : (AreFrames s (next_place y.caller) xs → AreFrames s (next_place y.caller) ys → Ended n y.caller xs → Ended n y.caller ys → xs ≡ ys)
+          → (p : Option Place) → AreFrames s p (x ∷ xs) → AreFrames s p (y ∷ ys) → ◌≡◌ {A = List WalkedFrame} (x ∷ xs) (y ∷ ys)
+      go later None g h = absurd g
+      go later (Some p) g h =
+          let same : x ≡ y = one_frame_at p x y g.0 h.0 in
+          let behind = subst (λ (f : WalkedFrame). AreFrames s (next_place f.caller) xs) same g.1 in
+          let ended = subst (λ (f : WalkedFrame). Ended n f.caller xs) same e in
+          let rest : xs ≡ ys = later behind h.1 ended k in
+          rw (same, rest) refl
+
+  one_list : (first : Place) (limit : ℕ) (xs ys : List WalkedFrame) (a b : Stop) → Walks s first limit xs a → Walks s first limit ys b → xs ≡ ys
+  one_list first limit [] [] a b g h = refl
+  one_list first zero [] (y ∷ ys) a b g h = absurd (omega (arith, h.few))
+  one_list first (suc n) [] (y ∷ ys) a b g h = absurd (none_ends n a g.ends)
+  one_list first zero (x ∷ xs) ys a b g h = absurd (omega (arith, g.few))
+  one_list first (suc n) (x ∷ xs) [] a b g h = absurd (none_ends n b h.ends)
+  one_list first (suc n) (x ∷ xs) (y ∷ ys) a b g h =
+      let same : x ≡ y = one_frame_at first x y g.are.0 h.are.0 in
+      let behind = subst (λ (f : WalkedFrame). AreFrames s (next_place f.caller) xs) same g.are.1 in
+      let mine = ended_behind n x xs a (omega (arith, g.few)) g.ends in
+      let ended = subst (λ (f : WalkedFrame). Ended n f.caller xs) same mine in
+      let rest : xs ≡ ys = one_behind n y.caller xs ys behind h.are.1 ended (ended_behind n y ys b (omega (arith, h.few)) h.ends) in
+      rw (same, rest) refl
+
+  pub one_walk : (first : Place) (limit : ℕ) (xs ys : List WalkedFrame) (a b : Stop) → Walks s first limit xs a → Walks s first limit ys b
+      → (xs ≡ ys) × (a ≡ b)
+  one_walk first limit xs ys a b g h =
+      let same : xs ≡ ys = one_list first limit xs ys a b g h in
+      let both : Some a ≡ Some b = sym g.ends ∙ ap (λ l. if length l == limit then Some Limit else stop_behind l) same ∙ h.ends in
+      let stop : a ≡ b = cc in
+      (same, stop)
+
+-- ---- some
+
+module _ (s : Surroundings)
+    (some : (registers : ℕ → Option ℕ) (a : ℕ) → (c : Option Caller) × Unwinds (machine s.frame.target registers s.memory) s.abi s.frame a c) where
+  some_caller_at : (registers : ℕ → Option ℕ) (o : Option ℕ) → (c : Option Caller) × UnwindsAt s registers o c
+  some_caller_at registers None = (None, refl)
+  some_caller_at registers (Some a) = some registers a
+
+  some_frame_at : (p : Place) → (f : WalkedFrame) × IsFrameAt s p f
+  some_frame_at p =
+      let caller = some_caller_at p.registers p.looked_up in (record { address = p.address; caller = caller.0 }, (refl, caller.1))
+
+  some_behind : (n : ℕ) (c : Option Caller) → (xs : List WalkedFrame) × AreFrames s (next_place c) xs × (length xs ≤ n) × Ended n c xs
+  unfolding Ended
+  some_behind zero c = ([], tt, omega arith, inl refl)
+  some_behind (suc n) c = go (some_behind n) (next_place c) refl
+    where
+      go : ((d : Option Caller) → (xs : List WalkedFrame) × AreFrames s (next_place d) xs × (length xs ≤ n) × Ended n d xs)
+          → (p : Option Place) → next_place c ≡ p
+          → (xs : List WalkedFrame) × AreFrames s (next_place c) xs × (length xs ≤ suc n) × Ended (suc n) c xs
+      go later None is = ([], tt, omega arith, inr (some_end c is))
+      go later (Some p) is =
+          let f = some_frame_at p in
+          let rest = later f.0.caller in
+          (f.0 ∷ rest.0, subst (λ (q : Option Place). AreFrames s q (f.0 ∷ rest.0)) (sym is) (f.1, rest.1), omega (arith, rest.2), rest.3)
+
+  ends_behind : (n : ℕ) (f : WalkedFrame) (frames : List WalkedFrame) → length frames ≤ n → Ended n f.caller frames
+      → (stop : Stop) × ((if length (f ∷ frames) == suc n then Some Limit else stop_behind (f ∷ frames)) ≡ Some stop)
+  unfolding Ended
+  ends_behind zero f [] few e = (Limit, refl)
+  ends_behind (suc n) f [] few (inl none) = absurd (omega (arith, none))
+  ends_behind (suc n) f [] few (inr (stop, is)) =
+      let other : (1 == suc (suc n)) ≡ false = grind (arith, nat_tests) in (stop, rw other is)
+  ends_behind zero f (g ∷ frames) few e = absurd e
+  ends_behind (suc n) f (g ∷ frames) few e =
+      let later = ends_behind n g frames (omega (arith, few)) e in (later.0, same (length (g ∷ frames)) (suc n) later.0 later.1)
+    where
+      same : (k m : ℕ) (stop : Stop) → (if k == m then Some Limit else stop_behind (g ∷ frames)) ≡ Some stop
+          → (if suc k == suc m then Some Limit else stop_behind (g ∷ frames)) ≡ Some stop
+      same k m stop h = let one : (suc k == suc m) ≡ (k == m) = grind (arith, nat_tests) in rw one h
+
+  pub some_walk : (first : Place) (limit : ℕ) → (xs : List WalkedFrame) × (stop : Stop) × Walks s first limit xs stop
+  some_walk first zero = ([], Limit, record { are = tt; few = omega arith; ends = refl })
+  some_walk first (suc n) =
+      let f = some_frame_at first in
+      let rest = some_behind n f.0.caller in
+      let stop = ends_behind n f.0 rest.0 rest.2 rest.3 in
+      (f.0 ∷ rest.0, stop.0, record { are = (f.1, rest.1); few = omega (arith, rest.2); ends = stop.1 })
