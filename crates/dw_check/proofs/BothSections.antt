@@ -11,21 +11,21 @@ use Rattle.dw_check.specs.Checked.{check_fault, fault_within}
 use Rattle.dw_check.specs.Runs.{Reply, text, refusal, not_hex, bad_line, OfChecked}
 use Rattle.dw_check.specs.Stops.{IsFirstFault, IsRefusal}
 use Rattle.dw_check.specs.declared.stop.Section.{Section}
-use Rattle.dw_check.specs.declared.stop.Stop.{Stop}
-use Rattle.dw_check.specs.declared.stop.Stop.TheVariants.{Refused, BadHex, StateLine, Memory, Output}
+use Rattle.dw_check.specs.declared.stop.RunFault.{RunFault}
+use Rattle.dw_check.specs.declared.stop.RunFault.TheVariants.{Refused, BadHex, StateLine, Memory, Output}
 use Rattle.dw_check.specs.declared.whole_check.CheckFault.{CheckFault}
 use Rattle.dw_check.proofs.WholeCheck.{each_without_fault}
 
 -- ---- what stops a check
 
-lacked : (first : Option CheckFault) (section : Section) (stop : Stop) → IsRefusal section None stop → IsFirstFault first stop
+lacked : (first : Option CheckFault) (section : Section) (stop : RunFault) → IsRefusal section None stop → IsFirstFault first stop
 lacked first section (Refused s f) h = let never : None ≡ Some f = h.1 in cc
 lacked first section Memory h = tt
 lacked first section (BadHex n) h = absurd h
 lacked first section (StateLine n) h = absurd h
 lacked first section Output h = absurd h
 
-named : (first : Option CheckFault) (found : CheckFault) (stop : Stop) → first ≡ Some found
+named : (first : Option CheckFault) (found : CheckFault) (stop : RunFault) → first ≡ Some found
     → IsRefusal found.section (Some found.fault) stop → IsFirstFault first stop
 named first found (Refused s f) is h =
     let both : Some found.fault ≡ Some f = h.1 in
@@ -37,7 +37,7 @@ named first found (StateLine n) is h = absurd h
 named first found Output is h = absurd h
 
 -- what stops a run for a section's fault stops it for the first of both
-pub stopped : (first : Option CheckFault) (found : CheckFault) (stop : Stop)
+pub stopped : (first : Option CheckFault) (found : CheckFault) (stop : RunFault)
     → ((own : Option Fault) → (found.fault ≡ memory) ⊎ (own ≡ Some found.fault) → IsRefusal found.section own stop)
     → (found.fault ≡ memory) ⊎ (first ≡ Some found) → IsFirstFault first stop
 stopped first found stop each (inl lacks) = lacked first found.section stop (each None (inl lacks))

@@ -13,8 +13,8 @@ use Rattle.dw_check.specs.declared.stop.Section.{Section}
 use Rattle.dw_check.specs.declared.whole_check.CheckFault.{CheckFault}
 use Rattle.dw_check.specs.declared.stop.ReportFault.{ReportFault}
 use Rattle.dw_check.specs.declared.stop.ReportFault.TheVariants as faults
-use Rattle.dw_check.specs.declared.stop.Stop.{Stop}
-use Rattle.dw_check.specs.declared.stop.Stop.TheVariants.{Refused, BadHex, StateLine, Memory, Output}
+use Rattle.dw_check.specs.declared.stop.RunFault.{RunFault}
+use Rattle.dw_check.specs.declared.stop.RunFault.TheVariants.{Refused, BadHex, StateLine, Memory, Output}
 use Rattle.dw_check.proofs.Growth.{appends_nothing}
 
 -- nothing is a beginning of anything
@@ -24,11 +24,11 @@ front_none old new all h = ([], all, refl, h)
 -- ---- the bytes of a section
 
 pub goes_section : (count place : ℕ) (found : Option (List ℕ)) (bytes : List ℕ) (Is : List ℕ → Reply → Type 0) (old new : Option (List ℕ))
-    (r : Result (Unit {0}) Stop)
+    (r : Result (Unit {0}) RunFault)
     → found ≡ Some bytes → Goes count (Is bytes) old new r → Goes count (OfSection place found Is) old new r
 goes_section count place found bytes Is old new r e h = subst (λ o. Goes count (OfSection place o Is) old new r) (sym e) h
 
-pub goes_bad_section : (count place : ℕ) (found : Option (List ℕ)) (Is : List ℕ → Reply → Type 0) (a : Option (List ℕ)) (stop : Stop)
+pub goes_bad_section : (count place : ℕ) (found : Option (List ℕ)) (Is : List ℕ → Reply → Type 0) (a : Option (List ℕ)) (stop : RunFault)
     → IsBadSection found place count stop → Goes count (OfSection place found Is) a a (Err stop)
 goes_bad_section count place found Is a (BadHex n) h =
     (subst (λ k. k < count) (sym h.0) h.1, subst (λ o. OfSection place o Is (not_hex n)) (sym h.2) (ap not_hex h.0), appends_nothing a)
@@ -40,12 +40,12 @@ goes_bad_section count place found Is a Output h = absurd h
 -- ---- the state
 
 pub goes_state : (count : ℕ) (given : Result (List StateFact) ℕ) (gs : List StateFact) (Is : List StateFact → Reply → Type 0)
-    (old new : Option (List ℕ)) (r : Result (Unit {0}) Stop)
+    (old new : Option (List ℕ)) (r : Result (Unit {0}) RunFault)
     → given ≡ Ok gs → Goes count (Is gs) old new r → Goes count (OfState given Is) old new r
 goes_state count given gs Is old new r e h = subst (λ g. Goes count (OfState g Is) old new r) (sym e) h
 
 pub goes_bad_state : (count : ℕ) (given : Result (List StateFact) ℕ) (Is : List StateFact → Reply → Type 0) (a : Option (List ℕ))
-    (stop : Stop)
+    (stop : RunFault)
     → IsBadState given stop → Goes count (OfState given Is) a a (Err stop)
 goes_bad_state count given Is a (StateLine n) h = (subst (λ g. OfState g Is (bad_line n)) (sym h) refl, appends_nothing a)
 goes_bad_state count given Is a Memory h = λ reply is. front_none a a (accepted_text reply) (appends_nothing a)
@@ -55,7 +55,7 @@ goes_bad_state count given Is a Output h = absurd h
 
 -- ---- refusals
 
-pub goes_refusal : (count : ℕ) (section : Section) (first : Option Fault) (Is : Reply → Type 0) (a : Option (List ℕ)) (stop : Stop)
+pub goes_refusal : (count : ℕ) (section : Section) (first : Option Fault) (Is : Reply → Type 0) (a : Option (List ℕ)) (stop : RunFault)
     → ((f : Fault) → first ≡ Some f → Is (refusal section f)) → IsRefusal section first stop → Goes count Is a a (Err stop)
 goes_refusal count section first Is a (Refused s f) is h = (subst (λ x. Is (refusal x f)) (sym h.0) (is f h.1), appends_nothing a)
 goes_refusal count section first Is a Memory is h = λ reply i. front_none a a (accepted_text reply) (appends_nothing a)
@@ -64,7 +64,7 @@ goes_refusal count section first Is a (StateLine n) is h = absurd h
 goes_refusal count section first Is a Output is h = absurd h
 
 -- that of two sections
-pub goes_first_fault : (count : ℕ) (first : Option CheckFault) (Is : Reply → Type 0) (a : Option (List ℕ)) (stop : Stop)
+pub goes_first_fault : (count : ℕ) (first : Option CheckFault) (Is : Reply → Type 0) (a : Option (List ℕ)) (stop : RunFault)
     → ((found : CheckFault) → first ≡ Some found → Is (refusal found.section found.fault)) → IsFirstFault first stop
     → Goes count Is a a (Err stop)
 goes_first_fault count first Is a (Refused s f) is h = (is (record { section = s; fault = f }) h, appends_nothing a)
@@ -91,7 +91,7 @@ goes_whole count Is bytes old new (Err faults.Memory) is h = λ reply i. front_n
 goes_whole count Is bytes old new (Err faults.Write) is h = (text bytes, is, h)
 
 -- what a `?` hands on
-pub handed_on : (P : Result (Unit {0}) Stop → Type 0) (r : Result (Unit {0}) Stop) (e : Stop) → IsErr r × IsErrAnd r (λ x. x ≡ e)
+pub handed_on : (P : Result (Unit {0}) RunFault → Type 0) (r : Result (Unit {0}) RunFault) (e : RunFault) → IsErr r × IsErrAnd r (λ x. x ≡ e)
     → P (Err e) → P r
 handed_on P (Ok _) e h p = let f = h.0 in cc
 handed_on P (Err x) e h p = subst (λ y. P (Err y)) (sym h.1) p

@@ -7,6 +7,8 @@ pub mod Report
 pub mod Headline
 -- the frame that called (6.4.1)
 pub mod Caller
+-- frames, one the caller of the other (6.4.1)
+pub mod Walks
 -- which callers have numbers below 2^w alone
 pub mod CallerFits
 -- the lines of sections and rows
@@ -46,6 +48,8 @@ pub mod Runs
 pub mod ReportViews
 -- answers and callers of the code
 pub mod CallerViews
+-- frames of the code
+pub mod WalkViews
 -- why a run stops
 pub mod Stops
 -- what a sink has taken

@@ -23,8 +23,8 @@ use Rattle.dw_check.specs.SinkBytes.{AppendsFront}
 use Rattle.dw_check.specs.Text.{refused_line, frame_text, lookup_text}
 use Rattle.dw_check.specs.declared.stop.Section.{Section}
 use Rattle.dw_check.specs.declared.stop.Section.TheVariants as sections
-use Rattle.dw_check.specs.declared.stop.Stop.{Stop}
-use Rattle.dw_check.specs.declared.stop.Stop.TheVariants as stops
+use Rattle.dw_check.specs.declared.stop.RunFault.{RunFault}
+use Rattle.dw_check.specs.declared.stop.RunFault.TheVariants as stops
 use Rattle.dw_check.specs.declared.requests.ListLookup.{ListLookup}
 use Rattle.dw_check.specs.declared.requests.Task.{Task}
 use Rattle.dw_check.specs.declared.requests.Task.TheVariants.{Check, Rows, Row, Locs, Eval, Unwind}
@@ -183,7 +183,7 @@ IsPlaceIn count other = Unit {0}
 
 -- How a run goes, where `Is` says what its reply may be and there are `count` files: it has written all of a text, or nothing yet of a reply
 -- that is no text; for want of memory a beginning of whatever text is the reply; and a beginning where the sink stopped.
-abbrev pub Goes : ℕ → (Reply → Type 0) → Option (List ℕ) → Option (List ℕ) → Result (Unit {0}) Stop → Type 0
+abbrev pub Goes : ℕ → (Reply → Type 0) → Option (List ℕ) → Option (List ℕ) → Result (Unit {0}) RunFault → Type 0
 Goes count Is old new (Ok _) = (bytes : List ℕ) × Is (text bytes) × Appends old new bytes
 Goes count Is old new (Err (stops.Refused section fault)) = Is (refusal section fault) × Appends old new []
 Goes count Is old new (Err (stops.BadHex n)) = (n < count) × Is (not_hex n) × Appends old new []

@@ -7,8 +7,8 @@ use Rattle.dw_check.specs.declared.stop.Section.TheVariants as sections
 use Rattle.dw_check.specs.declared.whole_check.CheckFault.{CheckFault}
 use Rattle.dw_check.specs.declared.stop.ReportFault.{ReportFault}
 use Rattle.dw_check.specs.declared.stop.ReportFault.TheVariants as faults
-use Rattle.dw_check.specs.declared.stop.Stop.{Stop}
-use Rattle.dw_check.specs.declared.stop.Stop.TheVariants.{Refused, BadHex, StateLine, Memory, Output}
+use Rattle.dw_check.specs.declared.stop.RunFault.{RunFault}
+use Rattle.dw_check.specs.declared.stop.RunFault.TheVariants.{Refused, BadHex, StateLine, Memory, Output}
 
 -- the name that a refusal has it by
 abbrev pub section_text : Section → List ℕ
@@ -17,41 +17,41 @@ section_text sections.Lists = codes "lists"
 section_text sections.Expression = codes "expression"
 
 -- what writing that fails so stops a run with
-abbrev pub stop_of : ReportFault → Stop
+abbrev pub stop_of : ReportFault → RunFault
 stop_of faults.Memory = Memory
 stop_of faults.Write = Output
 
 -- how a run goes whose text was written so
-abbrev pub ended_by : Result (Unit {0}) ReportFault → Result (Unit {0}) Stop
+abbrev pub ended_by : Result (Unit {0}) ReportFault → Result (Unit {0}) RunFault
 ended_by (Ok _) = Ok tt
 ended_by (Err fault) = Err (stop_of fault)
 
 -- a run that goes so left the sink stopped
-abbrev pub is_output : Result (Unit {0}) Stop → Bool
+abbrev pub is_output : Result (Unit {0}) RunFault → Bool
 is_output (Ok _) = false
 is_output (Err Output) = true
 is_output (Err _) = false
 
 -- Why the bytes of the file at a place, one of so many files, aren't there: it is to be hex text and isn't, or memory ran out.
-abbrev pub IsBadSection : Option (List ℕ) → ℕ → ℕ → Stop → Type 0
+abbrev pub IsBadSection : Option (List ℕ) → ℕ → ℕ → RunFault → Type 0
 IsBadSection bytes place count (BadHex n) = (n ≡ place) × (place < count) × (bytes ≡ None)
 IsBadSection bytes place count Memory = Unit {0}
 IsBadSection bytes place count _ = ⊥
 
 -- Why there is no state: a line is the first that isn't one, or memory ran out.
-abbrev pub IsBadState : Result (List StateFact) ℕ → Stop → Type 0
+abbrev pub IsBadState : Result (List StateFact) ℕ → RunFault → Type 0
 IsBadState given (StateLine n) = given ≡ Err n
 IsBadState given Memory = Unit {0}
 IsBadState given _ = ⊥
 
 -- What refuses a section: its first fault, or memory ran out.
-abbrev pub IsRefusal : Section → Option Fault → Stop → Type 0
+abbrev pub IsRefusal : Section → Option Fault → RunFault → Type 0
 IsRefusal section first (Refused s fault) = (s ≡ section) × (first ≡ Some fault)
 IsRefusal section first Memory = Unit {0}
 IsRefusal section first _ = ⊥
 
 -- What refuses two sections: their first fault, or memory ran out.
-abbrev pub IsFirstFault : Option CheckFault → Stop → Type 0
+abbrev pub IsFirstFault : Option CheckFault → RunFault → Type 0
 IsFirstFault first (Refused section fault) = first ≡ Some (record { section = section; fault = fault })
 IsFirstFault first Memory = Unit {0}
 IsFirstFault first _ = ⊥

@@ -7,7 +7,7 @@ ghost use Rattle.dw_check.specs.StateViews.{IsStateOf};
 ghost use Rattle.dw_check.specs.Stops.{IsBadSection, IsBadState};
 
 use crate::machine_state::{MachineState, read_state};
-use crate::stop::Stop;
+use crate::stop::RunFault;
 use dw_bytes::Target;
 use hex::FromHexError;
 use std::alloc::{AllocError, Global};
@@ -45,7 +45,7 @@ pub(crate) fn section_at<'a>(
     hex: bool,
     files: &'a [Vec<u8>],
     place: usize,
-) -> Result<CowSlice<'a, u8, Global>, Stop>
+) -> Result<CowSlice<'a, u8, Global>, RunFault>
     ensures bytes { IfOk result (λ bytes.
         section_bytes hex (slice_get (map (λ file. file.items) files.entry.now) place) ≡ Some
         (cow_slice_items bytes)) }
@@ -61,8 +61,8 @@ pub(crate) fn section_at<'a>(
     }
     match hex::decode(alloc, kept(alloc, file.as_slice())?.as_slice()) {
         Ok(bytes) => Ok(CowSlice::Owned(bytes)),
-        Err(FromHexError::OutOfMemory) => Err(Stop::Memory),
-        Err(_) => Err(Stop::BadHex(place)),
+        Err(FromHexError::OutOfMemory) => Err(RunFault::Memory),
+        Err(_) => Err(RunFault::BadHex(place)),
     }
 }
 
@@ -72,7 +72,7 @@ pub(crate) fn state_at(
     target: Target,
     files: &[Vec<u8>],
     place: usize,
-) -> Result<MachineState, Stop>
+) -> Result<MachineState, RunFault>
     ensures state { IfOk result (IsStateOf
         (state_facts target (slice_get (map (λ file. file.items) files.now) place))) }
     ensures stop { IfErr result (IsBadState

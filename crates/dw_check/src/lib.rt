@@ -3,6 +3,7 @@
 
 mod addresses;
 mod arguments;
+mod backtrace;
 mod caller_text;
 mod command_line;
 mod evaluations;
@@ -29,6 +30,7 @@ mod whole_check;
 mod writer;
 
 pub use arguments::request;
+pub use backtrace::{Backtrace, Frame, Stop};
 pub use reports::report;
 pub use requests::{End, ListLookup, Request, Task, Usage};
 pub use runs::run;

@@ -10,7 +10,7 @@ ghost use Rattle.dw_check.specs.StateViews.{fact_of, known_state_of, IsStateOf};
 
 use crate::parts::Parts;
 use crate::state_line::{StateLine, parse_line};
-use crate::stop::Stop;
+use crate::stop::RunFault;
 use byteorder::{BigEndian, ByteOrder, LittleEndian};
 use dw_bytes::{Order, Target};
 use dw_eval::{Memory, Registers};
@@ -126,7 +126,11 @@ impl Memory for MachineState {
 
 /// What a state file says, or its first line that is none. An empty line says nothing, and where two lines
 /// give one thing or one byte, the first holds. Time n log n in the file's length.
-pub(crate) fn read_state(alloc: Global, target: Target, text: &[u8]) -> Result<MachineState, Stop>
+pub(crate) fn read_state(
+    alloc: Global,
+    target: Target,
+    text: &[u8],
+) -> Result<MachineState, RunFault>
     ensures state { IfOk result (IsStateOf (facts_of_file target text.now)) }
     ensures stop { IfErr result (IsBadState (facts_of_file target text.now)) }
 {
@@ -138,7 +142,7 @@ pub(crate) fn read_state(alloc: Global, target: Target, text: &[u8]) -> Result<M
             continue;
         }
         let Some(given) = parse_line(alloc, target, line)? else {
-            return Err(Stop::StateLine(number));
+            return Err(RunFault::StateLine(number));
         };
         state.add(given)?;
     }

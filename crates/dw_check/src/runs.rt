@@ -23,7 +23,7 @@ use crate::output::{write_frame, write_lookup, write_refused};
 use crate::reports::write_report;
 use crate::requests::{End, ListLookup, Request, Task};
 use crate::sink::Sink;
-use crate::stop::{ReportFault, Section, Stop};
+use crate::stop::{ReportFault, RunFault, Section};
 use crate::unwinding::unwind;
 use crate::whole_check::{Checked, check};
 use crate::writer::Writer;
@@ -48,18 +48,18 @@ fn checked_frame<'a>(
     alloc: Global,
     target: Target,
     section: &'a [u8],
-) -> Result<CheckedFrame<'a>, Stop>
+) -> Result<CheckedFrame<'a>, RunFault>
     ensures frame { IfOk result (λ frame. frame ≡ frame_of target section.entry.now) }
     ensures whole { IfOk result (λ _. frame_refusal target section.entry.now ≡ None) }
     ensures stop { IfErr result (IsRefusal sections.Frame
         (frame_refusal target section.entry.now)) }
 {
     if section.len() >= SECTION_LIMIT {
-        return Err(Stop::Refused(Section::Frame, TOO_LONG));
+        return Err(RunFault::Refused(Section::Frame, TOO_LONG));
     }
     match check_frame(alloc, section, target) {
         Ok(frame) => Ok(frame),
-        Err(fault) => Err(Stop::of_fault(Section::Frame, fault)),
+        Err(fault) => Err(RunFault::of_fault(Section::Frame, fault)),
     }
 }
 
@@ -68,7 +68,7 @@ fn checked_lists<'a>(
     alloc: Global,
     target: Target,
     section: &'a [u8],
-) -> Result<CheckedLists<'a>, Stop>
+) -> Result<CheckedLists<'a>, RunFault>
     ensures short { IfOk result (λ _. length section.entry.now < 2 ^ 32) }
     ensures lists { IfOk result
         (λ lists. lists ≡ record { target = target; section = section.entry.now }) }
@@ -77,11 +77,11 @@ fn checked_lists<'a>(
         (lists_refusal target section.entry.now)) }
 {
     if section.len() >= SECTION_LIMIT {
-        return Err(Stop::Refused(Section::Lists, TOO_LONG));
+        return Err(RunFault::Refused(Section::Lists, TOO_LONG));
     }
     match check_lists(alloc, section, target) {
         Ok(lists) => Ok(lists),
-        Err(fault) => Err(Stop::of_fault(Section::Lists, fault)),
+        Err(fault) => Err(RunFault::of_fault(Section::Lists, fault)),
     }
 }
 
@@ -91,7 +91,7 @@ fn checked_expression<'a>(
     kind: Kind,
     target: Target,
     bytes: &'a [u8],
-) -> Result<CheckedExpression<'a>, Stop>
+) -> Result<CheckedExpression<'a>, RunFault>
     ensures short { IfOk result (λ _. length bytes.entry.now < 2 ^ 32) }
     ensures whole { IfOk result (λ _. expression_refusal kind target bytes.entry.now ≡ None) }
     ensures checked { IfOk result
@@ -100,11 +100,11 @@ fn checked_expression<'a>(
         (expression_refusal kind target bytes.entry.now)) }
 {
     if bytes.len() >= SECTION_LIMIT {
-        return Err(Stop::Refused(Section::Expression, TOO_LONG));
+        return Err(RunFault::Refused(Section::Expression, TOO_LONG));
     }
     match check_expression(alloc, Expression::new(bytes, target), kind) {
         Ok(checked) => Ok(checked),
-        Err(fault) => Err(Stop::of_fault(Section::Expression, fault)),
+        Err(fault) => Err(RunFault::of_fault(Section::Expression, fault)),
     }
 }
 
@@ -114,7 +114,7 @@ fn checked_sections<'a>(
     target: Target,
     frame: &'a [u8],
     lists: &'a [u8],
-) -> Result<Checked<'a>, Stop>
+) -> Result<Checked<'a>, RunFault>
     ensures frame { IfOk result (λ checked. checked.frame ≡ frame_of target frame.entry.now) }
     ensures lists { IfOk result (λ checked.
         checked.lists ≡ record { target = target; section = lists.entry.now }) }
@@ -125,12 +125,12 @@ fn checked_sections<'a>(
 {
     match check(alloc, frame, lists, target) {
         Ok(checked) => Ok(checked),
-        Err(found) => Err(Stop::of_fault(found.section, found.fault)),
+        Err(found) => Err(RunFault::of_fault(found.section, found.fault)),
     }
 }
 
 /// How a run goes whose text was written so.
-fn ended(written: Result<(), ReportFault>) -> Result<(), Stop>
+fn ended(written: Result<(), ReportFault>) -> Result<(), RunFault>
     ensures { result ≡ ended_by written }
 {
     Ok(written?)
@@ -141,7 +141,7 @@ fn show_report<S: Sink>(
     alloc: Global,
     files: &Files<'_>,
     out: &mut Writer<'_, S>,
-) -> Result<(), Stop>
+) -> Result<(), RunFault>
     requires { S.has_stopped out.old.sink.now ≡ false }
     ensures same { IsSame out.old out.new }
     ensures goes { Goes (length files.now.contents.now)
@@ -182,7 +182,7 @@ fn show_rows<S: Sink>(
     address: Option<u64>,
     files: &Files<'_>,
     out: &mut Writer<'_, S>,
-) -> Result<(), Stop>
+) -> Result<(), RunFault>
     requires size { out.old.size ≡ files.now.target.address_size }
     requires runs { S.has_stopped out.old.sink.now ≡ false }
     ensures same { IsSame out.old out.new }
@@ -203,7 +203,7 @@ fn show_locations<S: Sink>(
     lookup: ListLookup,
     files: &Files<'_>,
     out: &mut Writer<'_, S>,
-) -> Result<(), Stop>
+) -> Result<(), RunFault>
     requires size { out.old.size ≡ files.now.target.address_size }
     requires runs { S.has_stopped out.old.sink.now ≡ false }
     ensures same { IsSame out.old out.new }
@@ -225,7 +225,7 @@ fn show_outcome<S: Sink>(
     kind: Kind,
     files: &Files<'_>,
     out: &mut Writer<'_, S>,
-) -> Result<(), Stop>
+) -> Result<(), RunFault>
     requires size { out.old.size ≡ files.now.target.address_size }
     requires runs { S.has_stopped out.old.sink.now ≡ false }
     ensures same { IsSame out.old out.new }
@@ -266,7 +266,7 @@ fn show_caller<S: Sink>(
     address: u64,
     files: &Files<'_>,
     out: &mut Writer<'_, S>,
-) -> Result<(), Stop>
+) -> Result<(), RunFault>
     requires size { out.old.size ≡ files.now.target.address_size }
     requires runs { S.has_stopped out.old.sink.now ≡ false }
     ensures same { IsSame out.old out.new }
@@ -288,7 +288,7 @@ fn show<S: Sink>(
     task: Task,
     files: &Files<'_>,
     out: &mut Writer<'_, S>,
-) -> Result<(), Stop>
+) -> Result<(), RunFault>
     requires size { out.old.size ≡ files.now.target.address_size }
     requires runs { S.has_stopped out.old.sink.now ≡ false }
     ensures same { IsSame out.old out.new }
@@ -329,14 +329,14 @@ pub fn run<S: Sink>(alloc: Global, request: &Request, files: &[Vec<u8>], sink: &
     };
     match show(alloc, request.task, &files, &mut out) {
         Ok(()) => End::Done,
-        Err(Stop::Refused(section, fault)) => match write_refused(&mut out, section, fault) {
+        Err(RunFault::Refused(section, fault)) => match write_refused(&mut out, section, fault) {
             Ok(()) => End::Refused,
             Err(ReportFault::Memory) => End::Memory,
             Err(ReportFault::Write) => End::Output,
         },
-        Err(Stop::BadHex(place)) => End::BadHex(place),
-        Err(Stop::StateLine(number)) => End::StateLine(number),
-        Err(Stop::Memory) => End::Memory,
-        Err(Stop::Output) => End::Output,
+        Err(RunFault::BadHex(place)) => End::BadHex(place),
+        Err(RunFault::StateLine(number)) => End::StateLine(number),
+        Err(RunFault::Memory) => End::Memory,
+        Err(RunFault::Output) => End::Output,
     }
 }

@@ -5,7 +5,7 @@ ghost use Rattle.dw_bytes.specs.Answers.{memory};
 ghost use Rattle.dw_bytes.specs.declared.fault.Fault.{Fault as FoundFault};
 ghost use Rattle.dw_check.specs.Stops.{stop_of, section_text, IsRefusal};
 ghost use Rattle.dw_check.specs.declared.stop.ReportFault.TheVariants as faults;
-ghost use Rattle.dw_check.specs.declared.stop.Stop.TheVariants as stops;
+ghost use Rattle.dw_check.specs.declared.stop.RunFault.TheVariants as stops;
 
 use crate::sink::Stopped;
 use dw_bytes::{Fault, FaultKind};
@@ -36,7 +36,7 @@ pub enum ReportFault {
 
 /// Why a run ends without its text.
 #[derive(Clone, Copy, Debug, PartialEq, Eq)]
-pub(crate) enum Stop {
+pub(crate) enum RunFault {
     /// What a file contains is refused.
     Refused(Section, Fault),
     /// The file at this place is to be hex text and isn't.
@@ -78,35 +78,35 @@ impl From<Stopped> for ReportFault {
     }
 }
 
-impl From<AllocError> for Stop {
+impl From<AllocError> for RunFault {
     ghost from_gives = { λ _ e. e ≡ stops.Memory };
 
     fn from(_: AllocError) -> Self {
-        Stop::Memory
+        RunFault::Memory
     }
 }
 
-impl From<ReportFault> for Stop {
+impl From<ReportFault> for RunFault {
     ghost from_gives = { λ fault e. e ≡ stop_of fault };
 
     fn from(fault: ReportFault) -> Self {
         match fault {
-            ReportFault::Memory => Stop::Memory,
-            ReportFault::Write => Stop::Output,
+            ReportFault::Memory => RunFault::Memory,
+            ReportFault::Write => RunFault::Output,
         }
     }
 }
 
-impl Stop {
+impl RunFault {
     /// What a section's fault stops a run with.
-    pub fn of_fault(section: Section, fault: Fault) -> Stop
+    pub fn of_fault(section: Section, fault: Fault) -> RunFault
         ensures { (first : Option FoundFault) → (fault ≡ memory) ⊎ (first ≡ Some fault)
             → IsRefusal section first result }
     {
         if fault.kind == FaultKind::Memory {
-            Stop::Memory
+            RunFault::Memory
         } else {
-            Stop::Refused(section, fault)
+            RunFault::Refused(section, fault)
         }
     }
 }

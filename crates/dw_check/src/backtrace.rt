@@ -1,0 +1,39 @@
+//! Frames, one the caller of the other.
+
+ghost use Rattle.dw_check.specs.Walks.{WalkedFrame};
+
+use crate::unwinding::Caller;
+
+/// A frame of a walk up the stack.
+#[derive(Clone, Debug, Drop, PartialEq, Eq)]
+pub struct Frame {
+    /// Where it stands: the first one's is handed in, that of each other is where it goes on behind a call.
+    pub address: u64,
+    /// Its caller, none exactly where no FDE covers the address that is looked up. That is the first frame's own, and the address
+    /// before that of each other, since a call may be the last instruction that an FDE covers.
+    pub caller: Option<Caller>,
+}
+
+/// Why a walk ends.
+#[derive(Clone, Copy, Debug, PartialEq, Eq)]
+pub enum Stop {
+    /// There are as many frames as were asked for, whatever the last one holds.
+    Limit,
+    /// No FDE covers the address where the last frame is looked up.
+    NotCovered,
+    /// The last frame's return address can't be had.
+    ReturnUndefined,
+    /// The last frame's return address takes a register or memory that isn't handed in.
+    ReturnUnreadable,
+    /// The expression of the last frame's return address divides by zero.
+    ReturnDivisionByZero,
+}
+
+/// The frames of a walk up the stack, the innermost first, and why they end.
+#[derive(Debug, Drop)]
+pub struct Backtrace {
+    /// The frames, at most as many as were asked for.
+    pub frames: Vec<Frame>,
+    /// Why there are no more.
+    pub stop: Stop,
+}
