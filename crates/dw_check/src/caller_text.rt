@@ -18,7 +18,12 @@ use crate::writer::{Writer, send};
 use dw_bytes::AddressSize;
 use std::alloc::AllocError;
 
-fn push_answer(line: &mut String, size: AddressSize, answer: Answer) -> Result<(), AllocError>
+/// What is known of a number.
+pub(crate) fn push_answer(
+    line: &mut String,
+    size: AddressSize,
+    answer: Answer,
+) -> Result<(), AllocError>
     requires { AnswerFits (16 ^ digits_of size) (answer_in answer) }
     ensures { OnOk result (string_bytes line.new ≡ string_bytes line.old
         ++ answer_text size (answer_in answer)) }

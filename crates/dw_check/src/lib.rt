@@ -26,6 +26,7 @@ mod source;
 mod state_line;
 mod stop;
 mod unwinding;
+mod walk_text;
 mod whole_check;
 mod writer;
 
