@@ -1,11 +1,8 @@
 //! The text of a walk, written frame by frame.
 
-ghost use Rattle.std.specs.Prelude.{◌≡◌, ◌++◌, ◌^◌, false, All, IfSome, OnOk, option_copied, option_map};
+ghost use Rattle.std.specs.Prelude.{◌≡◌, ◌++◌, false, OnOk, option_copied, option_map};
 ghost use Rattle.std.specs.String.{string_bytes};
-ghost use Rattle.dw_eval.specs.Numbers.{width_of};
-ghost use Rattle.dw_check.specs.CallerFits.{CallerFits, FrameFits};
 ghost use Rattle.dw_check.specs.CallerViews.{caller_in};
-ghost use Rattle.dw_check.specs.Text.{digits_of};
 ghost use Rattle.dw_check.specs.WalkText.{cfa_text, walked_line, stop_text, last_line, frames_text, walk_text};
 ghost use Rattle.dw_check.specs.WalkViews.{frame_in, frames_in};
 ghost use Rattle.dw_check.specs.WriteResults.{IsSame, Writes, is_write};
@@ -22,8 +19,6 @@ use std::alloc::AllocError;
 
 /// The CFA of a caller, or that there is no caller.
 fn push_cfa(line: &mut String, size: AddressSize, caller: Option<&Caller>) -> Result<(), AllocError>
-    requires { IfSome (option_map caller_in (option_copied caller))
-        (CallerFits (16 ^ digits_of size)) }
     ensures { OnOk result (string_bytes line.new ≡ string_bytes line.old
         ++ cfa_text size (option_map caller_in (option_copied caller.entry))) }
 {
@@ -44,7 +39,6 @@ fn push_frame(
     number: usize,
     frame: &Frame,
 ) -> Result<(), AllocError>
-    requires { FrameFits (16 ^ digits_of size) (frame_in frame.now) }
     ensures { OnOk result (string_bytes line.new ≡ string_bytes line.old
         ++ walked_line size (number, frame_in frame.now)) }
 {
@@ -86,8 +80,7 @@ fn write_frame<S: Sink>(
     number: usize,
     frame: &Frame,
 ) -> Result<(), ReportFault>
-    requires fits { FrameFits (2 ^ width_of out.old.size) (frame_in frame.now) }
-    requires runs { S.has_stopped out.old.sink.now ≡ false }
+    requires { S.has_stopped out.old.sink.now ≡ false }
     ensures same { IsSame out.old out.new }
     ensures written { Writes (S.taken out.old.sink.now) (S.taken out.new.sink.now) result
         (walked_line out.old.size (number, frame_in frame.now)) }
@@ -100,8 +93,7 @@ fn write_frame<S: Sink>(
 
 /// Writes the lines of frames, counted from 0.
 fn write_frames<S: Sink>(out: &mut Writer<'_, S>, frames: &[Frame]) -> Result<(), ReportFault>
-    requires fits { All (FrameFits (2 ^ width_of out.old.size)) (frames_in frames.now) }
-    requires runs { S.has_stopped out.old.sink.now ≡ false }
+    requires { S.has_stopped out.old.sink.now ≡ false }
     ensures same { IsSame out.old out.new }
     ensures written { Writes (S.taken out.old.sink.now) (S.taken out.new.sink.now) result
         (frames_text out.old.size 0 (frames_in frames.now)) }
@@ -131,9 +123,7 @@ pub(crate) fn write_walk<S: Sink>(
     out: &mut Writer<'_, S>,
     backtrace: &Backtrace,
 ) -> Result<(), ReportFault>
-    requires fits { All (FrameFits (2 ^ width_of out.old.size))
-        (frames_in backtrace.now.frames.items) }
-    requires runs { S.has_stopped out.old.sink.now ≡ false }
+    requires { S.has_stopped out.old.sink.now ≡ false }
     ensures same { IsSame out.old out.new }
     ensures written { Writes (S.taken out.old.sink.now) (S.taken out.new.sink.now) result
         (walk_text out.old.size (frames_in backtrace.now.frames.items) backtrace.now.stop) }

@@ -1,21 +1,8 @@
-use Rattle.std.proofs.Common.{◌<◌, ◌^◌, arith, length, map, rules, subst}
-use Rattle.std.proofs.Math.ListN.{get_or-map}
-use Rattle.std.proofs.lemmas.List.{length-map}
-use Rattle.dw_eval.specs.Numbers.{width_of}
-use Rattle.dw_check.specs.CallerFits.{FrameFits}
+use Rattle.std.proofs.Common.{arith, rules}
 use Rattle.dw_check.specs.WalkViews.{frame_in}
 use Rattle.dw_check.proofs.Sent.{sent_next, sent_front, next_numbered}
 use Rattle.dw_check.proofs.Writing.{writes_front}
 use Rattle.dw_check.proofs.walk_text.write_frames.Goals as goal
-
-pub write_frame-requires-clause-fits : goal.write_frame-requires-clause-fits
-write_frame-requires-clause-fits g c =
-    let frames = c.args.frames.now in
-    let k = c.loop-number.number in
-    let inside : k < length (map frame_in frames) = omega (arith, length-map frames frame_in) in
-    let fits = subst (FrameFits (2 ^ width_of c.args.out.now.size)) (get_or-map frame_in frames k c.index-frames-number.result)
-    (c.requires.fits k (frame_in c.index-frames-number.result) inside) in
-    rw (c.loop-number.invariant.same.1, c.index-frames-number.is) fits
 
 pub returns-in_err-write_frame-clause-written : goal.returns-in_err-write_frame-clause-written
 returns-in_err-write_frame-clause-written g c =
