@@ -27,7 +27,7 @@ use Rattle.std.specs.Prelude.{slice_get}
 use Rattle.dw_check.specs.declared.stop.Section.TheVariants.{Expression}
 use Rattle.dw_check.specs.declared.requests.ListLookup.{ListLookup}
 use Rattle.dw_check.specs.declared.requests.Task.{Task}
-use Rattle.dw_check.specs.declared.requests.Task.TheVariants.{Check, Rows, Row, Locs, Eval, Unwind}
+use Rattle.dw_check.specs.declared.requests.Task.TheVariants.{Check, Rows, Row, Locs, Eval, Unwind, Backtrace}
 use Rattle.dw_check.proofs.Evaluated.{each_text, refused_short, refused_long}
 use Rattle.dw_check.proofs.Found.{each_found}
 use Rattle.dw_check.proofs.BothSections.{each_of_checked}
@@ -119,6 +119,8 @@ module _ (report : EachReport) (unwinding : EachUnwinding) where
   each_to (Locs lookup) target hex files = each_locs lookup target hex files
   each_to (Eval kind) target hex files = each_eval kind target hex files
   each_to (Unwind address) target hex files = each_unwind address target hex files
+  -- stand-in
+  each_to (Backtrace address limit) target hex files = each_unwind address target hex files
 
   pub each_reply : (asked : Asked) (files : List (List ℕ)) → (r : Reply) × IsReply asked files r
   each_reply asked files = each_to asked.task asked.target asked.hex files

@@ -18,7 +18,7 @@ use Rattle.dw_check.specs.Runs.{Reply, text, refusal, not_hex, bad_line, frame_r
 use Rattle.dw_check.specs.Runs.{IsOutcome, IsFound, OfChecked, OfState, IsReplyTo}
 use Rattle.dw_check.specs.declared.requests.ListLookup.{ListLookup}
 use Rattle.dw_check.specs.declared.requests.Task.{Task}
-use Rattle.dw_check.specs.declared.requests.Task.TheVariants.{Check, Rows, Row, Locs, Eval, Unwind}
+use Rattle.dw_check.specs.declared.requests.Task.TheVariants.{Check, Rows, Row, Locs, Eval, Unwind, Backtrace}
 use Rattle.dw_check.specs.declared.stop.Section.TheVariants as sections
 use Rattle.dw_check.specs.declared.whole_check.CheckFault.{CheckFault}
 use Rattle.dw_check.proofs.Lengths.{short_fault, long_fault}
@@ -155,6 +155,10 @@ one_alike (Eval kind) target xs ys more alike r h =
 one_alike (Unwind address) target xs ys more alike r h =
     state_alike _ (λ gs. OfChecked target xs [] (ShowsCaller gs address)) (λ gs. OfChecked target ys [] (ShowsCaller gs address))
     (λ gs s k. first_alike target xs ys [] (ShowsCaller gs address) alike s k) r h
+-- stand-in
+one_alike (Backtrace address limit) target xs ys more alike r h =
+    state_alike _ (λ gs. OfChecked target xs [] (ShowsCaller gs address)) (λ gs. OfChecked target ys [] (ShowsCaller gs address))
+    (λ gs s k. first_alike target xs ys [] (ShowsCaller gs address) alike s k) r h
 
 -- a second section that is alike, behind the same
 other_alike : (target : Target) (xs ys zs : List ℕ) (more others : List (List ℕ)) → Alike ys zs
@@ -189,6 +193,7 @@ same (Row address) target (xs ∷ ys ∷ more) = one_same (Row address) target x
 same (Locs lookup) target (xs ∷ ys ∷ more) = one_same (Locs lookup) target xs (ys ∷ more)
 same (Eval kind) target (xs ∷ ys ∷ more) = one_same (Eval kind) target xs (ys ∷ more)
 same (Unwind address) target (xs ∷ ys ∷ more) = one_same (Unwind address) target xs (ys ∷ more)
+same (Backtrace address limit) target (xs ∷ ys ∷ more) = one_same (Backtrace address limit) target xs (ys ∷ more)
 
 pub parts_decide : (task : Task) (target : Target) (hex : Bool) (files : List (List ℕ)) (reply : Reply)
     → IsReplyTo task target hex files reply ↔ IsReplyTo task target hex (needed_parts task hex 0 files) reply

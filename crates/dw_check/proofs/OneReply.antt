@@ -24,7 +24,7 @@ use Rattle.dw_check.specs.CallerText.{caller_text}
 use Rattle.std.specs.Prelude.{slice_get, Bool}
 use Rattle.dw_check.specs.declared.requests.ListLookup.{ListLookup}
 use Rattle.dw_check.specs.declared.requests.Task.{Task}
-use Rattle.dw_check.specs.declared.requests.Task.TheVariants.{Check, Rows, Row, Locs, Eval, Unwind}
+use Rattle.dw_check.specs.declared.requests.Task.TheVariants.{Check, Rows, Row, Locs, Eval, Unwind, Backtrace}
 use Rattle.dw_check.proofs.Evaluated.{same_text}
 use Rattle.dw_check.proofs.Found.{one_found}
 use Rattle.dw_check.proofs.BothSections.{one_of_checked}
@@ -129,6 +129,8 @@ module _ (report : OneReport) (caller : OneCaller) where
   one_to (Locs lookup) target hex files r s h k = one_locs lookup target hex files r s h k
   one_to (Eval kind) target hex files r s h k = one_eval kind target hex files r s h k
   one_to (Unwind address) target hex files r s h k = one_unwind address target hex files r s h k
+  -- stand-in
+  one_to (Backtrace address limit) target hex files r s h k = one_unwind address target hex files r s h k
 
   pub one_reply : (asked : Asked) (files : List (List ℕ)) (r s : Reply) → IsReply asked files r → IsReply asked files s → r ≡ s
   one_reply asked files r s h k = one_to asked.task asked.target asked.hex files r s h k

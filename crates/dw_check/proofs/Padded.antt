@@ -1,8 +1,9 @@
 -- What a padded hole of a format writes is the hex digits.
-use Rattle.std.proofs.Common.{◌≡◌, ℕ, zero, suc, ◌+◌, ◌-◌, ◌/◌, ◌%◌, ◌^◌, ◌<◌, ◌≤◌, List, [], ◌∷◌, ◌++◌, false, length, replicate, ap}
+use Rattle.std.proofs.Common.{◌≡◌, ℕ, zero, suc, ◌+◌, ◌-◌, ◌*◌, ◌/◌, ◌%◌, ◌^◌, ◌<◌, ◌≤◌, List, [], ◌∷◌, ◌++◌, false, length, replicate, ap, ap₂}
 use Rattle.std.proofs.Common.{sym, ◌∙◌, refl, arith, length-append, ◌⊎◌, inl, inr}
 use Rattle.std.proofs.lemmas.List.{append_assoc, append-nil, length-replicate}
 use Rattle.std.proofs.Math.Nat.{pow-suc}
+use Rattle.std.proofs.Math.Arith.{mod-mul}
 use Rattle.std.proofs.lemmas.Bool.Decides.{nat_tests}
 use Rattle.std.specs.Fmt.{digits, digits_onto, digit_glyph, char_count, padded_integral, format_spec}
 use Rattle.std.specs.Prelude.{if◌then◌else◌, ◌==◌}
@@ -85,3 +86,19 @@ hex_padded j n l small =
     ∙ ap (λ (m : ℕ). m + length ds) (length-replicate found.0 48) in
     let gap : suc j - length ds ≡ found.0 = omega arith in
     padded_is (suc j) ds ∙ ap (λ (m : ℕ). replicate m 48 ++ ds) gap ∙ sym e
+
+sixteens : (k : ℕ) → 0 < 16 ^ k
+sixteens zero = omega arith
+sixteens (suc k) = omega (arith, pow-suc 16 k, sixteens k)
+
+-- the last k digits are those of what is left below 16 ^ k
+pub hex_last : (k n m : ℕ) → m ≡ n % 16 ^ k → hex_digits k m ≡ hex_digits k n
+unfolding hex_digits
+hex_last zero n m e = refl
+hex_last (suc k) n m e =
+    let some : 0 < 16 ^ k = sixteens k in
+    let cut : n % (16 ^ k * 16) ≡ (n / 16 % 16 ^ k) * 16 + n % 16 = mod-mul n {m = 16 ^ k} {c = 16} some (omega arith) in
+    let same : m ≡ (n / 16 % 16 ^ k) * 16 + n % 16 = e ∙ ap (λ (p : ℕ). n % p) (pow-suc 16 k) ∙ cut in
+    let rest : m / 16 ≡ n / 16 % 16 ^ k = omega (arith, same) in
+    let last : m % 16 ≡ n % 16 = omega (arith, same) in
+    ap₂ (λ (l : List ℕ) (d : ℕ). l ++ digit d ∷ []) (hex_last k (n / 16) (m / 16) rest) last

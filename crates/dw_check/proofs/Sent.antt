@@ -2,7 +2,7 @@
 use Rattle.std.proofs.Common.{◌≡◌, ℕ, suc, ◌+◌, ◌<◌, ◌≤◌, List, [], ◌∷◌, ◌++◌, length, map, drop, get_or, ap, sym, ◌∙◌, subst, arith}
 use Rattle.std.proofs.Common.{length-append, drop-cons, add-one}
 use Rattle.std.specs.Prelude.{Option}
-use Rattle.std.specs.List.{All, Contains, flat_map}
+use Rattle.std.specs.List.{All, Contains, enumerate_from, flat_map}
 use Rattle.std.proofs.Math.Seq.{get_or-append_seam}
 use Rattle.std.proofs.lemmas.List.{append_assoc, append-nil, drop_all}
 use Rattle.std.proofs.lemmas.Grind.{flat_map-append}
@@ -71,3 +71,8 @@ next_seen view xs i x h e =
 -- none is to come
 pub none_seen : {X Y : Type 0} (view : X → Y) (xs : List X) (i : ℕ) → length xs ≤ i → map view (drop i xs) ≡ []
 none_seen view xs i h = ap (map view) (drop_all i xs h)
+
+-- the same of a thing with its number
+pub next_numbered : {X Y : Type 0} (view : X → Y) (xs : List X) (i : ℕ) (x : X) → i < length xs → x ≡ get_or xs i x
+    → enumerate_from i (map view (drop i xs)) ≡ (i, view x) ∷ enumerate_from (i + 1) (map view (drop (i + 1) xs))
+next_numbered view xs i x h e = ap (enumerate_from i) (next_seen view xs i x h e)

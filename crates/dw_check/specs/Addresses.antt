@@ -20,6 +20,10 @@ hex_of ds = number_of 16 16 ds
 abbrev pub at_most : ℕ → ℕ → Option ℕ
 at_most top n = if nat_le n top then Some n else None
 
+-- the number that 1 to 5 decimal digits spell, if it is at most 65535
+abbrev pub short_number : List ℕ → Option ℕ
+short_number digits = option_and_then (at_most 65535) (number_of 10 5 digits)
+
 -- the number that `0x` and hex digits spell, if it is at most another
 abbrev pub hex_up_to : ℕ → List ℕ → Option ℕ
 hex_up_to top text = if bytes_eq (take 2 text) (codes "0x") then option_and_then (at_most top) (hex_of (drop 2 text))

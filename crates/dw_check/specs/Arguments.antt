@@ -8,7 +8,7 @@ use Rattle.dw_bytes.specs.declared.target.Order.TheVariants.{Little, Big}
 use Rattle.dw_bytes.specs.declared.target.AddressSize.TheVariants.{Four, Eight}
 use Rattle.dw_stack.specs.declared.state.Kind.{Kind}
 use Rattle.dw_stack.specs.declared.state.Kind.TheVariants.{FrameCfa, FrameRegister, Location}
-use Rattle.dw_check.specs.Addresses.{address_of, offset_of}
+use Rattle.dw_check.specs.Addresses.{address_of, offset_of, short_number}
 
 -- a flag was given
 abbrev pub flag_of : Text → List Row → Bool
@@ -29,19 +29,18 @@ kind_of name =
     else (if bytes_eq name (codes "location") then Some Location
     else None))
 
--- What a word is: the name of a file with a section or an expression, or of a state file; an address of the target; an offset in a
--- section; or a kind of expressions.
+-- What a word is: the name of a file; an address of the target; an offset in a section; a kind of expressions; or how many frames are
+-- shown at most.
 pub data Word : Type 0 where
   file : Word
-  state_file : Word
   address : Word
   offset : Word
   kind : Word
+  limit : Word
 
--- the file, the address, the offset and the kind at the word of this name
+-- the file, the address, the offset, the kind and the limit at the word of this name
 abbrev pub file_at : List Row → Text × Word → Option Text
 file_at rows (name, file) = first_of name rows
-file_at rows (name, state_file) = first_of name rows
 file_at rows (name, _) = None
 
 abbrev pub address_at : Text → List Row → Option ℕ
@@ -53,10 +52,13 @@ offset_at name rows = option_and_then offset_of (first_of name rows)
 abbrev pub kind_at : Text → List Row → Option Kind
 kind_at name rows = option_and_then kind_of (first_of name rows)
 
+abbrev pub limit_at : Text → List Row → Option ℕ
+limit_at name rows = option_and_then short_number (first_of name rows)
+
 -- a word is there, and is none of those that its place takes
 abbrev pub IsBad : List Row → Text × Word → Type 0
 IsBad rows (name, file) = ⊥
-IsBad rows (name, state_file) = ⊥
 IsBad rows (name, address) = IsSomeAnd (first_of name rows) (λ text. address_of (target_of rows) text ≡ None)
 IsBad rows (name, offset) = IsSomeAnd (first_of name rows) (λ text. offset_of text ≡ None)
 IsBad rows (name, kind) = IsSomeAnd (first_of name rows) (λ text. kind_of text ≡ None)
+IsBad rows (name, limit) = IsSomeAnd (first_of name rows) (λ text. short_number text ≡ None)

@@ -1,4 +1,4 @@
--- Which callers have numbers below the modulus alone.
+-- Which callers and frames have numbers below the modulus alone.
 use Rattle.std.specs.Prelude.{ℕ, ◌<◌, All, IfSome}
 use Rattle.dw_check.specs.Caller.{Answer, value, Caller}
 use Rattle.dw_check.specs.Walks.{WalkedFrame}

@@ -1,9 +1,9 @@
 -- The command line: a table of commands, and the app in clap's words that it makes.
-use Rattle.std.specs.Prelude.{ℕ, Bool, true, false, List, [], ◌∷◌, Option, Some, None, option_map, codes}
+use Rattle.std.specs.Prelude.{ℕ, Bool, true, false, List, [], ◌∷◌, Option, Some, None, option_map, option_and_then, codes}
 use Rattle.clap.specs.declared.builder.ArgAction.TheVariants.{Set, SetTrue}
 use Rattle.clap.specs.Simple.{on_top}
 use Rattle.clap.specs.Words.{App, Row, Rule, Text, new_app, new_rule, with_rule, with_subcommand}
-use Rattle.dw_check.specs.Arguments.{Word, file, state_file, address, offset, kind, address_at, offset_at, kind_at}
+use Rattle.dw_check.specs.Arguments.{Word, file, address, offset, kind, limit, address_at, offset_at, kind_at, limit_at}
 use Rattle.dw_check.specs.declared.requests.ListLookup.{ListLookup}
 use Rattle.dw_check.specs.declared.requests.Task.{Task}
 use Rattle.dw_check.specs.declared.requests.Task.TheVariants as tasks
@@ -67,13 +67,26 @@ eval_command = record {
 abbrev pub unwind_command : Command
 unwind_command = record {
   name = codes "unwind";
-  words = (codes "FRAME", file) ∷ (codes "ADDRESS", address) ∷ (codes "STATE", state_file) ∷ [];
+  words = (codes "FRAME", file) ∷ (codes "ADDRESS", address) ∷ (codes "STATE", file) ∷ [];
   has_state = false;
   task = λ rows. option_map tasks.Unwind (address_at (codes "ADDRESS") rows);
 }
 
+-- what `backtrace` does: it walks up from an address, a number of frames at most
+abbrev pub backtrace_in : List Row → Option Task
+backtrace_in rows = option_and_then (λ a. option_map (tasks.Backtrace a) (limit_at (codes "LIMIT") rows))
+    (address_at (codes "ADDRESS") rows)
+
+abbrev pub backtrace_command : Command
+backtrace_command = record {
+  name = codes "backtrace";
+  words = (codes "FRAME", file) ∷ (codes "ADDRESS", address) ∷ (codes "STATE", file) ∷ (codes "LIMIT", limit) ∷ [];
+  has_state = false;
+  task = backtrace_in;
+}
+
 abbrev pub commands : List Command
-commands = check_command ∷ rows_command ∷ row_command ∷ locs_command ∷ eval_command ∷ unwind_command ∷ []
+commands = check_command ∷ rows_command ∷ row_command ∷ locs_command ∷ eval_command ∷ unwind_command ∷ backtrace_command ∷ []
 
 -- ---- in clap's words
 

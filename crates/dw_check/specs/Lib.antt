@@ -9,7 +9,7 @@ pub mod Headline
 pub mod Caller
 -- frames, one the caller of the other (6.4.1)
 pub mod Walks
--- which callers have numbers below 2^w alone
+-- which callers and frames have numbers below 2^w alone
 pub mod CallerFits
 -- the lines of sections and rows
 pub mod Text
@@ -17,6 +17,8 @@ pub mod Text
 pub mod Outcomes
 -- the text of a caller
 pub mod CallerText
+-- the text of a walk
+pub mod WalkText
 -- the names of faults
 pub mod Names
 -- numbers and addresses as text

@@ -28,7 +28,7 @@ use Rattle.dw_check.specs.declared.stop.RunFault.{RunFault}
 use Rattle.dw_check.specs.declared.stop.RunFault.TheVariants as stops
 use Rattle.dw_check.specs.declared.requests.ListLookup.{ListLookup}
 use Rattle.dw_check.specs.declared.requests.Task.{Task}
-use Rattle.dw_check.specs.declared.requests.Task.TheVariants.{Check, Rows, Row, Locs, Eval, Unwind}
+use Rattle.dw_check.specs.declared.requests.Task.TheVariants.{Check, Rows, Row, Locs, Eval, Unwind, Backtrace}
 use Rattle.dw_check.specs.declared.requests.End.{End}
 use Rattle.dw_check.specs.declared.requests.End.TheVariants.{Done, Refused, BadHex, StateLine, Memory, Output}
 
@@ -170,6 +170,8 @@ IsReplyTo (Row address) target hex files reply = IsRowsReply (Some address) targ
 IsReplyTo (Locs lookup) target hex files reply = IsLocsReply lookup target hex files reply
 IsReplyTo (Eval kind) target hex files reply = IsEvalReply kind target hex files reply
 IsReplyTo (Unwind address) target hex files reply = IsUnwindReply address target hex files reply
+-- stand-in: the walk's own reply comes here
+IsReplyTo (Backtrace address limit) target hex files reply = IsUnwindReply address target hex files reply
 
 -- The reply to a request with one content for each of its files.
 abbrev pub IsReply : Asked → List (List ℕ) → Reply → Type 0

@@ -2,7 +2,7 @@
 
 ghost use Rattle.std.specs.Prelude.{◌≡◌, ◌≤◌, ◌⊎◌, option_and_then};
 ghost use Rattle.dw_frame.specs.Sections.{top_of};
-ghost use Rattle.dw_check.specs.Addresses.{number_of, at_most, hex_up_to, address_of, offset_of};
+ghost use Rattle.dw_check.specs.Addresses.{number_of, at_most, short_number, hex_up_to, address_of, offset_of};
 
 use dw_bytes::Target;
 
@@ -33,6 +33,13 @@ fn number_within(number: Option<u64>, top: u64) -> Option<u64>
     ensures { result ≡ option_and_then (at_most top) number }
 {
     number.filter(|value| *value <= top)
+}
+
+/// The number that 1 to 5 decimal digits spell, if it is at most 65535.
+pub(crate) fn parse_short(digits: &[u8]) -> Option<u16>
+    ensures { result ≡ short_number digits.now }
+{
+    u16::try_from(parse_number(digits, 10, 5)?).ok()
 }
 
 /// The number that `0x` and 1 to 16 hex digits of either case spell, if it is at most another.

@@ -4,15 +4,17 @@ ghost use Rattle.std.specs.Prelude.{◌≡◌, ◌⊎◌, ◌∷◌, [], IfOk, I
 ghost use Rattle.std.specs.Option.{IsSomeAnd, option_to_list};
 ghost use Rattle.std.specs.String.{string_bytes};
 ghost use Rattle.clap.specs.Words.{found_of, rows_of, first_of, kind_of, subcommand_rows_of};
-ghost use Rattle.dw_check.specs.Arguments.{flag_of, target_of, kind_of as kind_named, address_at, offset_at, IsBad, address, offset, kind};
-ghost use Rattle.dw_check.specs.Commands.{check_command, rows_command, row_command, locs_command, eval_command, unwind_command, lookup_in};
+ghost use Rattle.dw_check.specs.Arguments.{flag_of, target_of, kind_of as kind_named, address_at, offset_at, limit_at};
+ghost use Rattle.dw_check.specs.Arguments.{IsBad, address, offset, kind, limit};
+ghost use Rattle.dw_check.specs.Commands.{check_command, rows_command, row_command, locs_command, eval_command, unwind_command};
+ghost use Rattle.dw_check.specs.Commands.{backtrace_command, backtrace_in, lookup_in};
 ghost use Rattle.dw_check.specs.Requests.{asked_of, asked_by, HasBad, HasBadWord, IsUsageOf, AsksFor};
 ghost use Rattle.dw_check.specs.declared.requests.Usage.TheVariants.{Memory, BadArgument};
 
-use crate::addresses::{parse_address, parse_offset};
+use crate::addresses::{parse_address, parse_offset, parse_short};
 use crate::command_line::{
-    ADDR4, ADDRESS, BASE, BIG, CHECK, EVAL, EXPR, FRAME, HEX, KIND, LIST, LISTS, LOCS, ROW, ROWS,
-    STATE, STATE_FILE, UNWIND, whole_command,
+    ADDR4, ADDRESS, BACKTRACE, BASE, BIG, CHECK, EVAL, EXPR, FRAME, HEX, KIND, LIMIT, LIST, LISTS,
+    LOCS, ROW, ROWS, STATE, STATE_FILE, UNWIND, whole_command,
 };
 use crate::requests::{ListLookup, Request, Task, Usage};
 use clap::error::ErrorKind;
@@ -286,6 +288,47 @@ fn unwind_request(alloc: Global, matches: &ArgMatches<'_>) -> Result<Request, Us
     request_over_both(alloc, matches, Task::Unwind { address }, frame, state)
 }
 
+/// How many frames a word says at most.
+fn limit_word(matches: &ArgMatches<'_>, name: &str) -> Result<u32, Usage>
+    ensures ok { IfOk result (λ n. limit_at name.now (rows_of (found_of matches.now)) ≡ Some n) }
+    ensures err { IfErr result (λ e. (e ≡ Memory)
+        ⊎ ((e ≡ BadArgument) × IsBad (rows_of (found_of matches.now)) (name.now, limit))) }
+{
+    let Some(text) = word_text(matches, name) else {
+        return Err(Usage::Memory);
+    };
+    match parse_short(text.as_bytes()) {
+        Some(limit) => Ok(u32::from(limit)),
+        None => Err(Usage::BadArgument),
+    }
+}
+
+/// What `backtrace` does.
+fn backtrace_task(matches: &ArgMatches<'_>) -> Result<Task, Usage>
+    ensures ok { IfOk result (λ task. backtrace_in (rows_of (found_of matches.now)) ≡ Some task) }
+    ensures err { IfErr result (λ e. (e ≡ Memory)
+        ⊎ ((e ≡ BadArgument) × HasBad (rows_of (found_of matches.now)) backtrace_command.words)) }
+{
+    let address = address_word(matches, ADDRESS)?;
+    let limit = limit_word(matches, LIMIT)?;
+    Ok(Task::Backtrace { address, limit })
+}
+
+/// What `backtrace` asks for.
+fn backtrace_request(alloc: Global, matches: &ArgMatches<'_>) -> Result<Request, Usage>
+    ensures ok { IfOk result (λ r. asked_of backtrace_command (rows_of (found_of matches.now))
+        ≡ Some r) }
+    ensures err { IfErr result (λ e. (e ≡ Memory)
+        ⊎ ((e ≡ BadArgument) × HasBad (rows_of (found_of matches.now)) backtrace_command.words)) }
+{
+    let (Some(frame), Some(state)) = (word_text(matches, FRAME), word_text(matches, STATE_FILE))
+    else {
+        return Err(Usage::Memory);
+    };
+    let task = backtrace_task(matches)?;
+    request_over_both(alloc, matches, task, frame, state)
+}
+
 /// The request of a subcommand. The arms that answer `Memory` without asking for any are never reached:
 /// clap takes no other subcommand, and none without its words.
 fn request_of(alloc: Global, name: &str, matches: &ArgMatches<'_>) -> Result<Request, Usage>
@@ -310,6 +353,9 @@ fn request_of(alloc: Global, name: &str, matches: &ArgMatches<'_>) -> Result<Req
     }
     if name == UNWIND {
         return unwind_request(alloc, matches);
+    }
+    if name == BACKTRACE {
+        return backtrace_request(alloc, matches);
     }
     Err(Usage::Memory)
 }

@@ -1,13 +1,10 @@
 //! The text of a caller.
 
-ghost use Rattle.std.specs.Prelude.{◌≡◌, ◌++◌, ◌^◌, false, All, IfSome, OnOk, map, option_copied, option_map};
+ghost use Rattle.std.specs.Prelude.{◌≡◌, ◌++◌, false, OnOk, map, option_copied, option_map};
 ghost use Rattle.std.specs.List.{flat_map};
 ghost use Rattle.std.specs.String.{string_bytes};
-ghost use Rattle.dw_eval.specs.Numbers.{width_of};
-ghost use Rattle.dw_check.specs.CallerFits.{AnswerFits, CallerFits};
 ghost use Rattle.dw_check.specs.CallerText.{answer_text, answer_line, found_line, caller_text};
 ghost use Rattle.dw_check.specs.CallerViews.{answer_in, found_in, caller_in};
-ghost use Rattle.dw_check.specs.Text.{digits_of};
 ghost use Rattle.dw_check.specs.WriteResults.{IsSame, WritesWhole, is_write};
 
 use crate::numbers::{push_address, push_decimal};
@@ -18,8 +15,12 @@ use crate::writer::{Writer, send};
 use dw_bytes::AddressSize;
 use std::alloc::AllocError;
 
-fn push_answer(line: &mut String, size: AddressSize, answer: Answer) -> Result<(), AllocError>
-    requires { AnswerFits (16 ^ digits_of size) (answer_in answer) }
+/// What is known of a number.
+pub(crate) fn push_answer(
+    line: &mut String,
+    size: AddressSize,
+    answer: Answer,
+) -> Result<(), AllocError>
     ensures { OnOk result (string_bytes line.new ≡ string_bytes line.old
         ++ answer_text size (answer_in answer)) }
 {
@@ -41,7 +42,6 @@ fn push_line(
     what: &str,
     answer: Answer,
 ) -> Result<(), AllocError>
-    requires { AnswerFits (16 ^ digits_of size) (answer_in answer) }
     ensures { OnOk result (string_bytes line.new ≡ string_bytes line.old
         ++ answer_line size what.now (answer_in answer)) }
 {
@@ -58,7 +58,6 @@ fn push_register(
     register: u16,
     answer: Answer,
 ) -> Result<(), AllocError>
-    requires { AnswerFits (16 ^ digits_of size) (answer_in answer) }
     ensures { OnOk result (string_bytes line.new ≡ string_bytes line.old
         ++ found_line size (register, answer_in answer)) }
 {
@@ -74,8 +73,6 @@ fn push_registers(
     size: AddressSize,
     registers: &[(u16, Answer)],
 ) -> Result<(), AllocError>
-    requires { All (λ found. AnswerFits (16 ^ digits_of size) found.1)
-        (map found_in registers.now) }
     ensures { OnOk result (string_bytes line.new ≡ string_bytes line.old
         ++ flat_map (found_line size) (map found_in registers.now)) }
 {
@@ -91,8 +88,6 @@ fn push_caller(
     size: AddressSize,
     caller: Option<&Caller>,
 ) -> Result<(), AllocError>
-    requires { IfSome (option_map caller_in (option_copied caller))
-        (CallerFits (16 ^ digits_of size)) }
     ensures { OnOk result (string_bytes line.new ≡ string_bytes line.old
         ++ caller_text size (option_map caller_in (option_copied caller.entry))) }
 {
@@ -111,9 +106,7 @@ pub(crate) fn write_caller<S: Sink>(
     out: &mut Writer<'_, S>,
     caller: Option<&Caller>,
 ) -> Result<(), ReportFault>
-    requires fits { IfSome (option_map caller_in (option_copied caller))
-        (CallerFits (2 ^ width_of out.old.size)) }
-    requires runs { S.has_stopped out.old.sink.now ≡ false }
+    requires { S.has_stopped out.old.sink.now ≡ false }
     ensures same { IsSame out.old out.new }
     ensures written { WritesWhole (S.taken out.old.sink.now) (S.taken out.new.sink.now) result
         (caller_text out.old.size (option_map caller_in (option_copied caller.entry))) }

@@ -3,10 +3,10 @@
 ghost use Rattle.std.specs.Prelude.{◌≡◌, ◌∷◌, [], IfOk, true, false, codes};
 ghost use Rattle.clap.specs.Words.{with_rule, with_subcommand, app_of, rule_of};
 ghost use Rattle.clap.specs.declared.builder.Command.TheViews.{out-Command as fields_of};
-ghost use Rattle.dw_check.specs.Arguments.{file, offset};
+ghost use Rattle.dw_check.specs.Arguments.{file, address, offset};
 ghost use Rattle.dw_check.specs.Commands.{flag_rule, option_rule, word_rule, with_flags, with_words, with_state, app_of_command};
 ghost use Rattle.dw_check.specs.Commands.{check_command, rows_command, row_command, locs_command, eval_command, unwind_command};
-ghost use Rattle.dw_check.specs.Commands.{with_commands, dwcheck};
+ghost use Rattle.dw_check.specs.Commands.{backtrace_command, with_commands, dwcheck};
 
 use clap::{Arg, ArgAction, Command};
 use std::alloc::{AllocError, Global};
@@ -24,6 +24,8 @@ pub(crate) const EVAL: &str = "eval";
 
 pub(crate) const UNWIND: &str = "unwind";
 
+pub(crate) const BACKTRACE: &str = "backtrace";
+
 pub(crate) const FRAME: &str = "FRAME";
 
 pub(crate) const ADDRESS: &str = "ADDRESS";
@@ -39,6 +41,8 @@ pub(crate) const KIND: &str = "KIND";
 pub(crate) const EXPR: &str = "EXPR";
 
 pub(crate) const STATE_FILE: &str = "STATE";
+
+pub(crate) const LIMIT: &str = "LIMIT";
 
 pub(crate) const STATE: &str = "state";
 
@@ -202,14 +206,13 @@ fn eval_command<'a>(alloc: Global) -> Result<Command<'a>, AllocError>
     with_state(alloc, command)
 }
 
-fn unwind_command<'a>(alloc: Global) -> Result<Command<'a>, AllocError>
-    ensures app { IfOk result (λ c. app_of c ≡ app_of_command unwind_command) }
+/// With the words that name a frame: the section that describes it, where it stands, and what the machine has there.
+fn with_machine<'a>(alloc: Global, command: Command<'a>) -> Result<Command<'a>, AllocError>
+    requires { (fields_of command).has_globals ≡ false }
+    ensures app { IfOk result (λ c. app_of c ≡ with_words (app_of command.entry)
+        ((codes "FRAME", file) ∷ (codes "ADDRESS", address) ∷ (codes "STATE", file) ∷ [])) }
     ensures local { IfOk result (λ c. (fields_of c).has_globals ≡ false) }
 {
-    let command = with_flags(
-        alloc,
-        Command::new(alloc, UNWIND).about("Show the caller of the frame at an address"),
-    )?;
     let command = with_word(alloc, command, FRAME, FRAME_HELP)?;
     let command = with_word(
         alloc,
@@ -218,6 +221,29 @@ fn unwind_command<'a>(alloc: Global) -> Result<Command<'a>, AllocError>
         "The address where the frame stands",
     )?;
     with_word(alloc, command, STATE_FILE, STATE_HELP)
+}
+
+fn unwind_command<'a>(alloc: Global) -> Result<Command<'a>, AllocError>
+    ensures app { IfOk result (λ c. app_of c ≡ app_of_command unwind_command) }
+    ensures local { IfOk result (λ c. (fields_of c).has_globals ≡ false) }
+{
+    let command = with_flags(
+        alloc,
+        Command::new(alloc, UNWIND).about("Show the caller of the frame at an address"),
+    )?;
+    with_machine(alloc, command)
+}
+
+fn backtrace_command<'a>(alloc: Global) -> Result<Command<'a>, AllocError>
+    ensures app { IfOk result (λ c. app_of c ≡ app_of_command backtrace_command) }
+    ensures local { IfOk result (λ c. (fields_of c).has_globals ≡ false) }
+{
+    let command = with_flags(
+        alloc,
+        Command::new(alloc, BACKTRACE).about("Show the frame at an address and those that called"),
+    )?;
+    let command = with_machine(alloc, command)?;
+    with_word(alloc, command, LIMIT, "The most frames, up to 65535")
 }
 
 /// With the commands that show frame sections.
@@ -232,16 +258,26 @@ fn with_frame_commands<'a>(alloc: Global, command: Command<'a>) -> Result<Comman
     with_command(command, row_command(alloc)?)
 }
 
-/// With the commands that take a state file.
-fn with_state_commands<'a>(alloc: Global, command: Command<'a>) -> Result<Command<'a>, AllocError>
+/// With the commands that evaluate expressions.
+fn with_evaluations<'a>(alloc: Global, command: Command<'a>) -> Result<Command<'a>, AllocError>
     requires { (fields_of command).has_globals ≡ false }
     ensures app { IfOk result (λ c. app_of c ≡ with_commands (app_of command.entry)
-        (locs_command ∷ eval_command ∷ unwind_command ∷ [])) }
+        (locs_command ∷ eval_command ∷ [])) }
     ensures local { IfOk result (λ c. (fields_of c).has_globals ≡ false) }
 {
     let command = with_command(command, locs_command(alloc)?)?;
-    let command = with_command(command, eval_command(alloc)?)?;
-    with_command(command, unwind_command(alloc)?)
+    with_command(command, eval_command(alloc)?)
+}
+
+/// With the commands that go from a frame to those that called.
+fn with_unwindings<'a>(alloc: Global, command: Command<'a>) -> Result<Command<'a>, AllocError>
+    requires { (fields_of command).has_globals ≡ false }
+    ensures app { IfOk result (λ c. app_of c ≡ with_commands (app_of command.entry)
+        (unwind_command ∷ backtrace_command ∷ [])) }
+    ensures local { IfOk result (λ c. (fields_of c).has_globals ≡ false) }
+{
+    let command = with_command(command, unwind_command(alloc)?)?;
+    with_command(command, backtrace_command(alloc)?)
 }
 
 /// The whole command line. One of its subcommands has to be named.
@@ -253,6 +289,7 @@ pub(crate) fn whole_command<'a>(alloc: Global) -> Result<Command<'a>, AllocError
         "Check DWARF 5 unwind tables and location lists, and evaluate expressions",
     );
     let command = with_frame_commands(alloc, command)?;
-    let command = with_state_commands(alloc, command)?;
+    let command = with_evaluations(alloc, command)?;
+    let command = with_unwindings(alloc, command)?;
     Ok(command.subcommand_required(true))
 }

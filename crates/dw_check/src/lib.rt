@@ -27,6 +27,7 @@ mod state_line;
 mod stop;
 mod unwinding;
 mod walk;
+mod walk_text;
 mod whole_check;
 mod writer;
 

@@ -28,18 +28,17 @@ fn push_long(line: &mut String, address: u64) -> Result<(), AllocError>
     write!(line, "0x{address:016x}")
 }
 
-/// An address.
+/// An address. Of a number that is none, as many of the last digits as an address has.
 pub(crate) fn push_address(
     line: &mut String,
     size: AddressSize,
     address: u64,
 ) -> Result<(), AllocError>
-    requires { address < 16 ^ digits_of size }
     ensures { OnOk result (string_bytes line.new ≡ string_bytes line.old
         ++ address_text size address) }
 {
     match size {
-        AddressSize::Four => push_short(line, address),
+        AddressSize::Four => push_short(line, address % (1 << 32)),
         AddressSize::Eight => push_long(line, address),
     }
 }

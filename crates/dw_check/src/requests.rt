@@ -38,6 +38,8 @@ pub enum Task {
     Eval { kind: Kind },
     /// The caller of the frame at an address.
     Unwind { address: u64 },
+    /// The frames from the one at an address on, each the caller of the one before it, as many as the limit at most.
+    Backtrace { address: u64, limit: u32 },
 }
 
 /// What a command line asks for.

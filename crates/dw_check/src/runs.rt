@@ -305,6 +305,8 @@ fn show<S: Sink>(
         Task::Locs { lookup } => show_locations(alloc, lookup, files, out),
         Task::Eval { kind } => show_outcome(alloc, kind, files, out),
         Task::Unwind { address } => show_caller(alloc, address, files, out),
+        // stand-in: the walk comes here
+        Task::Backtrace { address, .. } => show_caller(alloc, address, files, out),
     }
 }
 

@@ -16,6 +16,8 @@ mod reads_and_writes;
 #[cfg(test)]
 mod sections;
 #[cfg(test)]
+mod walks;
+#[cfg(test)]
 mod whole_checks;
 #[cfg(test)]
 mod words_and_sinks;

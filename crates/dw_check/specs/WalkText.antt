@@ -1,0 +1,38 @@
+-- The text of a walk: a line for each frame, counted from 0, and one that says why there are no more.
+use Rattle.std.specs.Prelude.{ℕ, List, ◌++◌, Option, Some, None, codes, decimal}
+use Rattle.std.specs.List.{flat_map, enumerate_from}
+use Rattle.dw_bytes.specs.declared.target.AddressSize.{AddressSize}
+use Rattle.dw_check.specs.Caller.{Caller}
+use Rattle.dw_check.specs.CallerText.{answer_text}
+use Rattle.dw_check.specs.Text.{address_text}
+use Rattle.dw_check.specs.Walks.{WalkedFrame}
+use Rattle.dw_check.specs.declared.frames.Stop.{Stop}
+use Rattle.dw_check.specs.declared.frames.Stop.TheVariants.{Limit, NotCovered, ReturnUndefined, ReturnUnreadable, ReturnDivisionByZero}
+
+-- the CFA of a caller, or that there is no caller
+abbrev pub cfa_text : AddressSize → Option Caller → List ℕ
+cfa_text size (Some caller) = codes "cfa " ++ answer_text size caller.cfa
+cfa_text size None = codes "none"
+
+-- a frame with its number
+unfoldable pub walked_line : AddressSize → ℕ × WalkedFrame → List ℕ
+walked_line size (n, frame) = codes "frame " ++ decimal n ++ codes " " ++ address_text size frame.address ++ codes " "
+    ++ cfa_text size frame.caller ++ codes "\n"
+
+-- why there are no more frames
+abbrev pub stop_text : Stop → List ℕ
+stop_text Limit = codes "limit"
+stop_text NotCovered = codes "not covered"
+stop_text ReturnUndefined = codes "return undefined"
+stop_text ReturnUnreadable = codes "return unreadable"
+stop_text ReturnDivisionByZero = codes "return division by zero"
+
+unfoldable pub last_line : Stop → List ℕ
+last_line stop = codes "stop " ++ stop_text stop ++ codes "\n"
+
+-- the lines of frames, the first of this number
+abbrev pub frames_text : AddressSize → ℕ → List WalkedFrame → List ℕ
+frames_text size n frames = flat_map (walked_line size) (enumerate_from n frames)
+
+unfoldable pub walk_text : AddressSize → List WalkedFrame → Stop → List ℕ
+walk_text size frames stop = frames_text size 0 frames ++ last_line stop
