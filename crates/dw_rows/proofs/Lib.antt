@@ -36,3 +36,5 @@ pub mod GivenRows
 mod GoodExpressions
 mod GoodRows
 mod JudgedInPlace
+mod Under
+mod AbiRules

@@ -15,6 +15,8 @@ pub mod Clauses
 pub mod Good
 -- whole sections (6.4.1): what is accepted, its first fault, the row of an address
 pub mod Section
+-- what an ABI says of registers without a rule (own; 6.4.1 leaves it to ABIs)
+pub mod Abi
 -- sections that are right (6.4.1)
 pub mod WellFormed
 -- rows with their expressions, as they are handed out (6.4.1)
@@ -42,6 +44,8 @@ pub mod ProgramState
 pub mod Judging
 -- expressions in order of offset
 pub mod ExpressionOrder
+-- the lowest entry of two tables of rules
+pub mod FirstEntry
 -- effects of the code
 pub mod EffectViews
 -- what the initial instructions of CIEs leave

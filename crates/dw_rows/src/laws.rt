@@ -4,7 +4,8 @@
 ghost use Rattle.std.specs.Prelude.{◌≡◌, ◌⊎◌, false, ℕ, ◌+◌, ◌<◌, ◌≤◌, ◌↔◌, List, length, Option, Some, None, slice_get, filter, [], ◌∷◌};
 ghost use Rattle.std.specs.Prelude.{Err, Contains};
 ghost use Rattle.dw_frame.specs.Records.{Cie, Fde};
-ghost use Rattle.dw_rows.specs.Rules.{PlacedRule, PlacedCfa, PlacedRow, Row, IsTable, rule_in, rule_list};
+ghost use Rattle.dw_rows.specs.Abi.{abi_rule, rules_under};
+ghost use Rattle.dw_rows.specs.Rules.{Rule, PlacedRule, PlacedCfa, PlacedRow, Row, IsTable, rule_in, rule_list};
 ghost use Rattle.dw_bytes.specs.declared.fault.FaultKind.{FaultKind};
 ghost use Rattle.dw_frame.specs.Instructions.{Instruction};
 ghost use Rattle.dw_rows.specs.Effects.{Effect, restores_state, effect_of, is_barred};
@@ -23,6 +24,7 @@ ghost use Rattle.dw_rows.specs.GoodRows.{HasGoodExpressions};
 ghost use Rattle.dw_rows.specs.ExactRows.{HasOneRow};
 ghost use Rattle.dw_rows.specs.Section.{Frame, Covers, rows_in, row_of, IsChecked, section_fault};
 ghost use Rattle.dw_rows.specs.WellFormed.{IsWellFormed};
+ghost use Rattle.dw_rows.specs.declared.abi.TheConstants.{MAX_KEPT};
 ghost use Rattle.dw_rows.specs.declared.map.TheConstants.{MAX_RULES};
 ghost use Rattle.dw_rows.specs.declared.remember_stack.TheConstants.{MAX_REMEMBERED};
 
@@ -84,6 +86,14 @@ pub fn rule_lists_are_rules()
     ensures table { (rules : ℕ → PlacedRule) → IsTable 0 (rule_list rules) }
 {}
 
+/// Under an ABI that says nothing a row has its own rules. Each register that an ABI names has the ABI's rule there, and no other has.
+pub fn rules_under_abis()
+    ensures none { (rules : List (ℕ × Rule)) → IsTable 0 rules → rules_under [] rules ≡ rules }
+    ensures named { (kept : List ℕ) (stack_pointer : Option ℕ) (r : ℕ) → r < 65536
+        → rule_in (rule_list (abi_rule kept stack_pointer)) r
+        ≡ abi_rule {E = LocatedExpression} kept stack_pointer r }
+{}
+
 /// A section has no fault exactly where it is well formed: a concatenation of records whose CIE_pointers point to CIEs,
 /// with good programs, and no address covered by two FDEs.
 pub fn sections_without_fault_are_well_formed()
@@ -134,9 +144,11 @@ pub fn matches_are_unique()
         → i ≡ k }
 {}
 
-/// At most so many registers of a row have a rule other than default, and at most so many rows are remembered at once.
+/// At most so many registers of a row have a rule other than default, an ABI keeps at most so many, and at most so many rows are
+/// remembered at once.
 pub fn limits()
     ensures rules { MAX_RULES ≡ 128 }
+    ensures kept { MAX_KEPT ≡ 127 }
     ensures remembered { MAX_REMEMBERED ≡ 16 }
 {}
 

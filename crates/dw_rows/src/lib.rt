@@ -1,6 +1,7 @@
 //! The rows of a checked `.debug_frame` section (DWARF 5, section 6.4).
 #![tactic(auto)]
 
+mod abi;
 mod check;
 mod effect;
 mod expressions;
@@ -21,6 +22,7 @@ mod section;
 mod unwind_context;
 mod unwind_state;
 
+pub use abi::{Abi, MAX_KEPT};
 pub use check::{check_cie, check_fde};
 pub use frame::{CheckedFrame, check_frame};
 pub use map::MAX_RULES;

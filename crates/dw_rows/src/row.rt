@@ -1,18 +1,22 @@
 //! Rows and their rules.
 
-ghost use Rattle.std.specs.Prelude.{◌≡◌, ◌≤◌, Some, All, [], length, pos};
-ghost use Rattle.dw_rows.specs.Rules.{CfaOver, IsTable, rule_in};
-ghost use Rattle.dw_rows.specs.Views.{rule_of, cfa_rule_of, kept_rule_of, kept_cfa_of};
+ghost use Rattle.std.specs.Prelude.{◌≡◌, ◌≤◌, ◌+◌, Some, All, [], length, pos, MatchOption};
+ghost use Rattle.dw_rows.specs.Abi.{or_rule, rule_under, rules_of_either, rules_under};
+ghost use Rattle.dw_rows.specs.FirstEntry.{IsLowest};
+ghost use Rattle.dw_rows.specs.Rules.{CfaOver, IsTable, RuleOver, rule_in};
+ghost use Rattle.dw_rows.specs.Views.{rule_of, cfa_rule_of, entry_of, entries_of, kept_rule_of, kept_cfa_of};
 ghost use Rattle.dw_rows.specs.Expressions.{expression_at};
 ghost use Rattle.dw_rows.specs.GivenRows.{row_with, rule_with, cfa_with, located_at, LendsRule, LendsCfa, LendsEach, IsRuleOfKind};
 ghost use Rattle.dw_rows.specs.GivenRows.{IsCfaOfKind, IsEntryOfKind};
 ghost use Rattle.dw_rows.specs.LentExpressions.{lent_by};
 ghost use Rattle.dw_stack.specs.Located.{LocatedExpression, located_of};
 
+use crate::abi::Abi;
 use crate::expressions::LentExpressions;
 use crate::kept_rule::{KeptCfa, KeptRule};
 use crate::map::{MAX_RULES, RegisterRuleMap, RuleEntry, rule_of_entry};
 use dw_stack::CheckedExpression;
+use std::cmp::Ordering;
 use std::marker::Model;
 
 /// What a register of the caller is (DWARF 5, section 6.4.1). An offset counts from the CFA.
@@ -230,17 +234,49 @@ impl<'f, 'a> UnwindTableRow<'f, 'a> {
         ensures few { length self.now.rules ≤ MAX_RULES }
         ensures kinds { All IsEntryOfKind self.now.rules }
     {
+        let entries = self.rules.as_slice();
+        RegisterRules {
+            entries,
+            others: &[],
+            expressions: self.expressions,
+        }
+    }
+
+    /// The rule of a register under an ABI, which is asked where the row gives it none: `Undefined` where that gives none either.
+    pub fn register_with(&self, abi: &Abi, number: u16) -> RegisterRule<'a>
+        ensures rule { rule_of result
+            ≡ or_rule (rule_under abi.now self.now.rules number) RuleOver.undefined }
+        ensures kind { IsRuleOfKind (rule_of result) }
+    {
+        match self.register(number) {
+            RegisterRule::Default => match abi.register(number) {
+                KeptRule::Default => RegisterRule::Undefined,
+                rule => given_rule(rule, &self.expressions),
+            },
+            rule => rule,
+        }
+    }
+
+    /// The rules under an ABI, which is asked where the row gives none, each with its register, in ascending order of registers: at
+    /// most twice `MAX_RULES`.
+    pub fn rules_with<'r>(&'r self, abi: &'r Abi) -> RegisterRules<'r, 'a>
+        ensures rules { result ≡ rules_under abi.now self.now.rules }
+        ensures few { length (rules_under abi.now self.now.rules) ≤ MAX_RULES + MAX_RULES }
+        ensures kinds { All IsEntryOfKind (rules_under abi.now self.now.rules) }
+    {
         RegisterRules {
             entries: self.rules.as_slice(),
+            others: abi.as_slice(),
             expressions: self.expressions,
         }
     }
 }
 
-/// Rules that are still to come, each with its register.
+/// Rules that are still to come, each with its register: those of entries, and of others for registers that have none there.
 #[derive(Debug, Drop)]
 pub struct RegisterRules<'f, 'a> {
     entries: &'f [RuleEntry],
+    others: &'f [RuleEntry],
     expressions: LentExpressions<'f, 'a>,
 }
 
@@ -253,10 +289,43 @@ impl<'f, 'a> Model for RegisterRules<'f, 'a> {
     ghost use Rattle.dw_rows.specs.Views.{entries_of};
     ghost use Rattle.dw_rows.specs.GivenRows.{rules_with, LendsEach};
     ghost use Rattle.dw_rows.specs.LentExpressions.{lent_by};
+    ghost use Rattle.dw_rows.specs.Abi.{rules_of_either};
+    ghost use Rattle.dw_rows.specs.Rules.{IsTable};
 
-    ghost view = { λ r. rules_with (lent_by r.expressions) (entries_of r.entries.now) };
+    ghost view = { λ r. rules_with (lent_by r.expressions)
+        (rules_of_either (entries_of r.entries.now) (entries_of r.others.now)) };
 
-    ghost invariant = { λ r. LendsEach (lent_by r.expressions) (entries_of r.entries.now) };
+    ghost invariant = { λ r. IsTable 0 (entries_of r.entries.now) × IsTable 0 (entries_of r.others.now)
+        × LendsEach (lent_by r.expressions) (entries_of r.entries.now)
+        × LendsEach (lent_by r.expressions) (entries_of r.others.now) };
+}
+
+/// The entry of the lowest register, and what is left of both tables. Where both have the register, the entry is the first's.
+fn lowest<'f>(
+    entries: &'f [RuleEntry],
+    others: &'f [RuleEntry],
+) -> Option<(RuleEntry, &'f [RuleEntry], &'f [RuleEntry])>
+    requires entries { IsTable 0 (entries_of entries.now) }
+    requires others { IsTable 0 (entries_of others.now) }
+    ensures { MatchOption result
+        (rules_of_either (entries_of entries.now) (entries_of others.now) ≡ [])
+        (λ (entry, left, left_others). IsLowest (entries_of entries.now) (entries_of others.now)
+        (entry_of entry) (entries_of left.now) (entries_of left_others.now)) }
+{
+    match entries {
+        [] => match others {
+            [] => None,
+            [other, left @ ..] => Some((*other, entries, left)),
+        },
+        [entry, left @ ..] => match others {
+            [] => Some((*entry, left, others)),
+            [other, left_others @ ..] => Some(match entry.register.cmp(&other.register) {
+                Ordering::Less => (*entry, left, others),
+                Ordering::Equal => (*entry, left, left_others),
+                Ordering::Greater => (*other, entries, left_others),
+            }),
+        },
+    }
 }
 
 impl<'f, 'a> Iterator for RegisterRules<'f, 'a> {
@@ -270,13 +339,10 @@ impl<'f, 'a> Iterator for RegisterRules<'f, 'a> {
     ghost remaining = { item_count (λ r. r) };
 
     fn next(&mut self) -> Option<(u16, RegisterRule<'a>)> {
-        match self.entries {
-            [] => None,
-            [entry, rest @ ..] => {
-                let rule = given_rule(rule_of_entry(entry), &self.expressions);
-                self.entries = rest;
-                Some((entry.register, rule))
-            }
-        }
+        let (entry, entries, others) = lowest(self.entries, self.others)?;
+        self.entries = entries;
+        self.others = others;
+        let rule = given_rule(rule_of_entry(&entry), &self.expressions);
+        Some((entry.register, rule))
     }
 }

@@ -1,0 +1,56 @@
+-- What an ABI says of registers. DWARF 5, section 6.4.1, leaves it to the ABI what a register is that no instruction gives a rule; what
+-- can be said of it here is the profile's own.
+use Rattle.std.specs.Prelude.{ℕ, Bool, pos, nat_lt, if◌then◌else◌, List, [], ◌∷◌, ◌++◌, length, ◌==◌, Option, Some, None, option_map}
+use Rattle.std.specs.List.{list_any}
+use Rattle.std.specs.Option.{option_to_list}
+use Rattle.dw_bytes.specs.declared.fault.Fault.{Fault}
+use Rattle.dw_bytes.specs.declared.fault.FaultKind.TheVariants.{AbiTooLarge, AbiTwice}
+use Rattle.dw_rows.specs.Rules.{RuleOver, Rule, default, same_value, val_offset, rule_in, rule_list}
+use Rattle.dw_rows.specs.declared.abi.TheConstants.{MAX_KEPT}
+
+-- The rules that it gives, by ascending registers. Each holds where a row gives its register none.
+abbrev pub Abi : Type 0
+Abi = List (ℕ × Rule)
+
+abbrev pub is_among : ℕ → List ℕ → Bool
+is_among r registers = list_any (λ n. n == r) registers
+
+-- That of a register: the stack pointer was where the CFA is, and what calls keep is what it is now.
+abbrev pub abi_rule : {E : Type 0} → List ℕ → Option ℕ → ℕ → RuleOver E
+abi_rule kept stack_pointer r =
+    if is_among r (option_to_list stack_pointer) then val_offset (pos 0)
+    else (if is_among r kept then same_value else default)
+
+-- ---- a row's rules under an ABI
+
+-- a rule, or another in the place of default
+abbrev pub or_rule : {E : Type 0} → RuleOver E → RuleOver E → RuleOver E
+or_rule default other = other
+or_rule rule other = rule
+
+abbrev pub rule_of_either : {E : Type 0} → List (ℕ × RuleOver E) → List (ℕ × RuleOver E) → ℕ → RuleOver E
+rule_of_either rules others r = or_rule (rule_in rules r) (rule_in others r)
+
+-- those other than default, by ascending registers
+abbrev pub rules_of_either : {E : Type 0} → List (ℕ × RuleOver E) → List (ℕ × RuleOver E) → List (ℕ × RuleOver E)
+rules_of_either rules others = rule_list (rule_of_either rules others)
+
+-- the rule of a register, by the row's rules and else the ABI's
+abbrev pub rule_under : Abi → List (ℕ × Rule) → ℕ → Rule
+rule_under abi rules = rule_of_either rules abi
+
+abbrev pub rules_under : Abi → List (ℕ × Rule) → List (ℕ × Rule)
+rules_under abi rules = rules_of_either rules abi
+
+-- ---- the first fault
+
+-- the place of the first number that stood before, behind those of `before`
+abbrev pub place_of_second : List ℕ → List ℕ → Option ℕ
+place_of_second before [] = None
+place_of_second before (n ∷ rest) = if is_among n before then Some (length before) else place_of_second (before ++ n ∷ []) rest
+
+-- Numbers past the limit are refused first; then a number that stood before, where the stack pointer stands behind all that are kept.
+abbrev pub abi_fault : List ℕ → Option ℕ → Option Fault
+abi_fault kept stack_pointer =
+    if nat_lt MAX_KEPT (length kept) then Some (record { kind = AbiTooLarge; at = MAX_KEPT })
+    else option_map (λ at. record { kind = AbiTwice; at = at }) (place_of_second [] (kept ++ option_to_list stack_pointer))

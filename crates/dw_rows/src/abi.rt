@@ -1,0 +1,125 @@
+//! What an ABI says of registers to which a row gives no rule.
+
+ghost use Rattle.std.specs.Prelude.{◌≡◌, ◌≢◌, ◌<◌, ◌+◌, ◌≤◌, None, Some, [], length, MatchResult};
+ghost use Rattle.std.specs.Bool.{OnTrue, OnFalse};
+ghost use Rattle.dw_rows.specs.Abi.{abi_rule, abi_fault};
+ghost use Rattle.dw_rows.specs.Rules.{RuleOver, IsTable, rule_in, rule_list, changed_at};
+ghost use Rattle.dw_rows.specs.GivenRows.{rule_with, rules_with, LendsRule, LendsEach};
+ghost use Rattle.dw_rows.specs.Views.{kept_rule_of, entries_of};
+
+use crate::kept_rule::KeptRule;
+use crate::map::{MAX_RULES, RegisterRuleMap, RuleEntry};
+use dw_bytes::{Fault, FaultKind};
+use std::marker::Model;
+
+/// At most this many registers are kept by calls. With the stack pointer they fit a table of rules.
+pub const MAX_KEPT: usize = MAX_RULES - 1;
+
+/// What an ABI says of registers that no instruction has given a rule: which ones calls keep, and which one is the stack pointer.
+/// DWARF 5, section 6.4.1, leaves that to the ABI.
+#[derive(Debug, Drop)]
+pub struct Abi {
+    rules: RegisterRuleMap,
+}
+
+impl Model for Abi {
+    ghost use Rattle.dw_rows.specs.Abi as abi;
+
+    ghost Value = { abi.Abi };
+
+    ghost use Rattle.std.specs.Prelude.{[]};
+    ghost use Rattle.dw_rows.specs.GivenRows.{rules_with, LendsEach};
+
+    ghost view = { λ abi. rules_with [] abi.rules };
+
+    ghost invariant = { λ abi. LendsEach [] abi.rules };
+}
+
+/// Gives a register its rule, unless it has one.
+fn add(rules: &mut RegisterRuleMap, number: u16, rule: KeptRule) -> bool
+    requires table { IsTable 0 rules.old }
+    requires room { length rules.old < MAX_RULES }
+    requires rule { kept_rule_of rule ≢ RuleOver.default }
+    ensures added { OnTrue result ((rule_in rules.old number ≡ RuleOver.default)
+        × (rules.new ≡ rule_list (changed_at (rule_in rules.old) number (kept_rule_of rule)))
+        × (length rules.new ≤ length rules.old + 1)) }
+    ensures twice { OnFalse result (rule_in rules.old number ≢ RuleOver.default) }
+{
+    match rules.register(number) {
+        KeptRule::Default => match rules.set(number, rule) {
+            Ok(()) => true,
+            Err(_) => unreachable!(),
+        },
+        _ => false,
+    }
+}
+
+impl Abi {
+    /// An ABI that says nothing: every register without a rule is undefined.
+    pub fn none() -> Abi
+        ensures { result ≡ [] }
+    {
+        Abi {
+            rules: RegisterRuleMap::new(),
+        }
+    }
+
+    /// An ABI whose calls keep these registers, and with this stack pointer, which the caller had where the CFA is. More than
+    /// `MAX_KEPT` numbers are refused with `AbiTooLarge` at that place; else a number that stands a second time with `AbiTwice` at
+    /// its place, which for the stack pointer is behind all that are kept.
+    pub fn new(kept: &[u16], stack_pointer: Option<u16>) -> Result<Abi, Fault>
+        ensures { MatchResult result
+            (λ abi. (abi_fault kept.now stack_pointer ≡ None)
+            × (abi ≡ rule_list (abi_rule kept.now stack_pointer)))
+            (λ fault. abi_fault kept.now stack_pointer ≡ Some fault) }
+    {
+        if kept.len() > MAX_KEPT {
+            return Err(Fault {
+                kind: FaultKind::AbiTooLarge,
+                at: MAX_KEPT as u32,
+            });
+        }
+        let mut rules = RegisterRuleMap::new();
+        for (place, number) in kept.iter().enumerate() {
+            if !add(&mut rules, *number, KeptRule::SameValue) {
+                return Err(twice_at(place));
+            }
+        }
+        let Some(number) = stack_pointer else {
+            return Ok(Abi { rules });
+        };
+        if !add(&mut rules, number, KeptRule::ValOffset(0)) {
+            return Err(twice_at(kept.len()));
+        }
+        Ok(Abi { rules })
+    }
+
+    /// The rule that it gives a register, `Default` where it doesn't name it.
+    pub(crate) fn register(&self, number: u16) -> KeptRule
+        ensures rule { rule_with [] (kept_rule_of result) ≡ rule_in self.now number }
+        ensures plain { LendsRule [] (kept_rule_of result) }
+    {
+        self.rules.register(number)
+    }
+
+    /// The entries of its rules, by ascending registers.
+    pub(crate) fn as_slice(&self) -> &[RuleEntry]
+        ensures entries { rules_with [] (entries_of result.now) ≡ self.now }
+        ensures table { IsTable 0 (entries_of result.now) }
+        ensures plain { LendsEach [] (entries_of result.now) }
+        ensures few { length result.now ≤ MAX_RULES }
+    {
+        self.rules.as_slice()
+    }
+}
+
+/// A register that is named a second time at a place.
+fn twice_at(place: usize) -> Fault
+    requires { place ≤ MAX_KEPT }
+    ensures { result ≡ record { kind = FaultKind.AbiTwice; at = place } }
+{
+    Fault {
+        kind: FaultKind::AbiTwice,
+        at: place as u32,
+    }
+}
