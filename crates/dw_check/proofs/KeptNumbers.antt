@@ -1,11 +1,12 @@
 -- Numbers that calls keep, and one more.
-use Rattle.std.proofs.Common.{◌≡◌, ℕ, suc, ◌+◌, ◌<◌, ◌≤◌, ◌==◌, nat_eq, nat_le, Bool, true, false, not, ◌&&◌, ◌||◌, Option, Some, None, List, []}
+use Rattle.std.proofs.Common.{◌≡◌, ℕ, suc, ◌+◌, ◌<◌, ◌≤◌, ◌==◌, nat_eq, nat_lt, nat_le, Bool, true, false, not, ◌&&◌, ◌||◌, Option, Some, None, List, []}
 use Rattle.std.proofs.Common.{◌∷◌, ◌++◌, length, IsTrue, ap, refl, sym, ◌∙◌, arith, append_assoc, length-append}
 use Rattle.std.specs.Option.{option_to_list, option_eq}
 use Rattle.std.proofs.lemmas.Bool.Decides.{nat_tests}
 use Rattle.std.proofs.lemmas.List.Folds.{list_any-append}
-use Rattle.dw_check.specs.StateFile.{is_among, are_distinct, fit_together}
-use Rattle.dw_check.specs.declared.abi_registers.TheConstants.{MAX_KEPT}
+use Rattle.dw_check.specs.StateFile.{are_distinct, fit_together}
+use Rattle.dw_rows.specs.Abi.{is_among, place_of_second, abi_fault}
+use Rattle.dw_rows.specs.declared.abi.TheConstants.{MAX_KEPT}
 
 -- ---- tests
 
@@ -111,3 +112,28 @@ stack_pointer_fits kept n fit new = rw (few kept None fit, among_sp kept n false
 
 pub kept_stays : (kept : List ℕ) (n : ℕ) → is_among n kept ≡ true → fit_together kept (Some n) ≡ false
 kept_stays kept n there = rw (among_sp kept n true there, and_false (are_distinct (kept ++ []))) (and_false (nat_le (length kept) MAX_KEPT))
+
+-- ---- the ABI of numbers that fit
+
+not_left : (a b : Bool) → not (a || b) ≡ true → a ≡ false
+not_left true b h = cc
+not_left false b h = refl
+
+none_before : (before : List ℕ) (n : ℕ) (rest : List ℕ) → are_distinct (before ++ n ∷ rest) ≡ true → is_among n before ≡ false
+none_before before n rest h =
+    let there = is_among n (before ++ rest) in
+    let new : not there ≡ true = right_of (are_distinct (before ++ rest)) (not there) (sym (distinct_at before n rest) ∙ h) in
+    not_left (is_among n before) (is_among n rest) (ap not (sym (list_any-append (λ m. m == n) before rest)) ∙ new)
+
+none_twice : (before rest : List ℕ) → are_distinct (before ++ rest) ≡ true → place_of_second before rest ≡ None
+none_twice before [] h = refl
+none_twice before (n ∷ rest) h =
+    let same = ap are_distinct (append_assoc before (n ∷ []) rest) in
+    rw (none_before before n rest h) (none_twice (before ++ n ∷ []) rest (same ∙ h))
+
+few_enough : (n : ℕ) → nat_le n MAX_KEPT ≡ true → nat_lt MAX_KEPT n ≡ false
+few_enough n h = grind (arith, nat_tests, h)
+
+pub no_fault : (kept : List ℕ) (sp : Option ℕ) → fit_together kept sp ≡ true → abi_fault kept sp ≡ None
+no_fault kept sp fit =
+    rw (few_enough (length kept) (few kept sp fit), none_twice [] (kept ++ option_to_list sp) (apart kept sp fit)) refl

@@ -2,16 +2,17 @@
 use Rattle.std.specs.Prelude.{◌≡◌, ℕ, suc, ◌+◌, ◌-◌, ◌≤◌, ◌^◌, ◌==◌, nat_lt, nat_le, Bool, true, not, ◌&&◌, ◌||◌, if◌then◌else◌}
 use Rattle.std.specs.Prelude.{List, [], ◌∷◌, ◌++◌, length, take, find, fold, slice_get}
 use Rattle.std.specs.Prelude.{Option, Some, None, is_some, option_map, option_and_then, Result, Ok, Err, codes}
-use Rattle.std.specs.List.{filter_map, list_all, list_any, range_with_len}
+use Rattle.std.specs.List.{filter_map, list_all, range_with_len}
 use Rattle.std.specs.Option.{option_or, option_to_list}
 use Rattle.std.specs.Result.{result_ok}
 use Rattle.std.specs.Str.{bytes_eq}
 use Rattle.hex.specs.Hex.{decode_of}
 use Rattle.dw_bytes.specs.declared.target.Target.{Target}
 use Rattle.dw_frame.specs.Sections.{top_of}
+use Rattle.dw_rows.specs.Abi.{is_among}
+use Rattle.dw_rows.specs.declared.abi.TheConstants.{MAX_KEPT}
 use Rattle.dw_check.specs.Addresses.{number_of, at_most, address_of}
 use Rattle.dw_check.specs.Parts.{parts_of}
-use Rattle.dw_check.specs.declared.abi_registers.TheConstants.{MAX_KEPT}
 
 -- what a line gives: a register's content, the bytes at an address, the CFA, the frame base, the object's address, a register that
 -- calls keep, or the one that is the stack pointer
@@ -105,15 +106,12 @@ stack_pointer_in _ = None
 
 -- ---- what calls keep
 
-abbrev pub is_among : ℕ → List ℕ → Bool
-is_among n ns = list_any (λ m. m == n) ns
-
--- the numbers that are kept, and one more where a line gives one that isn't among them
+-- numbers that are kept, and one more where a line gives one that isn't among them
 abbrev pub kept_with : List ℕ → StateFact → List ℕ
 kept_with ns (keep n) = if is_among n ns then ns else ns ++ n ∷ []
 kept_with ns _ = ns
 
--- in the order of the lines, each number once
+-- those that lines give, in their order, each once
 abbrev pub kept_in : List StateFact → List ℕ
 kept_in gs = fold kept_with [] gs
 
@@ -122,7 +120,7 @@ abbrev pub are_distinct : List ℕ → Bool
 are_distinct [] = true
 are_distinct (n ∷ ns) = not (is_among n ns) && are_distinct ns
 
--- The numbers that are kept are few enough, and none of them is there twice or is the stack pointer.
+-- No more than `MAX_KEPT` numbers are kept, and none of them is there twice or is the stack pointer.
 abbrev pub fit_together : List ℕ → Option ℕ → Bool
 fit_together kept sp = nat_le (length kept) MAX_KEPT && are_distinct (kept ++ option_to_list sp)
 
@@ -136,11 +134,11 @@ facts_of_lines target lines = filter_map (fact_of_line target) lines
 abbrev pub is_line : Target → List ℕ → Bool
 is_line target line = length line == 0 || is_some (fact_of_line target line)
 
--- what they give of the ABI can be
+-- what they say of calls and of the stack pointer fits together
 abbrev pub go_together : List StateFact → Bool
 go_together gs = fit_together (kept_in gs) (first_that stack_pointer_in gs)
 
--- each is a line, and together they are good
+-- each is one, and what they give goes together
 abbrev pub are_good : Target → List (List ℕ) → Bool
 are_good target lines = list_all (is_line target) lines && go_together (facts_of_lines target lines)
 

@@ -1,14 +1,14 @@
 //! The registers that a state file names for the ABI.
 
-ghost use Rattle.std.specs.Prelude.{◌≡◌, [], None, Some, IsTrue, length};
-ghost use Rattle.std.specs.Bool.{OnTrue, OnFalse};
+ghost use Rattle.std.specs.Prelude.{◌≡◌, [], None, Some, IsTrue};
+ghost use Rattle.std.specs.Bool.{OnTrue};
 ghost use Rattle.std.specs.Option.{option_or};
+ghost use Rattle.dw_rows.specs.Abi.{abi_rule};
+ghost use Rattle.dw_rows.specs.Rules.{rule_list};
 ghost use Rattle.dw_check.specs.StateFile.{keep, kept_with, fit_together};
 
 use arrayvec::ArrayVec;
-
-/// At most this many registers are kept by calls.
-const MAX_KEPT: usize = 127;
+use dw_rows::{Abi, MAX_KEPT};
 
 /// The registers that calls keep, in the order in which they were named, and the stack pointer.
 #[derive(Drop)]
@@ -64,5 +64,15 @@ impl AbiRegisters {
         }
         self.stack_pointer = Some(number);
         true
+    }
+
+    /// The ABI that keeps these registers, and has this stack pointer.
+    pub fn abi(&self) -> Abi
+        ensures { result ≡ rule_list (abi_rule self.now.kept.items self.now.stack_pointer) }
+    {
+        match Abi::new(self.kept.as_slice(), self.stack_pointer) {
+            Ok(abi) => abi,
+            Err(_) => unreachable!(),
+        }
     }
 }

@@ -5,6 +5,8 @@ ghost use Rattle.std.specs.Bool.{OnTrue};
 ghost use Rattle.std.specs.Ordering.{nat_cmp};
 ghost use Rattle.std.specs.BTreeMap.{get, Updates, IsUnchanged};
 ghost use Rattle.std.specs.Option.{option_or};
+ghost use Rattle.dw_rows.specs.Abi.{abi_rule};
+ghost use Rattle.dw_rows.specs.Rules.{rule_list};
 ghost use Rattle.dw_check.specs.StateFile.{StateFact, FitsAddresses, IsGivenBy, byte_in};
 ghost use Rattle.dw_check.specs.StateFile.{facts_of_lines, is_line, go_together, facts_of_file};
 ghost use Rattle.dw_check.specs.Stops.{IsBadState};
@@ -17,6 +19,7 @@ use crate::stop::RunFault;
 use byteorder::{BigEndian, ByteOrder, LittleEndian};
 use dw_bytes::{Order, Target};
 use dw_eval::{Memory, Registers};
+use dw_rows::Abi;
 use std::alloc::{AllocError, Global};
 use std::collections::BTreeMap;
 
@@ -78,6 +81,14 @@ impl MachineState {
             object: None,
             abi_registers: AbiRegisters::new(),
         }
+    }
+
+    /// The ABI as far as it is known.
+    pub fn abi(&self) -> Abi
+        ensures { let known = known_state_of self.now
+            in result ≡ rule_list (abi_rule known.kept known.stack_pointer) }
+    {
+        self.abi_registers.abi()
     }
 
     /// Adds what a line gives, unless it can't stand beside what was given before, which stays.

@@ -1,7 +1,8 @@
 use Rattle.std.proofs.Common.{rules, arith, ◌≡◌, ◌<◌, ◌∙◌, sym, false, true, nat_eq, Some, length}
 use Rattle.std.specs.Option.{option_eq, option_to_list}
-use Rattle.dw_check.specs.StateFile.{is_among, fit_together}
-use Rattle.dw_check.specs.declared.abi_registers.TheConstants.{MAX_KEPT}
+use Rattle.dw_check.specs.StateFile.{fit_together}
+use Rattle.dw_rows.specs.Abi.{is_among}
+use Rattle.dw_rows.specs.declared.abi.TheConstants.{MAX_KEPT}
 use Rattle.dw_check.proofs.KeptNumbers.{one_more_fits, one_too_many, stack_pointer_stays, is_stack_pointer}
 use Rattle.dw_check.proofs.abi_registers.AbiRegisters.keep.Goals as goal
 use Rattle.dw_check.proofs.abi_registers.AbiRegisters.keep.Goals.{then-eq-via-then-eq, then-eq-via-else-eq+then-is_full}

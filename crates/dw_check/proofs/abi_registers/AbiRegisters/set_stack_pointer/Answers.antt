@@ -1,5 +1,6 @@
 use Rattle.std.proofs.Common.{rules, ◌≡◌, Some, None, false, true, refl}
-use Rattle.dw_check.specs.StateFile.{is_among, fit_together}
+use Rattle.dw_check.specs.StateFile.{fit_together}
+use Rattle.dw_rows.specs.Abi.{is_among}
 use Rattle.dw_check.proofs.KeptNumbers.{stack_pointer_fits, kept_stays}
 use Rattle.dw_check.proofs.abi_registers.AbiRegisters.set_stack_pointer.Goals as goal
 
