@@ -56,14 +56,14 @@ impl AbiRegisters {
             ≡ option_or self.old.stack_pointer (Some number)) }
         ensures stays { self.new.kept ≡ self.old.kept }
     {
-        if self.stack_pointer.is_some() {
-            return true;
+        match self.stack_pointer {
+            Some(_) => true,
+            None if self.kept.as_slice().contains(&number) => false,
+            None => {
+                self.stack_pointer = Some(number);
+                true
+            }
         }
-        if self.kept.as_slice().contains(&number) {
-            return false;
-        }
-        self.stack_pointer = Some(number);
-        true
     }
 
     /// The ABI that keeps these registers, and has this stack pointer.

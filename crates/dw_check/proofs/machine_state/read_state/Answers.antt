@@ -30,7 +30,7 @@ loop-line-preserved c =
     let gs = facts_of_lines target before in
     let goes : goes_behind target before line ≡ true = sym (c.in_ok-add_line.ensures.taken gs was.1) ∙ c.if-not-branch.false in
     let more : facts_of_lines target (before ++ line ∷ []) ≡ gs ++ facts_of_lines target (line ∷ []) =
-        filter_map-append (fact_of_line target) before (line ∷ []) in
+    filter_map-append (fact_of_line target) before (line ∷ []) in
     let given = rw c.if-not-branch.false at c.in_ok-add_line.ensures.given in
     record {
       count = omega (arith, long, c.loop-line.invariant.count);
@@ -48,5 +48,5 @@ returns-then-not-branch-clause-stop c =
     let steps : c.loop-line.line-iterator ≡ line ∷ c.next.new.self = c.in-Some.ensures.steps in
     let reads : Reading target text before n (line ∷ c.next.new.self) = subst (λ l. Reading target text before n l) steps was.2 in
     let stays : goes_behind target before line ≡ false =
-        sym (c.in_ok-add_line.ensures.taken (facts_of_lines target before) was.1) ∙ c.if-not-branch.true in
+    sym (c.in_ok-add_line.ensures.taken (facts_of_lines target before) was.1) ∙ c.if-not-branch.true in
     reads_bad target text before n line c.next.new.self reads stays

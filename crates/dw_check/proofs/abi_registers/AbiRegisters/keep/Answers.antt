@@ -14,12 +14,12 @@ returns-then-eq-clause-taken c =
     let n = c.args.number in
     let new : is_among n kept ≡ false = search rules in
     rw new (elim c.then-eq.branch [
-      then-eq-via-then-eq w ↦
-        let same : option_eq nat_eq sp (Some n) ≡ true = search (rules, w.if-eq.true) in
-        sym (stack_pointer_stays kept sp n (is_stack_pointer sp n ∙ same))
+      | then-eq-via-then-eq w ↦
+          let same : option_eq nat_eq sp (Some n) ≡ true = search (rules, w.if-eq.true) in
+          sym (stack_pointer_stays kept sp n (is_stack_pointer sp n ∙ same))
       | then-eq-via-else-eq+then-is_full w ↦
-        let full : length kept ≡ MAX_KEPT = search (rules, w.if-is_full.true) in
-        sym (one_too_many kept sp n full)
+          let full : length kept ≡ MAX_KEPT = search (rules, w.if-is_full.true) in
+          sym (one_too_many kept sp n full)
     ])
 
 pub invariant_of-self : goal.invariant_of-self
