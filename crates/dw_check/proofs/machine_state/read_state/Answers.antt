@@ -1,9 +1,8 @@
-use Rattle.std.proofs.Common.{rules, refl, arith, ap, ◌≡◌, ◌∷◌, ◌++◌, ◌+◌, [], length, subst, sym, ◌∙◌, true, false}
+use Rattle.std.proofs.Common.{rules, refl, arith, ap, ◌≡◌, ◌∷◌, ◌++◌, [], length, subst, sym, ◌∙◌, true, false}
 use Rattle.std.proofs.lemmas.List.Elements.{filter_map-append}
 use Rattle.dw_check.specs.Parts.{parts_of}
-use Rattle.dw_check.specs.StateFile.{fact_of_line, facts_of_lines, IsGivenBy}
-use Rattle.dw_check.specs.StateViews.{known_state_of}
-use Rattle.dw_check.proofs.StateLines.{Reading, few_parts, reads_line, reads_bad, reads_all, goes_behind}
+use Rattle.dw_check.specs.StateFile.{fact_of_line, facts_of_lines}
+use Rattle.dw_check.proofs.StateLines.{Reading, few_parts, reads_line, reads_bad, goes_behind}
 use Rattle.dw_check.proofs.machine_state.read_state.Goals as goal
 
 pub loop-line-init : goal.loop-line-init

@@ -1,5 +1,5 @@
 use Rattle.std.proofs.Common.{rules, arith, ◌≡◌, ◌<◌, ◌∙◌, sym, false, true, nat_eq, Some, length}
-use Rattle.std.specs.Option.{option_eq, option_to_list}
+use Rattle.std.specs.Option.{option_eq}
 use Rattle.dw_check.specs.StateFile.{fit_together}
 use Rattle.dw_rows.specs.Abi.{is_among}
 use Rattle.dw_rows.specs.declared.abi.TheConstants.{MAX_KEPT}
