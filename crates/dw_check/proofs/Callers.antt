@@ -6,7 +6,8 @@ use Rattle.std.proofs.lemmas.List.{append_assoc, map-append}
 use Rattle.std.proofs.lemmas.List.Elements.{recursion_from_All}
 use Rattle.dw_bytes.specs.declared.target.Target.{Target}
 use Rattle.dw_frame.specs.Records.{Cie, Fde}
-use Rattle.dw_rows.specs.Rules.{Rule, Cfa, Row, rule_in}
+use Rattle.dw_rows.specs.Abi.{Abi, or_rule, rule_under, rules_under}
+use Rattle.dw_rows.specs.Rules.{Rule, Cfa, Row, default, undefined, same_value, offset, val_offset, register, expression, val_expression}
 use Rattle.dw_rows.specs.Section.{Frame, IsCoverOf, cie_in, row_of}
 use Rattle.dw_stack.specs.declared.state.Kind.{Kind}
 use Rattle.dw_stack.specs.Located.{LocatedExpression}
@@ -66,31 +67,45 @@ as_kind e kind x answer is gives = subst (λ k. Gives e k x answer) is gives
 
 -- ---- the caller by the row of an address
 
--- It is what is said of the row's own rules, under the target of the section.
+-- a register without a rule is undefined
+by_default : (e : World) (cfa : Answer) (r : ℕ) (x : Rule) (answer : Answer) → IsRegister e cfa r (or_rule x undefined) answer
+    → IsRegister e cfa r x answer
+by_default e cfa r default answer h = h
+by_default e cfa r undefined answer h = h
+by_default e cfa r same_value answer h = h
+by_default e cfa r (offset n) answer h = h
+by_default e cfa r (val_offset n) answer h = h
+by_default e cfa r (register other) answer h = h
+by_default e cfa r (expression x) answer h = h
+by_default e cfa r (val_expression x) answer h = h
+
+-- It is what is said of the row's rules, under the target of the section.
 pub by_row : (registers memory : ℕ → Option ℕ) (target : Target) (frame given : Frame) (address : ℕ) (fde : Fde) (cie : Cie) (row : Row)
-    (rule : Cfa) (rules : List (ℕ × Rule)) (back : Rule) (cfa returned : Answer) (answers : List (ℕ × Answer)) → given ≡ frame
+    (rule : Cfa) (abi : Abi) (rules : List (ℕ × Rule)) (back : Rule) (cfa returned : Answer) (answers : List (ℕ × Answer)) → given ≡ frame
     → target ≡ given.target → IsCoverOf given.fdes address (Some fde) → cie_in given fde ≡ Some cie → row_of given address ≡ Some row
-    → row.cfa ≡ Some rule → IsCfa (machine target registers memory) (Some rule) cfa → rules ≡ row.rules
-    → AreRegisters (machine target registers memory) cfa rules answers → back ≡ rule_in row.rules cie.return_register
+    → row.cfa ≡ Some rule → IsCfa (machine target registers memory) (Some rule) cfa → rules ≡ rules_under abi row.rules
+    → AreRegisters (machine target registers memory) cfa rules answers
+    → back ≡ or_rule (rule_under abi row.rules cie.return_register) undefined
     → IsRegister (machine target registers memory) cfa cie.return_register back returned
-    → IsCallerAt (machine frame.target registers memory) frame address
+    → IsCallerAt (machine frame.target registers memory) abi frame address
     (record { cfa = cfa; registers = answers; return_address = returned })
-by_row registers memory target frame given address fde cie row rule rules back cfa returned answers same of_target covers points found
+by_row registers memory target frame given address fde cie row rule abi rules back cfa returned answers same of_target covers points found
     cfa_is has_cfa rules_are has_registers back_is returns =
     let e = machine target registers memory in
     let caller : Caller = record { cfa = cfa; registers = answers; return_address = returned } in
-    let by_rules : IsCaller e cie.return_register row caller = record {
+    let by_rules : IsCaller e abi cie.return_register row caller = record {
       cfa = subst (λ c. IsCfa e c cfa) (sym cfa_is) has_cfa;
       registers = subst (λ rs. AreRegisters e cfa rs answers) rules_are has_registers;
-      return_address = subst (λ b. IsRegister e cfa cie.return_register b returned) back_is returns;
+      return_address = by_default e cfa cie.return_register (rule_under abi row.rules cie.return_register) returned
+          (subst (λ b. IsRegister e cfa cie.return_register b returned) back_is returns);
     } in
-    let here : IsCallerAt (machine given.target registers memory) given address caller = record {
+    let here : IsCallerAt (machine given.target registers memory) abi given address caller = record {
       fde = fde;
       covers = covers;
       cie = cie;
       cie_is = points;
       row = row;
       row_is = found;
-      is = subst (λ t. IsCaller (machine t registers memory) cie.return_register row caller) of_target by_rules;
+      is = subst (λ t. IsCaller (machine t registers memory) abi cie.return_register row caller) of_target by_rules;
     } in
-    subst (λ f. IsCallerAt (machine f.target registers memory) f address caller) same here
+    subst (λ f. IsCallerAt (machine f.target registers memory) abi f address caller) same here

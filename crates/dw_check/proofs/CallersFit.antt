@@ -3,7 +3,7 @@ use Rattle.std.proofs.Common.{◌≡◌, ℕ, zero, suc, pos, negsuc, ◌+◌, �
 use Rattle.std.proofs.Common.{[], ◌∷◌, length, map, All, IfSome, Contains, refl, sym, subst, arith, inl, inr}
 use Rattle.std.specs.Prelude.{ℤ, Option, Some, None, find, nat_le, option_map}
 use Rattle.std.specs.List.{AllByRecursion}
-use Rattle.std.proofs.lemmas.List.Elements.{All-from_recursion}
+use Rattle.std.proofs.lemmas.List.Elements.{All-from_recursion, recursion_from_All}
 use Rattle.std.proofs.lemmas.Nat.{pow_pos, mod_below}
 use Rattle.std.proofs.lemmas.Option.{option_and_then_some}
 use Rattle.dw_bytes.specs.declared.target.Target.{Target}
@@ -17,6 +17,7 @@ use Rattle.dw_stack.specs.Located.{LocatedExpression}
 use Rattle.dw_stack.specs.Machine.{Configuration, entry, EvaluationError, Unreadable, DivisionByZero, GivesResult, LocationDescription}
 use Rattle.dw_stack.specs.Machine.{Piece, Run}
 use Rattle.dw_stack.specs.Paths.{Placed}
+use Rattle.dw_rows.specs.Abi.{Abi, Role, unnamed, kept, stack_pointer, rule_of_role, or_rule, rule_under, rules_under}
 use Rattle.dw_rows.specs.Expressions.{expression_at}
 use Rattle.dw_rows.specs.GivenRows.{nowhere, or_nowhere, located_at, rule_with, cfa_with, rules_with, row_with}
 use Rattle.dw_rows.specs.Rules.{PlacedRule, PlacedCfa, PlacedRow, Rule, Cfa, Row, RuleOver, register_and_offset, cfa_expression, rule_in}
@@ -128,6 +129,23 @@ one_within : (size : AddressSize) (rules : List (ℕ × Rule)) (r : ℕ) → Rul
 one_within size [] r h = tt
 one_within size (entry ∷ rules) r h = if_within size (entry.0 == r) _ _ h.0 (one_within size rules r h.1)
 
+or_within : (size : AddressSize) (x : Rule) (role : Role) → RuleWithin size x → RuleWithin size (or_rule x (rule_of_role role))
+or_within size default unnamed h = tt
+or_within size default kept h = tt
+or_within size default stack_pointer h = tt
+or_within size RuleOver.undefined role h = h
+or_within size same_value role h = h
+or_within size (offset n) role h = h
+or_within size (val_offset n) role h = h
+or_within size (register r) role h = h
+or_within size (expression x) role h = h
+or_within size (val_expression x) role h = h
+
+-- the rule of a register under an ABI, and all of them
+one_under : (size : AddressSize) (abi : Abi) (rules : List (ℕ × Rule)) (r : ℕ) → RulesWithin size rules
+    → RuleWithin size (rule_under abi rules r)
+one_under size abi rules r h = or_within size (rule_in rules r) (abi r) (one_within size rules r h)
+
 -- ---- the row of an address is made of a placed one
 
 found_among : (es : List LocatedExpression) (test : Row → Bool) (rows : List PlacedRow) (row : Row)
@@ -173,7 +191,8 @@ more_fits m k undefined more h = tt
 more_fits m k unreadable more h = tt
 more_fits m k division_by_zero more h = tt
 
-module _ (numbers : (e : World) (kind : Kind) (ops : List Placed) (len n : ℕ) (s : List ℕ) (c : Configuration)
+module _ (each : (abi : Abi) (rules : List (ℕ × Rule)) → All (λ entry. entry.1 ≡ rule_under abi rules entry.0) (rules_under abi rules))
+    (numbers : (e : World) (kind : Kind) (ops : List Placed) (len n : ℕ) (s : List ℕ) (c : Configuration)
     → first_stack e kind ≡ Some s → Run (meaning_of e) ops len n (started s) c → NumbersFit (2 ^ width e) c) where
   run_fits : (e : World) (kind : Kind) (ops : List Placed) (len : ℕ) (o : Outcome) (n : ℕ) → IsRun e kind ops len o n
       → AnswerFits (2 ^ width e) (answer_of o)
@@ -233,14 +252,19 @@ module _ (numbers : (e : World) (kind : Kind) (ops : List Placed) (len n : ℕ) 
     registers_fit cfa (entry ∷ rules) (x ∷ found) within h =
         (register_fits cfa entry.0 entry.1 x.1 within.0 h.1, registers_fit cfa rules found within.1 h.2)
 
-    caller_fits : (back : ℕ) (row : Row) (c : Caller) → CfaWithin e.target.address_size row.cfa
-        → RulesWithin e.target.address_size row.rules → IsCaller e back row c → CallerFits m c
-    caller_fits back row c cfa rules is = record {
+    under_within : (abi : Abi) (rules : List (ℕ × Rule)) → RulesWithin e.target.address_size rules
+        → RulesWithin e.target.address_size (rules_under abi rules)
+    under_within abi rules within = recursion_from_All (λ (entry : ℕ × Rule). RuleWithin e.target.address_size entry.1) (rules_under abi rules)
+        (λ k d lt. subst (RuleWithin e.target.address_size) (sym (each abi rules k d lt)) (one_under e.target.address_size abi rules _ within))
+
+    caller_fits : (abi : Abi) (back : ℕ) (row : Row) (c : Caller) → CfaWithin e.target.address_size row.cfa
+        → RulesWithin e.target.address_size row.rules → IsCaller e abi back row c → CallerFits m c
+    caller_fits abi back row c cfa rules is = record {
       cfa = cfa_fits row.cfa c.cfa cfa is.cfa;
       registers = All-from_recursion (λ (x : ℕ × Answer). AnswerFits m x.1) c.registers
-          (registers_fit c.cfa row.rules c.registers rules is.registers);
-      return_address = register_fits c.cfa back (rule_in row.rules back) c.return_address
-          (one_within e.target.address_size row.rules back rules) is.return_address;
+          (registers_fit c.cfa (rules_under abi row.rules) c.registers (under_within abi row.rules rules) is.registers);
+      return_address = register_fits c.cfa back (rule_under abi row.rules back) c.return_address
+          (one_under e.target.address_size abi row.rules back rules) is.return_address;
     }
 
   -- ---- the caller at an address
@@ -251,10 +275,10 @@ module _ (numbers : (e : World) (kind : Kind) (ops : List Placed) (len n : ℕ) 
     each_within s checked x among n h =
         subst (λ (t : Target). n < 2 ^ width_of t.address_size) (good s checked x among).1 h
 
-    pub unwound_fits : (s : Frame) → IsChecked s → (registers memory : ℕ → Option ℕ) (address : ℕ) (c : Option Caller)
-        → Unwinds (machine s.target registers memory) s address c → IfSome c (CallerFits (2 ^ width_of s.target.address_size))
-    unwound_fits s checked registers memory address None h = tt
-    unwound_fits s checked registers memory address (Some c) h =
+    pub unwound_fits : (s : Frame) → IsChecked s → (registers memory : ℕ → Option ℕ) (abi : Abi) (address : ℕ) (c : Option Caller)
+        → Unwinds (machine s.target registers memory) abi s address c → IfSome c (CallerFits (2 ^ width_of s.target.address_size))
+    unwound_fits s checked registers memory abi address None h = tt
+    unwound_fits s checked registers memory abi address (Some c) h =
         let e = machine s.target registers memory in
         let size = s.target.address_size in
         let placed = row_is_with s address h.row h.row_is in
@@ -263,4 +287,4 @@ module _ (numbers : (e : World) (kind : Kind) (ops : List Placed) (len n : ℕ) 
         subst (λ (row : Row). CfaWithin size row.cfa) placed.1 (cfa_within size s.expressions each placed.0.cfa) in
         let rules : RulesWithin size h.row.rules =
         subst (λ (row : Row). RulesWithin size row.rules) placed.1 (rules_within size s.expressions each placed.0.rules) in
-        caller_fits e h.cie.return_register h.row c cfa rules h.is
+        caller_fits e abi h.cie.return_register h.row c cfa rules h.is

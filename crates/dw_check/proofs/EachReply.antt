@@ -19,6 +19,7 @@ use Rattle.dw_check.specs.Report.{IsReport}
 use Rattle.dw_loclists.specs.Reading.{ListSection, IsChecked}
 use Rattle.dw_rows.specs.Section.{Frame, frame_of}
 use Rattle.dw_eval.specs.World.{World}
+use Rattle.dw_rows.specs.Abi.{Abi, no_abi}
 use Rattle.dw_check.specs.Caller.{Caller, Unwinds}
 use Rattle.dw_check.specs.CallerText.{caller_text}
 use Rattle.dw_rows.specs.Section as rows
@@ -85,7 +86,7 @@ EachReport = (frame : Frame) (lists : ListSection) → rows.IsChecked frame → 
 
 -- and of unwindings
 abbrev EachUnwinding : Type 0
-EachUnwinding = (e : World) (frame : Frame) (address : ℕ) → rows.IsChecked frame → (c : Option Caller) × Unwinds e frame address c
+EachUnwinding = (e : World) (abi : Abi) (frame : Frame) (address : ℕ) → rows.IsChecked frame → (c : Option Caller) × Unwinds e abi frame address c
 
 module _ (report : EachReport) (unwinding : EachUnwinding) where
   each_check : (target : Target) (hex : Bool) (files : List (List ℕ)) → (r : Reply) × IsCheckReply target hex files r
@@ -99,7 +100,7 @@ module _ (report : EachReport) (unwinding : EachUnwinding) where
   each_shown : (gs : List StateFact) (address : ℕ) (frame : Frame) (lists : ListSection) → rows.IsChecked frame
       → (t : List ℕ) × ShowsCaller gs address frame lists t
   each_shown gs address frame lists checked =
-      let found = unwinding (machine_of frame.target gs) frame address checked in
+      let found = unwinding (machine_of frame.target gs) no_abi frame address checked in
       (caller_text frame.target.address_size found.0, (found.0, found.1, refl))
 
   each_unwind : (address : ℕ) (target : Target) (hex : Bool) (files : List (List ℕ))

@@ -33,3 +33,4 @@ pub mod StateLines
 pub mod Within
 pub mod WholeCheck
 pub mod Writing
+mod Walking

@@ -1,6 +1,7 @@
 -- There is one caller, by what is said of evaluations.
 use Rattle.std.proofs.Common.{◌≡◌, ℕ, ◌≤◌, ◌==◌, if◌then◌else◌, Bool, true, false, List, [], ◌∷◌, refl, ap, sym, subst, ◌∙◌}
-use Rattle.std.specs.Prelude.{Option, Some, None, IfSome}
+use Rattle.std.specs.Prelude.{Option, Some, None, IfSome, All}
+use Rattle.dw_rows.specs.Abi.{Abi, Role, unnamed, kept, stack_pointer, rule_of_role, or_rule, rule_under, rules_under}
 use Rattle.std.specs.List.{AllByRecursion}
 use Rattle.std.proofs.lemmas.List.Elements.{recursion_from_All}
 use Rattle.dw_bytes.specs.declared.target.Target.{Target}
@@ -35,6 +36,31 @@ rule_good es [] r good = tt
 rule_good es (entry ∷ rules) r good =
     if_good es (entry.0 == r) entry.1 (rule_in rules r) good.0 (rule_good es rules r good.1)
 
+-- ---- and so are those under an ABI, whose own name no expression
+
+or_good : (es : List LocatedExpression) (x : Rule) (role : Role) → IsGoodRule es x → IsGoodRule es (or_rule x (rule_of_role role))
+or_good es default unnamed good = tt
+or_good es default kept good = tt
+or_good es default stack_pointer good = tt
+or_good es RuleOver.undefined role good = good
+or_good es same_value role good = good
+or_good es (offset n) role good = good
+or_good es (val_offset n) role good = good
+or_good es (register r) role good = good
+or_good es (expression x) role good = good
+or_good es (val_expression x) role good = good
+
+rule_under_good : (es : List LocatedExpression) (abi : Abi) (rules : List (ℕ × Rule)) (r : ℕ) → AreGood es rules
+    → IsGoodRule es (rule_under abi rules r)
+rule_under_good es abi rules r good = or_good es (rule_in rules r) (abi r) (rule_good es rules r good)
+
+under_good : (es : List LocatedExpression)
+    → ((abi : Abi) (rules : List (ℕ × Rule)) → All (λ entry. entry.1 ≡ rule_under abi rules entry.0) (rules_under abi rules))
+    → (abi : Abi) (rules : List (ℕ × Rule)) → AreGood es rules → AreGood es (rules_under abi rules)
+under_good es each abi rules good =
+    recursion_from_All (IsGoodEntry es) (rules_under abi rules)
+    (λ k d lt. subst (IsGoodRule es) (sym (each abi rules k d lt)) (rule_under_good es abi rules _ good))
+
 -- a good one is good as one of its rule
 good_as : (es : List LocatedExpression) (kind : Kind) (x : LocatedExpression) → IsGoodAmong es kind x
     → IsGoodExpression kind x.target x.bytes
@@ -50,6 +76,7 @@ same_parts a b xs ys v w x y z = rw (x, y, z) refl
 -- ---- one
 
 module _ (es : List LocatedExpression)
+    (each : (abi : Abi) (rules : List (ℕ × Rule)) → All (λ entry. entry.1 ≡ rule_under abi rules entry.0) (rules_under abi rules))
     (only : (c : Checked) (e : World) (o p : Outcome) (n k : ℕ) → IsGoodExpression c.kind c.target c.bytes → IsEvaluation c e o n
     → IsEvaluation c e p k → (o ≡ p) × (n ≡ k)) where
   gives_one : (e : World) (x : LocatedExpression) (a b : Answer) (kind : Kind) → IsGoodAmong es kind x → Gives e kind x a
@@ -97,41 +124,44 @@ module _ (es : List LocatedExpression)
       let rest : xs ≡ ys = registers_one e cfa rules xs ys good.1 g.2 h.2 in
       rw (number, answer, rest) refl
 
-  caller_one : (e : World) (back : ℕ) (row : Row) (c d : Caller) → HasGoodExpressions es row → IsCaller e back row c
-      → IsCaller e back row d → c ≡ d
-  caller_one e back row c d good g h =
+  caller_one : (e : World) (abi : Abi) (back : ℕ) (row : Row) (c d : Caller) → HasGoodExpressions es row → IsCaller e abi back row c
+      → IsCaller e abi back row d → c ≡ d
+  caller_one e abi back row c d good g h =
       let cfa : c.cfa ≡ d.cfa = cfa_one e row.cfa c.cfa d.cfa good.cfa g.cfa h.cfa in
+      let rules = rules_under abi row.rules in
       let rules_good : AreGood es row.rules = recursion_from_All (IsGoodEntry es) row.rules good.rules in
-      let same = subst (λ a. AreRegisters e a row.rules c.registers) cfa g.registers in
-      let registers : c.registers ≡ d.registers = registers_one e d.cfa row.rules c.registers d.registers rules_good same h.registers in
-      let rule = rule_in row.rules back in
+      let all_good : AreGood es rules = under_good es each abi row.rules rules_good in
+      let same = subst (λ a. AreRegisters e a rules c.registers) cfa g.registers in
+      let registers : c.registers ≡ d.registers = registers_one e d.cfa rules c.registers d.registers all_good same h.registers in
+      let rule = rule_under abi row.rules back in
       let returned = subst (λ a. IsRegister e a back rule c.return_address) cfa g.return_address in
       let return_address : c.return_address ≡ d.return_address =
-      register_one e d.cfa back rule c.return_address d.return_address (rule_good es row.rules back rules_good)
+      register_one e d.cfa back rule c.return_address d.return_address (rule_under_good es abi row.rules back rules_good)
       returned h.return_address in
       same_parts _ _ _ _ _ _ cfa registers return_address
 
   some_one : {X : Type 0} (o : Option X) (x y : X) → o ≡ Some x → o ≡ Some y → x ≡ y
   some_one o x y g h = cc
 
-  pub unwinds_one : (e : World) (frame : Frame) (address : ℕ) (c d : Option Caller)
+  pub unwinds_one : (e : World) (abi : Abi) (frame : Frame) (address : ℕ) (c d : Option Caller)
       → ((row : Row) → row_of frame address ≡ Some row → HasGoodExpressions es row)
-      → Unwinds e frame address c → Unwinds e frame address d → c ≡ d
-  unwinds_one e frame address None None good g h = refl
-  unwinds_one e frame address None (Some d) good g h = absurd (g h.fde h.covers.0 h.covers.1)
-  unwinds_one e frame address (Some c) None good g h = absurd (h g.fde g.covers.0 g.covers.1)
-  unwinds_one e frame address (Some c) (Some d) good g h =
+      → Unwinds e abi frame address c → Unwinds e abi frame address d → c ≡ d
+  unwinds_one e abi frame address None None good g h = refl
+  unwinds_one e abi frame address None (Some d) good g h = absurd (g h.fde h.covers.0 h.covers.1)
+  unwinds_one e abi frame address (Some c) None good g h = absurd (h g.fde g.covers.0 g.covers.1)
+  unwinds_one e abi frame address (Some c) (Some d) good g h =
       let fde : g.fde ≡ h.fde = h.covers.2 g.fde g.covers.0 g.covers.1 in
       let here_too = subst (λ f. cie_in frame f ≡ Some g.cie) fde g.cie_is in
       let cie : g.cie ≡ h.cie = some_one (cie_in frame h.fde) g.cie h.cie here_too h.cie_is in
       let row : g.row ≡ h.row = some_one (row_of frame address) g.row h.row g.row_is h.row_is in
-      let moved_row = subst (λ r. IsCaller e g.cie.return_register r c) row g.is in
-      let here = subst (λ (x : Cie). IsCaller e x.return_register h.row c) cie moved_row in
-      ap (λ x. Some x) (caller_one e h.cie.return_register h.row c d (good h.row h.row_is) here h.is)
+      let moved_row = subst (λ r. IsCaller e abi g.cie.return_register r c) row g.is in
+      let here = subst (λ (x : Cie). IsCaller e abi x.return_register h.row c) cie moved_row in
+      ap (λ x. Some x) (caller_one e abi h.cie.return_register h.row c d (good h.row h.row_is) here h.is)
 
 -- ---- some
 
 module _ (es : List LocatedExpression)
+    (each : (abi : Abi) (rules : List (ℕ × Rule)) → All (λ entry. entry.1 ≡ rule_under abi rules entry.0) (rules_under abi rules))
     (deepest : (kind : Kind) (target : Target) (bytes : List ℕ) → IsGoodExpression kind target bytes
     → (d : ℕ) × IsDepthOf kind target bytes d)
     (has : (c : Checked) (e : World) → IsChecked c → (o : Outcome) × (n : ℕ) × IsEvaluation c e o n × (n ≤ c.count)) where
@@ -175,12 +205,13 @@ module _ (es : List LocatedExpression)
       let rest = registers_some e cfa rules good.1 in
       ((entry.0, first.0) ∷ rest.0, (refl, first.1, rest.1))
 
-  pub caller_some : (e : World) (back : ℕ) (row : Row) → HasGoodExpressions es row → (c : Caller) × IsCaller e back row c
-  caller_some e back row good =
+  pub caller_some : (e : World) (abi : Abi) (back : ℕ) (row : Row) → HasGoodExpressions es row
+      → (c : Caller) × IsCaller e abi back row c
+  caller_some e abi back row good =
       let cfa = cfa_some e row.cfa good.cfa in
       let rules_good : AreGood es row.rules = recursion_from_All (IsGoodEntry es) row.rules good.rules in
-      let registers = registers_some e cfa.0 row.rules rules_good in
-      let returned = register_some e cfa.0 back (rule_in row.rules back) (rule_good es row.rules back rules_good) in (
+      let registers = registers_some e cfa.0 (rules_under abi row.rules) (under_good es each abi row.rules rules_good) in
+      let returned = register_some e cfa.0 back (rule_under abi row.rules back) (rule_under_good es abi row.rules back rules_good) in (
         record { cfa = cfa.0; registers = registers.0; return_address = returned.0 },
         record { cfa = cfa.1; registers = registers.1; return_address = returned.1 },
       )

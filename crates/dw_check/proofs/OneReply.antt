@@ -18,6 +18,7 @@ use Rattle.dw_loclists.specs.Reading.{ListSection}
 use Rattle.dw_rows.specs.Section.{Frame, frame_of}
 use Rattle.dw_rows.specs.Section as rows
 use Rattle.dw_eval.specs.World.{World}
+use Rattle.dw_rows.specs.Abi.{Abi, no_abi}
 use Rattle.dw_check.specs.Caller.{Caller, Unwinds}
 use Rattle.dw_check.specs.CallerText.{caller_text}
 use Rattle.std.specs.Prelude.{slice_get, Bool}
@@ -91,8 +92,8 @@ OneReport = (frame : Frame) (lists : ListSection) (s t : List ℕ) → IsReport 
 
 -- and of callers
 abbrev OneCaller : Type 0
-OneCaller = (e : World) (frame : Frame) (address : ℕ) (c d : Option Caller) → rows.IsChecked frame → Unwinds e frame address c
-    → Unwinds e frame address d → c ≡ d
+OneCaller = (e : World) (abi : Abi) (frame : Frame) (address : ℕ) (c d : Option Caller) → rows.IsChecked frame
+    → Unwinds e abi frame address c → Unwinds e abi frame address d → c ≡ d
 
 module _ (report : OneReport) (caller : OneCaller) where
   one_check : (target : Target) (hex : Bool) (files : List (List ℕ)) (r s : Reply) → IsCheckReply target hex files r
@@ -108,7 +109,7 @@ module _ (report : OneReport) (caller : OneCaller) where
       → ShowsCaller gs address frame lists s → ShowsCaller gs address frame lists t → s ≡ t
   one_shown gs address frame lists checked s t (c, h, is) (d, k, same) =
       is
-      ∙ ap (caller_text frame.target.address_size) (caller (machine_of frame.target gs) frame address c d checked h k)
+      ∙ ap (caller_text frame.target.address_size) (caller (machine_of frame.target gs) no_abi frame address c d checked h k)
       ∙ sym same
 
   one_unwind : (address : ℕ) (target : Target) (hex : Bool) (files : List (List ℕ)) (r s : Reply)

@@ -3,8 +3,9 @@ use Rattle.std.specs.Prelude.{◌≡◌, ℕ, ◌+◌, ◌^◌, nat_le, ℤ, pos
 use Rattle.dw_bytes.specs.declared.target.Target.{Target}
 use Rattle.dw_bytes.specs.Encoding.{bytes_of_address}
 use Rattle.dw_frame.specs.Records.{Cie, Fde}
-use Rattle.dw_rows.specs.Rules.{Rule, Cfa, register_and_offset, cfa_expression, Row, RuleOver, rule_in, default, same_value, offset}
+use Rattle.dw_rows.specs.Rules.{Rule, Cfa, register_and_offset, cfa_expression, Row, RuleOver, default, same_value, offset}
 use Rattle.dw_rows.specs.Rules.{val_offset, register, expression, val_expression}
+use Rattle.dw_rows.specs.Abi.{Abi, rule_under, rules_under}
 use Rattle.dw_stack.specs.Located.{LocatedExpression}
 use Rattle.dw_stack.specs.declared.state.Kind.{Kind}
 use Rattle.dw_stack.specs.declared.state.Kind.TheVariants.{FrameCfa, FrameRegister}
@@ -113,29 +114,30 @@ AreRegisters e cfa _ _ = ⊥
 
 -- ---- the caller
 
--- Its CFA; each register that has a rule, by ascending numbers; and where it goes on.
+-- Its CFA; each register that has a rule, of the row or of the ABI, by ascending numbers; and where it goes on.
 pub record Caller : Type 0 where
   pub cfa : Answer
   pub registers : List (ℕ × Answer)
   pub return_address : Answer
 
--- The caller by a row, under registers and memory. The return address is what the register is that the CIE names for it.
-pub record IsCaller (e : World) (return_register : ℕ) (row : Row) (caller : Caller) : Type 0 where
+-- The caller by a row, under registers, memory and an ABI, whose rules hold where the row has none. The return address is what the
+-- register is that the CIE names for it.
+pub record IsCaller (e : World) (abi : Abi) (return_register : ℕ) (row : Row) (caller : Caller) : Type 0 where
   pub cfa : IsCfa e row.cfa caller.cfa
-  pub registers : AreRegisters e caller.cfa row.rules caller.registers
-  pub return_address : IsRegister e caller.cfa return_register (rule_in row.rules return_register) caller.return_address
+  pub registers : AreRegisters e caller.cfa (rules_under abi row.rules) caller.registers
+  pub return_address : IsRegister e caller.cfa return_register (rule_under abi row.rules return_register) caller.return_address
 
 -- The caller at an address: by the FDE that covers it, that one's CIE, and the row of the address.
-pub record IsCallerAt (e : World) (frame : Frame) (address : ℕ) (caller : Caller) : Type 0 where
+pub record IsCallerAt (e : World) (abi : Abi) (frame : Frame) (address : ℕ) (caller : Caller) : Type 0 where
   pub fde : Fde
   pub covers : IsCoverOf frame.fdes address (Some fde)
   pub cie : Cie
   pub cie_is : cie_in frame fde ≡ Some cie
   pub row : Row
   pub row_is : row_of frame address ≡ Some row
-  pub is : IsCaller e cie.return_register row caller
+  pub is : IsCaller e abi cie.return_register row caller
 
 -- The caller at an address, or that no FDE covers it.
-abbrev pub Unwinds : World → Frame → ℕ → Option Caller → Type 0
-Unwinds e frame address (Some caller) = IsCallerAt e frame address caller
-Unwinds e frame address None = (f : Fde) → Contains frame.fdes f → ¬ Covers f address
+abbrev pub Unwinds : World → Abi → Frame → ℕ → Option Caller → Type 0
+Unwinds e abi frame address (Some caller) = IsCallerAt e abi frame address caller
+Unwinds e abi frame address None = (f : Fde) → Contains frame.fdes f → ¬ Covers f address

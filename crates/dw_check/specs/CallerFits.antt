@@ -1,6 +1,7 @@
 -- Which callers have numbers below the modulus alone.
-use Rattle.std.specs.Prelude.{ℕ, ◌<◌, All}
+use Rattle.std.specs.Prelude.{ℕ, ◌<◌, All, IfSome}
 use Rattle.dw_check.specs.Caller.{Answer, value, Caller}
+use Rattle.dw_check.specs.Walks.{WalkedFrame}
 
 -- its number, if it is one, is below m
 abbrev pub AnswerFits : ℕ → Answer → Type 0
@@ -12,3 +13,8 @@ pub record CallerFits (m : ℕ) (caller : Caller) : Type 0 where
   pub cfa : AnswerFits m caller.cfa
   pub registers : All (λ found. AnswerFits m found.1) caller.registers
   pub return_address : AnswerFits m caller.return_address
+
+-- and those of a frame
+pub record FrameFits (m : ℕ) (frame : WalkedFrame) : Type 0 where
+  pub address : frame.address < m
+  pub caller : IfSome frame.caller (CallerFits m)

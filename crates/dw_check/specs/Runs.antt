@@ -5,6 +5,7 @@ use Rattle.std.specs.Io.KnownBytes.{Appends}
 use Rattle.dw_bytes.specs.declared.target.Target.{Target}
 use Rattle.dw_bytes.specs.declared.fault.Fault.{Fault}
 use Rattle.dw_bytes.specs.declared.fault.FaultKind.TheVariants.{SectionTooLong}
+use Rattle.dw_rows.specs.Abi.{no_abi}
 use Rattle.dw_rows.specs.Section.{Frame, section_fault, frame_of}
 use Rattle.dw_loclists.specs.Reading.{ListSection, lists_fault}
 use Rattle.dw_stack.specs.declared.state.Kind.{Kind}
@@ -128,7 +129,7 @@ machine_of target gs = machine target (λ n. first_that (content_in n) gs) (λ a
 
 -- the text shows the caller at an address, or that no FDE covers it, on a machine of which this was given
 abbrev pub ShowsCaller : List StateFact → ℕ → Frame → ListSection → List ℕ → Type 0
-ShowsCaller gs address frame lists written = (caller : Option Caller) × Unwinds (machine_of frame.target gs) frame address caller
+ShowsCaller gs address frame lists written = (caller : Option Caller) × Unwinds (machine_of frame.target gs) no_abi frame address caller
     × (written ≡ caller_text frame.target.address_size caller)
 
 -- ---- requests: a definition for each command

@@ -1,8 +1,99 @@
--- A walk up the stack: frame after frame, each the caller of the one before it.
-use Rattle.std.specs.Prelude.{ℕ, Option}
-use Rattle.dw_check.specs.Caller.{Caller}
+-- A walk up the stack: frame after frame, each the caller of the one before it. DWARF 5, section 6.4.1, says what one caller is; how one
+-- goes on from there is the profile's own.
+use Rattle.std.specs.Prelude.{◌≡◌, ℕ, zero, suc, ◌≤◌, ◌==◌, if◌then◌else◌, List, [], ◌∷◌, length, Option, Some, None, option_map}
+use Rattle.dw_rows.specs.Abi.{Abi}
+use Rattle.dw_rows.specs.Section.{Frame}
+use Rattle.dw_check.specs.Caller.{Answer, value, undefined, unreadable, division_by_zero, Caller, Unwinds, machine}
+use Rattle.dw_check.specs.declared.frames.Stop.{Stop}
+use Rattle.dw_check.specs.declared.frames.Stop.TheVariants.{Limit, NotCovered, ReturnUndefined, ReturnUnreadable, ReturnDivisionByZero}
+
+-- what stays the same on a walk: the checked section, the ABI and the memory
+pub record Surroundings : Type 0 where
+  pub frame : Frame
+  pub abi : Abi
+  pub memory : ℕ → Option ℕ
+
+-- Where a walk stands: the address of a frame, the address that its FDE is looked up at, if there is one, and its registers.
+pub record Place : Type 0 where
+  pub address : ℕ
+  pub looked_up : Option ℕ
+  pub registers : ℕ → Option ℕ
 
 -- A frame: its address, and its caller, none where no FDE covers the address that is looked up.
 pub record WalkedFrame : Type 0 where
   pub address : ℕ
   pub caller : Option Caller
+
+-- ---- from a frame to the next
+
+-- a register has a content where the answer for it is a value
+abbrev pub content_of : Answer → Option ℕ
+content_of (value n) = Some n
+content_of _ = None
+
+abbrev pub contents_of : List (ℕ × Answer) → ℕ → Option ℕ
+contents_of [] r = None
+contents_of (found ∷ registers) r = if found.0 == r then content_of found.1 else contents_of registers r
+
+-- the address before one, if there is one
+abbrev pub address_before : ℕ → Option ℕ
+address_before zero = None
+address_before (suc a) = Some a
+
+-- the first place: a frame that stands at its address
+abbrev pub first_place : ℕ → (ℕ → Option ℕ) → Place
+first_place address registers = record { address = address; looked_up = Some address; registers = registers }
+
+-- The place of a caller. It goes on behind a call, which lies before that address: the next frame is looked up there.
+abbrev pub place_of_caller : Caller → ℕ → Place
+place_of_caller caller address =
+    record { address = address; looked_up = address_before address; registers = contents_of caller.registers }
+
+-- the place behind a frame: that of its caller, where there is one and its return address has a value
+abbrev pub next_place : Option Caller → Option Place
+next_place None = None
+next_place (Some caller) = option_map (place_of_caller caller) (content_of caller.return_address)
+
+-- the caller at a place, or that no FDE covers the address that is looked up
+abbrev pub UnwindsAt : Surroundings → (ℕ → Option ℕ) → Option ℕ → Option Caller → Type 0
+UnwindsAt s registers None caller = caller ≡ None
+UnwindsAt s registers (Some a) caller = Unwinds (machine s.frame.target registers s.memory) s.abi s.frame a caller
+
+-- a frame at a place
+abbrev pub IsFrameAt : Surroundings → Place → WalkedFrame → Type 0
+IsFrameAt s p f = (f.address ≡ p.address) × UnwindsAt s p.registers p.looked_up f.caller
+
+-- ---- the frames of a walk
+
+-- These are frames from a place on, each behind the one before it. Behind the last one there may be more.
+abbrev pub AreFrames : Surroundings → Option Place → List WalkedFrame → Type 0
+AreFrames s p [] = Unit {0}
+AreFrames s None (f ∷ frames) = ⊥
+AreFrames s (Some p) (f ∷ frames) = IsFrameAt s p f × AreFrames s (next_place f.caller) frames
+
+-- the next of one
+abbrev pub IsFrameBehind : Surroundings → WalkedFrame → WalkedFrame → Type 0
+IsFrameBehind s f next = (p : Place) × (next_place f.caller ≡ Some p) × IsFrameAt s p next
+
+-- why there is no frame behind one, if there is none
+abbrev pub stop_of_return : Answer → Option Stop
+stop_of_return (value a) = None
+stop_of_return undefined = Some ReturnUndefined
+stop_of_return unreadable = Some ReturnUnreadable
+stop_of_return division_by_zero = Some ReturnDivisionByZero
+
+abbrev pub stop_of_caller : Option Caller → Option Stop
+stop_of_caller None = Some NotCovered
+stop_of_caller (Some caller) = stop_of_return caller.return_address
+
+-- why there is none behind the last of frames
+abbrev pub stop_behind : List WalkedFrame → Option Stop
+stop_behind [] = None
+stop_behind (f ∷ []) = stop_of_caller f.caller
+stop_behind (f ∷ g ∷ frames) = stop_behind (g ∷ frames)
+
+-- What a walk gives: its first frames, as many as the limit or all, and why these end, which is the limit wherever it is reached.
+pub record Walks (s : Surroundings) (first : Place) (limit : ℕ) (frames : List WalkedFrame) (stop : Stop) : Type 0 where
+  pub are : AreFrames s (Some first) frames
+  pub few : length frames ≤ limit
+  pub ends : (if length frames == limit then Some Limit else stop_behind frames) ≡ Some stop

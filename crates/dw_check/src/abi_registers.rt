@@ -3,8 +3,8 @@
 ghost use Rattle.std.specs.Prelude.{◌≡◌, [], None, Some, IsTrue};
 ghost use Rattle.std.specs.Bool.{OnTrue};
 ghost use Rattle.std.specs.Option.{option_or};
-ghost use Rattle.dw_rows.specs.Abi.{abi_rule};
-ghost use Rattle.dw_rows.specs.Rules.{rule_list};
+ghost use Rattle.dw_rows.specs.Abi.{abi_of};
+ghost use Rattle.dw_rows.specs.AbiViews.{roles_of};
 ghost use Rattle.dw_check.specs.StateFile.{keep, kept_with, fit_together};
 
 use arrayvec::ArrayVec;
@@ -68,7 +68,7 @@ impl AbiRegisters {
 
     /// The ABI that keeps these registers, and has this stack pointer.
     pub fn abi(&self) -> Abi
-        ensures { result ≡ rule_list (abi_rule self.now.kept.items self.now.stack_pointer) }
+        ensures { roles_of result ≡ abi_of self.now.kept.items self.now.stack_pointer }
     {
         match Abi::new(self.kept.as_slice(), self.stack_pointer) {
             Ok(abi) => abi,

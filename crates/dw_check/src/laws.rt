@@ -11,6 +11,7 @@ ghost use Rattle.dw_frame.specs.Records.{Fde};
 ghost use Rattle.dw_rows.specs.Rules.{Row};
 ghost use Rattle.dw_rows.specs.Section.{Frame};
 ghost use Rattle.dw_rows.specs.Section as rows;
+ghost use Rattle.dw_rows.specs.Abi.{Abi};
 ghost use Rattle.dw_check.specs.Caller.{Caller, IsCaller, Unwinds};
 ghost use Rattle.dw_check.specs.LongFiles.{needed_parts};
 ghost use Rattle.dw_check.specs.Requests.{Asked};
@@ -68,30 +69,32 @@ pub fn accepted_sections_are_sound()
 
 /// Over a section that is accepted an unwinding has one answer: none, or one caller.
 pub fn one_caller()
-    ensures { (e : World) (frame : Frame) (address : ℕ) (c d : Option Caller)
-        → rows.IsChecked frame → Unwinds e frame address c
-        → Unwinds e frame address d → c ≡ d }
+    ensures { (e : World) (abi : Abi) (frame : Frame) (address : ℕ) (c d : Option Caller)
+        → rows.IsChecked frame → Unwinds e abi frame address c
+        → Unwinds e abi frame address d → c ≡ d }
 {
     dw_rows::laws::rows_have_good_expressions();
+    dw_rows::laws::rules_under_abis();
     dw_eval::laws::evaluations_are_determined();
 }
 
 /// Over each row of a section that is accepted there is a caller.
 pub fn each_row_has_a_caller()
-    ensures { (e : World) (return_register : ℕ) (frame : Frame) (fde : Fde) (row : Row)
+    ensures { (e : World) (abi : Abi) (return_register : ℕ) (frame : Frame) (fde : Fde) (row : Row)
         → rows.IsChecked frame → Contains frame.fdes fde
         → Contains (rows.rows_in frame fde) row
-        → (c : Caller) × IsCaller e return_register row c }
+        → (c : Caller) × IsCaller e abi return_register row c }
 {
     dw_rows::laws::rows_have_good_expressions();
+    dw_rows::laws::rules_under_abis();
     dw_stack::laws::each_has_a_depth();
     dw_eval::laws::each_has_an_evaluation();
 }
 
 /// At each address of a section that is accepted an unwinding has an answer.
 pub fn each_address_has_an_unwinding()
-    ensures { (e : World) (frame : Frame) (address : ℕ) → rows.IsChecked frame
-        → (c : Option Caller) × Unwinds e frame address c }
+    ensures { (e : World) (abi : Abi) (frame : Frame) (address : ℕ) → rows.IsChecked frame
+        → (c : Option Caller) × Unwinds e abi frame address c }
 {
     dw_rows::laws::exact_rows();
     each_row_has_a_caller();

@@ -5,8 +5,8 @@ ghost use Rattle.std.specs.Bool.{OnTrue};
 ghost use Rattle.std.specs.Ordering.{nat_cmp};
 ghost use Rattle.std.specs.BTreeMap.{get, Updates, IsUnchanged};
 ghost use Rattle.std.specs.Option.{option_or};
-ghost use Rattle.dw_rows.specs.Abi.{abi_rule};
-ghost use Rattle.dw_rows.specs.Rules.{rule_list};
+ghost use Rattle.dw_rows.specs.Abi.{abi_of};
+ghost use Rattle.dw_rows.specs.AbiViews.{roles_of};
 ghost use Rattle.dw_check.specs.StateFile.{StateFact, FitsAddresses, IsGivenBy, byte_in};
 ghost use Rattle.dw_check.specs.StateFile.{facts_of_lines, is_line, go_together, facts_of_file};
 ghost use Rattle.dw_check.specs.Stops.{IsBadState};
@@ -86,7 +86,7 @@ impl MachineState {
     /// The ABI as far as it is known.
     pub fn abi(&self) -> Abi
         ensures { let known = known_state_of self.now
-            in result ≡ rule_list (abi_rule known.kept known.stack_pointer) }
+            in roles_of result ≡ abi_of known.kept known.stack_pointer }
     {
         self.abi_registers.abi()
     }
@@ -94,7 +94,8 @@ impl MachineState {
     /// Adds what a line gives, unless it can't stand beside what was given before, which stays.
     fn add(&mut self, line: StateLine) -> Result<bool, AllocError>
         requires { FitsAddresses (fact_of line) }
-        ensures taken { IfOk result (λ taken. (gs : List StateFact) → IsGivenBy (known_state_of self.old) gs
+        ensures taken { IfOk result (λ taken. (gs : List StateFact)
+            → IsGivenBy (known_state_of self.old) gs
             → taken ≡ go_together (gs ++ fact_of line ∷ [])) }
         ensures given { IfOk result (λ taken. OnTrue taken ((gs : List StateFact)
             → IsGivenBy (known_state_of self.old) gs
@@ -124,7 +125,8 @@ impl MachineState {
 
     /// Adds what a line says, unless it is none or can't stand beside what was given before.
     fn add_line(&mut self, alloc: Global, target: Target, line: &[u8]) -> Result<bool, AllocError>
-        ensures taken { IfOk result (λ taken. (gs : List StateFact) → IsGivenBy (known_state_of self.old) gs
+        ensures taken { IfOk result (λ taken. (gs : List StateFact)
+            → IsGivenBy (known_state_of self.old) gs
             → taken ≡ (is_line target line.now
             && go_together (gs ++ facts_of_lines target (line.now ∷ [])))) }
         ensures given { IfOk result (λ taken. OnTrue taken ((gs : List StateFact)

@@ -9,11 +9,11 @@ ghost use Rattle.dw_stack.specs.Located.{located_of};
 ghost use Rattle.dw_check.specs.Caller.{Gives, IsCfa, IsRegister, AreRegisters, moved, moved_content, content, word};
 ghost use Rattle.dw_check.specs.CallerViews.{answer_in, found_in, machine_in, with_optional_cfa};
 
-use crate::unwinding::{Answer, FoundRegisters};
+use crate::unwinding::{Answer, FoundRegisters, MAX_FOUND};
 use arrayvec::ArrayVec;
 use dw_bytes::{AddressSize, Target};
 use dw_eval::{Context, Memory, Outcome, Registers, evaluate};
-use dw_rows::{CfaRule, MAX_RULES, RegisterRule, RegisterRules};
+use dw_rows::{CfaRule, RegisterRule, RegisterRules};
 use dw_stack::CheckedExpression;
 
 /// The registers and the memory of a frame, under the target of its section.
@@ -145,7 +145,7 @@ impl<'m, R: Registers, M: Memory> Present<'m, R, M> {
 
     /// The registers of these rules, in their order.
     pub fn registers(&self, cfa: Answer, rules: RegisterRules<'_, '_>) -> FoundRegisters
-        requires few { length rules ≤ MAX_RULES }
+        requires few { length rules ≤ MAX_FOUND }
         requires kinds { All IsEntryOfKind rules }
         ensures { AreRegisters (machine_in R.contents M.bytes self.now) (answer_in cfa) rules.entry
             (map found_in result.items) }

@@ -1,7 +1,8 @@
 -- The rules of an ABI, register after register.
-use Rattle.std.proofs.Common.{◌≡◌, ◌≢◌, ℕ, ◌+◌, ◌<◌, ◌≤◌, Bool, true, false, cond, List, [], ◌∷◌, ◌++◌, length, Option, None, Some, refl, sym, ap, ◌∙◌}
-use Rattle.std.proofs.Common.{arith, eqb, ◌||◌, take, drop, get_or}
-use Rattle.std.proofs.lemmas.Bool.{le-ltb}
+use Rattle.std.proofs.Common.{◌≡◌, ◌≢◌, ℕ, zero, suc, ◌+◌, ◌<◌, ◌≤◌, Bool, true, false, cond, List, [], ◌∷◌, ◌++◌, length, Option, None, Some, refl, sym, ap, ◌∙◌}
+use Rattle.std.proofs.Common.{arith, eqb, ◌||◌, take, drop, get_or, inl, inr, subst}
+use Rattle.std.proofs.Math.Path.{fun_ext}
+use Rattle.std.proofs.lemmas.Bool.{le-ltb, cases_lt}
 use Rattle.std.proofs.lemmas.List.{drop_more, take_more, length-take-le, take_all, drop_all}
 use Rattle.std.proofs.lemmas.Bool.Decides.{nat_tests}
 use Rattle.std.specs.Prelude.{pos}
@@ -9,11 +10,14 @@ use Rattle.std.specs.Option.{option_to_list}
 use Rattle.dw_rows.specs.Rules.{PlacedRule, default, same_value, val_offset, rule_in, IsTable, rule_list, changed_at}
 use Rattle.dw_bytes.specs.declared.fault.FaultKind.TheVariants.{AbiTwice}
 use Rattle.dw_rows.specs.declared.abi.TheConstants.{MAX_KEPT}
-use Rattle.dw_rows.specs.Abi.{is_among, abi_rule, abi_fault, place_of_second}
-use Rattle.dw_rows.specs.GivenRows.{rule_with, rules_with, LendsRule, LendsEach}
-use Rattle.dw_rows.proofs.NamedExpressions.{listed-have}
-use Rattle.dw_rows.proofs.Tables.{Clears, full-count, rule_list-table, rule_list-same, rule_in-rule_list}
-use Rattle.dw_rows.proofs.Under.{rule_list-with}
+use Rattle.dw_rows.specs.Abi.{kept, unnamed, stack_pointer, is_among, abi_of, rule_of_role, abi_fault, place_of_second}
+use Rattle.dw_rows.specs.AbiViews.{role_of_rule, roles_of, AreRoles}
+use Rattle.dw_rows.proofs.Tables.{Clears, full-count, rule_list-table, rule_list-same, rule_in-rule_list, IsTable-rule_list}
+
+-- the rule of a register by those that calls keep and the stack pointer
+abbrev pub abi_rule : List ℕ → Option ℕ → ℕ → PlacedRule
+abi_rule registers pointer r =
+    cond (is_among r (option_to_list pointer)) (val_offset (pos 0)) (cond (is_among r registers) same_value default)
 
 -- one more rule than there are
 pub one-more : (es : List (ℕ × PlacedRule)) (q : ℕ) (x : PlacedRule) → q < 65536 → x ≢ default → IsTable 0 es → rule_in es q ≡ default
@@ -89,18 +93,6 @@ points-more before rules n is = rule_list-same _ _ each
         ap (λ l. rule_in l r) is ∙ rule_in-rule_list (abi_rule before None) r h in
         ap (cond (eqb n r) (val_offset (pos 0))) listed ∙ go (eqb n r) (is_among r before)
 
--- with no expressions, which none of them names
-pub abi-with : (kept : List ℕ) (stack_pointer : Option ℕ)
-    → rules_with [] (rule_list (abi_rule kept stack_pointer)) ≡ rule_list (abi_rule kept stack_pointer)
-abi-with kept stack_pointer = rule_list-with [] (abi_rule kept stack_pointer)
-    ∙ rule_list-same _ _ (λ r h. go (is_among r (option_to_list stack_pointer)) (is_among r kept))
-  where
-    go : (here among : Bool) → rule_with [] (cond here (val_offset (pos 0)) (cond among same_value default))
-        ≡ cond here (val_offset (pos 0)) (cond among same_value default)
-    go true among = refl
-    go false true = refl
-    go false false = refl
-
 -- ---- the place of a second
 
 pub second-here : (before : List ℕ) (n : ℕ) (rest : List ℕ) → is_among n before ≡ true
@@ -113,106 +105,166 @@ second-later before n rest other = rw other refl
 
 -- ---- the fault
 
-pub fault-at : (kept : List ℕ) (stack_pointer : Option ℕ) (at : ℕ) → length kept ≤ MAX_KEPT
-    → place_of_second [] (kept ++ option_to_list stack_pointer) ≡ Some at
-    → abi_fault kept stack_pointer ≡ Some (record { kind = AbiTwice; at = at })
-fault-at kept stack_pointer at few is = rw (le-ltb MAX_KEPT (length kept) few, is) refl
+pub fault-at : (registers : List ℕ) (pointer : Option ℕ) (at : ℕ) → length registers ≤ MAX_KEPT
+    → place_of_second [] (registers ++ option_to_list pointer) ≡ Some at
+    → abi_fault registers pointer ≡ Some (record { kind = AbiTwice; at = at })
+fault-at registers pointer at few is = rw (le-ltb MAX_KEPT (length registers) few, is) refl
 
-pub no-fault : (kept : List ℕ) (stack_pointer : Option ℕ) → length kept ≤ MAX_KEPT
-    → place_of_second [] (kept ++ option_to_list stack_pointer) ≡ None → abi_fault kept stack_pointer ≡ None
-no-fault kept stack_pointer few is = rw (le-ltb MAX_KEPT (length kept) few, is) refl
+pub no-fault : (registers : List ℕ) (pointer : Option ℕ) → length registers ≤ MAX_KEPT
+    → place_of_second [] (registers ++ option_to_list pointer) ≡ None → abi_fault registers pointer ≡ None
+no-fault registers pointer few is = rw (le-ltb MAX_KEPT (length registers) few, is) refl
 
--- ---- the loop over what is kept: where it stands, and what it has done
+-- ---- the loop over what is registers: where it stands, and what it has done
 
-pub record KeepsUpTo (kept behind : List ℕ) (place : ℕ) (rules : List (ℕ × PlacedRule)) : Type 0 where
-  pub are : rules ≡ rule_list (abi_rule (take place kept) None)
+pub record KeepsUpTo (registers behind : List ℕ) (place : ℕ) (rules : List (ℕ × PlacedRule)) : Type 0 where
+  pub are : rules ≡ rule_list (abi_rule (take place registers) None)
   pub few : length rules ≤ place
-  pub second : place_of_second [] (kept ++ behind) ≡ place_of_second (take place kept) (drop place kept ++ behind)
+  pub second : place_of_second [] (registers ++ behind) ≡ place_of_second (take place registers) (drop place registers ++ behind)
 
-next-of : (kept behind : List ℕ) (place : ℕ) → place < length kept
-    → place_of_second (take place kept) (drop place kept ++ behind)
-    ≡ place_of_second (take place kept) (get_or kept place 0 ∷ drop (place + 1) kept ++ behind)
-next-of kept behind place lt = ap (λ l. place_of_second (take place kept) (l ++ behind)) (drop_more kept place 0 lt)
+next-of : (registers behind : List ℕ) (place : ℕ) → place < length registers
+    → place_of_second (take place registers) (drop place registers ++ behind)
+    ≡ place_of_second (take place registers) (get_or registers place 0 ∷ drop (place + 1) registers ++ behind)
+next-of registers behind place lt = ap (λ l. place_of_second (take place registers) (l ++ behind)) (drop_more registers place 0 lt)
 
-pub twice-among : (kept behind : List ℕ) (place : ℕ) (rules : List (ℕ × PlacedRule)) → KeepsUpTo kept behind place rules
-    → place < length kept → get_or kept place 0 < 65536 → rule_in rules (get_or kept place 0) ≢ default
-    → place_of_second [] (kept ++ behind) ≡ Some place
-twice-among kept behind place rules k lt fits some =
-    k.second ∙ next-of kept behind place lt
-    ∙ second-here (take place kept) (get_or kept place 0) (drop (place + 1) kept ++ behind)
-    (named-some (take place kept) rules (get_or kept place 0) k.are fits some)
-    ∙ ap (λ n. Some n) (length-take-le place kept (omega (arith, lt)))
+pub twice-among : (registers behind : List ℕ) (place : ℕ) (rules : List (ℕ × PlacedRule)) → KeepsUpTo registers behind place rules
+    → place < length registers → get_or registers place 0 < 65536 → rule_in rules (get_or registers place 0) ≢ default
+    → place_of_second [] (registers ++ behind) ≡ Some place
+twice-among registers behind place rules k lt fits some =
+    k.second ∙ next-of registers behind place lt
+    ∙ second-here (take place registers) (get_or registers place 0) (drop (place + 1) registers ++ behind)
+    (named-some (take place registers) rules (get_or registers place 0) k.are fits some)
+    ∙ ap (λ n. Some n) (length-take-le place registers (omega (arith, lt)))
 
-pub keeps-next : (kept behind : List ℕ) (place : ℕ) (rules new : List (ℕ × PlacedRule)) → KeepsUpTo kept behind place rules
-    → place < length kept → get_or kept place 0 < 65536 → rule_in rules (get_or kept place 0) ≡ default
-    → new ≡ rule_list (changed_at (rule_in rules) (get_or kept place 0) same_value) → length new ≤ length rules + 1
-    → KeepsUpTo kept behind (place + 1) new
-keeps-next kept behind place rules new k lt fits none is few = record {
-  are = is ∙ keeps-more (take place kept) rules (get_or kept place 0) k.are
-      ∙ ap (λ l. rule_list (abi_rule l None)) (sym (take_more kept place 0 lt));
+pub keeps-next : (registers behind : List ℕ) (place : ℕ) (rules new : List (ℕ × PlacedRule)) → KeepsUpTo registers behind place rules
+    → place < length registers → get_or registers place 0 < 65536 → rule_in rules (get_or registers place 0) ≡ default
+    → new ≡ rule_list (changed_at (rule_in rules) (get_or registers place 0) same_value) → length new ≤ length rules + 1
+    → KeepsUpTo registers behind (place + 1) new
+keeps-next registers behind place rules new k lt fits none is few = record {
+  are = is ∙ keeps-more (take place registers) rules (get_or registers place 0) k.are
+      ∙ ap (λ l. rule_list (abi_rule l None)) (sym (take_more registers place 0 lt));
   few = omega (arith, few, k.few);
-  second = k.second ∙ next-of kept behind place lt
-      ∙ second-later (take place kept) (get_or kept place 0) (drop (place + 1) kept ++ behind)
-      (named-none (take place kept) rules (get_or kept place 0) k.are fits none)
-      ∙ ap (λ l. place_of_second l (drop (place + 1) kept ++ behind)) (sym (take_more kept place 0 lt));
+  second = k.second ∙ next-of registers behind place lt
+      ∙ second-later (take place registers) (get_or registers place 0) (drop (place + 1) registers ++ behind)
+      (named-none (take place registers) rules (get_or registers place 0) k.are fits none)
+      ∙ ap (λ l. place_of_second l (drop (place + 1) registers ++ behind)) (sym (take_more registers place 0 lt));
 }
 
 -- all of it
-pub keeps-all : (kept behind : List ℕ) (place : ℕ) (rules : List (ℕ × PlacedRule)) → KeepsUpTo kept behind place rules
-    → length kept ≤ place → place ≤ length kept → (rules ≡ rule_list (abi_rule kept None))
-    × (place_of_second [] (kept ++ behind) ≡ place_of_second kept behind)
-keeps-all kept behind place rules k ge le =
-    let all : take place kept ≡ kept = take_all place kept ge in
-    let none : drop place kept ≡ [] = drop_all place kept ge in (
+pub keeps-all : (registers behind : List ℕ) (place : ℕ) (rules : List (ℕ × PlacedRule)) → KeepsUpTo registers behind place rules
+    → length registers ≤ place → place ≤ length registers → (rules ≡ rule_list (abi_rule registers None))
+    × (place_of_second [] (registers ++ behind) ≡ place_of_second registers behind)
+keeps-all registers behind place rules k ge le =
+    let all : take place registers ≡ registers = take_all place registers ge in
+    let none : drop place registers ≡ [] = drop_all place registers ge in (
       k.are ∙ ap (λ l. rule_list (abi_rule l None)) all,
-      k.second ∙ ap (λ l. place_of_second l (drop place kept ++ behind)) all ∙ ap (λ l. place_of_second kept (l ++ behind)) none,
+      k.second ∙ ap (λ l. place_of_second l (drop place registers ++ behind)) all ∙ ap (λ l. place_of_second registers (l ++ behind)) none,
     )
 
 -- ---- what it comes to
 
--- no rule of an ABI names an expression
-pub plain-abi : (kept : List ℕ) (stack_pointer : Option ℕ) → LendsEach [] (rule_list (abi_rule kept stack_pointer))
-plain-abi kept stack_pointer =
-    listed-have (LendsRule []) (abi_rule kept stack_pointer) (λ r. go (is_among r (option_to_list stack_pointer)) (is_among r kept))
+-- registers are below 2^16
+abbrev pub AreRegisters : List ℕ → Type 0
+AreRegisters registers = (i : ℕ) → get_or registers i 0 < 65536
+
+not-among : (registers : List ℕ) (r : ℕ) → AreRegisters registers → 65536 ≤ r → is_among r registers ≡ false
+not-among [] r fit high = refl
+not-among (n ∷ registers) r fit high =
+    let other : eqb n r ≡ false = let below : n < 65536 = fit 0 in grind (arith, nat_tests, below, high) in
+    let later = not-among registers r (λ i. fit (suc i)) high in grind (arith, nat_tests, other, later)
+
+none-above : (low : ℕ) (es : List (ℕ × PlacedRule)) (r : ℕ) → IsTable low es → 65536 ≤ r → rule_in es r ≡ default
+none-above low [] r t high = refl
+none-above low (e ∷ es) r t high =
+    let other : eqb e.0 r ≡ false = let below : e.0 < 65536 = t.1 in grind (arith, nat_tests, below, high) in
+    rw other (none-above (e.0 + 1) es r t.3 high)
+
+-- a table of these rules has these roles
+pub has-roles : (registers : List ℕ) (pointer : Option ℕ) (rules : List (ℕ × PlacedRule)) → AreRegisters registers
+    → AreRegisters (option_to_list pointer) → rules ≡ rule_list (abi_rule registers pointer) → roles_of rules ≡ abi_of registers pointer
+has-roles registers pointer rules fit fits is = fun_ext each
   where
-    go : (here among : Bool) → LendsRule [] (cond here (val_offset (pos 0)) (cond among same_value default))
-    go true among = tt
-    go false true = tt
-    go false false = tt
+    go : (here among : Bool) → role_of_rule (cond here (val_offset (pos 0)) (cond among same_value default))
+        ≡ cond here stack_pointer (cond among kept unnamed)
+    go true among = refl
+    go false true = refl
+    go false false = refl
+
+    table : IsTable 0 rules
+    table = subst (IsTable 0) (sym is) (IsTable-rule_list (abi_rule registers pointer))
+
+    each : (r : ℕ) → roles_of rules r ≡ abi_of registers pointer r
+    each r = elim (cases_lt r 65536) [
+      | inl h ↦
+          ap role_of_rule (ap (λ l. rule_in l r) is ∙ rule_in-rule_list (abi_rule registers pointer) r h)
+          ∙ go (is_among r (option_to_list pointer)) (is_among r registers)
+      | inr high ↦
+          ap role_of_rule (none-above 0 rules r table high)
+          ∙ sym (rw (not-among (option_to_list pointer) r fits high, not-among registers r fit high) refl)
+    ]
+
+pub are-roles : (registers : List ℕ) (pointer : Option ℕ) (rules : List (ℕ × PlacedRule)) → rules ≡ rule_list (abi_rule registers pointer)
+    → AreRoles rules
+are-roles registers pointer rules is r = elim (cases_lt r 65536) [
+  | inl h ↦
+      subst (λ x. x ≡ rule_of_role (role_of_rule x))
+      (sym (ap (λ l. rule_in l r) is ∙ rule_in-rule_list (abi_rule registers pointer) r h))
+      (go (is_among r (option_to_list pointer)) (is_among r registers))
+  | inr high ↦
+      subst (λ x. x ≡ rule_of_role (role_of_rule x))
+      (sym (none-above 0 rules r (subst (IsTable 0) (sym is) (IsTable-rule_list (abi_rule registers pointer))) high)) refl
+]
+  where
+    rule : Bool → Bool → PlacedRule
+    rule here among = cond here (val_offset (pos 0)) (cond among same_value default)
+
+    go : (here among : Bool) → rule here among ≡ rule_of_role (role_of_rule (rule here among))
+    go true among = refl
+    go false true = refl
+    go false false = refl
+
+pub fits-pointer : (pointer : Option ℕ) (n : ℕ) → pointer ≡ Some n → n < 65536 → AreRegisters (option_to_list pointer)
+fits-pointer pointer n is fit = subst (λ (o : Option ℕ). AreRegisters (option_to_list o)) (sym is) first
+  where
+    first : AreRegisters (n ∷ [])
+    first zero = fit
+    first (suc i) = omega arith
+
+pub fits-none : (pointer : Option ℕ) → pointer ≡ None → AreRegisters (option_to_list pointer)
+fits-none pointer is = subst (λ (o : Option ℕ). AreRegisters (option_to_list o)) (sym is) (λ i. omega arith)
 
 pub is-none : (o : Option ℕ) → ((n : ℕ) → o ≡ Some n → ⊥) → o ≡ None
 is-none None other = refl
 is-none (Some n) other = absurd (other n refl)
 
 -- without a stack pointer
-pub made-without : (kept : List ℕ) (stack_pointer : Option ℕ) (place : ℕ) (rules : List (ℕ × PlacedRule)) → length kept ≤ MAX_KEPT
-    → KeepsUpTo kept (option_to_list stack_pointer) place rules → length kept ≤ place → place ≤ length kept → stack_pointer ≡ None
-    → (abi_fault kept stack_pointer ≡ None) × (rules ≡ rule_list (abi_rule kept stack_pointer))
-made-without kept stack_pointer place rules few k ge le none =
-    let all = keeps-all kept (option_to_list stack_pointer) place rules k ge le in (
-      no-fault kept stack_pointer few (all.1 ∙ ap (λ (o : Option ℕ). place_of_second kept (option_to_list o)) none),
-      all.0 ∙ ap (λ (o : Option ℕ). rule_list (abi_rule kept o)) (sym none),
+pub made-without : (registers : List ℕ) (pointer : Option ℕ) (place : ℕ) (rules : List (ℕ × PlacedRule)) → length registers ≤ MAX_KEPT
+    → KeepsUpTo registers (option_to_list pointer) place rules → length registers ≤ place → place ≤ length registers → pointer ≡ None
+    → (abi_fault registers pointer ≡ None) × (rules ≡ rule_list (abi_rule registers pointer))
+made-without registers pointer place rules few k ge le none =
+    let all = keeps-all registers (option_to_list pointer) place rules k ge le in (
+      no-fault registers pointer few (all.1 ∙ ap (λ (o : Option ℕ). place_of_second registers (option_to_list o)) none),
+      all.0 ∙ ap (λ (o : Option ℕ). rule_list (abi_rule registers o)) (sym none),
     )
 
 -- with one that is kept
-pub kept-pointer : (kept : List ℕ) (stack_pointer : Option ℕ) (place : ℕ) (rules : List (ℕ × PlacedRule)) (n : ℕ) → length kept ≤ MAX_KEPT
-    → KeepsUpTo kept (option_to_list stack_pointer) place rules → length kept ≤ place → place ≤ length kept → stack_pointer ≡ Some n
+pub kept-pointer : (registers : List ℕ) (pointer : Option ℕ) (place : ℕ) (rules : List (ℕ × PlacedRule)) (n : ℕ) → length registers ≤ MAX_KEPT
+    → KeepsUpTo registers (option_to_list pointer) place rules → length registers ≤ place → place ≤ length registers → pointer ≡ Some n
     → n < 65536 → rule_in rules n ≢ default
-    → abi_fault kept stack_pointer ≡ Some (record { kind = AbiTwice; at = length kept })
-kept-pointer kept stack_pointer place rules n few k ge le is fits some =
-    let all = keeps-all kept (option_to_list stack_pointer) place rules k ge le in
-    fault-at kept stack_pointer (length kept) few
-    (all.1 ∙ ap (λ (o : Option ℕ). place_of_second kept (option_to_list o)) is
-    ∙ second-here kept n [] (named-some kept rules n all.0 fits some))
+    → abi_fault registers pointer ≡ Some (record { kind = AbiTwice; at = length registers })
+kept-pointer registers pointer place rules n few k ge le is fits some =
+    let all = keeps-all registers (option_to_list pointer) place rules k ge le in
+    fault-at registers pointer (length registers) few
+    (all.1 ∙ ap (λ (o : Option ℕ). place_of_second registers (option_to_list o)) is
+    ∙ second-here registers n [] (named-some registers rules n all.0 fits some))
 
 -- with one that is not
-pub made-with : (kept : List ℕ) (stack_pointer : Option ℕ) (place : ℕ) (rules new : List (ℕ × PlacedRule)) (n : ℕ) → length kept ≤ MAX_KEPT
-    → KeepsUpTo kept (option_to_list stack_pointer) place rules → length kept ≤ place → place ≤ length kept → stack_pointer ≡ Some n
+pub made-with : (registers : List ℕ) (pointer : Option ℕ) (place : ℕ) (rules new : List (ℕ × PlacedRule)) (n : ℕ) → length registers ≤ MAX_KEPT
+    → KeepsUpTo registers (option_to_list pointer) place rules → length registers ≤ place → place ≤ length registers → pointer ≡ Some n
     → n < 65536 → rule_in rules n ≡ default → new ≡ rule_list (changed_at (rule_in rules) n (val_offset (pos 0)))
-    → (abi_fault kept stack_pointer ≡ None) × (new ≡ rule_list (abi_rule kept stack_pointer))
-made-with kept stack_pointer place rules new n few k ge le is fits none made =
-    let all = keeps-all kept (option_to_list stack_pointer) place rules k ge le in (
-      no-fault kept stack_pointer few (all.1 ∙ ap (λ (o : Option ℕ). place_of_second kept (option_to_list o)) is
-          ∙ second-later kept n [] (named-none kept rules n all.0 fits none)),
-      made ∙ points-more kept rules n all.0 ∙ ap (λ (o : Option ℕ). rule_list (abi_rule kept o)) (sym is),
+    → (abi_fault registers pointer ≡ None) × (new ≡ rule_list (abi_rule registers pointer))
+made-with registers pointer place rules new n few k ge le is fits none made =
+    let all = keeps-all registers (option_to_list pointer) place rules k ge le in (
+      no-fault registers pointer few (all.1 ∙ ap (λ (o : Option ℕ). place_of_second registers (option_to_list o)) is
+          ∙ second-later registers n [] (named-none registers rules n all.0 fits none)),
+      made ∙ points-more registers rules n all.0 ∙ ap (λ (o : Option ℕ). rule_list (abi_rule registers o)) (sym is),
     )

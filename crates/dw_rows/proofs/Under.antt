@@ -6,11 +6,11 @@ use Rattle.std.proofs.Math.Seq.{take-length}
 use Rattle.std.proofs.lemmas.Bool.{cases_lt, cases_eq}
 use Rattle.std.proofs.lemmas.Bool.Decides.{nat_tests}
 use Rattle.std.proofs.lemmas.List.Elements.{All-from_recursion, recursion_from_All}
-use Rattle.std.specs.List.{AllByRecursion}
 use Rattle.dw_stack.specs.Located.{LocatedExpression}
 use Rattle.dw_rows.specs.Rules.{RuleOver, PlacedRule, default, undefined, same_value, offset, val_offset, register, expression, val_expression}
 use Rattle.dw_rows.specs.Rules.{rule_in, IsTable, rule_list}
-use Rattle.dw_rows.specs.Abi.{or_rule, rule_of_either, rules_of_either}
+use Rattle.dw_rows.specs.Abi.{Abi, Role, unnamed, kept, stack_pointer, or_rule, rule_of_role, rules_under}
+use Rattle.dw_rows.specs.FirstEntry.{rule_of_either, rules_of_either}
 use Rattle.dw_rows.specs.declared.map.RuleEntry.{RuleEntry}
 use Rattle.dw_rows.specs.FirstEntry.{IsLowest}
 use Rattle.dw_rows.specs.Views.{entry_of, entries_of}
@@ -203,35 +203,23 @@ rule_list-with es f =
     sym (rule_list-table (rules_with es (rule_list f)) (table-with es 0 (rule_list f) (IsTable-rule_list f)))
     ∙ rule_list-same _ _ (λ r h. rule_in-with es (rule_list f) r ∙ ap (rule_with es) (rule_in-rule_list f r h))
 
--- a rule that names none of no expressions names none
-pub plain-with : (es : List LocatedExpression) (x : PlacedRule) → LendsRule [] x → rule_with es x ≡ rule_with [] x
-plain-with es default h = refl
-plain-with es undefined h = refl
-plain-with es same_value h = refl
-plain-with es (offset n) h = refl
-plain-with es (val_offset n) h = refl
-plain-with es (register r) h = refl
-plain-with es (expression at) h = absurd (let e = h.found in cc)
-plain-with es (val_expression at) h = absurd (let e = h.found in cc)
+-- the rule of a role names no expression
+role-with : (es : List LocatedExpression) (x : Role) → rule_with es (rule_of_role x) ≡ rule_of_role x
+role-with es unnamed = refl
+role-with es kept = refl
+role-with es stack_pointer = refl
 
-pub plain-lends : (es : List LocatedExpression) (x : PlacedRule) → LendsRule [] x → LendsRule es x
-plain-lends es default h = tt
-plain-lends es undefined h = tt
-plain-lends es same_value h = tt
-plain-lends es (offset n) h = tt
-plain-lends es (val_offset n) h = tt
-plain-lends es (register r) h = tt
-plain-lends es (expression at) h = absurd (let e = h.found in cc)
-plain-lends es (val_expression at) h = absurd (let e = h.found in cc)
+role-lends : (es : List LocatedExpression) (x : Role) → LendsRule es (rule_of_role x)
+role-lends es unnamed = tt
+role-lends es kept = tt
+role-lends es stack_pointer = tt
 
-plain-lends-by : (es : List LocatedExpression) (rules : List (ℕ × PlacedRule)) → AllByRecursion (LendsEntry []) rules
-    → AllByRecursion (LendsEntry es) rules
-plain-lends-by es [] h = tt
-plain-lends-by es (x ∷ rules) h = (plain-lends es x.1 h.0, plain-lends-by es rules h.1)
-
-pub plain-lends-each : (es : List LocatedExpression) (rules : List (ℕ × PlacedRule)) → LendsEach [] rules → LendsEach es rules
-plain-lends-each es rules h = All-from_recursion (LendsEntry es) rules
-    (plain-lends-by es rules (recursion_from_All (LendsEntry []) rules h))
+pub roles-lend : (es : List LocatedExpression) (rules : List (ℕ × PlacedRule)) (abi : Abi) → IsTable 0 rules
+    → ((r : ℕ) → rule_in rules r ≡ rule_of_role (abi r)) → LendsEach es rules
+roles-lend es rules abi t are =
+    let listed : rule_list (λ r. rule_of_role (abi r)) ≡ rules =
+    rule_list-same (λ r. rule_of_role (abi r)) (rule_in rules) (λ r h. sym (are r)) ∙ rule_list-table rules t in
+    subst (LendsEach es) listed (listed-have (LendsRule es) (λ r. rule_of_role (abi r)) (λ r. role-lends es (abi r)))
 
 lends-or : (es : List LocatedExpression) (x y : PlacedRule) → LendsRule es x → LendsRule es y → LendsRule es (or_rule x y)
 lends-or es default y h k = k
@@ -249,15 +237,20 @@ lends-either es rules others h k =
     listed-have (LendsRule es) (rule_of_either rules others)
     (λ r. lends-or es (rule_in rules r) (rule_in others r) (lends-rule_in es rules r h) (lends-rule_in es others r k))
 
--- the rules of either, with expressions, where the others name none
-pub either-with : (es : List LocatedExpression) (rules others : List (ℕ × PlacedRule)) → LendsEach [] others
-    → rules_with es (rules_of_either rules others) ≡ rules_of_either (rules_with es rules) (rules_with [] others)
-either-with es rules others plain =
+-- the rules of either, with expressions, where the others are those of an ABI
+pub either-with : (es : List LocatedExpression) (rules others : List (ℕ × PlacedRule)) (abi : Abi)
+    → ((r : ℕ) → rule_in others r ≡ rule_of_role (abi r))
+    → rules_with es (rules_of_either rules others) ≡ rules_under abi (rules_with es rules)
+either-with es rules others abi are =
     rule_list-with es (rule_of_either rules others)
     ∙ rule_list-same _ _ (λ r h. or-with es (rule_in rules r) (rule_in others r)
     ∙ ap (λ x. or_rule x (rule_with es (rule_in others r))) (sym (rule_in-with es rules r))
-    ∙ ap (λ x. or_rule (rule_in (rules_with es rules) r) x)
-    (plain-with es (rule_in others r) (lends-rule_in [] others r plain) ∙ sym (rule_in-with [] others r)))
+    ∙ ap (λ x. or_rule (rule_in (rules_with es rules) r) (rule_with es x)) (are r)
+    ∙ ap (λ x. or_rule (rule_in (rules_with es rules) r) x) (role-with es (abi r)))
+
+-- a rule of the row, or that of a role
+pub given-under : (es : List LocatedExpression) (x : Role) → rule_with es (rule_of_role x) ≡ rule_of_role x
+given-under es x = role-with es x
 
 -- ---- the lowest entry, and what is left
 

@@ -8,39 +8,48 @@ use Rattle.dw_bytes.specs.declared.fault.FaultKind.TheVariants.{AbiTooLarge, Abi
 use Rattle.dw_rows.specs.Rules.{RuleOver, Rule, default, same_value, val_offset, rule_in, rule_list}
 use Rattle.dw_rows.specs.declared.abi.TheConstants.{MAX_KEPT}
 
--- The rules that it gives, by ascending registers. Each holds where a row gives its register none.
+-- What it says of a register: nothing, that calls keep it, or that it is the stack pointer.
+pub data Role : Type 0 where
+  unnamed : Role
+  kept : Role
+  stack_pointer : Role
+
 abbrev pub Abi : Type 0
-Abi = List (ℕ × Rule)
+Abi = ℕ → Role
 
 abbrev pub is_among : ℕ → List ℕ → Bool
 is_among r registers = list_any (λ n. n == r) registers
 
--- That of a register: the stack pointer was where the CFA is, and what calls keep is what it is now.
-abbrev pub abi_rule : {E : Type 0} → List ℕ → Option ℕ → ℕ → RuleOver E
-abi_rule kept stack_pointer r =
-    if is_among r (option_to_list stack_pointer) then val_offset (pos 0)
-    else (if is_among r kept then same_value else default)
+-- the ABI whose calls keep these registers, with this stack pointer
+abbrev pub abi_of : List ℕ → Option ℕ → Abi
+abi_of registers pointer r =
+    if is_among r (option_to_list pointer) then stack_pointer
+    else (if is_among r registers then kept else unnamed)
+
+-- the one that says nothing
+abbrev pub no_abi : Abi
+no_abi r = unnamed
 
 -- ---- a row's rules under an ABI
+
+-- The rule of a register that the row gives none: what calls keep is what it is now, and the stack pointer was where the CFA is.
+abbrev pub rule_of_role : {E : Type 0} → Role → RuleOver E
+rule_of_role unnamed = default
+rule_of_role kept = same_value
+rule_of_role stack_pointer = val_offset (pos 0)
 
 -- a rule, or another in the place of default
 abbrev pub or_rule : {E : Type 0} → RuleOver E → RuleOver E → RuleOver E
 or_rule default other = other
 or_rule rule other = rule
 
-abbrev pub rule_of_either : {E : Type 0} → List (ℕ × RuleOver E) → List (ℕ × RuleOver E) → ℕ → RuleOver E
-rule_of_either rules others r = or_rule (rule_in rules r) (rule_in others r)
-
--- those other than default, by ascending registers
-abbrev pub rules_of_either : {E : Type 0} → List (ℕ × RuleOver E) → List (ℕ × RuleOver E) → List (ℕ × RuleOver E)
-rules_of_either rules others = rule_list (rule_of_either rules others)
-
 -- the rule of a register, by the row's rules and else the ABI's
 abbrev pub rule_under : Abi → List (ℕ × Rule) → ℕ → Rule
-rule_under abi rules = rule_of_either rules abi
+rule_under abi rules r = or_rule (rule_in rules r) (rule_of_role (abi r))
 
+-- those other than default, by ascending registers
 abbrev pub rules_under : Abi → List (ℕ × Rule) → List (ℕ × Rule)
-rules_under abi rules = rules_of_either rules abi
+rules_under abi rules = rule_list (rule_under abi rules)
 
 -- ---- the first fault
 
@@ -51,6 +60,6 @@ place_of_second before (n ∷ rest) = if is_among n before then Some (length bef
 
 -- Numbers past the limit are refused first; then a number that stood before, where the stack pointer stands behind all that are kept.
 abbrev pub abi_fault : List ℕ → Option ℕ → Option Fault
-abi_fault kept stack_pointer =
-    if nat_lt MAX_KEPT (length kept) then Some (record { kind = AbiTooLarge; at = MAX_KEPT })
-    else option_map (λ at. record { kind = AbiTwice; at = at }) (place_of_second [] (kept ++ option_to_list stack_pointer))
+abi_fault registers pointer =
+    if nat_lt MAX_KEPT (length registers) then Some (record { kind = AbiTooLarge; at = MAX_KEPT })
+    else option_map (λ at. record { kind = AbiTwice; at = at }) (place_of_second [] (registers ++ option_to_list pointer))

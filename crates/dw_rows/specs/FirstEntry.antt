@@ -1,9 +1,17 @@
--- The lowest entry of two tables of rules.
+-- The rules of two tables, and the lowest entry of both.
 use Rattle.std.specs.Prelude.{◌≡◌, ℕ, List, ◌∷◌}
-use Rattle.dw_rows.specs.Abi.{rules_of_either}
-use Rattle.dw_rows.specs.Rules.{PlacedRule, IsTable}
+use Rattle.dw_rows.specs.Abi.{or_rule}
+use Rattle.dw_rows.specs.Rules.{RuleOver, PlacedRule, IsTable, rule_in, rule_list}
 use Rattle.dw_rows.specs.GivenRows.{LendsEntry, LendsEach}
 use Rattle.dw_stack.specs.Located.{LocatedExpression}
+
+-- the rule of a register by one table, and by the other where that gives none
+abbrev pub rule_of_either : {E : Type 0} → List (ℕ × RuleOver E) → List (ℕ × RuleOver E) → ℕ → RuleOver E
+rule_of_either rules others r = or_rule (rule_in rules r) (rule_in others r)
+
+-- those other than default, by ascending registers
+abbrev pub rules_of_either : {E : Type 0} → List (ℕ × RuleOver E) → List (ℕ × RuleOver E) → List (ℕ × RuleOver E)
+rules_of_either rules others = rule_list (rule_of_either rules others)
 
 -- It is the first of the rules of either, and those of what is left come behind it. What they name is lent as before.
 pub record IsLowest (entries others : List (ℕ × PlacedRule)) (entry : ℕ × PlacedRule) (left left_others : List (ℕ × PlacedRule)) : Type 0 where

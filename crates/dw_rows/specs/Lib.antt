@@ -31,6 +31,8 @@ pub mod Judgement
 -- ---- What the code's own values stand for, and what its calls answer.
 -- rules and rows of the code
 pub mod Views
+-- roles of registers, as the code has them
+pub mod AbiViews
 -- the expressions that rows lend
 pub mod LentExpressions
 -- ---- Behind the contracts: no contract of a public call speaks of these.
@@ -44,7 +46,7 @@ pub mod ProgramState
 pub mod Judging
 -- expressions in order of offset
 pub mod ExpressionOrder
--- the lowest entry of two tables of rules
+-- the rules of two tables
 pub mod FirstEntry
 -- effects of the code
 pub mod EffectViews

@@ -1,10 +1,10 @@
 //! What an ABI says of registers to which a row gives no rule.
 
-ghost use Rattle.std.specs.Prelude.{◌≡◌, ◌≢◌, ◌<◌, ◌+◌, ◌≤◌, None, Some, [], length, MatchResult};
+ghost use Rattle.std.specs.Prelude.{◌≡◌, ◌≢◌, ◌<◌, ◌+◌, ◌≤◌, ℕ, None, Some, length, MatchResult};
 ghost use Rattle.std.specs.Bool.{OnTrue, OnFalse};
-ghost use Rattle.dw_rows.specs.Abi.{abi_rule, abi_fault};
+ghost use Rattle.dw_rows.specs.Abi.{abi_of, no_abi, abi_fault, rule_of_role};
+ghost use Rattle.dw_rows.specs.AbiViews.{roles_of};
 ghost use Rattle.dw_rows.specs.Rules.{RuleOver, IsTable, rule_in, rule_list, changed_at};
-ghost use Rattle.dw_rows.specs.GivenRows.{rule_with, rules_with, LendsRule, LendsEach};
 ghost use Rattle.dw_rows.specs.Views.{kept_rule_of, entries_of};
 
 use crate::kept_rule::KeptRule;
@@ -23,16 +23,15 @@ pub struct Abi {
 }
 
 impl Model for Abi {
-    ghost use Rattle.dw_rows.specs.Abi as abi;
+    ghost use Rattle.std.specs.Prelude.{ℕ, List};
+    ghost use Rattle.dw_rows.specs.AbiViews.{AreRoles};
+    ghost use Rattle.dw_rows.specs.Rules.{PlacedRule};
 
-    ghost Value = { abi.Abi };
+    ghost Value = { List (ℕ × PlacedRule) };
 
-    ghost use Rattle.std.specs.Prelude.{[]};
-    ghost use Rattle.dw_rows.specs.GivenRows.{rules_with, LendsEach};
+    ghost view = { λ abi. abi.rules };
 
-    ghost view = { λ abi. rules_with [] abi.rules };
-
-    ghost invariant = { λ abi. LendsEach [] abi.rules };
+    ghost invariant = { λ abi. AreRoles abi.rules };
 }
 
 /// Gives a register its rule, unless it has one.
@@ -57,7 +56,7 @@ fn add(rules: &mut RegisterRuleMap, number: u16, rule: KeptRule) -> bool
 impl Abi {
     /// An ABI that says nothing: every register without a rule is undefined.
     pub fn none() -> Abi
-        ensures { result ≡ [] }
+        ensures { roles_of result ≡ no_abi }
     {
         Abi {
             rules: RegisterRuleMap::new(),
@@ -70,7 +69,7 @@ impl Abi {
     pub fn new(kept: &[u16], stack_pointer: Option<u16>) -> Result<Abi, Fault>
         ensures { MatchResult result
             (λ abi. (abi_fault kept.now stack_pointer ≡ None)
-            × (abi ≡ rule_list (abi_rule kept.now stack_pointer)))
+            × (roles_of abi ≡ abi_of kept.now stack_pointer))
             (λ fault. abi_fault kept.now stack_pointer ≡ Some fault) }
     {
         if kept.len() > MAX_KEPT {
@@ -96,17 +95,15 @@ impl Abi {
 
     /// The rule that it gives a register, `Default` where it doesn't name it.
     pub(crate) fn register(&self, number: u16) -> KeptRule
-        ensures rule { rule_with [] (kept_rule_of result) ≡ rule_in self.now number }
-        ensures plain { LendsRule [] (kept_rule_of result) }
+        ensures { kept_rule_of result ≡ rule_of_role (roles_of self.now number) }
     {
         self.rules.register(number)
     }
 
     /// The entries of its rules, by ascending registers.
     pub(crate) fn as_slice(&self) -> &[RuleEntry]
-        ensures entries { rules_with [] (entries_of result.now) ≡ self.now }
+        ensures rules { (r : ℕ) → rule_in (entries_of result.now) r ≡ rule_of_role (roles_of self.now r) }
         ensures table { IsTable 0 (entries_of result.now) }
-        ensures plain { LendsEach [] (entries_of result.now) }
         ensures few { length result.now ≤ MAX_RULES }
     {
         self.rules.as_slice()

@@ -2,9 +2,9 @@
 //! its contract.
 
 ghost use Rattle.std.specs.Prelude.{◌≡◌, ◌⊎◌, false, ℕ, ◌+◌, ◌<◌, ◌≤◌, ◌↔◌, List, length, Option, Some, None, slice_get, filter, [], ◌∷◌};
-ghost use Rattle.std.specs.Prelude.{Err, Contains};
+ghost use Rattle.std.specs.Prelude.{Err, All, Contains};
 ghost use Rattle.dw_frame.specs.Records.{Cie, Fde};
-ghost use Rattle.dw_rows.specs.Abi.{abi_rule, rules_under};
+ghost use Rattle.dw_rows.specs.Abi.{Abi, no_abi, rule_under, rules_under};
 ghost use Rattle.dw_rows.specs.Rules.{Rule, PlacedRule, PlacedCfa, PlacedRow, Row, IsTable, rule_in, rule_list};
 ghost use Rattle.dw_bytes.specs.declared.fault.FaultKind.{FaultKind};
 ghost use Rattle.dw_frame.specs.Instructions.{Instruction};
@@ -86,12 +86,12 @@ pub fn rule_lists_are_rules()
     ensures table { (rules : ℕ → PlacedRule) → IsTable 0 (rule_list rules) }
 {}
 
-/// Under an ABI that says nothing a row has its own rules. Each register that an ABI names has the ABI's rule there, and no other has.
+/// Under an ABI each register that is listed has its rule, by the row or else by the ABI. Under one that says nothing a row has its
+/// own rules.
 pub fn rules_under_abis()
-    ensures none { (rules : List (ℕ × Rule)) → IsTable 0 rules → rules_under [] rules ≡ rules }
-    ensures named { (kept : List ℕ) (stack_pointer : Option ℕ) (r : ℕ) → r < 65536
-        → rule_in (rule_list (abi_rule kept stack_pointer)) r
-        ≡ abi_rule {E = LocatedExpression} kept stack_pointer r }
+    ensures each { (abi : Abi) (rules : List (ℕ × Rule))
+        → All (λ entry. entry.1 ≡ rule_under abi rules entry.0) (rules_under abi rules) }
+    ensures none { (rules : List (ℕ × Rule)) → IsTable 0 rules → rules_under no_abi rules ≡ rules }
 {}
 
 /// A section has no fault exactly where it is well formed: a concatenation of records whose CIE_pointers point to CIEs,

@@ -1,8 +1,9 @@
 //! Rows and their rules.
 
 ghost use Rattle.std.specs.Prelude.{◌≡◌, ◌≤◌, ◌+◌, Some, All, [], length, pos, MatchOption};
-ghost use Rattle.dw_rows.specs.Abi.{or_rule, rule_under, rules_of_either, rules_under};
-ghost use Rattle.dw_rows.specs.FirstEntry.{IsLowest};
+ghost use Rattle.dw_rows.specs.Abi.{or_rule, rule_under, rules_under};
+ghost use Rattle.dw_rows.specs.AbiViews.{roles_of};
+ghost use Rattle.dw_rows.specs.FirstEntry.{rules_of_either, IsLowest};
 ghost use Rattle.dw_rows.specs.Rules.{CfaOver, IsTable, RuleOver, rule_in};
 ghost use Rattle.dw_rows.specs.Views.{rule_of, cfa_rule_of, entry_of, entries_of, kept_rule_of, kept_cfa_of};
 ghost use Rattle.dw_rows.specs.Expressions.{expression_at};
@@ -245,7 +246,7 @@ impl<'f, 'a> UnwindTableRow<'f, 'a> {
     /// The rule of a register under an ABI, which is asked where the row gives it none: `Undefined` where that gives none either.
     pub fn register_with(&self, abi: &Abi, number: u16) -> RegisterRule<'a>
         ensures rule { rule_of result
-            ≡ or_rule (rule_under abi.now self.now.rules number) RuleOver.undefined }
+            ≡ or_rule (rule_under (roles_of abi.now) self.now.rules number) RuleOver.undefined }
         ensures kind { IsRuleOfKind (rule_of result) }
     {
         match self.register(number) {
@@ -260,9 +261,9 @@ impl<'f, 'a> UnwindTableRow<'f, 'a> {
     /// The rules under an ABI, which is asked where the row gives none, each with its register, in ascending order of registers: at
     /// most twice `MAX_RULES`.
     pub fn rules_with<'r>(&'r self, abi: &'r Abi) -> RegisterRules<'r, 'a>
-        ensures rules { result ≡ rules_under abi.now self.now.rules }
-        ensures few { length (rules_under abi.now self.now.rules) ≤ MAX_RULES + MAX_RULES }
-        ensures kinds { All IsEntryOfKind (rules_under abi.now self.now.rules) }
+        ensures rules { result ≡ rules_under (roles_of abi.now) self.now.rules }
+        ensures few { length (rules_under (roles_of abi.now) self.now.rules) ≤ MAX_RULES + MAX_RULES }
+        ensures kinds { All IsEntryOfKind (rules_under (roles_of abi.now) self.now.rules) }
     {
         RegisterRules {
             entries: self.rules.as_slice(),
@@ -289,7 +290,7 @@ impl<'f, 'a> Model for RegisterRules<'f, 'a> {
     ghost use Rattle.dw_rows.specs.Views.{entries_of};
     ghost use Rattle.dw_rows.specs.GivenRows.{rules_with, LendsEach};
     ghost use Rattle.dw_rows.specs.LentExpressions.{lent_by};
-    ghost use Rattle.dw_rows.specs.Abi.{rules_of_either};
+    ghost use Rattle.dw_rows.specs.FirstEntry.{rules_of_either};
     ghost use Rattle.dw_rows.specs.Rules.{IsTable};
 
     ghost view = { λ r. rules_with (lent_by r.expressions)

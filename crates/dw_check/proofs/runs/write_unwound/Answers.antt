@@ -1,5 +1,6 @@
 use Rattle.std.proofs.Common.{refl, subst}
 use Rattle.std.specs.Prelude.{option_copied, option_map}
+use Rattle.dw_rows.specs.Abi.{no_abi}
 use Rattle.dw_check.specs.Caller.{Unwinds}
 use Rattle.dw_check.specs.CallerText.{caller_text}
 use Rattle.dw_check.specs.CallerViews.{caller_in}
@@ -15,7 +16,7 @@ returns-clause-written g c = λ gs given.
     let old = g.S.Sink.taken c.args.out.now.sink.now in
     let new = g.S.Sink.taken c.write_caller.new.out.sink.now in
     let caller = option_map caller_in c.unwind-caller.result in
-    let unwinds = subst (λ e. Unwinds e frame c.args.address caller) (same_machine frame.target (known_state_of c.args.state.now) gs given)
+    let unwinds = subst (λ e. Unwinds e no_abi frame c.args.address caller) (same_machine frame.target (known_state_of c.args.state.now) gs given)
     c.unwind-caller.ensures.unwinds in
     let lent = subst (λ z. WritesWhole old new c.write_caller.result (caller_text z (option_map caller_in (option_copied c.as_ref.result))))
     c.requires.size c.write_caller.ensures.written in

@@ -1,13 +1,15 @@
-use Rattle.std.proofs.Common.{◌≡◌, ℕ, length, List, [], sym, ap, ◌∙◌, subst, arith}
+use Rattle.std.proofs.Common.{◌≡◌, ℕ, List, length, sym, ap, ◌∙◌, subst, arith}
 use Rattle.std.specs.Prelude.{All}
-use Rattle.dw_rows.specs.Abi.{Abi, rules_of_either, rules_under}
+use Rattle.dw_rows.specs.Abi.{rules_under}
+use Rattle.dw_rows.specs.AbiViews.{roles_of}
+use Rattle.dw_rows.specs.FirstEntry.{rules_of_either}
 use Rattle.dw_rows.specs.Rules.{PlacedRule, Row}
 use Rattle.dw_rows.specs.GivenRows.{IsEntryOfKind, LendsEach, rules_with}
 use Rattle.dw_rows.specs.LentExpressions.{lent_by}
 use Rattle.dw_rows.specs.Views.{entries_of}
 use Rattle.dw_rows.proofs.Edits.{length-entries_of}
 use Rattle.dw_rows.proofs.GivenRows.{kinds-with, length-with}
-use Rattle.dw_rows.proofs.Under.{either-with, lends-either, few-of-either, plain-lends-each}
+use Rattle.dw_rows.proofs.Under.{either-with, lends-either, few-of-either, roles-lend}
 use Rattle.dw_rows.proofs.row.UnwindTableRow.rules_with.Goals as goal
 
 pub returns-clause-rules : goal.returns-clause-rules
@@ -15,16 +17,15 @@ returns-clause-rules c =
     let es = lent_by c.self.inside.expressions in
     let others = entries_of c.as_slice-2.result.now in
     ap (λ (l : List (ℕ × PlacedRule)). rules_with es (rules_of_either l others)) c.as_slice.ensures.entries
-    ∙ either-with es c.self.inside.rules others c.as_slice-2.ensures.plain
-    ∙ ap (λ (row : Row). rules_of_either row.rules (rules_with [] others)) c.self.view_is
-    ∙ ap (λ (abi : Abi). rules_under abi c.args.self.now.rules) c.as_slice-2.ensures.entries
+    ∙ either-with es c.self.inside.rules others (roles_of c.args.abi.now) c.as_slice-2.ensures.rules
+    ∙ ap (λ (row : Row). rules_under (roles_of c.args.abi.now) row.rules) c.self.view_is
 
 pub returns-clause-few : goal.returns-clause-few
 returns-clause-few c =
     let es = lent_by c.self.inside.expressions in
     let own = entries_of c.as_slice.result.now in
     let others = entries_of c.as_slice-2.result.now in
-    let is : rules_with es (rules_of_either own others) ≡ rules_under c.args.abi.now c.args.self.now.rules = returns-clause-rules c in
+    let is : rules_with es (rules_of_either own others) ≡ rules_under (roles_of c.args.abi.now) c.args.self.now.rules = returns-clause-rules c in
     omega (
       arith,
       ap length is,
@@ -42,6 +43,15 @@ returns-clause-kinds c =
     let own = entries_of c.as_slice.result.now in
     let others = entries_of c.as_slice-2.result.now in
     let lends : LendsEach es own = subst (LendsEach es) (sym c.as_slice.ensures.entries) c.self.invariant.1 in
-    subst (All IsEntryOfKind) (returns-clause-rules c)
-    (kinds-with es (rules_of_either own others)
-    (lends-either es own others lends (plain-lends-each es others c.as_slice-2.ensures.plain)))
+    let other_lends : LendsEach es others = roles-lend es others (roles_of c.args.abi.now) c.as_slice-2.ensures.table c.as_slice-2.ensures.rules in
+    subst (All IsEntryOfKind) (returns-clause-rules c) (kinds-with es (rules_of_either own others) (lends-either es own others lends other_lends))
+
+pub invariant_of-result : goal.invariant_of-result
+invariant_of-result c =
+    let es = lent_by c.self.inside.expressions in
+    let others = entries_of c.as_slice-2.result.now in (
+      c.as_slice.ensures.table,
+      c.as_slice-2.ensures.table,
+      subst (LendsEach es) (sym c.as_slice.ensures.entries) c.self.invariant.1,
+      roles-lend es others (roles_of c.args.abi.now) c.as_slice-2.ensures.table c.as_slice-2.ensures.rules,
+    )

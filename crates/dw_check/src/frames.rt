@@ -1,6 +1,4 @@
-//! Frames, one the caller of the other.
-
-ghost use Rattle.dw_check.specs.Walks.{WalkedFrame};
+//! What a walk up the stack gives.
 
 use crate::unwinding::Caller;
 

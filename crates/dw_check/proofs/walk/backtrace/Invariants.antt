@@ -1,0 +1,20 @@
+use Rattle.std.proofs.Common.{◌-◌, ◌≤◌, ◌<◌, ◌^◌, length}
+use Rattle.std.specs.Prelude.{All, Some}
+use Rattle.dw_eval.specs.Numbers.{width_of}
+use Rattle.dw_check.specs.CallerFits.{FrameFits}
+use Rattle.dw_check.specs.Walks.{AreFrames, first_place}
+use Rattle.dw_check.specs.WalkViews.{frames_in, surroundings_in}
+use Rattle.dw_check.proofs.walk.backtrace.Given as goal
+
+abbrev pub invariant-loop-frames : goal.invariant-loop-frames
+invariant-loop-frames g l = record {
+  are : AreFrames (surroundings_in l.checked.frame l.abi (g.M.Memory.bytes l.memory))
+      (Some (first_place l.address (g.R.Registers.contents l.registers))) (frames_in l.frames.items);
+  some : 0 < l.limit → 0 < length l.frames.items;
+  few : length l.frames.items ≤ l.limit;
+  fits : l.address < 2 ^ width_of l.checked.frame.target.address_size
+      → All (FrameFits (2 ^ width_of l.checked.frame.target.address_size)) (frames_in l.frames.items);
+}
+
+abbrev pub decreases-loop-frames : goal.decreases-loop-frames
+decreases-loop-frames g l = l.limit - length l.frames.items

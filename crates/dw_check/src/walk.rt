@@ -1,0 +1,154 @@
+//! A walk up the stack: frames, one the caller of the other.
+
+ghost use Rattle.std.specs.Prelude.{◌≡◌, ◌<◌, ◌^◌, All, IfErr, IfOk, IfSome, MatchResult, Some, map};
+ghost use Rattle.dw_bytes.specs.Answers.{memory as want_of_memory};
+ghost use Rattle.dw_eval.specs.Numbers.{width_of};
+ghost use Rattle.dw_check.specs.CallerFits.{CallerFits, FrameFits};
+ghost use Rattle.dw_check.specs.CallerViews.{caller_in, found_in};
+ghost use Rattle.dw_check.specs.Walks.{Walks, IsFrameAt, IsFrameBehind, contents_of, first_place, place_of_caller, stop_of_caller};
+ghost use Rattle.dw_check.specs.WalkViews.{frame_in, frames_in, surroundings_in};
+
+use crate::frames::{Backtrace, Frame, Stop};
+use crate::unwinding::{Answer, Caller, unwind_with};
+use crate::whole_check::Checked;
+use dw_bytes::{Fault, FaultKind};
+use dw_eval::{Memory, Registers};
+use dw_rows::Abi;
+use std::alloc::Global;
+
+const OUT_OF_MEMORY: Fault = Fault {
+    kind: FaultKind::Memory,
+    at: 0,
+};
+
+/// The registers of a frame, as far as the one that it called says: those of a caller that are values. There are few, so that going
+/// through them costs less than halving.
+#[derive(Drop)]
+struct CallerRegisters<'c> {
+    found: &'c [(u16, Answer)],
+}
+
+/// The content of a register by what was found of a caller.
+fn content_in(found: &[(u16, Answer)], number: u16) -> Option<u64>
+    ensures { result ≡ contents_of (map found_in found.now) number }
+{
+    for register in found {
+        if register.0 == number {
+            return match register.1 {
+                Answer::Value(content) => Some(content),
+                _ => None,
+            };
+        }
+    }
+    None
+}
+
+impl<'c> Registers for CallerRegisters<'c> {
+    ghost use Rattle.dw_check.specs.CallerViews.{found_in};
+    ghost use Rattle.dw_check.specs.Walks.{contents_of};
+
+    ghost contents = { λ c. contents_of (map found_in c.found.now) };
+
+    fn register(&self, number: u16) -> Option<u64> {
+        content_in(self.found, number)
+    }
+}
+
+/// The frame of a caller that goes on at an address. It is looked up at the address before, since that of a call is there.
+fn frame_of_caller<M: Memory>(
+    checked: &Checked<'_>,
+    abi: &Abi,
+    caller: &Caller,
+    address: u64,
+    memory: &M,
+) -> Frame
+    ensures frame { IsFrameAt (surroundings_in checked.now.frame abi.now (M.bytes memory.now))
+        (place_of_caller (caller_in caller.now) address) (frame_in result) }
+    ensures fits { IfSome (frame_in result).caller
+        (CallerFits (2 ^ width_of checked.now.frame.target.address_size)) }
+{
+    let registers = CallerRegisters {
+        found: caller.registers.as_slice(),
+    };
+    let caller = match address.checked_sub(1) {
+        Some(before) => unwind_with(checked, abi, before, &registers, memory),
+        None => None,
+    };
+    Frame { address, caller }
+}
+
+/// The frame behind one, or why there is none.
+fn next_frame<M: Memory>(
+    checked: &Checked<'_>,
+    abi: &Abi,
+    frame: &Frame,
+    memory: &M,
+) -> Result<Frame, Stop>
+    ensures next { MatchResult result
+        (λ next. IsFrameBehind (surroundings_in checked.now.frame abi.now (M.bytes memory.now))
+        (frame_in frame.now) (frame_in next))
+        (λ stop. stop_of_caller (frame_in frame.now).caller ≡ Some stop) }
+    ensures fits { IfOk result (λ next.
+        IfSome (frame_in frame.now).caller (CallerFits (2 ^ width_of checked.now.frame.target.address_size))
+        → FrameFits (2 ^ width_of checked.now.frame.target.address_size) (frame_in next)) }
+{
+    let Some(caller) = &frame.caller else {
+        return Err(Stop::NotCovered);
+    };
+    let address = match caller.return_address {
+        Answer::Value(address) => address,
+        Answer::Undefined => return Err(Stop::ReturnUndefined),
+        Answer::Unreadable => return Err(Stop::ReturnUnreadable),
+        Answer::DivisionByZero => return Err(Stop::ReturnDivisionByZero),
+    };
+    Ok(frame_of_caller(checked, abi, caller, address, memory))
+}
+
+/// Walks up the stack from a frame that stands at an address, with its registers, over memory: the frame, its caller, that one's
+/// caller and so on, at most `limit` frames, and why there are no more.
+///
+/// The first frame is looked up at its address, each other at the address before its own. Behind the first frame a register has a
+/// content only where the answer for it was a value. Each frame costs what `unwind_with` costs. Only memory can lack: the fault is
+/// `Memory`, at 0.
+pub fn backtrace<R: Registers, M: Memory>(
+    alloc: Global,
+    checked: &Checked<'_>,
+    abi: &Abi,
+    address: u64,
+    registers: &R,
+    memory: &M,
+    limit: u32,
+) -> Result<Backtrace, Fault>
+    ensures walks { IfOk result (λ walk.
+        Walks (surroundings_in checked.now.frame abi.now (M.bytes memory.now))
+        (first_place address (R.contents registers.now)) limit
+        (frames_in walk.frames.items) walk.stop) }
+    ensures lacks { IfErr result (λ fault. fault ≡ want_of_memory) }
+
+    // All numbers are below 2^w, w being the size of an address in bits, where the first frame's address is.
+    ensures fits { IfOk result (λ walk.
+        address < 2 ^ width_of checked.now.frame.target.address_size
+        → All (FrameFits (2 ^ width_of checked.now.frame.target.address_size))
+        (frames_in walk.frames.items)) }
+{
+    let mut frames = Vec::new(alloc);
+    if limit > 0 {
+        let caller = unwind_with(checked, abi, address, registers, memory);
+        if frames.push(Frame { address, caller }).is_err() {
+            return Err(OUT_OF_MEMORY);
+        }
+    }
+    while (frames.len() as u64) < u64::from(limit) {
+        let frame = match next_frame(checked, abi, &frames[frames.len() - 1], memory) {
+            Ok(frame) => frame,
+            Err(stop) => return Ok(Backtrace { frames, stop }),
+        };
+        if frames.push(frame).is_err() {
+            return Err(OUT_OF_MEMORY);
+        }
+    }
+    Ok(Backtrace {
+        frames,
+        stop: Stop::Limit,
+    })
+}
