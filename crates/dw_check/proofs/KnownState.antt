@@ -2,6 +2,7 @@
 use Rattle.std.proofs.Common.{◌≡◌, ℕ, zero, suc, ◌+◌, ◌-◌, ◌<◌, ◌==◌, nat_lt, nat_le, Bool, true, false, Option, Some, None, List, []}
 use Rattle.std.proofs.Common.{◌∷◌, ◌++◌, length, take, slice_index, ap, refl, sym, ◌∙◌, arith}
 use Rattle.std.specs.Prelude.{MatchOption, if◌then◌else◌, slice_get}
+use Rattle.std.specs.Bool.{OnTrue}
 use Rattle.std.specs.Option.{option_or}
 use Rattle.std.specs.declared.cmp.Ordering.TheVariants.{Less, Equal, Greater}
 use Rattle.std.specs.Ordering.{is_eq, nat_cmp}
@@ -9,8 +10,9 @@ use Rattle.std.specs.Cmp.{nat_cmp_is}
 use Rattle.std.specs.Map.{lookup}
 use Rattle.std.specs.BTreeMap.{BTreeMap, get, Updates, IsUnchanged}
 use Rattle.std.proofs.lemmas.Bool.Decides.{nat_tests}
-use Rattle.dw_check.specs.StateFile.{StateFact, bytes, first_that, content_in, byte_in, cfa_in, frame_base_in, object_in, KnownState}
-use Rattle.dw_check.specs.StateFile.{IsGivenBy}
+use Rattle.std.proofs.lemmas.List.Sums.{fold-append}
+use Rattle.dw_check.specs.StateFile.{StateFact, bytes, first_that, content_in, byte_in, cfa_in, frame_base_in, object_in, kept_in, kept_with}
+use Rattle.dw_check.specs.StateFile.{stack_pointer_in, fit_together, go_together, KnownState, IsGivenBy}
 
 cmp_lt : (k q : ℕ) → k < q → is_eq (nat_cmp k q) ≡ (k == q)
 cmp_lt k q h = let other : (k == q) ≡ false = grind (arith, nat_tests) in rw (sym (nat_cmp_is k q Less h), other) refl
@@ -124,10 +126,16 @@ pub record After (old : KnownState) (g : StateFact) (new : KnownState) : Type 0 
   pub cfa : new.cfa ≡ option_or old.cfa (cfa_in g)
   pub frame_base : new.frame_base ≡ option_or old.frame_base (frame_base_in g)
   pub object : new.object ≡ option_or old.object (object_in g)
+  pub kept : new.kept ≡ kept_with old.kept g
+  pub stack_pointer : new.stack_pointer ≡ option_or old.stack_pointer (stack_pointer_in g)
 
 one_more : {X : Type 0} → (pick : StateFact → Option X) (gs : List StateFact) (g : StateFact) (old new : Option X)
     → new ≡ option_or old (pick g) → old ≡ first_that pick gs → new ≡ first_that pick (gs ++ g ∷ [])
 one_more pick gs g old new h is = h ∙ ap (λ o. option_or o (pick g)) is ∙ sym (first_more pick gs g)
+
+-- and of the numbers that are kept
+kept_more : (gs : List StateFact) (g : StateFact) → kept_in (gs ++ g ∷ []) ≡ kept_with (kept_in gs) g
+kept_more gs g = fold-append kept_with [] gs (g ∷ [])
 
 pub given_more : (old new : KnownState) (g : StateFact) → After old g new → (gs : List StateFact) → IsGivenBy old gs
     → IsGivenBy new (gs ++ g ∷ [])
@@ -137,4 +145,21 @@ given_more old new g h gs is = record {
   cfa = one_more cfa_in gs g old.cfa new.cfa h.cfa is.cfa;
   frame_base = one_more frame_base_in gs g old.frame_base new.frame_base h.frame_base is.frame_base;
   object = one_more object_in gs g old.object new.object h.object is.object;
+  kept = h.kept ∙ ap (λ ns. kept_with ns g) is.kept ∙ sym (kept_more gs g);
+  stack_pointer = one_more stack_pointer_in gs g old.stack_pointer new.stack_pointer h.stack_pointer is.stack_pointer;
 }
+
+-- whether one line more goes with what is known
+pub together_more : (old : KnownState) (gs : List StateFact) (g : StateFact) → IsGivenBy old gs
+    → go_together (gs ++ g ∷ []) ≡ fit_together (kept_with old.kept g) (option_or old.stack_pointer (stack_pointer_in g))
+together_more old gs g is =
+    rw (kept_more gs g, first_more stack_pointer_in gs g, is.kept, is.stack_pointer) refl
+
+-- one that names no register of the ABI does
+pub plain_goes : (old : KnownState) (g : StateFact) → kept_with old.kept g ≡ old.kept → stack_pointer_in g ≡ None
+    → fit_together old.kept old.stack_pointer ≡ true → (gs : List StateFact) → IsGivenBy old gs → true ≡ go_together (gs ++ g ∷ [])
+plain_goes old g keeps none fit gs is = rw (together_more old gs g is, keeps, none, or_none old.stack_pointer) (sym fit)
+
+pub where_true : {A B : Type 0} → (t : Bool) → OnTrue t A → (A → B) → OnTrue t B
+where_true true h f = f h
+where_true false h f = tt

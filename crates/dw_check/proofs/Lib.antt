@@ -9,6 +9,7 @@ pub mod Evaluated
 pub mod Found
 pub mod GoodLocations
 pub mod Growth
+pub mod KeptNumbers
 pub mod KnownMachine
 pub mod KnownState
 pub mod Lengths

@@ -1,8 +1,20 @@
 -- The lines of a state file, one after the other.
-use Rattle.std.proofs.Common.{◌≡◌, ℕ, suc, ◌+◌, ◌<◌, ◌≤◌, ◌==◌, Bool, true, false, Some, List, [], ◌∷◌, ◌++◌, length, ap, refl, ◌∙◌, arith}
+use Rattle.std.proofs.Common.{◌≡◌, ℕ, suc, ◌+◌, ◌≤◌, ◌==◌, Bool, true, false, not, ◌&&◌, Ok, Err, List, [], ◌∷◌, ◌++◌, length, take, find}
+use Rattle.std.proofs.Common.{ap, refl, sym, ◌∙◌, arith, append_assoc, append-nil, length-append}
+use Rattle.std.specs.List.{list_all, range_with_len}
+use Rattle.std.proofs.lemmas.List.Folds.{list_all-append}
+use Rattle.std.proofs.lemmas.List.Elements.{filter_map-append}
 use Rattle.dw_bytes.specs.declared.target.Target.{Target}
 use Rattle.dw_check.specs.Parts.{joined_on, parts_of}
-use Rattle.dw_check.specs.StateFile.{StateFact, fact_of_line, with_fact, facts_of_lines, facts_of_file}
+use Rattle.dw_check.specs.StateFile.{fact_of_line, facts_of_lines, is_line, go_together, are_good, first_bad_line, facts_of_file}
+
+and_true : (a : Bool) → (a && true) ≡ a
+and_true true = refl
+and_true false = refl
+
+left_of : (a b : Bool) → (a && b) ≡ true → a ≡ true
+left_of true b h = refl
+left_of false b h = h
 
 joined_long : (b : ℕ) (parts : List (List ℕ)) (n : ℕ) → length parts ≤ n + 1 → length (joined_on b parts) ≤ (n + 1) + 1
 joined_long b [] n h = omega arith
@@ -18,14 +30,51 @@ pub few_parts : (s : ℕ) (bytes : List ℕ) → length (parts_of s bytes) ≤ l
 few_parts s [] = omega arith
 few_parts s (b ∷ bytes) = parts_step s b bytes (b == s) refl (few_parts s bytes)
 
--- the file's answer, after lines that gave gs, with these lines to come, the first of number n
-pub record Reading (target : Target) (text : List ℕ) (gs : List StateFact) (n : ℕ) (lines : List (List ℕ)) : Type 0 where
-  pub is : facts_of_file target text ≡ facts_of_lines target gs n lines
+-- whether the first n of a file's lines are bad together
+abbrev pub is_bad : Target → List ℕ → ℕ → Bool
+is_bad target text n = not (are_good target (take n (parts_of 10 text)))
 
-pub reads_line : (target : Target) (text : List ℕ) (gs : List StateFact) (n : ℕ) (line : List ℕ) (lines : List (List ℕ)) (g : StateFact)
-    → 0 < length line → Reading target text gs n (line ∷ lines) → fact_of_line target line ≡ Some g
-    → Reading target text (gs ++ g ∷ []) (n + 1) lines
-reads_line target text gs n [] lines g some h is = absurd (omega (arith, some))
-reads_line target text gs n (b ∷ line) lines g some h is =
-    let next : n + 1 ≡ suc n = omega arith in
-    rw next (record { is = h.is ∙ ap (λ o. with_fact gs o n (λ hs. facts_of_lines target hs (suc n) lines)) is })
+-- of the file's lines those before are good, there are n of them, and these are to come
+pub record Reading (target : Target) (text : List ℕ) (before : List (List ℕ)) (n : ℕ) (lines : List (List ℕ)) : Type 0 where
+  pub is : parts_of 10 text ≡ before ++ lines
+  pub count : length before ≡ n
+  pub each : list_all (is_line target) before ≡ true
+  pub first : first_bad_line target (parts_of 10 text) ≡ find (is_bad target text) (range_with_len (n + 1) (length lines))
+
+-- whether a line goes behind those that are good
+abbrev pub goes_behind : Target → List (List ℕ) → List ℕ → Bool
+goes_behind target before line = is_line target line && go_together (facts_of_lines target before ++ facts_of_lines target (line ∷ []))
+
+taken : (before : List (List ℕ)) (line : List ℕ) (lines : List (List ℕ)) → take (length before + 1) (before ++ line ∷ lines) ≡ before ++ line ∷ []
+taken [] line lines = refl
+taken (b ∷ before) line lines = let next : length (b ∷ before) + 1 ≡ suc (length before + 1) = omega arith in
+    rw next (ap (λ ls. b ∷ ls) (taken before line lines))
+
+each_more : (target : Target) (before : List (List ℕ)) (line : List ℕ) → list_all (is_line target) before ≡ true
+    → list_all (is_line target) (before ++ line ∷ []) ≡ is_line target line
+each_more target before line each = rw (list_all-append (is_line target) before (line ∷ []), each) (and_true (is_line target line))
+
+good_more : (target : Target) (text : List ℕ) (before : List (List ℕ)) (n : ℕ) (line : List ℕ) (lines : List (List ℕ))
+    → Reading target text before n (line ∷ lines) → is_bad target text (n + 1) ≡ not (goes_behind target before line)
+good_more target text before n line lines h =
+    rw (h.is, ← h.count, taken before line lines, each_more target before line h.each, filter_map-append (fact_of_line target) before (line ∷ []))
+    refl
+
+pub reads_line : (target : Target) (text : List ℕ) (before : List (List ℕ)) (n : ℕ) (line : List ℕ) (lines : List (List ℕ))
+    → Reading target text before n (line ∷ lines) → goes_behind target before line ≡ true
+    → Reading target text (before ++ line ∷ []) (n + 1) lines
+reads_line target text before n line lines h good = record {
+  is = h.is ∙ sym (append_assoc before (line ∷ []) lines);
+  count = length-append before (line ∷ []) ∙ ap (λ k. k + 1) h.count;
+  each = each_more target before line h.each ∙ left_of (is_line target line) _ good;
+  first = h.first ∙ rw (good_more target text before n line lines h, good) refl;
+}
+
+pub reads_bad : (target : Target) (text : List ℕ) (before : List (List ℕ)) (n : ℕ) (line : List ℕ) (lines : List (List ℕ))
+    → Reading target text before n (line ∷ lines) → goes_behind target before line ≡ false → facts_of_file target text ≡ Err (n + 1)
+reads_bad target text before n line lines h bad =
+    rw (h.first, good_more target text before n line lines h, bad) refl
+
+pub reads_all : (target : Target) (text : List ℕ) (before : List (List ℕ)) (n : ℕ) → Reading target text before n []
+    → facts_of_file target text ≡ Ok (facts_of_lines target before)
+reads_all target text before n h = rw (h.first, h.is, append-nil before) refl

@@ -1,22 +1,29 @@
 -- What a state file says of a machine, line by line.
-use Rattle.std.specs.Prelude.{◌≡◌, ℕ, suc, ◌+◌, ◌-◌, ◌≤◌, ◌^◌, ◌==◌, nat_lt, nat_le, ◌&&◌, if◌then◌else◌, List, [], ◌∷◌, ◌++◌, length}
-use Rattle.std.specs.Prelude.{slice_get, Option, Some, None, option_map, option_and_then, Result, Ok, Err, codes}
-use Rattle.std.specs.Option.{option_or}
+use Rattle.std.specs.Prelude.{◌≡◌, ℕ, suc, ◌+◌, ◌-◌, ◌≤◌, ◌^◌, ◌==◌, nat_lt, nat_le, Bool, true, not, ◌&&◌, ◌||◌, if◌then◌else◌}
+use Rattle.std.specs.Prelude.{List, [], ◌∷◌, ◌++◌, length, take, find, fold, slice_get}
+use Rattle.std.specs.Prelude.{Option, Some, None, is_some, option_map, option_and_then, Result, Ok, Err, codes}
+use Rattle.std.specs.List.{filter_map, list_all, range_with_len}
+use Rattle.std.specs.Option.{option_or, option_to_list}
 use Rattle.std.specs.Result.{result_ok}
 use Rattle.std.specs.Str.{bytes_eq}
 use Rattle.hex.specs.Hex.{decode_of}
 use Rattle.dw_bytes.specs.declared.target.Target.{Target}
 use Rattle.dw_frame.specs.Sections.{top_of}
+use Rattle.dw_rows.specs.Abi.{is_among}
+use Rattle.dw_rows.specs.declared.abi.TheConstants.{MAX_KEPT}
 use Rattle.dw_check.specs.Addresses.{number_of, at_most, address_of}
 use Rattle.dw_check.specs.Parts.{parts_of}
 
--- what a line gives: a register's content, the bytes at an address, the CFA, the frame base, the object's address
+-- what a line gives: a register's content, the bytes at an address, the CFA, the frame base, the object's address, a register that
+-- calls keep, or the one that is the stack pointer
 pub data StateFact : Type 0 where
   register : ℕ → ℕ → StateFact
   bytes : ℕ → List ℕ → StateFact
   cfa : ℕ → StateFact
   frame_base : ℕ → StateFact
   object : ℕ → StateFact
+  keep : ℕ → StateFact
+  stack_pointer : ℕ → StateFact
 
 -- bytes that are given end at the top of all addresses, or before
 abbrev pub FitsAddresses : StateFact → Type 0
@@ -48,13 +55,15 @@ numbered target word place value =
     else (if bytes_eq word (codes "mem") then memory_fact target place value
     else None)
 
--- `cfa 0xV`, `frame 0xV` and `object 0xV`
+-- `cfa 0xV`, `frame 0xV`, `object 0xV`, `keep N` and `sp N`
 abbrev pub named : Target → List ℕ → List ℕ → Option StateFact
 named target word value =
     if bytes_eq word (codes "cfa") then option_map cfa (address_of target value)
     else (if bytes_eq word (codes "frame") then option_map frame_base (address_of target value)
     else (if bytes_eq word (codes "object") then option_map object (address_of target value)
-    else None))
+    else (if bytes_eq word (codes "keep") then option_map keep (register_number value)
+    else (if bytes_eq word (codes "sp") then option_map stack_pointer (register_number value)
+    else None))))
 
 abbrev pub fact_of_words : Target → List (List ℕ) → Option StateFact
 fact_of_words target (word ∷ value ∷ []) = named target word value
@@ -64,25 +73,6 @@ fact_of_words target words = None
 -- what a line's words give, with single spaces between them
 abbrev pub fact_of_line : Target → List ℕ → Option StateFact
 fact_of_line target line = fact_of_words target (parts_of 32 line)
-
--- ---- the file
-
--- what the line of number n gives, behind what those before it gave, and then what is read behind it
-abbrev pub with_fact : List StateFact → Option StateFact → ℕ → (List StateFact → Result (List StateFact) ℕ) → Result (List StateFact) ℕ
-with_fact gs None n rest = Err n
-with_fact gs (Some g) n rest = rest (gs ++ g ∷ [])
-
--- What lines give behind what was given before them, the first of number n; or the number of the first that isn't one. An empty line
--- gives nothing.
-abbrev pub facts_of_lines : Target → List StateFact → ℕ → List (List ℕ) → Result (List StateFact) ℕ
-facts_of_lines target gs n [] = Ok gs
-facts_of_lines target gs n ([] ∷ lines) = facts_of_lines target gs (suc n) lines
-facts_of_lines target gs n ((b ∷ line) ∷ lines) =
-    with_fact gs (fact_of_line target (b ∷ line)) n (λ hs. facts_of_lines target hs (suc n) lines)
-
--- Lines end at LFs, and are counted from 1.
-abbrev pub facts_of_file : Target → List ℕ → Result (List StateFact) ℕ
-facts_of_file target text = facts_of_lines target [] 1 (parts_of 10 text)
 
 -- ---- what holds: where two lines give one thing, the first
 
@@ -110,6 +100,60 @@ abbrev pub object_in : StateFact → Option ℕ
 object_in (object v) = Some v
 object_in _ = None
 
+abbrev pub stack_pointer_in : StateFact → Option ℕ
+stack_pointer_in (stack_pointer n) = Some n
+stack_pointer_in _ = None
+
+-- ---- what calls keep
+
+-- numbers that are kept, and one more where a line gives one that isn't among them
+abbrev pub kept_with : List ℕ → StateFact → List ℕ
+kept_with ns (keep n) = if is_among n ns then ns else ns ++ n ∷ []
+kept_with ns _ = ns
+
+-- those that lines give, in their order, each once
+abbrev pub kept_in : List StateFact → List ℕ
+kept_in gs = fold kept_with [] gs
+
+-- none of them is there twice
+abbrev pub are_distinct : List ℕ → Bool
+are_distinct [] = true
+are_distinct (n ∷ ns) = not (is_among n ns) && are_distinct ns
+
+-- No more than `MAX_KEPT` numbers are kept, and none of them is there twice or is the stack pointer.
+abbrev pub fit_together : List ℕ → Option ℕ → Bool
+fit_together kept sp = nat_le (length kept) MAX_KEPT && are_distinct (kept ++ option_to_list sp)
+
+-- ---- the file
+
+-- what lines give, in their order
+abbrev pub facts_of_lines : Target → List (List ℕ) → List StateFact
+facts_of_lines target lines = filter_map (fact_of_line target) lines
+
+-- it is empty, or gives something
+abbrev pub is_line : Target → List ℕ → Bool
+is_line target line = length line == 0 || is_some (fact_of_line target line)
+
+-- what they say of calls and of the stack pointer fits together
+abbrev pub go_together : List StateFact → Bool
+go_together gs = fit_together (kept_in gs) (first_that stack_pointer_in gs)
+
+-- each is one, and what they give goes together
+abbrev pub are_good : Target → List (List ℕ) → Bool
+are_good target lines = list_all (is_line target) lines && go_together (facts_of_lines target lines)
+
+-- the number of the first line that isn't good with those before it, counted from 1
+abbrev pub first_bad_line : Target → List (List ℕ) → Option ℕ
+first_bad_line target lines = find (λ n. not (are_good target (take n lines))) (range_with_len 1 (length lines))
+
+abbrev pub unless_bad : List StateFact → Option ℕ → Result (List StateFact) ℕ
+unless_bad gs None = Ok gs
+unless_bad gs (Some n) = Err n
+
+-- What the file's lines give, or the number of the first that is bad. They end at LFs.
+abbrev pub facts_of_file : Target → List ℕ → Result (List StateFact) ℕ
+facts_of_file target text = let lines = parts_of 10 text in unless_bad (facts_of_lines target lines) (first_bad_line target lines)
+
 -- a machine as far as it is known
 pub record KnownState : Type 0 where
   pub registers : ℕ → Option ℕ
@@ -117,6 +161,8 @@ pub record KnownState : Type 0 where
   pub cfa : Option ℕ
   pub frame_base : Option ℕ
   pub object : Option ℕ
+  pub kept : List ℕ
+  pub stack_pointer : Option ℕ
 
 -- it is what was given, and no more
 pub record IsGivenBy (k : KnownState) (gs : List StateFact) : Type 0 where
@@ -125,3 +171,5 @@ pub record IsGivenBy (k : KnownState) (gs : List StateFact) : Type 0 where
   pub cfa : k.cfa ≡ first_that cfa_in gs
   pub frame_base : k.frame_base ≡ first_that frame_base_in gs
   pub object : k.object ≡ first_that object_in gs
+  pub kept : k.kept ≡ kept_in gs
+  pub stack_pointer : k.stack_pointer ≡ first_that stack_pointer_in gs

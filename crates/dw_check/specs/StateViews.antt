@@ -3,7 +3,7 @@ use Rattle.std.specs.Prelude.{◌≡◌, ℕ, List, Result, Ok}
 use Rattle.std.specs.Ordering.{nat_cmp}
 use Rattle.std.specs.BTreeMap.{get}
 use Rattle.dw_check.specs.declared.machine_state.MachineState.{MachineState}
-use Rattle.dw_check.specs.StateFile.{StateFact, KnownState, IsGivenBy, register, bytes, cfa, frame_base, object}
+use Rattle.dw_check.specs.StateFile.{StateFact, KnownState, IsGivenBy, register, bytes, cfa, frame_base, object, keep, stack_pointer}
 use Rattle.dw_check.specs.declared.state_line.StateLine.{StateLine}
 use Rattle.dw_check.specs.declared.state_line.StateLine.TheVariants as lines
 
@@ -13,6 +13,8 @@ fact_of (lines.Memory a bs) = bytes a bs.items
 fact_of (lines.Cfa v) = cfa v
 fact_of (lines.FrameBase v) = frame_base v
 fact_of (lines.Object v) = object v
+fact_of (lines.Keep n) = keep n
+fact_of (lines.StackPointer n) = stack_pointer n
 
 abbrev pub known_state_of : MachineState → KnownState
 known_state_of m = record {
@@ -21,6 +23,8 @@ known_state_of m = record {
   cfa = m.cfa;
   frame_base = m.frame_base;
   object = m.object;
+  kept = m.abi_registers.kept.items;
+  stack_pointer = m.abi_registers.stack_pointer;
 }
 
 -- the state is what was given

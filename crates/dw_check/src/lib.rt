@@ -1,6 +1,7 @@
 //! Two sections checked together, the frames that called by them, and the texts of what is asked for.
 #![tactic(auto)]
 
+mod abi_registers;
 mod addresses;
 mod arguments;
 mod caller_text;

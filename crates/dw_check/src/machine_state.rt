@@ -1,19 +1,25 @@
 //! What a state file says of a machine.
 
-ghost use Rattle.std.specs.Prelude.{◌≡◌, ℕ, ◌+◌, ◌≤◌, ◌^◌, ◌∷◌, ◌++◌, [], List, OnOk, IfOk, IfErr, Some, length, MatchOption};
+ghost use Rattle.std.specs.Prelude.{◌≡◌, ℕ, ◌+◌, ◌≤◌, ◌^◌, ◌&&◌, ◌∷◌, ◌++◌, [], List, OnOk, IfOk, IfErr, Some, length, MatchOption};
+ghost use Rattle.std.specs.Bool.{OnTrue};
 ghost use Rattle.std.specs.Ordering.{nat_cmp};
 ghost use Rattle.std.specs.BTreeMap.{get, Updates, IsUnchanged};
 ghost use Rattle.std.specs.Option.{option_or};
-ghost use Rattle.dw_check.specs.StateFile.{StateFact, FitsAddresses, IsGivenBy, byte_in, facts_of_file};
+ghost use Rattle.dw_rows.specs.Abi.{abi_of};
+ghost use Rattle.dw_rows.specs.AbiViews.{roles_of};
+ghost use Rattle.dw_check.specs.StateFile.{StateFact, FitsAddresses, IsGivenBy, byte_in};
+ghost use Rattle.dw_check.specs.StateFile.{facts_of_lines, is_line, go_together, facts_of_file};
 ghost use Rattle.dw_check.specs.Stops.{IsBadState};
 ghost use Rattle.dw_check.specs.StateViews.{fact_of, known_state_of, IsStateOf};
 
+use crate::abi_registers::AbiRegisters;
 use crate::parts::Parts;
 use crate::state_line::{StateLine, parse_line};
 use crate::stop::RunFault;
 use byteorder::{BigEndian, ByteOrder, LittleEndian};
 use dw_bytes::{Order, Target};
 use dw_eval::{Memory, Registers};
+use dw_rows::Abi;
 use std::alloc::{AllocError, Global};
 use std::collections::BTreeMap;
 
@@ -25,6 +31,7 @@ pub(crate) struct MachineState {
     pub cfa: Option<u64>,
     pub frame_base: Option<u64>,
     pub object: Option<u64>,
+    abi_registers: AbiRegisters,
 }
 
 /// Gives a key its value, unless it has one.
@@ -72,14 +79,27 @@ impl MachineState {
             cfa: None,
             frame_base: None,
             object: None,
+            abi_registers: AbiRegisters::new(),
         }
     }
 
-    /// Adds what a line gives. What was given before stays.
-    fn add(&mut self, line: StateLine) -> Result<(), AllocError>
+    /// The ABI as far as it is known.
+    pub fn abi(&self) -> Abi
+        ensures { let known = known_state_of self.now
+            in roles_of result ≡ abi_of known.kept known.stack_pointer }
+    {
+        self.abi_registers.abi()
+    }
+
+    /// Adds what a line gives, unless it can't stand beside what was given before, which stays.
+    fn add(&mut self, line: StateLine) -> Result<bool, AllocError>
         requires { FitsAddresses (fact_of line) }
-        ensures { OnOk result ((gs : List StateFact) → IsGivenBy (known_state_of self.old) gs
-            → IsGivenBy (known_state_of self.new) (gs ++ fact_of line ∷ [])) }
+        ensures taken { IfOk result (λ taken. (gs : List StateFact)
+            → IsGivenBy (known_state_of self.old) gs
+            → taken ≡ go_together (gs ++ fact_of line ∷ [])) }
+        ensures given { IfOk result (λ taken. OnTrue taken ((gs : List StateFact)
+            → IsGivenBy (known_state_of self.old) gs
+            → IsGivenBy (known_state_of self.new) (gs ++ fact_of line ∷ []))) }
     {
         match line {
             StateLine::Register { number, content } => add_first(
@@ -95,8 +115,31 @@ impl MachineState {
             StateLine::Cfa(value) => self.cfa = or_value(self.cfa, value),
             StateLine::FrameBase(value) => self.frame_base = or_value(self.frame_base, value),
             StateLine::Object(value) => self.object = or_value(self.object, value),
+            StateLine::Keep(number) => return Ok(self.abi_registers.keep(number)),
+            StateLine::StackPointer(number) => {
+                return Ok(self.abi_registers.set_stack_pointer(number));
+            }
         }
-        Ok(())
+        Ok(true)
+    }
+
+    /// Adds what a line says, unless it is none or can't stand beside what was given before.
+    fn add_line(&mut self, alloc: Global, target: Target, line: &[u8]) -> Result<bool, AllocError>
+        ensures taken { IfOk result (λ taken. (gs : List StateFact)
+            → IsGivenBy (known_state_of self.old) gs
+            → taken ≡ (is_line target line.now
+            && go_together (gs ++ facts_of_lines target (line.now ∷ [])))) }
+        ensures given { IfOk result (λ taken. OnTrue taken ((gs : List StateFact)
+            → IsGivenBy (known_state_of self.old) gs
+            → IsGivenBy (known_state_of self.new) (gs ++ facts_of_lines target (line.now ∷ [])))) }
+    {
+        if line.is_empty() {
+            return Ok(true);
+        }
+        match parse_line(alloc, target, line)? {
+            Some(given) => self.add(given),
+            None => Ok(false),
+        }
     }
 }
 
@@ -124,8 +167,8 @@ impl Memory for MachineState {
     }
 }
 
-/// What a state file says, or its first line that is none. An empty line says nothing, and where two lines
-/// give one thing or one byte, the first holds. Time n log n in the file's length.
+/// What a state file says, or its first line that is none or can't stand beside those before it. An empty line says nothing, and
+/// where two lines give one thing or one byte, the first holds. Time n log n in the file's length.
 pub(crate) fn read_state(
     alloc: Global,
     target: Target,
@@ -138,13 +181,9 @@ pub(crate) fn read_state(
     let mut number = 0;
     for line in Parts::new(text, b'\n') {
         number += 1;
-        if line.is_empty() {
-            continue;
-        }
-        let Some(given) = parse_line(alloc, target, line)? else {
+        if !state.add_line(alloc, target, line)? {
             return Err(RunFault::StateLine(number));
-        };
-        state.add(given)?;
+        }
     }
     Ok(state)
 }

@@ -19,6 +19,8 @@ pub(crate) enum StateLine {
     Cfa(u64),
     FrameBase(u64),
     Object(u64),
+    Keep(u16),
+    StackPointer(u16),
 }
 
 /// A register's number in 1 to 5 decimal digits.
@@ -97,15 +99,20 @@ fn parse_named(target: Target, word: &[u8], value: &[u8]) -> Option<StateLine>
     ensures given { option_map fact_of result ≡ named target word.now value.now }
     ensures fits { IfSome result (λ line. FitsAddresses (fact_of line)) }
 {
-    let value = parse_address(value, target);
     if word == "cfa".as_bytes() {
-        return Some(StateLine::Cfa(value?));
+        return Some(StateLine::Cfa(parse_address(value, target)?));
     }
     if word == "frame".as_bytes() {
-        return Some(StateLine::FrameBase(value?));
+        return Some(StateLine::FrameBase(parse_address(value, target)?));
     }
     if word == "object".as_bytes() {
-        return Some(StateLine::Object(value?));
+        return Some(StateLine::Object(parse_address(value, target)?));
+    }
+    if word == "keep".as_bytes() {
+        return Some(StateLine::Keep(parse_register(value)?));
+    }
+    if word == "sp".as_bytes() {
+        return Some(StateLine::StackPointer(parse_register(value)?));
     }
     None
 }

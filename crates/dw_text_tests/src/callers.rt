@@ -8,7 +8,7 @@ use std::alloc::Global;
 use std::test::Fail;
 
 /// How `unwind` of a section as hex text ends at an address, with the text of a state file, and what it writes.
-fn unwound(
+pub(crate) fn unwound(
     alloc: Global,
     section: &str,
     address: &str,

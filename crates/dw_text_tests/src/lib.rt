@@ -2,6 +2,8 @@
 #![tactic(auto)]
 
 #[cfg(test)]
+mod abi_lines;
+#[cfg(test)]
 mod callers;
 #[cfg(test)]
 mod cie_versions;

@@ -31,7 +31,7 @@ const NO_FLAGS: &[&str] = &[];
 
 /// How `locs` of a section as hex text ends, with the text of a state file where there is one, and what it writes. The words
 /// are the flags, and then the list, the base and the address.
-fn looked_up<'x>(
+pub(crate) fn looked_up<'x>(
     alloc: Global,
     flags: &[&'x str],
     section: &str,

@@ -1,0 +1,78 @@
+//! The registers that a state file names for the ABI.
+
+ghost use Rattle.std.specs.Prelude.{◌≡◌, [], None, Some, IsTrue};
+ghost use Rattle.std.specs.Bool.{OnTrue};
+ghost use Rattle.std.specs.Option.{option_or};
+ghost use Rattle.dw_rows.specs.Abi.{abi_of};
+ghost use Rattle.dw_rows.specs.AbiViews.{roles_of};
+ghost use Rattle.dw_check.specs.StateFile.{keep, kept_with, fit_together};
+
+use arrayvec::ArrayVec;
+use dw_rows::{Abi, MAX_KEPT};
+
+/// The registers that calls keep, in the order in which they were named, and the stack pointer.
+#[derive(Drop)]
+pub(crate) struct AbiRegisters {
+    kept: ArrayVec<u16, MAX_KEPT>,
+    stack_pointer: Option<u16>,
+    ghost fit: { IsTrue (fit_together kept.items stack_pointer) },
+}
+
+impl AbiRegisters {
+    /// No register.
+    pub fn new() -> Self
+        ensures kept { result.kept.items ≡ [] }
+        ensures stack_pointer { result.stack_pointer ≡ None }
+    {
+        AbiRegisters {
+            kept: ArrayVec::new(),
+            stack_pointer: None,
+        }
+    }
+
+    /// Names a register that calls keep, unless it is the stack pointer or one too many. One that is kept already stays so.
+    pub fn keep(&mut self, number: u16) -> bool
+        ensures taken { result ≡ fit_together (kept_with self.old.kept.items (keep number))
+            self.old.stack_pointer }
+        ensures kept { OnTrue result (self.new.kept.items
+            ≡ kept_with self.old.kept.items (keep number)) }
+        ensures stays { self.new.stack_pointer ≡ self.old.stack_pointer }
+    {
+        if self.kept.as_slice().contains(&number) {
+            return true;
+        }
+        if self.stack_pointer == Some(number) || self.kept.is_full() {
+            return false;
+        }
+        self.kept.push(number);
+        true
+    }
+
+    /// Names the stack pointer, unless calls keep it. Where there is one already, that stays.
+    pub fn set_stack_pointer(&mut self, number: u16) -> bool
+        ensures taken { result ≡ fit_together self.old.kept.items
+            (option_or self.old.stack_pointer (Some number)) }
+        ensures named { OnTrue result (self.new.stack_pointer
+            ≡ option_or self.old.stack_pointer (Some number)) }
+        ensures stays { self.new.kept ≡ self.old.kept }
+    {
+        match self.stack_pointer {
+            Some(_) => true,
+            None if self.kept.as_slice().contains(&number) => false,
+            None => {
+                self.stack_pointer = Some(number);
+                true
+            }
+        }
+    }
+
+    /// The ABI that keeps these registers, and has this stack pointer.
+    pub fn abi(&self) -> Abi
+        ensures { roles_of result ≡ abi_of self.now.kept.items self.now.stack_pointer }
+    {
+        match Abi::new(self.kept.as_slice(), self.stack_pointer) {
+            Ok(abi) => abi,
+            Err(_) => unreachable!(),
+        }
+    }
+}
