@@ -10,16 +10,19 @@ use Rattle.dw_stack.specs.Expressions.{IsGoodExpression}
 use Rattle.dw_stack.specs.FirstFault.{expression_fault}
 use Rattle.dw_stack.proofs.Named.{good_if_none}
 use Rattle.dw_check.specs.Requests.{Asked}
-use Rattle.dw_check.specs.StateFile.{StateFact}
+use Rattle.dw_check.specs.StateFile.{StateFact, first_that, content_in, byte_in}
 use Rattle.dw_check.specs.Runs.{Reply, text, refusal, not_hex, bad_line, frame_reply, IsOutcome, OfSection, OfState, OfChecked}
-use Rattle.dw_check.specs.Runs.{ShowsCaller, machine_of, IsCheckReply, IsRowsReply, IsFound, IsLocsReply, IsEvalReply, IsUnwindReply}
+use Rattle.dw_check.specs.Runs.{ShowsUnwound, abi_given, machine_of, IsCheckReply, IsRowsReply, IsFound, IsLocsReply, IsEvalReply, IsUnwindReply}
 use Rattle.dw_check.specs.Runs.{IsReplyTo, IsReply}
 use Rattle.dw_check.specs.Files.{section_bytes, state_facts}
 use Rattle.dw_check.specs.Report.{IsReport}
 use Rattle.dw_loclists.specs.Reading.{ListSection, IsChecked}
 use Rattle.dw_rows.specs.Section.{Frame, frame_of}
 use Rattle.dw_eval.specs.World.{World}
-use Rattle.dw_rows.specs.Abi.{Abi, no_abi}
+use Rattle.dw_rows.specs.Abi.{Abi}
+use Rattle.dw_check.specs.Walks.{Surroundings, Place, WalkedFrame, Walks, first_place}
+use Rattle.dw_check.specs.WalkText.{walk_text}
+use Rattle.dw_check.specs.declared.frames.Stop.{Stop}
 use Rattle.dw_check.specs.Caller.{Caller, Unwinds}
 use Rattle.dw_check.specs.CallerText.{caller_text}
 use Rattle.dw_rows.specs.Section as rows
@@ -88,7 +91,12 @@ EachReport = (frame : Frame) (lists : ListSection) → rows.IsChecked frame → 
 abbrev EachUnwinding : Type 0
 EachUnwinding = (e : World) (abi : Abi) (frame : Frame) (address : ℕ) → rows.IsChecked frame → (c : Option Caller) × Unwinds e abi frame address c
 
-module _ (report : EachReport) (unwinding : EachUnwinding) where
+-- and of walks
+abbrev EachWalk : Type 0
+EachWalk = (s : Surroundings) (first : Place) (limit : ℕ) → rows.IsChecked s.frame
+    → (xs : List WalkedFrame) × (stop : Stop) × Walks s first limit xs stop
+
+module _ (report : EachReport) (unwinding : EachUnwinding) (walk : EachWalk) where
   each_check : (target : Target) (hex : Bool) (files : List (List ℕ)) → (r : Reply) × IsCheckReply target hex files r
   each_check target hex files =
       each_of_section 0 (section_bytes hex (slice_get files 0))
@@ -97,20 +105,25 @@ module _ (report : EachReport) (unwinding : EachUnwinding) where
       (λ lists. each_of_checked target frame lists IsReport
       (λ checked. report (frame_of target frame) (record { target = target; section = lists }) checked.0 checked.1)))
 
-  each_shown : (gs : List StateFact) (address : ℕ) (frame : Frame) (lists : ListSection) → rows.IsChecked frame
-      → (t : List ℕ) × ShowsCaller gs address frame lists t
-  each_shown gs address frame lists checked =
-      let found = unwinding (machine_of frame.target gs) no_abi frame address checked in
+  each_shown : (gs : List StateFact) (address : ℕ) (limit : Option ℕ) (frame : Frame) (lists : ListSection) → rows.IsChecked frame
+      → (t : List ℕ) × ShowsUnwound gs address limit frame lists t
+  each_shown gs address None frame lists checked =
+      let found = unwinding (machine_of frame.target gs) (abi_given gs) frame address checked in
       (caller_text frame.target.address_size found.0, (found.0, found.1, refl))
+  each_shown gs address (Some limit) frame lists checked =
+      let found = walk (record { frame = frame; abi = abi_given gs; memory = λ a. first_that (byte_in a) gs })
+      (first_place address (λ n. first_that (content_in n) gs)) limit checked in
+      (walk_text frame.target.address_size found.0 found.1, (found.0, found.1, found.2, refl))
 
-  each_unwind : (address : ℕ) (target : Target) (hex : Bool) (files : List (List ℕ))
-      → (r : Reply) × IsUnwindReply address target hex files r
-  each_unwind address target hex files =
+  each_unwind : (address : ℕ) (limit : Option ℕ) (target : Target) (hex : Bool) (files : List (List ℕ))
+      → (r : Reply) × IsUnwindReply address limit target hex files r
+  each_unwind address limit target hex files =
+      let shows = λ (gs : List StateFact). ShowsUnwound gs address limit in
       each_of_section 0 (section_bytes hex (slice_get files 0))
-      (λ section. OfState (state_facts target (slice_get files 1)) (λ gs. OfChecked target section [] (ShowsCaller gs address)))
-      (λ section. each_of_state (state_facts target (slice_get files 1)) (λ gs. OfChecked target section [] (ShowsCaller gs address))
-      (λ gs. each_of_checked target section [] (ShowsCaller gs address)
-      (λ checked. each_shown gs address (frame_of target section) (record { target = target; section = [] }) checked.0)))
+      (λ section. OfState (state_facts target (slice_get files 1)) (λ gs. OfChecked target section [] (shows gs)))
+      (λ section. each_of_state (state_facts target (slice_get files 1)) (λ gs. OfChecked target section [] (shows gs))
+      (λ gs. each_of_checked target section [] (shows gs)
+      (λ checked. each_shown gs address limit (frame_of target section) (record { target = target; section = [] }) checked.0)))
 
   each_to : (task : Task) (target : Target) (hex : Bool) (files : List (List ℕ)) → (r : Reply) × IsReplyTo task target hex files r
   each_to Check target hex files = each_check target hex files
@@ -118,9 +131,8 @@ module _ (report : EachReport) (unwinding : EachUnwinding) where
   each_to (Row a) target hex files = each_rows (Some a) target hex files
   each_to (Locs lookup) target hex files = each_locs lookup target hex files
   each_to (Eval kind) target hex files = each_eval kind target hex files
-  each_to (Unwind address) target hex files = each_unwind address target hex files
-  -- stand-in
-  each_to (Backtrace address limit) target hex files = each_unwind address target hex files
+  each_to (Unwind address) target hex files = each_unwind address None target hex files
+  each_to (Backtrace address limit) target hex files = each_unwind address (Some limit) target hex files
 
   pub each_reply : (asked : Asked) (files : List (List ℕ)) → (r : Reply) × IsReply asked files r
   each_reply asked files = each_to asked.task asked.target asked.hex files

@@ -14,8 +14,8 @@ use Rattle.dw_check.specs.Checked.{check_fault, fault_within, length_fault, or_n
 use Rattle.dw_check.specs.LongFiles.{needed_parts}
 use Rattle.dw_check.specs.Report.{IsReport}
 use Rattle.dw_check.specs.StateFile.{StateFact}
-use Rattle.dw_check.specs.Runs.{Reply, text, refusal, not_hex, bad_line, frame_reply, text_unless, rows_text, ShowsCaller}
-use Rattle.dw_check.specs.Runs.{IsOutcome, IsFound, OfChecked, OfState, IsReplyTo}
+use Rattle.dw_check.specs.Runs.{Reply, text, refusal, not_hex, bad_line, frame_reply, text_unless, rows_text}
+use Rattle.dw_check.specs.Runs.{ShowsUnwound, IsUnwindReply, IsOutcome, IsFound, OfChecked, OfState, IsReplyTo}
 use Rattle.dw_check.specs.declared.requests.ListLookup.{ListLookup}
 use Rattle.dw_check.specs.declared.requests.Task.{Task}
 use Rattle.dw_check.specs.declared.requests.Task.TheVariants.{Check, Rows, Row, Locs, Eval, Unwind, Backtrace}
@@ -141,6 +141,14 @@ whole_hex task place (file ∷ files) = ap (λ (more : List (List ℕ)). file �
 abbrev Moves : Task → Target → List (List ℕ) → List (List ℕ) → Type 0
 Moves task target files others = (r : Reply) → IsReplyTo task target false files r → IsReplyTo task target false others r
 
+-- a section that is alike, by which one unwinds
+unwound_alike : (address : ℕ) (limit : Option ℕ) (target : Target) (xs ys : List ℕ) (more : List (List ℕ)) → Alike xs ys → (r : Reply)
+    → IsUnwindReply address limit target false (xs ∷ more) r → IsUnwindReply address limit target false (ys ∷ more) r
+unwound_alike address limit target xs ys more alike r h =
+    let shows = λ (gs : List StateFact). ShowsUnwound gs address limit in
+    state_alike _ (λ gs. OfChecked target xs [] (shows gs)) (λ gs. OfChecked target ys [] (shows gs))
+    (λ gs s k. first_alike target xs ys [] (shows gs) alike s k) r h
+
 -- a file that is alike, before the same files
 one_alike : (task : Task) (target : Target) (xs ys : List ℕ) (more : List (List ℕ)) → Alike xs ys
     → Moves task target (xs ∷ more) (ys ∷ more)
@@ -152,13 +160,8 @@ one_alike (Locs lookup) target xs ys more alike r h =
     state_alike _ (IsFound lookup target xs) (IsFound lookup target ys) (λ gs s k. found_alike lookup target xs ys gs alike s k) r h
 one_alike (Eval kind) target xs ys more alike r h =
     state_alike _ (IsOutcome kind target xs) (IsOutcome kind target ys) (λ gs s k. outcome_alike kind target xs ys gs alike s k) r h
-one_alike (Unwind address) target xs ys more alike r h =
-    state_alike _ (λ gs. OfChecked target xs [] (ShowsCaller gs address)) (λ gs. OfChecked target ys [] (ShowsCaller gs address))
-    (λ gs s k. first_alike target xs ys [] (ShowsCaller gs address) alike s k) r h
--- stand-in
-one_alike (Backtrace address limit) target xs ys more alike r h =
-    state_alike _ (λ gs. OfChecked target xs [] (ShowsCaller gs address)) (λ gs. OfChecked target ys [] (ShowsCaller gs address))
-    (λ gs s k. first_alike target xs ys [] (ShowsCaller gs address) alike s k) r h
+one_alike (Unwind address) target xs ys more alike r h = unwound_alike address None target xs ys more alike r h
+one_alike (Backtrace address limit) target xs ys more alike r h = unwound_alike address (Some limit) target xs ys more alike r h
 
 -- a second section that is alike, behind the same
 other_alike : (target : Target) (xs ys zs : List ℕ) (more others : List (List ℕ)) → Alike ys zs

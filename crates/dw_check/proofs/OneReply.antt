@@ -10,7 +10,7 @@ use Rattle.dw_check.specs.Requests.{Asked}
 use Rattle.dw_check.specs.StateFile.{StateFact}
 use Rattle.dw_check.specs.Evaluations.{Evaluates}
 use Rattle.dw_check.specs.Runs.{Reply, text, refusal, not_hex, bad_line, frame_reply, expression_refusal, IsOutcome, OfSection, OfState}
-use Rattle.dw_check.specs.Runs.{OfChecked, ShowsCaller, machine_of, IsCheckReply, IsRowsReply, IsFound, IsLocsReply, IsEvalReply}
+use Rattle.dw_check.specs.Runs.{OfChecked, ShowsUnwound, abi_given, machine_of, IsCheckReply, IsRowsReply, IsFound, IsLocsReply, IsEvalReply}
 use Rattle.dw_check.specs.Runs.{IsUnwindReply, IsReplyTo, IsReply}
 use Rattle.dw_check.specs.Files.{section_bytes, state_facts}
 use Rattle.dw_check.specs.Report.{IsReport}
@@ -18,7 +18,10 @@ use Rattle.dw_loclists.specs.Reading.{ListSection}
 use Rattle.dw_rows.specs.Section.{Frame, frame_of}
 use Rattle.dw_rows.specs.Section as rows
 use Rattle.dw_eval.specs.World.{World}
-use Rattle.dw_rows.specs.Abi.{Abi, no_abi}
+use Rattle.dw_rows.specs.Abi.{Abi}
+use Rattle.dw_check.specs.Walks.{Surroundings, Place, WalkedFrame, Walks}
+use Rattle.dw_check.specs.WalkText.{walk_text}
+use Rattle.dw_check.specs.declared.frames.Stop.{Stop}
 use Rattle.dw_check.specs.Caller.{Caller, Unwinds}
 use Rattle.dw_check.specs.CallerText.{caller_text}
 use Rattle.std.specs.Prelude.{slice_get, Bool}
@@ -91,11 +94,29 @@ abbrev OneReport : Type 0
 OneReport = (frame : Frame) (lists : ListSection) (s t : List ℕ) → IsReport frame lists s → IsReport frame lists t → s ≡ t
 
 -- and of callers
-abbrev OneCaller : Type 0
+abbrev pub OneCaller : Type 0
 OneCaller = (e : World) (abi : Abi) (frame : Frame) (address : ℕ) (c d : Option Caller) → rows.IsChecked frame
     → Unwinds e abi frame address c → Unwinds e abi frame address d → c ≡ d
 
-module _ (report : OneReport) (caller : OneCaller) where
+-- and of walks
+abbrev pub OneWalk : Type 0
+OneWalk = (s : Surroundings) (first : Place) (limit : ℕ) (xs ys : List WalkedFrame) (a b : Stop) → rows.IsChecked s.frame
+    → Walks s first limit xs a → Walks s first limit ys b → (xs ≡ ys) × (a ≡ b)
+
+pub one_shown : OneCaller → OneWalk → (gs : List StateFact) (address : ℕ) (limit : Option ℕ) (frame : Frame) (lists : ListSection)
+    → rows.IsChecked frame → (s t : List ℕ) → ShowsUnwound gs address limit frame lists s → ShowsUnwound gs address limit frame lists t
+    → s ≡ t
+one_shown caller walk gs address None frame lists checked s t (c, h, is) (d, k, same) =
+    is
+    ∙ ap (caller_text frame.target.address_size) (caller (machine_of frame.target gs) (abi_given gs) frame address c d checked h k)
+    ∙ sym same
+one_shown caller walk gs address (Some limit) frame lists checked s t (xs, a, h, is) (ys, b, k, same) =
+    let one = walk _ _ limit xs ys a b checked h k in
+    is
+    ∙ ap (λ l. walk_text frame.target.address_size l a) one.0 ∙ ap (walk_text frame.target.address_size ys) one.1
+    ∙ sym same
+
+module _ (report : OneReport) (caller : OneCaller) (walk : OneWalk) where
   one_check : (target : Target) (hex : Bool) (files : List (List ℕ)) (r s : Reply) → IsCheckReply target hex files r
       → IsCheckReply target hex files s → r ≡ s
   one_check target hex files r s h k =
@@ -105,21 +126,16 @@ module _ (report : OneReport) (caller : OneCaller) where
       (λ lists. one_of_checked target frame lists IsReport
       (λ checked. report (frame_of target frame) (record { target = target; section = lists })))) r s h k
 
-  one_shown : (gs : List StateFact) (address : ℕ) (frame : Frame) (lists : ListSection) → rows.IsChecked frame → (s t : List ℕ)
-      → ShowsCaller gs address frame lists s → ShowsCaller gs address frame lists t → s ≡ t
-  one_shown gs address frame lists checked s t (c, h, is) (d, k, same) =
-      is
-      ∙ ap (caller_text frame.target.address_size) (caller (machine_of frame.target gs) no_abi frame address c d checked h k)
-      ∙ sym same
-
-  one_unwind : (address : ℕ) (target : Target) (hex : Bool) (files : List (List ℕ)) (r s : Reply)
-      → IsUnwindReply address target hex files r → IsUnwindReply address target hex files s → r ≡ s
-  one_unwind address target hex files r s h k =
+  one_unwind : (address : ℕ) (limit : Option ℕ) (target : Target) (hex : Bool) (files : List (List ℕ)) (r s : Reply)
+      → IsUnwindReply address limit target hex files r → IsUnwindReply address limit target hex files s → r ≡ s
+  one_unwind address limit target hex files r s h k =
+      let shows = λ (gs : List StateFact). ShowsUnwound gs address limit in
       one_of_section 0 (section_bytes hex (slice_get files 0))
-      (λ section. OfState (state_facts target (slice_get files 1)) (λ gs. OfChecked target section [] (ShowsCaller gs address)))
-      (λ section. one_of_state (state_facts target (slice_get files 1)) (λ gs. OfChecked target section [] (ShowsCaller gs address))
-      (λ gs. one_of_checked target section [] (ShowsCaller gs address)
-      (λ checked. one_shown gs address (frame_of target section) (record { target = target; section = [] }) checked.0))) r s h k
+      (λ section. OfState (state_facts target (slice_get files 1)) (λ gs. OfChecked target section [] (shows gs)))
+      (λ section. one_of_state (state_facts target (slice_get files 1)) (λ gs. OfChecked target section [] (shows gs))
+      (λ gs. one_of_checked target section [] (shows gs)
+      (λ checked. one_shown caller walk gs address limit (frame_of target section) (record { target = target; section = [] }) checked.0)))
+      r s h k
 
   one_to : (task : Task) (target : Target) (hex : Bool) (files : List (List ℕ)) (r s : Reply) → IsReplyTo task target hex files r
       → IsReplyTo task target hex files s → r ≡ s
@@ -128,9 +144,8 @@ module _ (report : OneReport) (caller : OneCaller) where
   one_to (Row a) target hex files r s h k = one_rows (Some a) target hex files r s h k
   one_to (Locs lookup) target hex files r s h k = one_locs lookup target hex files r s h k
   one_to (Eval kind) target hex files r s h k = one_eval kind target hex files r s h k
-  one_to (Unwind address) target hex files r s h k = one_unwind address target hex files r s h k
-  -- stand-in
-  one_to (Backtrace address limit) target hex files r s h k = one_unwind address target hex files r s h k
+  one_to (Unwind address) target hex files r s h k = one_unwind address None target hex files r s h k
+  one_to (Backtrace address limit) target hex files r s h k = one_unwind address (Some limit) target hex files r s h k
 
   pub one_reply : (asked : Asked) (files : List (List ℕ)) (r s : Reply) → IsReply asked files r → IsReply asked files s → r ≡ s
   one_reply asked files r s h k = one_to asked.task asked.target asked.hex files r s h k

@@ -1,11 +1,8 @@
 -- There is one walk from a place with a limit, by what is said of callers.
-use Rattle.std.proofs.Common.{◌≡◌, ℕ, zero, suc, ◌≤◌, ◌==◌, List, [], ◌∷◌, length, Option, None, Some, Bool, true, false, cond, inl, inr}
+use Rattle.std.proofs.Common.{◌≡◌, ℕ, zero, suc, ◌≤◌, ◌==◌, List, [], ◌∷◌, length, Option, None, Some, false, inl, inr}
 use Rattle.std.proofs.Common.{refl, sym, ap, subst, ◌∙◌, arith}
 use Rattle.std.proofs.lemmas.Bool.Decides.{nat_tests}
 use Rattle.std.specs.Prelude.{◌⊎◌, if◌then◌else◌, option_map}
-use Rattle.dw_eval.specs.World.{World}
-use Rattle.dw_rows.specs.Abi.{Abi}
-use Rattle.dw_rows.specs.Section.{Frame, IsChecked}
 use Rattle.dw_check.specs.Caller.{Answer, value, undefined, unreadable, division_by_zero, Caller, Unwinds, machine}
 use Rattle.dw_check.specs.declared.frames.Stop.{Stop}
 use Rattle.dw_check.specs.declared.frames.Stop.TheVariants.{Limit, NotCovered, ReturnUndefined, ReturnUnreadable, ReturnDivisionByZero}

@@ -18,7 +18,7 @@ use Rattle.dw_check.specs.declared.stop.RunFault.TheVariants.{Refused, BadHex, S
 use Rattle.dw_check.proofs.Growth.{appends_nothing}
 
 -- nothing is a beginning of anything
-front_none : (old new : Option (List ℕ)) (all : List ℕ) → Appends old new [] → AppendsFront old new all
+pub front_none : (old new : Option (List ℕ)) (all : List ℕ) → Appends old new [] → AppendsFront old new all
 front_none old new all h = ([], all, refl, h)
 
 -- ---- the bytes of a section
@@ -89,6 +89,13 @@ pub goes_whole : (count : ℕ) (Is : Reply → Type 0) (bytes : List ℕ) (old n
 goes_whole count Is bytes old new (Ok _) is h = (bytes, is, h)
 goes_whole count Is bytes old new (Err faults.Memory) is h = λ reply i. front_none old new (accepted_text reply) h
 goes_whole count Is bytes old new (Err faults.Write) is h = (text bytes, is, h)
+
+-- what is handed over whole is written
+pub writes_if_whole : (old new : Option (List ℕ)) (r : Result (Unit {0}) ReportFault) (bytes : List ℕ) → WritesWhole old new r bytes
+    → Writes old new r bytes
+writes_if_whole old new (Ok _) bytes h = h
+writes_if_whole old new (Err faults.Memory) bytes h = front_none old new bytes h
+writes_if_whole old new (Err faults.Write) bytes h = h
 
 -- what a `?` hands on
 pub handed_on : (P : Result (Unit {0}) RunFault → Type 0) (r : Result (Unit {0}) RunFault) (e : RunFault) → IsErr r × IsErrAnd r (λ x. x ≡ e)

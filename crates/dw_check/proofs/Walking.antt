@@ -1,5 +1,5 @@
 -- Walks, frame after frame.
-use Rattle.std.proofs.Common.{◌≡◌, ℕ, zero, suc, ◌+◌, ◌-◌, ◌<◌, ◌≤◌, ◌==◌, List, [], ◌∷◌, ◌++◌, length, map, Option, None, Some, true, false, cond}
+use Rattle.std.proofs.Common.{◌≡◌, ℕ, zero, suc, ◌+◌, ◌-◌, ◌<◌, ◌≤◌, ◌==◌, List, [], ◌∷◌, ◌++◌, length, Option, None, Some, true, false}
 use Rattle.std.proofs.Common.{refl, sym, ap, subst, ◌∙◌, arith, take, get_or}
 use Rattle.std.proofs.lemmas.List.{take_more, take_all, map-append, length-map}
 use Rattle.std.specs.Prelude.{All, if◌then◌else◌, Result, Ok, Err}

@@ -5,7 +5,7 @@ use Rattle.std.specs.Io.KnownBytes.{Appends}
 use Rattle.dw_bytes.specs.declared.target.Target.{Target}
 use Rattle.dw_bytes.specs.declared.fault.Fault.{Fault}
 use Rattle.dw_bytes.specs.declared.fault.FaultKind.TheVariants.{SectionTooLong}
-use Rattle.dw_rows.specs.Abi.{no_abi}
+use Rattle.dw_rows.specs.Abi.{Abi, abi_of}
 use Rattle.dw_rows.specs.Section.{Frame, section_fault, frame_of}
 use Rattle.dw_loclists.specs.Reading.{ListSection, lists_fault}
 use Rattle.dw_stack.specs.declared.state.Kind.{Kind}
@@ -15,11 +15,14 @@ use Rattle.dw_check.specs.Checked.{check_fault}
 use Rattle.dw_check.specs.Report.{IsReport}
 use Rattle.dw_check.specs.Caller.{Caller, Unwinds, machine}
 use Rattle.dw_check.specs.CallerText.{caller_text}
+use Rattle.dw_check.specs.Walks.{WalkedFrame, Walks, first_place}
+use Rattle.dw_check.specs.WalkText.{walk_text}
+use Rattle.dw_check.specs.declared.frames.Stop.{Stop}
 use Rattle.dw_eval.specs.World.{World}
 use Rattle.dw_check.specs.Evaluations.{Evaluates}
 use Rattle.dw_check.specs.Files.{section_bytes, state_facts}
 use Rattle.dw_check.specs.Lookups.{ShowsList, list_at}
-use Rattle.dw_check.specs.StateFile.{StateFact, first_that, content_in, byte_in}
+use Rattle.dw_check.specs.StateFile.{StateFact, first_that, content_in, byte_in, kept_in, stack_pointer_in}
 use Rattle.dw_check.specs.SinkBytes.{AppendsFront}
 use Rattle.dw_check.specs.Text.{refused_line, frame_text, lookup_text}
 use Rattle.dw_check.specs.declared.stop.Section.{Section}
@@ -127,10 +130,26 @@ OfChecked target frame lists Shows _ = ⊥
 abbrev pub machine_of : Target → List StateFact → World
 machine_of target gs = machine target (λ n. first_that (content_in n) gs) (λ a. first_that (byte_in a) gs)
 
+-- the ABI that this was said of
+abbrev pub abi_given : List StateFact → Abi
+abi_given gs = abi_of (kept_in gs) (first_that stack_pointer_in gs)
+
 -- the text shows the caller at an address, or that no FDE covers it, on a machine of which this was given
 abbrev pub ShowsCaller : List StateFact → ℕ → Frame → ListSection → List ℕ → Type 0
-ShowsCaller gs address frame lists written = (caller : Option Caller) × Unwinds (machine_of frame.target gs) no_abi frame address caller
+ShowsCaller gs address frame lists written = (caller : Option Caller) × Unwinds (machine_of frame.target gs) (abi_given gs) frame address caller
     × (written ≡ caller_text frame.target.address_size caller)
+
+-- it shows a walk from an address with a limit
+abbrev pub ShowsWalk : List StateFact → ℕ → ℕ → Frame → ListSection → List ℕ → Type 0
+ShowsWalk gs address limit frame lists written = (frames : List WalkedFrame) × (stop : Stop)
+    × Walks (record { frame = frame; abi = abi_given gs; memory = λ a. first_that (byte_in a) gs })
+    (first_place address (λ n. first_that (content_in n) gs)) limit frames stop
+    × (written ≡ walk_text frame.target.address_size frames stop)
+
+-- it shows the caller, or with a limit the walk
+abbrev pub ShowsUnwound : List StateFact → ℕ → Option ℕ → Frame → ListSection → List ℕ → Type 0
+ShowsUnwound gs address None frame lists written = ShowsCaller gs address frame lists written
+ShowsUnwound gs address (Some limit) frame lists written = ShowsWalk gs address limit frame lists written
 
 -- ---- requests: a definition for each command
 
@@ -157,11 +176,11 @@ IsLocsReply lookup target hex files reply =
     OfSection 0 (section_bytes hex (slice_get files 0))
     (λ section. OfState (state_facts target (slice_get files 1)) (IsFound lookup target section)) reply
 
--- `unwind`, whose section is checked as `check` does, with no lists
-abbrev pub IsUnwindReply : ℕ → Target → Bool → List (List ℕ) → Reply → Type 0
-IsUnwindReply address target hex files reply =
+-- `unwind`, and `backtrace` with its limit, whose section is checked as `check` does, with no lists
+abbrev pub IsUnwindReply : ℕ → Option ℕ → Target → Bool → List (List ℕ) → Reply → Type 0
+IsUnwindReply address limit target hex files reply =
     OfSection 0 (section_bytes hex (slice_get files 0))
-    (λ section. OfState (state_facts target (slice_get files 1)) (λ gs. OfChecked target section [] (ShowsCaller gs address))) reply
+    (λ section. OfState (state_facts target (slice_get files 1)) (λ gs. OfChecked target section [] (ShowsUnwound gs address limit))) reply
 
 abbrev pub IsReplyTo : Task → Target → Bool → List (List ℕ) → Reply → Type 0
 IsReplyTo Check target hex files reply = IsCheckReply target hex files reply
@@ -169,9 +188,8 @@ IsReplyTo Rows target hex files reply = IsRowsReply None target hex files reply
 IsReplyTo (Row address) target hex files reply = IsRowsReply (Some address) target hex files reply
 IsReplyTo (Locs lookup) target hex files reply = IsLocsReply lookup target hex files reply
 IsReplyTo (Eval kind) target hex files reply = IsEvalReply kind target hex files reply
-IsReplyTo (Unwind address) target hex files reply = IsUnwindReply address target hex files reply
--- stand-in: the walk's own reply comes here
-IsReplyTo (Backtrace address limit) target hex files reply = IsUnwindReply address target hex files reply
+IsReplyTo (Unwind address) target hex files reply = IsUnwindReply address None target hex files reply
+IsReplyTo (Backtrace address limit) target hex files reply = IsUnwindReply address (Some limit) target hex files reply
 
 -- The reply to a request with one content for each of its files.
 abbrev pub IsReply : Asked → List (List ℕ) → Reply → Type 0

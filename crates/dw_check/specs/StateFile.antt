@@ -11,7 +11,7 @@ use Rattle.dw_bytes.specs.declared.target.Target.{Target}
 use Rattle.dw_frame.specs.Sections.{top_of}
 use Rattle.dw_rows.specs.Abi.{is_among}
 use Rattle.dw_rows.specs.declared.abi.TheConstants.{MAX_KEPT}
-use Rattle.dw_check.specs.Addresses.{number_of, at_most, address_of}
+use Rattle.dw_check.specs.Addresses.{short_number, address_of}
 use Rattle.dw_check.specs.Parts.{parts_of}
 
 -- what a line gives: a register's content, the bytes at an address, the CFA, the frame base, the object's address, a register that
@@ -32,17 +32,13 @@ FitsAddresses _ = Unit {0}
 
 -- ---- a line
 
--- a register's number in 1 to 5 decimal digits
-abbrev pub register_number : List ℕ → Option ℕ
-register_number digits = option_and_then (at_most 65535) (number_of 10 5 digits)
-
 -- one byte or more that end at the top of the addresses, or before
 abbrev pub bytes_fact : Target → ℕ → List ℕ → Option StateFact
 bytes_fact target a bs = if nat_lt 0 (length bs) && nat_le (a + length bs) (suc (top_of target)) then Some (bytes a bs) else None
 
 -- `reg N 0xV`
 abbrev pub register_fact : Target → List ℕ → List ℕ → Option StateFact
-register_fact target place value = option_and_then (λ r. option_map (register r) (address_of target value)) (register_number place)
+register_fact target place value = option_and_then (λ r. option_map (register r) (address_of target value)) (short_number place)
 
 -- `mem 0xA HEX`
 abbrev pub memory_fact : Target → List ℕ → List ℕ → Option StateFact
@@ -61,8 +57,8 @@ named target word value =
     if bytes_eq word (codes "cfa") then option_map cfa (address_of target value)
     else (if bytes_eq word (codes "frame") then option_map frame_base (address_of target value)
     else (if bytes_eq word (codes "object") then option_map object (address_of target value)
-    else (if bytes_eq word (codes "keep") then option_map keep (register_number value)
-    else (if bytes_eq word (codes "sp") then option_map stack_pointer (register_number value)
+    else (if bytes_eq word (codes "keep") then option_map keep (short_number value)
+    else (if bytes_eq word (codes "sp") then option_map stack_pointer (short_number value)
     else None))))
 
 abbrev pub fact_of_words : Target → List (List ℕ) → Option StateFact

@@ -26,6 +26,7 @@ pub fn one_reply()
 {
     one_report();
     one_caller();
+    one_walk();
 }
 
 /// And it has one.
@@ -34,6 +35,7 @@ pub fn each_has_a_reply()
 {
     each_has_a_report();
     each_address_has_an_unwinding();
+    each_has_a_walk();
 }
 
 /// What follows the needed part of a long file changes no reply.

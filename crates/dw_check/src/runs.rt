@@ -5,7 +5,7 @@ ghost use Rattle.dw_rows.specs.Section.{frame_of};
 ghost use Rattle.dw_stack.specs.Certificates.{checked_of};
 ghost use Rattle.dw_stack.specs.Expressions.{IsOf};
 ghost use Rattle.dw_check.specs.Runs.{Ends, Goes, IsPlaceIn, IsReply, IsReplyTo, IsCheckReply, IsRowsReply, IsLocsReply, IsEvalReply};
-ghost use Rattle.dw_check.specs.Runs.{IsUnwindReply, ShowsCaller, frame_refusal, lists_refusal, expression_refusal, rows_text};
+ghost use Rattle.dw_check.specs.Runs.{IsUnwindReply, ShowsCaller, ShowsWalk, ShowsUnwound, frame_refusal, lists_refusal, expression_refusal, rows_text};
 ghost use Rattle.dw_check.specs.Checked.{check_fault};
 ghost use Rattle.dw_check.specs.StateFile.{StateFact, IsGivenBy};
 ghost use Rattle.dw_check.specs.StateViews.{known_state_of};
@@ -16,7 +16,7 @@ ghost use Rattle.dw_check.specs.declared.stop.Section.TheVariants as sections;
 use crate::caller_text::write_caller;
 use crate::evaluations::write_outcome;
 use crate::files::{Files, section_at, state_at};
-use crate::laws::one_report;
+use crate::laws::{each_has_a_walk, one_caller, one_report, one_walk};
 use crate::locations::write_found;
 use crate::machine_state::MachineState;
 use crate::output::{write_frame, write_lookup, write_refused};
@@ -24,7 +24,9 @@ use crate::reports::write_report;
 use crate::requests::{End, ListLookup, Request, Task};
 use crate::sink::Sink;
 use crate::stop::{ReportFault, RunFault, Section};
-use crate::unwinding::unwind;
+use crate::unwinding::unwind_with;
+use crate::walk::backtrace;
+use crate::walk_text::write_walk;
 use crate::whole_check::{Checked, check};
 use crate::writer::Writer;
 use dw_bytes::{Fault, FaultKind, Target};
@@ -242,7 +244,7 @@ fn show_outcome<S: Sink>(
 }
 
 /// Writes the caller of the frame at an address over what is known, or that no FDE covers the address.
-fn write_unwound<S: Sink>(
+fn write_one_caller<S: Sink>(
     out: &mut Writer<'_, S>,
     checked: &Checked<'_>,
     address: u64,
@@ -253,17 +255,69 @@ fn write_unwound<S: Sink>(
     ensures same { IsSame out.old out.new }
     ensures written { (gs : List StateFact) → IsGivenBy (known_state_of state.now) gs
         → (text : List ℕ) × ShowsCaller gs address checked.now.frame checked.now.lists text
-        × WritesWhole (S.taken out.old.sink.now) (S.taken out.new.sink.now) result text }
+        × Writes (S.taken out.old.sink.now) (S.taken out.new.sink.now) result text }
     ensures stops { S.has_stopped out.new.sink.now ≡ is_write result }
 {
-    let caller = unwind(checked, address, state, state);
+    let caller = unwind_with(checked, &state.abi(), address, state, state);
     write_caller(out, caller.as_ref())
 }
 
-/// Shows the caller of the frame at an address, on a machine of which a state file says something.
-fn show_caller<S: Sink>(
+/// Writes the walk from a frame at an address over what is known.
+fn write_backtrace<S: Sink>(
+    alloc: Global,
+    out: &mut Writer<'_, S>,
+    checked: &Checked<'_>,
+    address: u64,
+    limit: u32,
+    state: &MachineState,
+) -> Result<(), ReportFault>
+    requires size { out.old.size ≡ checked.now.frame.target.address_size }
+    requires runs { S.has_stopped out.old.sink.now ≡ false }
+    ensures same { IsSame out.old out.new }
+    ensures written { (gs : List StateFact) → IsGivenBy (known_state_of state.now) gs
+        → (text : List ℕ) × ShowsWalk gs address limit checked.now.frame checked.now.lists text
+        × Writes (S.taken out.old.sink.now) (S.taken out.new.sink.now) result text }
+    ensures stops { S.has_stopped out.new.sink.now ≡ is_write result }
+{
+    // There is a walk to be shown, even where memory lacks to make it.
+    let _ = checked.frame().section();
+    each_has_a_walk();
+    match backtrace(alloc, checked, &state.abi(), address, state, state, limit) {
+        Ok(walk) => write_walk(out, &walk),
+        Err(_) => Err(ReportFault::Memory),
+    }
+}
+
+/// Writes the caller of the frame at an address over what is known, or with a limit the walk from there.
+fn write_unwound<S: Sink>(
+    alloc: Global,
+    out: &mut Writer<'_, S>,
+    checked: &Checked<'_>,
+    address: u64,
+    limit: Option<u32>,
+    state: &MachineState,
+) -> Result<(), ReportFault>
+    requires size { out.old.size ≡ checked.now.frame.target.address_size }
+    requires runs { S.has_stopped out.old.sink.now ≡ false }
+    ensures same { IsSame out.old out.new }
+    ensures written { (gs : List StateFact) → IsGivenBy (known_state_of state.now) gs
+        → (text : List ℕ)
+        × ShowsUnwound gs address limit checked.now.frame checked.now.lists text
+        × Writes (S.taken out.old.sink.now) (S.taken out.new.sink.now) result text }
+    ensures stops { S.has_stopped out.new.sink.now ≡ is_write result }
+{
+    match limit {
+        Some(limit) => write_backtrace(alloc, out, checked, address, limit, state),
+        None => write_one_caller(out, checked, address, state),
+    }
+}
+
+/// Shows the caller of the frame at an address, or with a limit the walk from there, on a machine of which a state file says
+/// something.
+fn show_unwound<S: Sink>(
     alloc: Global,
     address: u64,
+    limit: Option<u32>,
     files: &Files<'_>,
     out: &mut Writer<'_, S>,
 ) -> Result<(), RunFault>
@@ -271,15 +325,17 @@ fn show_caller<S: Sink>(
     requires runs { S.has_stopped out.old.sink.now ≡ false }
     ensures same { IsSame out.old out.new }
     ensures goes { Goes (length files.now.contents.now)
-        (IsUnwindReply address files.now.target files.now.hex
+        (IsUnwindReply address limit files.now.target files.now.hex
         (map (λ file. file.items) files.now.contents.now))
         (S.taken out.old.sink.now) (S.taken out.new.sink.now) result }
     ensures stops { S.has_stopped out.new.sink.now ≡ is_output result }
 {
+    one_caller();
+    one_walk();
     let section = section_at(alloc, files.hex, files.contents, 0)?;
     let state = state_at(alloc, files.target, files.contents, 1)?;
     let checked = checked_sections(alloc, files.target, section.as_slice(), &[])?;
-    ended(write_unwound(out, &checked, address, &state))
+    ended(write_unwound(alloc, out, &checked, address, limit, &state))
 }
 
 /// Does a task with these files.
@@ -304,9 +360,10 @@ fn show<S: Sink>(
         Task::Row { address } => show_rows(alloc, Some(address), files, out),
         Task::Locs { lookup } => show_locations(alloc, lookup, files, out),
         Task::Eval { kind } => show_outcome(alloc, kind, files, out),
-        Task::Unwind { address } => show_caller(alloc, address, files, out),
-        // stand-in: the walk comes here
-        Task::Backtrace { address, .. } => show_caller(alloc, address, files, out),
+        Task::Unwind { address } => show_unwound(alloc, address, None, files, out),
+        Task::Backtrace { address, limit } => {
+            show_unwound(alloc, address, Some(limit), files, out)
+        }
     }
 }
 

@@ -1,11 +1,11 @@
 //! The lines of a state file.
 
 ghost use Rattle.std.specs.Prelude.{◌≡◌, IfOk, IfSome, option_map};
-ghost use Rattle.dw_check.specs.StateFile.{FitsAddresses, register_number, bytes_fact, register_fact, memory_fact, numbered, named};
+ghost use Rattle.dw_check.specs.StateFile.{FitsAddresses, bytes_fact, register_fact, memory_fact, numbered, named};
 ghost use Rattle.dw_check.specs.StateFile.{fact_of_line};
 ghost use Rattle.dw_check.specs.StateViews.{fact_of};
 
-use crate::addresses::{parse_address, parse_number};
+use crate::addresses::{parse_address, parse_short};
 use crate::parts::Parts;
 use dw_bytes::Target;
 use hex::FromHexError;
@@ -21,13 +21,6 @@ pub(crate) enum StateLine {
     Object(u64),
     Keep(u16),
     StackPointer(u16),
-}
-
-/// A register's number in 1 to 5 decimal digits.
-fn parse_register(digits: &[u8]) -> Option<u16>
-    ensures { result ≡ register_number digits.now }
-{
-    u16::try_from(parse_number(digits, 10, 5)?).ok()
 }
 
 /// The bytes at an address: one or more, up to the top of the addresses at most.
@@ -47,7 +40,7 @@ fn parse_register_line(target: Target, place: &[u8], value: &[u8]) -> Option<Sta
     ensures given { option_map fact_of result ≡ register_fact target place.now value.now }
     ensures fits { IfSome result (λ line. FitsAddresses (fact_of line)) }
 {
-    let number = parse_register(place)?;
+    let number = parse_short(place)?;
     let content = parse_address(value, target)?;
     Some(StateLine::Register { number, content })
 }
@@ -109,10 +102,10 @@ fn parse_named(target: Target, word: &[u8], value: &[u8]) -> Option<StateLine>
         return Some(StateLine::Object(parse_address(value, target)?));
     }
     if word == "keep".as_bytes() {
-        return Some(StateLine::Keep(parse_register(value)?));
+        return Some(StateLine::Keep(parse_short(value)?));
     }
     if word == "sp".as_bytes() {
-        return Some(StateLine::StackPointer(parse_register(value)?));
+        return Some(StateLine::StackPointer(parse_short(value)?));
     }
     None
 }

@@ -7,8 +7,8 @@ ghost use Rattle.dw_check.specs.WalkText.{cfa_text, walked_line, stop_text, last
 ghost use Rattle.dw_check.specs.WalkViews.{frame_in, frames_in};
 ghost use Rattle.dw_check.specs.WriteResults.{IsSame, Writes, is_write};
 
-use crate::frames::{Backtrace, Frame, Stop};
 use crate::caller_text::push_answer;
+use crate::frames::{Backtrace, Frame, Stop};
 use crate::numbers::{push_address, push_decimal};
 use crate::sink::Sink;
 use crate::stop::ReportFault;

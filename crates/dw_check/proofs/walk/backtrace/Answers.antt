@@ -1,10 +1,10 @@
-use Rattle.std.proofs.Common.{◌≡◌, ◌∷◌, [], ◌++◌, ◌^◌, ◌<◌, ◌≤◌, ◌+◌, ◌-◌, ◌∙◌, ap, subst, get_or, length, List, sym, arith, length-append}
+use Rattle.std.proofs.Common.{◌≡◌, ◌∷◌, [], ◌++◌, ◌^◌, ◌<◌, ◌+◌, ◌-◌, ◌∙◌, ap, subst, get_or, length, List, sym, arith, length-append}
 use Rattle.std.specs.Prelude.{All, Some}
 use Rattle.dw_eval.specs.Numbers.{width_of}
 use Rattle.dw_check.specs.declared.frames.Frame as declared
 use Rattle.dw_check.specs.CallerFits.{FrameFits}
 use Rattle.dw_check.specs.Walks.{AreFrames, first_place}
-use Rattle.dw_check.specs.WalkViews.{frame_in, frames_in, surroundings_in}
+use Rattle.dw_check.specs.WalkViews.{frames_in, surroundings_in}
 use Rattle.dw_check.proofs.Walking.{walk_stops, walk_goes, last_holds, one_more_holds, pushed}
 use Rattle.dw_check.proofs.walk.backtrace.Goals as goal
 
