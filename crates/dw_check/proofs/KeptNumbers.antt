@@ -102,8 +102,10 @@ pub is_stack_pointer : (sp : Option ℕ) (n : ℕ) → is_among n (option_to_lis
 is_stack_pointer None n = refl
 is_stack_pointer (Some m) n = or_false (m == n)
 
-among_sp : (kept : List ℕ) (n : ℕ) (t : Bool) → is_among n kept ≡ t → are_distinct (kept ++ n ∷ []) ≡ (are_distinct (kept ++ []) && not t)
-among_sp kept n t is = rw (distinct_at kept n [], list_any-append (λ m. m == n) kept [], is) (ap (λ b. are_distinct (kept ++ []) && not b) (or_false t))
+among_sp : (kept : List ℕ) (n : ℕ) (t : Bool) → is_among n kept ≡ t
+    → are_distinct (kept ++ n ∷ []) ≡ (are_distinct (kept ++ []) && not t)
+among_sp kept n t is =
+    rw (distinct_at kept n [], list_any-append (λ m. m == n) kept [], is) (ap (λ b. are_distinct (kept ++ []) && not b) (or_false t))
 
 -- the stack pointer is another register than those that are kept
 pub stack_pointer_fits : (kept : List ℕ) (n : ℕ) → fit_together kept None ≡ true → is_among n kept ≡ false

@@ -11,8 +11,8 @@ use Rattle.std.specs.Map.{lookup}
 use Rattle.std.specs.BTreeMap.{BTreeMap, get, Updates, IsUnchanged}
 use Rattle.std.proofs.lemmas.Bool.Decides.{nat_tests}
 use Rattle.std.proofs.lemmas.List.Sums.{fold-append}
-use Rattle.dw_check.specs.StateFile.{StateFact, bytes, first_that, content_in, byte_in, cfa_in, frame_base_in, object_in, kept_in, kept_with}
-use Rattle.dw_check.specs.StateFile.{stack_pointer_in, fit_together, go_together, KnownState, IsGivenBy}
+use Rattle.dw_check.specs.StateFile.{StateFact, bytes, first_that, content_in, byte_in, cfa_in, frame_base_in, object_in}
+use Rattle.dw_check.specs.StateFile.{kept_in, kept_with, stack_pointer_in, fit_together, go_together, KnownState, IsGivenBy}
 
 cmp_lt : (k q : ℕ) → k < q → is_eq (nat_cmp k q) ≡ (k == q)
 cmp_lt k q h = let other : (k == q) ≡ false = grind (arith, nat_tests) in rw (sym (nat_cmp_is k q Less h), other) refl

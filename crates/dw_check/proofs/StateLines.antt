@@ -45,7 +45,8 @@ pub record Reading (target : Target) (text : List ℕ) (before : List (List ℕ)
 abbrev pub goes_behind : Target → List (List ℕ) → List ℕ → Bool
 goes_behind target before line = is_line target line && go_together (facts_of_lines target before ++ facts_of_lines target (line ∷ []))
 
-taken : (before : List (List ℕ)) (line : List ℕ) (lines : List (List ℕ)) → take (length before + 1) (before ++ line ∷ lines) ≡ before ++ line ∷ []
+taken : (before : List (List ℕ)) (line : List ℕ) (lines : List (List ℕ))
+    → take (length before + 1) (before ++ line ∷ lines) ≡ before ++ line ∷ []
 taken [] line lines = refl
 taken (b ∷ before) line lines = let next : length (b ∷ before) + 1 ≡ suc (length before + 1) = omega arith in
     rw next (ap (λ ls. b ∷ ls) (taken before line lines))
@@ -57,8 +58,13 @@ each_more target before line each = rw (list_all-append (is_line target) before 
 good_more : (target : Target) (text : List ℕ) (before : List (List ℕ)) (n : ℕ) (line : List ℕ) (lines : List (List ℕ))
     → Reading target text before n (line ∷ lines) → is_bad target text (n + 1) ≡ not (goes_behind target before line)
 good_more target text before n line lines h =
-    rw (h.is, ← h.count, taken before line lines, each_more target before line h.each, filter_map-append (fact_of_line target) before (line ∷ []))
-    refl
+    rw (
+      h.is,
+      ← h.count,
+      taken before line lines,
+      each_more target before line h.each,
+      filter_map-append (fact_of_line target) before (line ∷ []),
+    ) refl
 
 pub reads_line : (target : Target) (text : List ℕ) (before : List (List ℕ)) (n : ℕ) (line : List ℕ) (lines : List (List ℕ))
     → Reading target text before n (line ∷ lines) → goes_behind target before line ≡ true
