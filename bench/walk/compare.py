@@ -49,14 +49,16 @@ def compare(program, section, path, counts):
     if walk != want + ["stop not covered"]:
         differ(path, want, walk)
     counts["frames"] += len(want)
-    caller = dict(line.split(" value ") for line in lines_of(program, ["unwind", section, start, f"{stem}.state"]) if " value " in line)
+    unwound = lines_of(program, ["unwind", section, start, f"{stem}.state"])
+    caller = dict(line.split(" value ") for line in unwound if " value " in line)
     given = {name: int(caller[name], 16) for name in registers if name in caller}
     if given != registers:
-        differ(path, [f"{name} {content:#x}" for name, content in registers.items()], [f"{name} {content:#x}" for name, content in given.items()])
+        differ(path, [f"{name} value {content:#x}" for name, content in registers.items()], unwound)
     counts["callers' registers"] += len(registers)
     *part, stop = lines_of(program, ["backtrace", section, start, f"{stem}.top", "1000"])
     known = [line for line in part if not line.endswith("cfa unreadable")]
-    if known != want[:len(known)] or len(part) > len(known) + 1 or stop != ("stop not covered" if part == want else "stop return unreadable"):
+    why = "stop not covered" if part == want else "stop return unreadable"
+    if known != want[:len(known)] or len(part) > len(known) + 1 or stop != why:
         differ(f"{stem}.top", want, part + [stop])
     counts["frames of the stack's top"] += len(known)
     counts["walks of the stack's top that end where the copy does"] += part != want
@@ -69,6 +71,7 @@ def main():
     for path in sorted(glob.glob(os.path.join(sys.argv[3], "*.frames"))):
         compare(sys.argv[1], sys.argv[2], path, counts)
         counts["stops"] += 1
+    counts["stops that gdb can't walk from"] += len(glob.glob(os.path.join(sys.argv[3], "*.failed")))
     if not counts["stops"]:
         raise SystemExit("no stop was written")
     print(", ".join(f"{counts[name]:,} {name}" for name in ["stops", *(name for name in counts if name != "stops")]))

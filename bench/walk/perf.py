@@ -35,7 +35,7 @@ def samples(dump):
 
 
 def chains(shown):
-    """The addresses of perf's frames of each sample, counted from where the file is mapped; a caller's is one less than where its call returns."""
+    """The addresses of perf's frames of each sample, counted from where the file is mapped. A caller's is one less than where it goes on."""
     return [[int(line, 16) for line in sample.split()] for sample in shown.strip().split("\n\n")]
 
 

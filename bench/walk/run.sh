@@ -1,9 +1,9 @@
 #!/usr/bin/env bash
-# Compares walks of a program that stands still with gdb's, and walks of perf's samples of it with perf's: x86-64, each of gcc and clang that
-# is there, several levels of optimization. Needs gdb with Python; without perf the second half is left out.
+# Compares walks of a program that stands still with gdb's, and walks of perf's samples of it with perf's: x86-64, by gcc and clang, where it
+# is there, and at several levels of optimization. Needs gdb with Python; without perf the second half is left out.
 #     bench/walk/run.sh DWCHECK [STOPS]
 set -eu
-program=$(realpath "$1") stops=${2:-150}
+program=$(realpath "$1") stops=${2:-250}
 here=$(cd "$(dirname "$0")" && pwd)
 work=$(mktemp -d)
 trap 'rm -rf "$work"' EXIT

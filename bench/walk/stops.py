@@ -2,12 +2,13 @@
 
     STOPS=N FOLDER=F gdb --batch --nx -x stops.py PROGRAM
 
-Of the stop of number I these files are written: I.state, the state of the registers and of the whole stack from the red zone on; I.top, the same
-with the first 8,192 bytes of the stack alone; and I.frames, gdb's frames: address, CFA, and 1 where it lies in the program, and for the
-first that isn't frame 0 the registers that a call keeps.
+Of the stop of number I these files are written: I.state, the registers and the whole stack from the red zone on; I.top, the same with the
+first 8,192 bytes of the stack alone; and I.frames, gdb's frames: address, CFA, and 1 where it lies in the program; then, of frame 1, the
+stack pointer and the registers that a call keeps. Where gdb can't read what a frame of its own needs, there is I.failed alone.
 """
 import os
 import re
+import traceback
 
 import gdb
 
@@ -64,8 +65,8 @@ def written(folder, number):
     lines = [f"{frame.pc():#x} {base(frame)} {int(gdb.solib_name(frame.pc()) is None)}" for frame in all_frames]
     lines += [f"r{register} {content:#x}" for register, content in contents(all_frames[1], [*KEPT, POINTER]).items()]
     all_frames[0].select()
-    top = held[RED_ZONE:RED_ZONE + COPIED]
-    for name, text in [("state", state(registers, pointer - RED_ZONE, held)), ("top", state(registers, pointer, top)), ("frames", "\n".join(lines))]:
+    whole, top = state(registers, pointer - RED_ZONE, held), state(registers, pointer, held[RED_ZONE:RED_ZONE + COPIED])
+    for name, text in [("state", whole), ("top", top), ("frames", "\n".join(lines))]:
         with open(f"{folder}/{number}.{name}", "w", encoding="ascii") as file:
             file.write(text)
 
@@ -75,12 +76,21 @@ def main():
         gdb.execute(f"set {setting}")
     gdb.execute("break *innermost", to_string=True)
     gdb.execute("run", to_string=True)
+    folder = os.environ["FOLDER"]
     for number in range(int(os.environ["STOPS"])):
-        written(os.environ["FOLDER"], number)
+        try:
+            written(folder, number)
+        except gdb.MemoryError as error:
+            with open(f"{folder}/{number}.failed", "w", encoding="ascii") as file:
+                file.write(f"{error}\n")
         gdb.execute("stepi", to_string=True)
         if gdb.solib_name(gdb.newest_frame().pc()) is not None:
             break
     gdb.execute("kill", to_string=True)
 
 
-main()
+try:
+    main()
+except Exception:  # gdb would end with status 0
+    traceback.print_exc()
+    gdb.execute("quit 1")
