@@ -83,6 +83,14 @@ class WalkMaker(PairMaker):
         kinds = ["offset", "val_offset", "register", "same_value", "undefined", "expression", "val_expression"]
         return self.rule_of(register, self.random.choices(kinds, [6, 3, 2, 3, 1, 3, 2])[0])
 
+    def rules(self):
+        """So many that with the few registers of the target there are as many as may be."""
+        few = {*self.pool, self.returns, 300}
+        numbers = [number for number in range(self.random.choice([0, 1000]), 1200) if number not in few][:128 - len(few)]
+        kinds = ["same_value", "undefined", "val_offset"]
+        return b"".join(self.rule_of(number, self.random.choice(kinds)) for number in numbers) + b"".join(
+            self.rule_of(number, "offset" if number in (self.returns, self.based) else "val_offset") for number in few)
+
     def cfa_rule(self):
         if self.chance(0.15):
             self.cfa = "expression"
@@ -144,9 +152,9 @@ class WalkMaker(PairMaker):
         """Which registers the ABI keeps, and its stack pointer or None."""
         kind = self.random.choice(["whole", "whole", "whole", "no pointer", "none", "odd"])
         kept = [register for register in self.pool[1:] if self.chance(0.8)] + [self.returns] * self.chance(0.4)
-        if kind == "odd":
-            kept = self.random.sample(range(140), self.random.choice([1, 20, MAX_KEPT - 1, MAX_KEPT]))
-            return kept, self.random.choice([None, 300, 65535])
+        if kind == "odd" or self.many:
+            held = self.random.choice([range(140), range(140), range(2000, 2200)])
+            return self.random.sample(held, self.random.choice([1, 20, MAX_KEPT - 1, MAX_KEPT])), self.random.choice([None, 300, 65535])
         pointer = self.pointer if kind == "whole" else None
         return list(dict.fromkeys(register for register in kept if register != pointer)) * (kind != "none"), pointer
 

@@ -4,8 +4,8 @@
     bench/walks.py DWCHECK COUNT [SEED] [--jobs N] [--first N]
 
 Each case is a section, an address, a state file and a limit, and is the same for every number of jobs. A case that differs is shown with
-its number, and --first N begins with the case of that number. Some state files are handed to `eval` too, which judges all their lines.
-At the end: how the walks ended, how long they were, and what else came.
+its number, and --first N begins with the case of that number. Some state files are handed to `eval` and `locs` too, which judge all their
+lines. At the end: how the walks ended, how long they were, and what else came.
 """
 import argparse
 import collections
@@ -83,13 +83,13 @@ def wanted(maker, case):
     return (walk_text(*walk(found, int(address, 16), state, limit_of(limit), *target)), "", 0), unwound
 
 
-def evaluated(maker, content):
-    """An expression, and what `eval` has to write of it with the state."""
-    expression, state = maker.random.choice(EXPRESSIONS), state_of(content, maker.size)
+def others(maker, expression, content):
+    """What `eval` of an expression and `locs` of no list have to write with the state."""
+    state = state_of(content, maker.size)
     if isinstance(state, int):
-        return expression, ("", f"dwcheck: state line {state}\n", 2)
+        return (("", f"dwcheck: state line {state}\n", 2),) * 2
     text = expression_text(expression, "cfa", maker.big, maker.size, state)
-    return expression, (text, "", int(text.startswith("refused")))
+    return (text, "", int(text.startswith("refused"))), ("no list\n", "", 0)
 
 
 def ended(program, words):
@@ -125,8 +125,8 @@ def compared(program, seed, number, folder):
     maker = WalkMaker(f"{seed} {number}")
     case = made(maker)
     section, _, _, address, limit, content = case
-    expression, outcome = evaluated(maker, content)
-    for name, held in [("f", section), ("s", content), ("e", expression)]:
+    expression = maker.random.choice(EXPRESSIONS)
+    for name, held in [("f", section), ("s", content), ("e", expression), ("l", b"")]:
         with open(f"{folder}/{name}", "wb") as file:
             file.write(held)
     flags = ["--big"] * maker.big + ["--addr4"] * (maker.size == 4)
@@ -136,7 +136,9 @@ def compared(program, seed, number, folder):
         (unwound, ["unwind", *flags, f"{folder}/f", address, f"{folder}/s"]),
     ]
     if maker.chance(0.1):
+        outcome, located = others(maker, expression, content)
         runs.append((outcome, ["eval", *flags, "cfa", f"{folder}/e", "--state", f"{folder}/s"]))
+        runs.append((located, ["locs", *flags, f"{folder}/l", "0x0", "0x0", "0x0", "--state", f"{folder}/s"]))
     for want, words in runs:
         got = ended(program, words)
         if got != want:
