@@ -25,7 +25,7 @@ REGISTERS = [*range(12), 15, 16, 30, 31, 63, 64, 127, 300, 65535]
 BAD_LINES = [
     "reg 65536 0x1", "reg 000001 0x1", "reg 1  0x1", "reg 1 0x", "reg 1 1", "reg 1 0X1", "reg 0x1 0x1", "reg 1 0x1 ", "reg 1 0x1\r",
     "Reg 1 0x1", " ", "mem 0x10 abc", "mem 0x10 ", "mem 0x10", "mem 0x10 0g", "mem 0x10 00 00", "mem 10 00", "cfa",
-    "cfa 0x00000000000000001", "object 1", "keep 6", "sp 7",
+    "cfa 0x00000000000000001", "object 1", "keep 65536", "keep 0x6", "keep", "keep 6 ", "sp 000007", "sp 7 0x7f00", "sp",
 ]
 
 

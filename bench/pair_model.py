@@ -1,7 +1,7 @@
 """Two sections checked together, and callers, by the rules of docs/PROFILE.md alone: nothing here was taken from the program.
 
 check_text(frame, lists, big, size) gives the text that `dwcheck check` has to write, and unwind_text(frame, address, state, big, size)
-that of `dwcheck unwind`. state_of(content, size) reads a state file.
+that of `dwcheck unwind`. state_of(content, size) reads a state file, the lines that name an ABI's registers too.
 """
 import re
 
@@ -46,8 +46,21 @@ class Caller:
 
     def __init__(self, row, state, big, size):
         _, _, cfa, self.rules = row
+        self.kept, self.stack_pointer = state["keep"], state["sp"]
         self.given, self.big, self.size = {"reg": state["reg"], "mem": state["mem"]}, big, size
         self.cfa = self.cfa_answer(cfa)
+
+    def named(self):
+        """The registers that a rule or the ABI names, ascending."""
+        return sorted({*self.rules, *self.kept, *([] if self.stack_pointer is None else [self.stack_pointer])})
+
+    def rule(self, register):
+        """Its rule, and where it has none what the ABI says of it."""
+        if register in self.rules:
+            return self.rules[register]
+        if register == self.stack_pointer:
+            return "val_offset", 0
+        return ("same_value",) if register in self.kept else ("undefined",)
 
     def content(self, register, offset=0):
         if register not in self.given["reg"]:
@@ -70,7 +83,7 @@ class Caller:
         return self.value(rule[1], None) if rule[0] == "expression" else self.content(*rule[1:])
 
     def answer(self, register):
-        name, *held = self.rules.get(register, ("undefined",))
+        name, *held = self.rule(register)
         if name == "undefined":
             return name
         if name in ("same_value", "register"):
@@ -94,7 +107,7 @@ def unwind_text(frame, address, state, big, size):
         return "none\n"
     common, row = place
     caller = Caller(row, state, big, size)
-    lines = [("cfa", caller.cfa)] + [(f"r{register}", caller.answer(register)) for register in sorted(caller.rules)]
+    lines = [("cfa", caller.cfa)] + [(f"r{register}", caller.answer(register)) for register in caller.named()]
     lines.append(("return", caller.answer(common["return"])))
     return "".join(f"{name} {answer_text(answer, size)}\n" for name, answer in lines)
 
@@ -105,9 +118,13 @@ def answer_text(answer, size):
 
 # State files.
 
+# How many registers an ABI may keep.
+MAX_KEPT = 127
+
+
 def state_of(content, size):
     """What the lines of a state file give, or the number of the first that is none."""
-    state = {"reg": {}, "mem": {}, "cfa": None, "frame": None, "object": None}
+    state = {"reg": {}, "mem": {}, "cfa": None, "frame": None, "object": None, "keep": [], "sp": None}
     for number, line in enumerate(content.split(b"\n"), 1):
         if line and not added(state, line, 1 << 8 * size):
             return number
@@ -131,4 +148,23 @@ def added(state, line, top):
         if state[name] is None:
             state[name] = value
         return value < top
+    if parsed := re.fullmatch(rb"(keep|sp) ([0-9]{1,5})", line):
+        register = int(parsed[2])
+        return register <= 65535 and (kept if parsed[1] == b"keep" else pointed)(state, register)
     return False
+
+
+def kept(state, register):
+    """Keeps it, unless it is kept already; whether it may be kept."""
+    if register in state["keep"]:
+        return True
+    state["keep"].append(register)
+    return len(state["keep"]) <= MAX_KEPT and register != state["sp"]
+
+
+def pointed(state, register):
+    """Makes it the stack pointer, unless there is one; whether it may be."""
+    if state["sp"] is not None:
+        return True
+    state["sp"] = register
+    return register not in state["keep"]

@@ -1,0 +1,82 @@
+#!/usr/bin/env python3
+"""Walks from the samples of a program that perf recorded with `--call-graph dwarf`: registers and a copy of the top of the stack.
+
+    bench/walk/perf.py DWCHECK SECTION DATA START END [FOLDER]
+
+START and END are where the program's own code begins and ends. As far as both go, the frames there are those that perf finds in the same
+sample; where ours are fewer, the copy of the stack ended. FOLDER keeps the state files.
+"""
+import collections
+import itertools
+import re
+import subprocess
+import sys
+import tempfile
+
+from compare import lines_of
+
+# perf's names by the numbers that DWARF has for them.
+NAMES = ["AX", "DX", "CX", "BX", "SI", "DI", "BP", "SP", *(f"R{i}" for i in range(8, 16)), "IP"]
+ABI = "".join(f"keep {number}\n" for number in [3, 6, 12, 13, 14, 15]) + "sp 7\n"
+
+
+def output_of(words):
+    return subprocess.run(words, capture_output=True, check=True).stdout.decode("ascii", "replace")
+
+
+def samples(dump):
+    """Registers by perf's names, and the copy of the stack, of each sample of what perf shows of all it recorded."""
+    for event in dump.split("raw event: size ")[1:]:
+        if copied := re.search(r"ustack: size ([0-9]+), offset (0x[0-9a-f]+)", event):
+            held = b"".join(bytes.fromhex(line) for line in re.findall(r"^\.  [0-9a-f]{4,}:  ((?:[0-9a-f]{2} )+)", event, re.MULTILINE))
+            begin = int(copied[2], 16) + 8
+            registers = dict(re.findall(r"^\.\.\.\. (\w+) +(0x[0-9a-f]+)", event, re.MULTILINE))
+            yield {name: int(content, 16) for name, content in registers.items()}, held[begin:begin + int(copied[1])]
+
+
+def chains(shown):
+    """The addresses of perf's frames of each sample, counted from where the file is mapped. A caller's is one less than where it goes on."""
+    return [[int(line, 16) for line in sample.split()] for sample in shown.strip().split("\n\n")]
+
+
+def state(registers, held):
+    lines = [f"reg {number} {registers[name]:#x}\n" for number, name in enumerate(NAMES)]
+    return ABI + "".join(lines) + f"mem {registers['SP']:#x} {held.hex()}\n"
+
+
+def compare(program, section, path, registers, chain, inside):
+    """What is counted of a sample."""
+    *frames, stop = lines_of(program, ["backtrace", section, hex(registers["IP"]), path, "200"])
+    walk = [int(line.split()[2], 16) - (i > 0) for i, line in enumerate(frames) if not line.endswith("none")]
+    theirs = list(itertools.takewhile(inside, (address - chain[0] + registers["IP"] for address in chain)))
+    if not walk:
+        return {"samples where no FDE is": 1}
+    both = min(len(walk), len(theirs))
+    if walk[:both] != theirs[:both] or len(walk) < len(theirs) and stop != "stop return unreadable":
+        raise SystemExit("\n".join([path, "perf:", *map(hex, theirs), "dwcheck:", *frames, stop]))
+    return {"samples": 1, "frames": len(walk), "of which perf has": both, "more of perf's": len(theirs) - both, stop: 1}
+
+
+def main():
+    if len(sys.argv) not in (6, 7):
+        raise SystemExit(__doc__)
+    program, section, data = sys.argv[1:4]
+    start, end = (int(word, 16) for word in sys.argv[4:6])
+    counts = collections.Counter()
+    with tempfile.TemporaryDirectory() as made:
+        folder = sys.argv[6] if len(sys.argv) == 7 else made
+        found = list(samples(output_of(["perf", "script", "-i", data, "-D"])))
+        shown = chains(output_of(["perf", "script", "-i", data, "-F", "ip", "--no-inline"]))
+        for number, ((registers, held), chain) in enumerate(zip(found, shown, strict=True)):
+            if start <= registers["IP"] < end and held:
+                path = f"{folder}/{number}.state"
+                with open(path, "w", encoding="ascii") as file:
+                    file.write(state(registers, held))
+                counts.update(compare(program, section, path, registers, chain, lambda address: start <= address < end))
+    if not counts["samples"]:
+        raise SystemExit("no sample in the program")
+    print(", ".join(f"{count:,} {name}" for name, count in counts.items()))
+
+
+if __name__ == "__main__":
+    main()

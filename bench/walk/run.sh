@@ -1,0 +1,41 @@
+#!/usr/bin/env bash
+# Compares walks of a program that stands still with gdb's, and walks of perf's samples of it with perf's: x86-64, by gcc and clang, where it
+# is there, and at several levels of optimization. Needs gdb with Python; without perf the second half is left out.
+#     bench/walk/run.sh DWCHECK [STOPS]
+set -eu
+program=$(realpath "$1") stops=${2:-250}
+here=$(cd "$(dirname "$0")" && pwd)
+work=$(mktemp -d)
+trap 'rm -rf "$work"' EXIT
+
+compiled() { # a compiler and its flags; the section in a file of its own
+    rm -rf "${work:?}"/* && mkdir "$work/stops"
+    "$@" -no-pie -g "$here/walk.c" -o "$work/walk"
+    objcopy --dump-section ".debug_frame=$work/walk.frame" "$work/walk" /dev/null
+}
+
+beside_gdb() {
+    compiled "$@" -fno-asynchronous-unwind-tables
+    STOPS=$stops FOLDER=$work/stops gdb --batch --nx -x "$here/stops.py" "$work/walk" > "$work/log" 2>&1 || { cat "$work/log"; return 1; }
+    echo "$*, gdb: $("$here/compare.py" "$program" "$work/walk.frame" "$work/stops")"
+}
+
+beside_perf() { # perf itself reads .eh_frame
+    compiled "$@" -DBOTH_SECTIONS
+    perf record -q -F 999 -e cpu-clock:u --call-graph dwarf,16384 -o "$work/data" "$work/walk" 2000000
+    read -r start size < <(readelf -SW "$work/walk" | sed -n 's/.* \.text *PROGBITS *\([0-9a-f]*\) [0-9a-f]* \([0-9a-f]*\).*/\1 \2/p')
+    end=$(printf %x $((0x$start + 0x$size)))
+    echo "$*, perf: $("$here/perf.py" "$program" "$work/walk.frame" "$work/data" "$start" "$end")"
+}
+
+for compiler in gcc clang; do
+    command -v "$compiler" > /dev/null || continue
+    for flags in -O0 -O1 -O2 -Os "-O2 -fomit-frame-pointer" "-O2 -fno-omit-frame-pointer"; do
+        # shellcheck disable=SC2086
+        beside_gdb "$compiler" $flags
+        if perf record -q -e cpu-clock:u -o "$work/tried" true 2> /dev/null; then
+            # shellcheck disable=SC2086
+            beside_perf "$compiler" $flags
+        fi
+    done
+done

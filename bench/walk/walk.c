@@ -1,0 +1,99 @@
+/* A program with frames of many kinds, to be stopped in the innermost one. It calls nothing of another library before its end. */
+#include <alloca.h>
+#include <stdlib.h>
+
+#ifdef __clang__
+#define APART __attribute__((noinline))
+#else
+#define APART __attribute__((noinline, noclone))
+#endif
+
+#ifdef BOTH_SECTIONS
+__asm__(".cfi_sections .eh_frame, .debug_frame");
+#endif
+
+typedef int (*callback)(int);
+volatile int sink;
+
+APART void touch(volatile char *bytes, int at) { bytes[at] = (char)at; sink += bytes[at]; }
+
+/* where the walks begin */
+APART int innermost(int n)
+{
+    int sum = 0;
+    for (int i = 0; i < n; i++)
+        sum += sink + i;
+    sink = sum;
+    return sum + n;
+}
+
+/* a function that doesn't return: its caller's return address may lie behind its caller */
+_Noreturn APART void finish(int n)
+{
+    sink = innermost(n) + innermost(n + 1);
+    exit(0);
+}
+
+/* more registers than a call destroys */
+APART int busy(int a, int b, int c, int d, int e, int f)
+{
+    int g = innermost(a), h = innermost(b), i = innermost(c), j = innermost(d);
+    return a + b * c - d + e * f + g * innermost(g & 3) + h - i * j + f;
+}
+
+/* a stack that is aligned anew: the CFA's rule may be an expression */
+APART int aligned(int n)
+{
+    _Alignas(64) volatile char bytes[64];
+    volatile char *more = alloca(n + 16);
+    touch(bytes, n);
+    touch(more, n);
+    return busy(1, 2, n, 3, bytes[n], 4) + more[n];
+}
+
+/* a frame with room that its caller chooses */
+APART int chosen(int n)
+{
+    volatile char *bytes = alloca(100 * n + 16);
+    touch(bytes, n);
+    return aligned(n) + bytes[n];
+}
+
+/* a large frame */
+APART int large(int n)
+{
+    volatile char bytes[9000];
+    touch(bytes, 50 * n);
+    return chosen(n) + bytes[50 * n];
+}
+
+/* a caller of what it is handed */
+APART int each(const int *values, int count, callback call)
+{
+    int sum = 0;
+    for (int i = 0; i < count; i++)
+        sum += call(values[i]) + i;
+    return sum;
+}
+
+APART int recursive(int n, callback call)
+{
+    const int values[2] = {n, n + 1};
+    if (n == 0)
+        return each(values, 2, call);
+    return recursive(n - 1, call) + n;
+}
+
+APART void last(int n)
+{
+    sink = recursive(n, large);
+    finish(n);
+}
+
+/* so many walks more before the last, where a word says so */
+int main(int argc, char **argv)
+{
+    for (long i = argc > 1 ? atol(argv[1]) : 0; i > 0; i--)
+        sink = recursive(5, large);
+    last(5);
+}

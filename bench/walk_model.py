@@ -1,0 +1,70 @@
+"""Walks over frames, by the rules of docs/PROFILE.md alone: nothing here was taken from the program.
+
+backtrace_text(frame, address, state, limit, big, size) gives the text that `dwcheck backtrace` has to write, and limit_of(word) the limit
+that a word names. Sections, rows, expressions, single callers and state files are those of the other models.
+"""
+import re
+
+from expression_model import Fault
+from frame_model import checked, row_at
+from pair_model import Caller, answer_text, refused_text
+
+MAX_LIMIT = 65535
+
+
+def limit_of(word):
+    """A number of one to five digits that isn't too large, or None."""
+    limit = int(word) if re.fullmatch("[0-9]{1,5}", word, re.ASCII) else MAX_LIMIT + 1
+    return limit if limit <= MAX_LIMIT else None
+
+
+class Frame:
+    """A frame by its number, its address and its registers' contents; of a covered one also its caller, and where that goes on."""
+
+    def __init__(self, found, number, address, state, big, size):
+        self.number, self.address, self.state, self.big, self.size = number, address, state, big, size
+        self.caller = self.returns = None
+        place = row_at(found, address if number == 0 else address - 1)
+        if place is not None:
+            common, row = place
+            self.caller = Caller(row, state, big, size)
+            self.returns = self.caller.answer(common["return"])
+
+    def why_last(self):
+        """Why no frame follows, or None."""
+        if self.caller is None:
+            return "not covered"
+        return f"return {self.returns}" if isinstance(self.returns, str) else None
+
+    def next(self, found):
+        """The frame of the caller. A register has a content there only where the caller answers a number."""
+        answers = {register: self.caller.answer(register) for register in self.caller.named()}
+        contents = {register: answer for register, answer in answers.items() if not isinstance(answer, str)}
+        return Frame(found, self.number + 1, self.returns, self.state | {"reg": contents}, self.big, self.size)
+
+    def text(self):
+        said = "none" if self.caller is None else f"cfa {answer_text(self.caller.cfa, self.size)}"
+        return f"frame {self.number} 0x{self.address:0{2 * self.size}x} {said}\n"
+
+
+def walk(found, address, state, limit, big, size):
+    """The frames, at most as many as the limit says, and why there are no more."""
+    frames = []
+    while len(frames) < limit:
+        frames.append(frames[-1].next(found) if frames else Frame(found, 0, address, state, big, size))
+        why = frames[-1].why_last()
+        if why and len(frames) < limit:
+            return frames, why
+    return frames, "limit"
+
+
+def walk_text(frames, why):
+    return "".join(frame.text() for frame in frames) + f"stop {why}\n"
+
+
+def backtrace_text(frame, address, state, limit, big, size):
+    try:
+        _, found, _ = checked(frame, big, size)
+    except Fault as fault:
+        return refused_text(fault, "frame")
+    return walk_text(*walk(found, address, state, limit, big, size))
