@@ -136,7 +136,8 @@ abi_given gs = abi_of (kept_in gs) (first_that stack_pointer_in gs)
 
 -- the text shows the caller at an address, or that no FDE covers it, on a machine of which this was given
 abbrev pub ShowsCaller : List StateFact → ℕ → Frame → ListSection → List ℕ → Type 0
-ShowsCaller gs address frame lists written = (caller : Option Caller) × Unwinds (machine_of frame.target gs) (abi_given gs) frame address caller
+ShowsCaller gs address frame lists written = (caller : Option Caller)
+    × Unwinds (machine_of frame.target gs) (abi_given gs) frame address caller
     × (written ≡ caller_text frame.target.address_size caller)
 
 -- it shows a walk from an address with a limit
@@ -202,8 +203,8 @@ abbrev pub IsPlaceIn : ℕ → End → Type 0
 IsPlaceIn count (BadHex place) = place < count
 IsPlaceIn count other = Unit {0}
 
--- How a run goes, where `Is` says what its reply may be and there are `count` files: it has written all of a text, or nothing yet of a reply
--- that is no text; for want of memory a beginning of whatever text is the reply; and a beginning where the sink stopped.
+-- How a run goes, where `Is` says what its reply may be and there are `count` files: it has written all of a text, or nothing yet of a
+-- reply that is no text; for want of memory a beginning of whatever text is the reply; and a beginning where the sink stopped.
 abbrev pub Goes : ℕ → (Reply → Type 0) → Option (List ℕ) → Option (List ℕ) → Result (Unit {0}) RunFault → Type 0
 Goes count Is old new (Ok _) = (bytes : List ℕ) × Is (text bytes) × Appends old new bytes
 Goes count Is old new (Err (stops.Refused section fault)) = Is (refusal section fault) × Appends old new []

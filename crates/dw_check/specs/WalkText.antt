@@ -10,14 +10,14 @@ use Rattle.dw_check.specs.declared.frames.Stop.{Stop}
 use Rattle.dw_check.specs.declared.frames.Stop.TheVariants.{Limit, NotCovered, ReturnUndefined, ReturnUnreadable, ReturnDivisionByZero}
 
 -- the CFA of a caller, or that there is no caller
-abbrev pub cfa_text : AddressSize → Option Caller → List ℕ
-cfa_text size (Some caller) = codes "cfa " ++ answer_text size caller.cfa
-cfa_text size None = codes "none"
+abbrev pub caller_cfa_text : AddressSize → Option Caller → List ℕ
+caller_cfa_text size (Some caller) = codes "cfa " ++ answer_text size caller.cfa
+caller_cfa_text size None = codes "none"
 
 -- a frame with its number
 unfoldable pub walked_line : AddressSize → ℕ × WalkedFrame → List ℕ
 walked_line size (n, frame) = codes "frame " ++ decimal n ++ codes " " ++ address_text size frame.address ++ codes " "
-    ++ cfa_text size frame.caller ++ codes "\n"
+    ++ caller_cfa_text size frame.caller ++ codes "\n"
 
 -- why there are no more frames
 abbrev pub stop_text : Stop → List ℕ

@@ -8,7 +8,8 @@ pub struct Frame {
     /// Where it stands: the first one's is handed in, that of each other is where it goes on behind a call.
     pub address: u64,
     /// Its caller, none exactly where no FDE covers the address that is looked up. That is the first frame's own, and the address
-    /// before that of each other, since a call may be the last instruction that an FDE covers.
+    /// before that of each other, since a call may be the last instruction that an FDE covers. There is none before 0, and no FDE
+    /// covers it.
     pub caller: Option<Caller>,
 }
 

@@ -14,6 +14,7 @@ ghost use Rattle.dw_rows.specs.Section as rows;
 ghost use Rattle.dw_rows.specs.Abi.{Abi};
 ghost use Rattle.dw_check.specs.Caller.{Caller, IsCaller, Unwinds};
 ghost use Rattle.dw_check.specs.declared.frames.Stop.{Stop};
+ghost use Rattle.dw_check.specs.declared.unwinding.TheConstants.{MAX_FOUND};
 ghost use Rattle.dw_check.specs.Walks.{Surroundings, Place, WalkedFrame, Walks};
 ghost use Rattle.dw_check.specs.LongFiles.{needed_parts};
 ghost use Rattle.dw_check.specs.Requests.{Asked};
@@ -55,8 +56,9 @@ pub fn sections_without_fault_are_well_formed()
 }
 
 /// What holds of two sections without a fault, which are those that `check` accepts. What is read of them is what their bytes
-/// encode. Each address that an FDE covers has exactly one row, the standard's, and any other address has none. Each expression of a rule and each of a list, for all
-/// registers and memory, ends within its number of operations, is never stuck, stays within its depth, and comes to one outcome.
+/// encode. Each address that an FDE covers has exactly one row, the standard's, and any other address has none. Each expression of a
+/// rule and each of a list, for all registers and memory, ends within its number of operations, is never stuck, stays within its
+/// depth, and comes to one outcome.
 pub fn accepted_sections_are_sound()
     ensures { (target : Target) (frame lists : List ℕ) → check_fault target frame lists ≡ None
         → AreSound target frame lists }
@@ -138,3 +140,8 @@ pub fn each_has_a_report()
     dw_rows::laws::checked_sections();
     dw_stack::laws::each_has_a_depth();
 }
+
+/// At most so many registers of a caller are named.
+pub fn limits()
+    ensures { MAX_FOUND ≡ 256 }
+{}

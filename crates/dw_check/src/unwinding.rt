@@ -19,7 +19,7 @@ use dw_rows::{Abi, CheckedFrame, MAX_RULES, UnwindTableRow};
 pub enum Answer {
     /// It is this number, below 2^w, w being the size of an address in bits.
     Value(u64),
-    /// It can't be had: no instruction has given the register a rule, or the rule says so.
+    /// It can't be had: no instruction has given the register a rule and the ABI doesn't name it, or the rule says so.
     Undefined,
     /// It takes a register or memory that isn't handed in, or a read goes past the greatest address.
     Unreadable,

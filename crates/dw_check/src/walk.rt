@@ -1,6 +1,6 @@
 //! A walk up the stack: frames, one the caller of the other.
 
-ghost use Rattle.std.specs.Prelude.{◌≡◌, ◌<◌, ◌^◌, All, IfErr, IfOk, IfSome, MatchResult, Some, map};
+ghost use Rattle.std.specs.Prelude.{◌≡◌, ◌<◌, ◌^◌, All, IfErr, IfOk, IsOk, IfSome, MatchResult, Some, map};
 ghost use Rattle.dw_bytes.specs.Answers.{memory as want_of_memory};
 ghost use Rattle.dw_eval.specs.Numbers.{width_of};
 ghost use Rattle.dw_check.specs.CallerFits.{CallerFits, FrameFits};
@@ -21,8 +21,8 @@ const OUT_OF_MEMORY: Fault = Fault {
     at: 0,
 };
 
-/// The registers of a frame, as far as the one that it called says: those of a caller that are values. There are few, so that going
-/// through them costs less than halving.
+/// The registers of a frame, as far as the one that it called says: those of a caller that are values. A row and an ABI name some ten,
+/// so that going through them costs less than halving; they can't name more than 256.
 #[derive(Drop)]
 struct CallerRegisters<'c> {
     found: &'c [(u16, Answer)],
@@ -88,8 +88,8 @@ fn next_frame<M: Memory>(
         (λ next. IsFrameBehind (surroundings_in checked.now.frame abi.now (M.bytes memory.now))
         (frame_in frame.now) (frame_in next))
         (λ stop. stop_of_caller (frame_in frame.now).caller ≡ Some stop) }
-    ensures fits { IfOk result (λ next.
-        IfSome (frame_in frame.now).caller (CallerFits (2 ^ width_of checked.now.frame.target.address_size))
+    ensures fits { IfOk result (λ next. IfSome (frame_in frame.now).caller
+        (CallerFits (2 ^ width_of checked.now.frame.target.address_size))
         → FrameFits (2 ^ width_of checked.now.frame.target.address_size) (frame_in next)) }
 {
     let Some(caller) = &frame.caller else {
@@ -108,8 +108,8 @@ fn next_frame<M: Memory>(
 /// caller and so on, at most `limit` frames, and why there are no more.
 ///
 /// The first frame is looked up at its address, each other at the address before its own. Behind the first frame a register has a
-/// content only where the answer for it was a value. Each frame costs what `unwind_with` costs. Only memory can lack: the fault is
-/// `Memory`, at 0.
+/// content only where the answer for it was a value. Each frame costs what `unwind_with` costs, and takes some 6 KB, since a caller has
+/// room for all registers that a row and an ABI can name. Only memory can lack: the fault is `Memory`, at 0.
 pub fn backtrace<R: Registers, M: Memory>(
     alloc: Global,
     checked: &Checked<'_>,
@@ -124,6 +124,7 @@ pub fn backtrace<R: Registers, M: Memory>(
         (first_place address (R.contents registers.now)) limit
         (frames_in walk.frames.items) walk.stop) }
     ensures lacks { IfErr result (λ fault. fault ≡ want_of_memory) }
+    ensures none { limit ≡ 0 → IsOk result }
 
     // All numbers are below 2^w, w being the size of an address in bits, where the first frame's address is.
     ensures fits { IfOk result (λ walk.

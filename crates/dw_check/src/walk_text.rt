@@ -3,7 +3,7 @@
 ghost use Rattle.std.specs.Prelude.{◌≡◌, ◌++◌, false, OnOk, option_copied, option_map};
 ghost use Rattle.std.specs.String.{string_bytes};
 ghost use Rattle.dw_check.specs.CallerViews.{caller_in};
-ghost use Rattle.dw_check.specs.WalkText.{cfa_text, walked_line, stop_text, last_line, frames_text, walk_text};
+ghost use Rattle.dw_check.specs.WalkText.{caller_cfa_text, walked_line, stop_text, last_line, frames_text, walk_text};
 ghost use Rattle.dw_check.specs.WalkViews.{frame_in, frames_in};
 ghost use Rattle.dw_check.specs.WriteResults.{IsSame, Writes, is_write};
 
@@ -20,7 +20,7 @@ use std::alloc::AllocError;
 /// The CFA of a caller, or that there is no caller.
 fn push_cfa(line: &mut String, size: AddressSize, caller: Option<&Caller>) -> Result<(), AllocError>
     ensures { OnOk result (string_bytes line.new ≡ string_bytes line.old
-        ++ cfa_text size (option_map caller_in (option_copied caller.entry))) }
+        ++ caller_cfa_text size (option_map caller_in (option_copied caller.entry))) }
 {
     match caller {
         Some(caller) => {

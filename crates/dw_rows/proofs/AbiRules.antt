@@ -1,6 +1,8 @@
 -- The rules of an ABI, register after register.
 use Rattle.std.proofs.Common.{◌≡◌, ◌≢◌, ℕ, zero, suc, ◌+◌, ◌<◌, ◌≤◌, Bool, true, false, cond, List, [], ◌∷◌, ◌++◌, length, Option, None, Some, refl, sym, ap, ◌∙◌}
-use Rattle.std.proofs.Common.{arith, eqb, ◌||◌, take, drop, get_or, inl, inr, subst}
+use Rattle.std.proofs.Common.{arith, eqb, ltb, ◌||◌, take, drop, get_or, inl, inr, subst, length-append}
+use Rattle.std.specs.Prelude.{option_map}
+use Rattle.dw_bytes.specs.declared.fault.Fault.{Fault}
 use Rattle.std.proofs.Math.Path.{fun_ext}
 use Rattle.std.proofs.lemmas.Bool.{le-ltb, cases_lt}
 use Rattle.std.proofs.lemmas.List.{drop_more, take_more, length-take-le, take_all, drop_all}
@@ -8,7 +10,7 @@ use Rattle.std.proofs.lemmas.Bool.Decides.{nat_tests}
 use Rattle.std.specs.Prelude.{pos}
 use Rattle.std.specs.Option.{option_to_list}
 use Rattle.dw_rows.specs.Rules.{PlacedRule, default, same_value, val_offset, rule_in, IsTable, rule_list, changed_at}
-use Rattle.dw_bytes.specs.declared.fault.FaultKind.TheVariants.{AbiTwice}
+use Rattle.dw_bytes.specs.declared.fault.FaultKind.TheVariants.{AbiTooLarge, AbiTwice}
 use Rattle.dw_rows.specs.declared.abi.TheConstants.{MAX_KEPT}
 use Rattle.dw_rows.specs.Abi.{kept, unnamed, stack_pointer, is_among, abi_of, rule_of_role, abi_fault, place_of_second}
 use Rattle.dw_rows.specs.AbiViews.{role_of_rule, roles_of, AreRoles}
@@ -268,3 +270,50 @@ made-with registers pointer place rules new n few k ge le is fits none made =
           ∙ second-later registers n [] (named-none registers rules n all.0 fits none)),
       made ∙ points-more registers rules n all.0 ∙ ap (λ (o : Option ℕ). rule_list (abi_rule registers o)) (sym is),
     )
+
+-- ---- a second stands among what is named
+
+second-inside : (before rest : List ℕ) (at : ℕ) → place_of_second before rest ≡ Some at → at < length before + length rest
+second-inside before [] at is = absurd (cc)
+second-inside before (n ∷ rest) at is = go (is_among n before) is (λ h. second-inside (before ++ n ∷ []) rest at h)
+  where
+    go : (among : Bool) → cond among (Some (length before)) (place_of_second (before ++ n ∷ []) rest) ≡ Some at
+        → (place_of_second (before ++ n ∷ []) rest ≡ Some at → at < length (before ++ n ∷ []) + length rest)
+        → at < length before + length (n ∷ rest)
+    go true h later = let same : length before ≡ at = cc in omega (arith, same)
+    go false h later = omega (arith, later h, length-append before (n ∷ []))
+
+few-named : (pointer : Option ℕ) → length (option_to_list pointer) ≤ 1
+few-named None = omega arith
+few-named (Some n) = omega arith
+
+abbrev twice : ℕ → Fault
+twice at = record { kind = AbiTwice; at = at }
+
+-- each fault stands at a number, or behind all that are kept
+pub abi-stands : (registers : List ℕ) (pointer : Option ℕ) (fault : Fault) → abi_fault registers pointer ≡ Some fault
+    → fault.at ≤ length registers
+abi-stands registers pointer fault is = go (ltb MAX_KEPT (length registers)) refl is
+  where
+    found : (o : Option ℕ) → place_of_second [] (registers ++ option_to_list pointer) ≡ o → option_map twice o ≡ Some fault
+        → fault.at ≤ length registers
+    found None e h = absurd (cc)
+    found (Some at) e h =
+        let same : twice at ≡ fault = cc in
+        let here : at ≡ fault.at = ap (λ (f : Fault). f.at) same in
+        omega (
+          arith,
+          here,
+          second-inside [] (registers ++ option_to_list pointer) at e,
+          length-append registers (option_to_list pointer),
+          few-named pointer,
+        )
+
+    go : (large : Bool) → ltb MAX_KEPT (length registers) ≡ large
+        → cond large (Some (record { kind = AbiTooLarge; at = MAX_KEPT })) (option_map twice (place_of_second [] (registers ++ option_to_list pointer)))
+        ≡ Some fault → fault.at ≤ length registers
+    go true e h =
+        let same : ◌≡◌ {A = Fault} (record { kind = AbiTooLarge; at = MAX_KEPT }) fault = cc in
+        let here : MAX_KEPT ≡ fault.at = ap (λ (f : Fault). f.at) same in
+        let many : MAX_KEPT < length registers = grind (arith, nat_tests, e) in omega (arith, here, many)
+    go false e h = found (place_of_second [] (registers ++ option_to_list pointer)) refl h

@@ -14,7 +14,8 @@ abbrev pub rules_of_either : {E : Type 0} → List (ℕ × RuleOver E) → List 
 rules_of_either rules others = rule_list (rule_of_either rules others)
 
 -- It is the first of the rules of either, and those of what is left come behind it. What they name is lent as before.
-pub record IsLowest (entries others : List (ℕ × PlacedRule)) (entry : ℕ × PlacedRule) (left left_others : List (ℕ × PlacedRule)) : Type 0 where
+pub record IsLowest (entries others : List (ℕ × PlacedRule)) (entry : ℕ × PlacedRule)
+    (left left_others : List (ℕ × PlacedRule)) : Type 0 where
   pub first : rules_of_either entries others ≡ entry ∷ rules_of_either left left_others
   pub table : IsTable 0 left
   pub other_table : IsTable 0 left_others

@@ -15,7 +15,8 @@ use std::marker::Model;
 /// At most this many registers are kept by calls. With the stack pointer they fit a table of rules.
 pub const MAX_KEPT: usize = MAX_RULES - 1;
 
-/// What an ABI says of registers that no instruction has given a rule: which ones calls keep, and which one is the stack pointer.
+/// What an ABI says of registers that no instruction has given a rule: which ones calls keep (they are callee-saved), and which one is
+/// the stack pointer.
 /// DWARF 5, section 6.4.1, leaves that to the ABI.
 #[derive(Debug, Drop)]
 pub struct Abi {
@@ -34,7 +35,7 @@ impl Model for Abi {
     ghost invariant = { λ abi. AreRoles abi.rules };
 }
 
-/// Gives a register its rule, unless it has one.
+/// Gives a register its rule, unless it has one: then it answers `false`.
 fn add(rules: &mut RegisterRuleMap, number: u16, rule: KeptRule) -> bool
     requires table { IsTable 0 rules.old }
     requires room { length rules.old < MAX_RULES }
@@ -102,7 +103,8 @@ impl Abi {
 
     /// The entries of its rules, by ascending registers.
     pub(crate) fn as_slice(&self) -> &[RuleEntry]
-        ensures rules { (r : ℕ) → rule_in (entries_of result.now) r ≡ rule_of_role (roles_of self.now r) }
+        ensures rules { (r : ℕ) → rule_in (entries_of result.now) r
+            ≡ rule_of_role (roles_of self.now r) }
         ensures table { IsTable 0 (entries_of result.now) }
         ensures few { length result.now ≤ MAX_RULES }
     {

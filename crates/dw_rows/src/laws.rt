@@ -4,7 +4,7 @@
 ghost use Rattle.std.specs.Prelude.{◌≡◌, ◌⊎◌, false, ℕ, ◌+◌, ◌<◌, ◌≤◌, ◌↔◌, List, length, Option, Some, None, slice_get, filter, [], ◌∷◌};
 ghost use Rattle.std.specs.Prelude.{Err, All, Contains};
 ghost use Rattle.dw_frame.specs.Records.{Cie, Fde};
-ghost use Rattle.dw_rows.specs.Abi.{Abi, no_abi, rule_under, rules_under};
+ghost use Rattle.dw_rows.specs.Abi.{Abi, abi_fault, no_abi, rule_under, rules_under};
 ghost use Rattle.dw_rows.specs.Rules.{Rule, PlacedRule, PlacedCfa, PlacedRow, Row, IsTable, rule_in, rule_list};
 ghost use Rattle.dw_bytes.specs.declared.fault.FaultKind.{FaultKind};
 ghost use Rattle.dw_frame.specs.Instructions.{Instruction};
@@ -86,11 +86,14 @@ pub fn rule_lists_are_rules()
     ensures table { (rules : ℕ → PlacedRule) → IsTable 0 (rule_list rules) }
 {}
 
-/// Under an ABI each register that is listed has its rule, by the row or else by the ABI. Under one that says nothing a row has its
-/// own rules.
+/// The rules under an ABI are by ascending registers, and are those that the row or else the ABI gives: each that is listed, and each
+/// register's. Under an ABI that says nothing a row has its own rules.
 pub fn rules_under_abis()
     ensures each { (abi : Abi) (rules : List (ℕ × Rule))
         → All (λ entry. entry.1 ≡ rule_under abi rules entry.0) (rules_under abi rules) }
+    ensures all { (abi : Abi) (rules : List (ℕ × Rule)) (r : ℕ) → r < 65536
+        → rule_in (rules_under abi rules) r ≡ rule_under abi rules r }
+    ensures table { (abi : Abi) (rules : List (ℕ × Rule)) → IsTable 0 (rules_under abi rules) }
     ensures none { (rules : List (ℕ × Rule)) → IsTable 0 rules → rules_under no_abi rules ≡ rules }
 {}
 
@@ -152,7 +155,7 @@ pub fn limits()
     ensures remembered { MAX_REMEMBERED ≡ 16 }
 {}
 
-/// Each fault of a program stands in it or at its end, and each of a section likewise.
+/// Each fault of a program stands in it or at its end, and each of a section or of an ABI's numbers likewise.
 pub fn faults_stand_inside()
     ensures cie { (cie : Cie) (fault : Fault) → cie_fault cie ≡ Some fault
         → StandsIn cie.program (Err fault) }
@@ -160,4 +163,6 @@ pub fn faults_stand_inside()
         → StandsIn fde.program (Err fault) }
     ensures section { (target : Target) (section : List ℕ) (fault : Fault)
         → section_fault target section ≡ Some fault → fault.at ≤ length section }
+    ensures abi { (kept : List ℕ) (pointer : Option ℕ) (fault : Fault)
+        → abi_fault kept pointer ≡ Some fault → fault.at ≤ length kept }
 {}

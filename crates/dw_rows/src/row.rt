@@ -262,7 +262,9 @@ impl<'f, 'a> UnwindTableRow<'f, 'a> {
     /// most twice `MAX_RULES`.
     pub fn rules_with<'r>(&'r self, abi: &'r Abi) -> RegisterRules<'r, 'a>
         ensures rules { result ≡ rules_under (roles_of abi.now) self.now.rules }
-        ensures few { length (rules_under (roles_of abi.now) self.now.rules) ≤ MAX_RULES + MAX_RULES }
+        ensures ascending { IsTable 0 (rules_under (roles_of abi.now) self.now.rules) }
+        ensures few { length (rules_under (roles_of abi.now) self.now.rules)
+            ≤ MAX_RULES + MAX_RULES }
         ensures kinds { All IsEntryOfKind (rules_under (roles_of abi.now) self.now.rules) }
     {
         RegisterRules {
@@ -296,7 +298,8 @@ impl<'f, 'a> Model for RegisterRules<'f, 'a> {
     ghost view = { λ r. rules_with (lent_by r.expressions)
         (rules_of_either (entries_of r.entries.now) (entries_of r.others.now)) };
 
-    ghost invariant = { λ r. IsTable 0 (entries_of r.entries.now) × IsTable 0 (entries_of r.others.now)
+    ghost invariant = { λ r. IsTable 0 (entries_of r.entries.now)
+        × IsTable 0 (entries_of r.others.now)
         × LendsEach (lent_by r.expressions) (entries_of r.entries.now)
         × LendsEach (lent_by r.expressions) (entries_of r.others.now) };
 }

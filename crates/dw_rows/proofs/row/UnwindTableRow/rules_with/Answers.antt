@@ -10,6 +10,7 @@ use Rattle.dw_rows.specs.Views.{entries_of}
 use Rattle.dw_rows.proofs.Edits.{length-entries_of}
 use Rattle.dw_rows.proofs.GivenRows.{kinds-with, length-with}
 use Rattle.dw_rows.proofs.Under.{either-with, lends-either, few-of-either, roles-lend}
+use Rattle.dw_rows.proofs.Tables.{IsTable-rule_list}
 use Rattle.dw_rows.proofs.row.UnwindTableRow.rules_with.Goals as goal
 
 pub returns-clause-rules : goal.returns-clause-rules
@@ -19,6 +20,9 @@ returns-clause-rules c =
     ap (λ (l : List (ℕ × PlacedRule)). rules_with es (rules_of_either l others)) c.as_slice.ensures.entries
     ∙ either-with es c.self.inside.rules others (roles_of c.args.abi.now) c.as_slice-2.ensures.rules
     ∙ ap (λ (row : Row). rules_under (roles_of c.args.abi.now) row.rules) c.self.view_is
+
+pub returns-clause-ascending : goal.returns-clause-ascending
+returns-clause-ascending c = IsTable-rule_list _
 
 pub returns-clause-few : goal.returns-clause-few
 returns-clause-few c =
