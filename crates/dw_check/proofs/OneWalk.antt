@@ -1,7 +1,9 @@
--- There is one walk from a place with a limit, by what is said of callers.
-use Rattle.std.proofs.Common.{◌≡◌, ℕ, zero, suc, ◌≤◌, ◌==◌, List, [], ◌∷◌, length, Option, None, Some, false, inl, inr}
-use Rattle.std.proofs.Common.{refl, sym, ap, subst, ◌∙◌, arith}
+-- There is one walk from a place with a limit, by what is said of callers, and a longer one begins with it.
+use Rattle.std.proofs.Common.{◌≡◌, ℕ, zero, suc, ◌≤◌, ◌==◌, List, [], ◌∷◌, length, Option, None, Some, true, false, inl, inr}
+use Rattle.std.proofs.Common.{refl, sym, ap, subst, ◌∙◌, arith, take}
+use Rattle.std.proofs.lemmas.Bool.{cases_lt}
 use Rattle.std.proofs.lemmas.Bool.Decides.{nat_tests}
+use Rattle.std.proofs.lemmas.List.{take_all, length-take-le}
 use Rattle.std.specs.Prelude.{◌⊎◌, if◌then◌else◌, option_map}
 use Rattle.dw_check.specs.Caller.{Answer, value, undefined, unreadable, division_by_zero, Caller, Unwinds, machine}
 use Rattle.dw_check.specs.declared.frames.Stop.{Stop}
@@ -172,3 +174,38 @@ module _ (s : Surroundings)
       let rest = some_behind n f.0.caller in
       let stop = ends_behind n f.0 rest.0 rest.2 rest.3 in
       (f.0 ∷ rest.0, stop.0, record { are = (f.1, rest.1); few = omega (arith, rest.2); ends = stop.1 })
+
+-- ---- a walk, cut short
+
+cut_frames : (s : Surroundings) (p : Option Place) (n : ℕ) (frames : List WalkedFrame) → AreFrames s p frames → AreFrames s p (take n frames)
+cut_frames s p zero frames h = tt
+cut_frames s p (suc n) [] h = tt
+cut_frames s None (suc n) (f ∷ frames) h = absurd h
+cut_frames s (Some p) (suc n) (f ∷ frames) h = (h.0, cut_frames s (next_place f.caller) n frames h.1)
+
+pub cut_walk : (s : Surroundings) (first : Place) (m n : ℕ) (frames : List WalkedFrame) (stop : Stop) → Walks s first n frames stop → m ≤ n
+    → (cut : Stop) × Walks s first m (take m frames) cut
+cut_walk s first m n frames stop walks le = elim (cases_lt (length frames) m) [
+  | inl short ↦
+      let all : take m frames ≡ frames = take_all m frames (omega (arith, short)) in
+      let other : (length frames == n) ≡ false = grind (arith, nat_tests, short, le) in
+      let ends : stop_behind frames ≡ Some stop = rw other at walks.ends in
+      let below : (length frames == m) ≡ false = grind (arith, nat_tests, short) in (
+        stop,
+        record {
+          are = cut_frames s (Some first) m frames walks.are;
+          few = omega (arith, ap length all, short);
+          ends = ap (λ l. if length l == m then Some Limit else stop_behind l) all ∙ rw below ends;
+        },
+      )
+  | inr long ↦
+      let count : length (take m frames) ≡ m = length-take-le m frames long in
+      let same : (length (take m frames) == m) ≡ true = grind (arith, nat_tests, count) in (
+        Limit,
+        record {
+          are = cut_frames s (Some first) m frames walks.are;
+          few = omega (arith, count);
+          ends = rw same refl;
+        },
+      )
+]

@@ -1,6 +1,6 @@
 //! Laws of checks and of requests: functions that do nothing, each with the law as its contract.
 
-ghost use Rattle.std.specs.Prelude.{◌≡◌, ◌↔◌, ℕ, List, Option, None, Contains};
+ghost use Rattle.std.specs.Prelude.{◌≡◌, ◌↔◌, ℕ, List, Option, None, Contains, ◌≤◌, take};
 ghost use Rattle.dw_bytes.specs.declared.target.Target.{Target};
 ghost use Rattle.dw_check.specs.Checked.{AreWellFormed, check_fault};
 ghost use Rattle.dw_check.specs.Headline.{AreSound};
@@ -121,6 +121,15 @@ pub fn each_has_a_walk()
         → (xs : List WalkedFrame) × (stop : Stop) × Walks s first limit xs stop }
 {
     each_address_has_an_unwinding();
+}
+
+/// A walk with a smaller limit is the beginning of the one with a greater.
+pub fn longer_walks_begin_so()
+    ensures { (s : Surroundings) (first : Place) (m n : ℕ) (xs ys : List WalkedFrame)
+        (a b : Stop) → rows.IsChecked s.frame → Walks s first m xs a
+        → Walks s first n ys b → m ≤ n → xs ≡ take m ys }
+{
+    one_walk();
 }
 
 /// There is one report on two sections.
