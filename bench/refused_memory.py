@@ -36,11 +36,13 @@ FILES = {
     "sum": "32 33 22",
     "pieces": "50 9304 9304",
     "state": "reg 6 0x7f00\nmem 0x7f00 0080000000000000\nmem 0x7f08 3412000000000000\n",
+    "round": "keep 6\nreg 6 0x7f00\nmem 0x7f00 007f000000000000\nmem 0x7f08 1010000000000000\n",
 }
 RUNS = [
     "rows --hex frame", "rows --hex expressions", "rows --hex bad", "row --hex frame 0x1010", "check --hex frame lists",
     "check --hex expressions lists", "check --hex bad lists", "locs --hex lists 0xc 0x1000 0x1005", "eval --hex location sum",
-    "eval --hex location pieces --state state", "unwind --hex frame 0x1010 state", "rows frame", "check frame lists", "eval foo sum", "rows",
+    "eval --hex location pieces --state state", "unwind --hex frame 0x1010 state",
+    "backtrace --hex frame 0x1010 round 20", "rows frame", "check frame lists", "eval foo sum", "rows",
 ]
 WANT = "dwcheck: out of memory\n"
 

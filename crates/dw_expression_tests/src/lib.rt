@@ -14,4 +14,6 @@ mod given_states;
 #[cfg(test)]
 mod hostile_expressions;
 #[cfg(test)]
+mod walks;
+#[cfg(test)]
 mod whole;

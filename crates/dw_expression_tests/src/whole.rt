@@ -7,7 +7,7 @@ use std::alloc::Global;
 use std::test::Fail;
 
 /// A CIE, and an FDE of 0x1000 to 0x1020: the first of the worked examples.
-const FUNCTION: [u8; 56] = [
+pub(crate) const FUNCTION: [u8; 56] = [
     0x14, 0, 0, 0, 0xff, 0xff, 0xff, 0xff, 4, 0, 8, 0, 1, 0x78, 0x10, 0x0c, 7, 8, 0x90, 1, 0, 0, 0,
     0, 0x1c, 0, 0, 0, 0, 0, 0, 0, 0, 0x10, 0, 0, 0, 0, 0, 0, 0x20, 0, 0, 0, 0, 0, 0, 0, 0x41, 0x0e,
     0x10, 0x86, 2, 0x43, 0x0d, 6,

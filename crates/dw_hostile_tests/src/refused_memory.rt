@@ -4,16 +4,16 @@
 
 ghost use Rattle.std.specs.Prelude.{◌≡◌, ◌≤◌, length};
 
-use crate::sections::{EXPRESSIONS, FUNCTION, LITTLE, PAIR_AND_DEFAULT, Unknown};
+use crate::sections::{EXPRESSIONS, FUNCTION, LITTLE, PAIR_AND_DEFAULT, ROUND, Unknown};
 use dw_bytes::{Fault, FaultKind};
 use dw_check::{
-    Checked, End, LoadFault, Reading, Reads, ReportFault, Source, Through, Usage, check, load,
-    report, request, run, unwind,
+    Checked, End, LoadFault, Reading, Reads, ReportFault, Source, Stop, Through, Usage, backtrace,
+    check, load, report, request, run, unwind,
 };
 use dw_eval::{Context, evaluate};
 use dw_loclists::CheckedLists;
 use dw_ops::{Expression, operations};
-use dw_rows::CheckedFrame;
+use dw_rows::{Abi, CheckedFrame};
 use dw_stack::{Kind, Mode, State, certify, recheck};
 use std::alloc::{AllocError, Global};
 use std::io;
@@ -107,6 +107,7 @@ enum Call {
     Run,
     RunOfRefused,
     Load,
+    Backtrace,
     LookUps,
 }
 
@@ -134,6 +135,7 @@ impl Call {
                 runs(rt, alloc, "f0ffffff", End::Refused, line)
             }
             Call::Load => Ok(loads(rt, alloc)),
+            Call::Backtrace => Ok(walks(rt, alloc)),
             Call::LookUps => looks_up(rt, alloc),
         }
     }
@@ -336,6 +338,25 @@ fn loads(rt: &impl Abort, alloc: Global) -> bool {
     }
 }
 
+/// A walk of forty frames, so that the list of them grows again and again.
+fn walks(rt: &impl Abort, alloc: Global) -> bool {
+    let Ok(checked) = check(alloc, &ROUND, &[], LITTLE) else {
+        return false;
+    };
+    match backtrace(alloc, &checked, &Abi::none(), 3, &Unknown, &Unknown, 40) {
+        Ok(walk) => {
+            assert_eq!(rt; walk.frames.len(), 40);
+            assert_eq!(rt; walk.frames[39].address, 7);
+            assert_eq!(rt; walk.stop, Stop::Limit);
+            true
+        }
+        Err(fault) => {
+            assert_eq!(rt; fault, MEMORY);
+            false
+        }
+    }
+}
+
 /// Each expression of a frame section is evaluated.
 fn evaluates(rt: &impl Abort, frame: &CheckedFrame<'_>) {
     let context = Context {
@@ -442,6 +463,11 @@ fn run_of_refused_lacks_memory(rt: HostRuntime) -> Result<(), Fail> {
 #[test]
 fn load_lacks_memory(rt: HostRuntime) -> Result<(), Fail> {
     is_made(&rt, Call::Load)
+}
+
+#[test]
+fn backtrace_lacks_memory(rt: HostRuntime) -> Result<(), Fail> {
+    is_made(&rt, Call::Backtrace)
 }
 
 /// These ask for as many requests as the check of the same sections alone.

@@ -24,6 +24,13 @@ pub(crate) const EXPRESSIONS: [u8; 56] = [
     0x23, 8, 0x16, 7, 0,
 ];
 
+/// The CIE, and an FDE of 0 to 0x20 whose caller goes on at 7, whatever is known: a walk without end.
+pub(crate) const ROUND: [u8; 56] = [
+    0x14, 0, 0, 0, 0xff, 0xff, 0xff, 0xff, 4, 0, 8, 0, 1, 0x78, 0x10, 0x0c, 7, 8, 0x90, 1, 0, 0, 0,
+    0, 0x1c, 0, 0, 0, 0, 0, 0, 0, 0, 0, 0, 0, 0, 0, 0, 0, 0x20, 0, 0, 0, 0, 0, 0, 0, 0x0f, 1, 0x3f,
+    0x14, 0x10, 1, 0, 0,
+];
+
 /// A list at 0xc: 0 to 0x10 behind the base in register 0, and else the value 0.
 pub(crate) const PAIR_AND_DEFAULT: [u8; 22] = [
     0x12, 0, 0, 0, 5, 0, 8, 0, 0, 0, 0, 0, 4, 0, 0x10, 1, 0x50, 5, 2, 0x30, 0x9f, 0,

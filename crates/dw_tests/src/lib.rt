@@ -3,6 +3,8 @@
 #![tactic(auto)]
 
 #[cfg(test)]
+mod abi;
+#[cfg(test)]
 mod bytes;
 pub mod examples;
 #[cfg(test)]

@@ -8,13 +8,13 @@ use dw_rows::{
 use std::alloc::Global;
 use std::test::Fail;
 
-const LITTLE: Target = Target {
+pub(crate) const LITTLE: Target = Target {
     order: Order::Little,
     address_size: AddressSize::Eight,
 };
 
 /// A CIE and the header of an FDE, and a program of eight bytes: the first of the worked examples.
-const FUNCTION: [u8; 56] = [
+pub(crate) const FUNCTION: [u8; 56] = [
     0x14, 0, 0, 0, 0xff, 0xff, 0xff, 0xff, 4, 0, 8, 0, 1, 0x78, 0x10, 0x0c, 7, 8, 0x90, 1, 0, 0, 0,
     0, 0x1c, 0, 0, 0, 0, 0, 0, 0, 0, 0x10, 0, 0, 0, 0, 0, 0, 0x20, 0, 0, 0, 0, 0, 0, 0, 0x41, 0x0e,
     0x10, 0x86, 2, 0x43, 0x0d, 6,

@@ -9,6 +9,7 @@ use std::test::Fail;
 
 /// The text of register 6, and that of its content.
 const REGISTER: &str = "56";
+
 const CONTENT: &str = "7600";
 
 /// How `eval`, `locs` and `unwind` end with a state file, as they judge it alike.
@@ -91,7 +92,10 @@ fn most_are_kept(rt: HostRuntime) -> Result<(), Fail> {
     let most = kept(alloc, 127)?;
     assert_eq!(rt; end_with(alloc, most.as_str())?, Some(End::Done));
     let one_more = kept(alloc, 128)?;
-    assert_eq!(rt; end_with(alloc, one_more.as_str())?, Some(End::StateLine(128)));
+    assert_eq!(rt;
+        end_with(alloc, one_more.as_str())?,
+        Some(End::StateLine(128))
+    );
     for (lines, end) in [
         ("keep 126\nsp 127\nsp 0\nkeep 0\n", End::Done),
         ("\nkeep 0\nkeep 500\n", End::StateLine(130)),

@@ -29,13 +29,13 @@ pub(crate) fn unwound(
 }
 
 /// The program of the first row, with its section's name.
-const PUSHES: &str = "41 0e10 8602 43 0d06";
+pub(crate) const PUSHES: &str = "41 0e10 8602 43 0d06";
 
 /// One with expressions of two registers' rules, the last of them empty.
 const EXPRESSIONS: &str = "10 06 02 2308 16 07 00";
 
 /// Programs, addresses, state files and callers.
-const FOUND: [(&str, &str, &str, &str); 6] = [
+const FOUND: [(&str, &str, &str, &str); 8] = [
     (
         PUSHES,
         "0x1010",
@@ -75,6 +75,27 @@ return unreadable
         "cfa value 0x0000000000007f08
 r6 value 0x0000000000000005
 r7 value 0x0000000000007f08
+r16 value 0x0000000000001234
+return value 0x0000000000001234
+",
+    ),
+    // What an ABI says of registers without a rule, and the same frame under none.
+    (
+        PUSHES,
+        "0x1000",
+        "keep 6\nsp 7\nreg 6 0x5\nreg 7 0x7f08\nmem 0x7f08 3412000000000000",
+        "cfa value 0x0000000000007f10
+r6 value 0x0000000000000005
+r7 value 0x0000000000007f10
+r16 value 0x0000000000001234
+return value 0x0000000000001234
+",
+    ),
+    (
+        PUSHES,
+        "0x1000",
+        "reg 6 0x5\nreg 7 0x7f08\nmem 0x7f08 3412000000000000",
+        "cfa value 0x0000000000007f10
 r16 value 0x0000000000001234
 return value 0x0000000000001234
 ",

@@ -2,6 +2,7 @@
 
 use crate::lists_text::PAIR_AND_DEFAULT;
 use crate::sections::{FDE, ROWS, asked, first_row_digits, joined};
+use crate::walks::{FRAMES, LAST_WORD, STATE};
 use crate::words_and_sinks::run_little;
 use dw_check::{End, LoadFault, Reading, Reads, Source, load};
 use std::alloc::Global;
@@ -105,6 +106,16 @@ r16 value 0x0000000000001234
 return value 0x0000000000001234
 ";
     fails_at_each_write(&rt, &words, &files, text)
+}
+
+#[test]
+fn failing_writes_of_walks(rt: HostRuntime) -> Result<(), Fail> {
+    let words = ["dwcheck", "backtrace", "--hex", "f", "0x1010", "s", "3"];
+    let mut files = vec![in rt.alloc(); first_row_digits(rt.alloc())?]?;
+    let state = joined(rt.alloc(), &[STATE, LAST_WORD])?;
+    files.push(Vec::from_slice(rt.alloc(), state.as_bytes())?)?;
+    let text = joined(rt.alloc(), &[FRAMES, "stop limit\n"])?;
+    fails_at_each_write(&rt, &words, &files, text.as_str())
 }
 
 #[test]

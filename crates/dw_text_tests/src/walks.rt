@@ -1,7 +1,11 @@
 //! Walks up the stack through `request` and `run`.
 
-use crate::sections::asked;
-use dw_check::Usage;
+ghost use Rattle.std.specs.Prelude.{◌≡◌, length};
+
+use crate::callers::PUSHES;
+use crate::sections::{C1, H1, asked, joined};
+use dw_check::{End, Through, Usage, run};
+use std::alloc::Global;
 use std::test::Fail;
 
 /// The words before LIMIT, none of which clap takes for a flag, whatever LIMIT is.
@@ -72,5 +76,73 @@ fn words_of_backtrace(rt: HostRuntime) -> Result<(), Fail> {
     ] {
         assert!(rt; asked(rt.alloc(), words)?.is_ok());
     }
+    Ok(())
+}
+
+/// A state that leads from 0x1010 over 0x1020 to 0x2000, but for its last line, which says so.
+pub(crate) const STATE: &str = "\
+reg 6 0x7f00
+mem 0x7f00 407f000000000000
+mem 0x7f08 2010000000000000
+mem 0x7f40 0000000000000000
+";
+
+/// That line.
+pub(crate) const LAST_WORD: &str = "mem 0x7f48 0020000000000000\n";
+
+/// The lines of the frames that it leads to.
+pub(crate) const FRAMES: &str = "\
+frame 0 0x0000000000001010 cfa value 0x0000000000007f10
+frame 1 0x0000000000001020 cfa value 0x0000000000007f50
+frame 2 0x0000000000002000 none
+";
+
+/// How `backtrace` of the program of the first row ends at 0x1010, with the text of a state file, and what it writes.
+fn walked(alloc: Global, state: &str, limit: &str) -> Result<(End, Vec<u8>), Fail> {
+    let words = ["dwcheck", "backtrace", "--hex", "f", "0x1010", "s", limit];
+    let request = asked(alloc, &words)?.ok().ok_or("a request")?;
+    let section = joined(alloc, &[C1, H1, PUSHES])?;
+    let mut files = Vec::new(alloc);
+    for text in [section.as_str(), state] {
+        files.push(Vec::from_slice(alloc, text.as_bytes())?)?;
+    }
+    if files.len() != request.files().len() {
+        return Err("two files".into());
+    }
+    let mut sink = Through::new(Vec::new(alloc));
+    let end = run(alloc, &request, files.as_slice(), &mut sink);
+    Ok((end, sink.into_inner()))
+}
+
+/// What the walk writes with its whole state.
+#[test]
+fn texts_of_a_walk(rt: HostRuntime) -> Result<(), Fail> {
+    let state = joined(rt.alloc(), &[STATE, LAST_WORD])?;
+    for (limit, frames, stop) in [
+        ("9", FRAMES, "stop not covered\n"),
+        ("3", FRAMES, "stop limit\n"),
+        ("0", "", "stop limit\n"),
+    ] {
+        let (end, written) = walked(rt.alloc(), state.as_str(), limit)?;
+        assert_eq!(rt; end, End::Done);
+        let wanted = joined(rt.alloc(), &[frames, stop])?;
+        assert_eq!(rt; written.as_slice(), wanted.as_bytes());
+    }
+    Ok(())
+}
+
+/// What it writes without the word where frame 1 has saved its return address.
+#[test]
+fn text_of_a_walk_that_ends_early(rt: HostRuntime) -> Result<(), Fail> {
+    let (end, written) = walked(rt.alloc(), STATE, "9")?;
+    assert_eq!(rt; end, End::Done);
+    assert_eq!(rt;
+        written.as_slice(),
+        "frame 0 0x0000000000001010 cfa value 0x0000000000007f10
+frame 1 0x0000000000001020 cfa value 0x0000000000007f50
+stop return unreadable
+"
+            .as_bytes()
+    );
     Ok(())
 }

@@ -1,0 +1,288 @@
+//! Callers under an ABI, and walks up the stack, by what is checked.
+
+ghost use Rattle.std.specs.Prelude.{◌==◌, if◌then◌else◌, Some, None};
+
+use crate::evaluation::{Bytes, LITTLE, OneRegister};
+use crate::whole::FUNCTION;
+use dw_check::{Answer, Backtrace, FoundRegisters, Frame, Stop, backtrace, check, unwind_with};
+use dw_eval::Registers;
+use dw_rows::Abi;
+use std::alloc::Global;
+use std::process::Abort;
+use std::test::Fail;
+
+/// Registers 6 and 7, which are known.
+#[derive(Clone, Copy)]
+struct SixAndSeven {
+    six: u64,
+    seven: u64,
+}
+
+impl Registers for SixAndSeven {
+    ghost contents = { λ r n. if n == 6 then Some r.six else if n == 7 then Some r.seven else None };
+
+    fn register(&self, number: u16) -> Option<u64> {
+        match number {
+            6 => Some(self.six),
+            7 => Some(self.seven),
+            _ => None,
+        }
+    }
+}
+
+/// The function at 0 to 0x20, with another program.
+fn covering(program: [u8; 8]) -> [u8; 56] {
+    let mut section = FUNCTION;
+    section[33] = 0;
+    section[48] = program[0];
+    section[49] = program[1];
+    section[50] = program[2];
+    section[51] = program[3];
+    section[52] = program[4];
+    section[53] = program[5];
+    section[54] = program[6];
+    section[55] = program[7];
+    section
+}
+
+/// The CFA is 15, and the caller goes on at 7, whatever is known: a walk without end.
+const ROUND: [u8; 8] = [0x0f, 1, 0x3f, 0x14, 0x10, 1, 0, 0];
+
+/// The caller goes on at 0.
+const TO_ZERO: [u8; 8] = [0x0f, 1, 0x3f, 0x16, 0x10, 1, 0x30, 0];
+
+/// It isn't known where the caller goes on.
+const UNDEFINED: [u8; 8] = [0x07, 0x10, 0, 0, 0, 0, 0, 0];
+
+/// An expression that divides by zero says where the caller goes on.
+const DIVISION: [u8; 8] = [0x16, 0x10, 3, 0x31, 0x30, 0x1b, 0, 0];
+
+/// A stack that leads from 0x1010 to 0x1020, and from there to 0x2000, where its last word says so.
+const STACK: [u8; 80] = [
+    0x40, 0x7f, 0, 0, 0, 0, 0, 0, 0x20, 0x10, 0, 0, 0, 0, 0, 0, 0, 0, 0, 0, 0, 0, 0, 0, 0, 0, 0, 0,
+    0, 0, 0, 0, 0, 0, 0, 0, 0, 0, 0, 0, 0, 0, 0, 0, 0, 0, 0, 0, 0, 0, 0, 0, 0, 0, 0, 0, 0, 0, 0, 0,
+    0, 0, 0, 0, 0, 0, 0, 0, 0, 0, 0, 0, 0, 0x20, 0, 0, 0, 0, 0, 0,
+];
+
+/// A walk over a frame section from an address on.
+fn walked(
+    alloc: Global,
+    section: &[u8],
+    address: u64,
+    register: OneRegister,
+    memory: Bytes<'_>,
+    limit: u32,
+) -> Result<Backtrace, Fail> {
+    let checked = check(alloc, section, &[], LITTLE)
+        .ok()
+        .ok_or("a frame section")?;
+    let abi = Abi::none();
+    Ok(backtrace(alloc, &checked, &abi, address, &register, &memory, limit)?)
+}
+
+/// The CFA of a frame, if it has a caller.
+fn cfa_of(frame: &Frame) -> Option<Answer> {
+    let caller = frame.caller.as_ref()?;
+    Some(caller.cfa)
+}
+
+/// The walk has frames of these addresses, with these CFAs, and ends so.
+fn is_walk(rt: &impl Abort, walk: &Backtrace, frames: &[(u64, Option<Answer>)], stop: Stop) {
+    assert_eq!(rt; walk.frames.len(), frames.len());
+    for (frame, (address, cfa)) in walk.frames.iter().zip(frames) {
+        assert_eq!(rt; frame.address, *address);
+        assert_eq!(rt; cfa_of(frame), *cfa);
+    }
+    assert_eq!(rt; walk.stop, stop);
+}
+
+/// The walk of the worked example, with its whole stack or without the last word.
+fn worked(alloc: Global, is_whole: bool, limit: u32) -> Result<Backtrace, Fail> {
+    let register = OneRegister {
+        known: 6,
+        content: 0x7f00,
+    };
+    let bytes: &[u8] = if is_whole { &STACK } else { &STACK[..72] };
+    let memory = Bytes {
+        start: 0x7f00,
+        bytes,
+    };
+    walked(alloc, &FUNCTION, 0x1010, register, memory, limit)
+}
+
+#[test]
+fn walks_up_a_stack(rt: HostRuntime) -> Result<(), Fail> {
+    let frames = [
+        (0x1010, Some(Answer::Value(0x7f10))),
+        (0x1020, Some(Answer::Value(0x7f50))),
+        (0x2000, None),
+    ];
+    is_walk(
+        &rt,
+        &worked(rt.alloc(), true, 9)?,
+        &frames,
+        Stop::NotCovered,
+    );
+    is_walk(
+        &rt,
+        &worked(rt.alloc(), true, 4)?,
+        &frames,
+        Stop::NotCovered,
+    );
+    is_walk(&rt, &worked(rt.alloc(), true, 3)?, &frames, Stop::Limit);
+    is_walk(&rt, &worked(rt.alloc(), true, 0)?, &[], Stop::Limit);
+    Ok(())
+}
+
+#[test]
+fn walks_as_far_as_memory_is_known(rt: HostRuntime) -> Result<(), Fail> {
+    let frames = [
+        (0x1010, Some(Answer::Value(0x7f10))),
+        (0x1020, Some(Answer::Value(0x7f50))),
+    ];
+    is_walk(
+        &rt,
+        &worked(rt.alloc(), false, 9)?,
+        &frames,
+        Stop::ReturnUnreadable,
+    );
+    is_walk(
+        &rt,
+        &worked(rt.alloc(), false, 3)?,
+        &frames,
+        Stop::ReturnUnreadable,
+    );
+    is_walk(&rt, &worked(rt.alloc(), false, 2)?, &frames, Stop::Limit);
+    Ok(())
+}
+
+/// Behind the first frame register 6, which isn't saved where memory is known, has no content, though it is handed in.
+#[test]
+fn keeps_no_register_without_a_value(rt: HostRuntime) -> Result<(), Fail> {
+    let register = OneRegister {
+        known: 6,
+        content: 0x7f00,
+    };
+    let memory = Bytes {
+        start: 0x7f08,
+        bytes: &[0x20, 0x10, 0, 0, 0, 0, 0, 0],
+    };
+    let walk = walked(rt.alloc(), &FUNCTION, 0x1010, register, memory, 9)?;
+    let frames = [
+        (0x1010, Some(Answer::Value(0x7f10))),
+        (0x1020, Some(Answer::Unreadable)),
+    ];
+    is_walk(&rt, &walk, &frames, Stop::ReturnUnreadable);
+    Ok(())
+}
+
+/// A walk over the function at 0 with this program, from 3 on, where register 7 alone is known.
+fn from_three(alloc: Global, program: [u8; 8], limit: u32) -> Result<Backtrace, Fail> {
+    let register = OneRegister {
+        known: 7,
+        content: 0x10,
+    };
+    let memory = Bytes {
+        start: 0,
+        bytes: &[],
+    };
+    walked(alloc, &covering(program), 3, register, memory, limit)
+}
+
+#[test]
+fn walks_round_up_to_the_limit(rt: HostRuntime) -> Result<(), Fail> {
+    let cfa = Some(Answer::Value(0xf));
+    let walk = from_three(rt.alloc(), ROUND, 5)?;
+    is_walk(
+        &rt,
+        &walk,
+        &[(3, cfa), (7, cfa), (7, cfa), (7, cfa), (7, cfa)],
+        Stop::Limit,
+    );
+    let walk = from_three(rt.alloc(), ROUND, 65535)?;
+    assert_eq!(rt; walk.frames.len(), 65535);
+    assert_eq!(rt; walk.stop, Stop::Limit);
+    Ok(())
+}
+
+/// An FDE covers 0, which is no address behind a call.
+#[test]
+fn looks_zero_up_nowhere(rt: HostRuntime) -> Result<(), Fail> {
+    let frames = [(3, Some(Answer::Value(0xf))), (0, None)];
+    is_walk(
+        &rt,
+        &from_three(rt.alloc(), TO_ZERO, 9)?,
+        &frames,
+        Stop::NotCovered,
+    );
+    is_walk(
+        &rt,
+        &from_three(rt.alloc(), TO_ZERO, 2)?,
+        &frames,
+        Stop::Limit,
+    );
+    Ok(())
+}
+
+#[test]
+fn ends_without_a_return_address(rt: HostRuntime) -> Result<(), Fail> {
+    let frames = [(3, Some(Answer::Value(0x18)))];
+    is_walk(
+        &rt,
+        &from_three(rt.alloc(), UNDEFINED, 9)?,
+        &frames,
+        Stop::ReturnUndefined,
+    );
+    is_walk(
+        &rt,
+        &from_three(rt.alloc(), UNDEFINED, 1)?,
+        &frames,
+        Stop::Limit,
+    );
+    is_walk(
+        &rt,
+        &from_three(rt.alloc(), DIVISION, 9)?,
+        &frames,
+        Stop::ReturnDivisionByZero,
+    );
+    Ok(())
+}
+
+/// The registers of the first caller of the first function, under an ABI.
+fn registers_under(alloc: Global, abi: &Abi) -> Result<FoundRegisters, Fail> {
+    let checked = check(alloc, &FUNCTION, &[], LITTLE)
+        .ok()
+        .ok_or("a frame section")?;
+    let registers = SixAndSeven {
+        six: 5,
+        seven: 0x7f08,
+    };
+    let memory = Bytes {
+        start: 0x7f08,
+        bytes: &[0x34, 0x12, 0, 0, 0, 0, 0, 0],
+    };
+    let caller = unwind_with(&checked, abi, 0x1000, &registers, &memory).ok_or("a caller")?;
+    if caller.cfa != Answer::Value(0x7f10) || caller.return_address != Answer::Value(0x1234) {
+        return Err("another caller".into());
+    }
+    Ok(caller.registers)
+}
+
+#[test]
+fn unwinds_under_an_abi(rt: HostRuntime) -> Result<(), Fail> {
+    let abi = Abi::new(&[6], Some(7))?;
+    assert_eq!(rt;
+        registers_under(rt.alloc(), &abi)?.as_slice(),
+        [
+            (6, Answer::Value(5)),
+            (7, Answer::Value(0x7f10)),
+            (16, Answer::Value(0x1234)),
+        ]
+        .as_slice()
+    );
+    assert_eq!(rt;
+        registers_under(rt.alloc(), &Abi::none())?.as_slice(),
+        [(16, Answer::Value(0x1234))].as_slice()
+    );
+    Ok(())
+}

@@ -1,0 +1,116 @@
+//! What an ABI says of registers that a row gives no rule.
+
+use crate::rows::{FUNCTION, LITTLE};
+use dw_rows::{Abi, CheckedFrame, check_frame};
+use std::alloc::Global;
+use std::test::Fail;
+
+/// The number of the fault of an ABI that keeps these registers and has this stack pointer, and its place.
+fn refused(kept: &[u16], stack_pointer: Option<u16>) -> Option<(u8, u32)> {
+    Abi::new(kept, stack_pointer)
+        .err()
+        .map(|fault| (fault.kind.number(), fault.at))
+}
+
+/// The same of an ABI that keeps the numbers from 0, so many of them, 128 at most.
+fn refused_from_zero(count: usize, stack_pointer: Option<u16>) -> Option<(u8, u32)> {
+    let mut numbers = [0; 128];
+    for number in 0..128u16 {
+        numbers[usize::from(number)] = number;
+    }
+    refused(&numbers[..count.min(128)], stack_pointer)
+}
+
+#[test]
+fn names_a_register_that_stands_twice(rt: HostRuntime) -> Result<(), Fail> {
+    assert_eq!(rt; refused(&[6, 7, 6], None), Some((63, 2)));
+    assert_eq!(rt; refused(&[6, 7, 6], Some(7)), Some((63, 2)));
+    assert_eq!(rt; refused(&[7], Some(7)), Some((63, 1)));
+    assert_eq!(rt; refused(&[7], Some(6)), None);
+    assert_eq!(rt; refused(&[], None), None);
+    assert_eq!(rt; refused(&[], Some(65535)), None);
+    Ok(())
+}
+
+#[test]
+fn keeps_so_many_registers(rt: HostRuntime) -> Result<(), Fail> {
+    assert_eq!(rt; refused_from_zero(128, None), Some((62, 127)));
+    assert_eq!(rt; refused(&[0; 128], Some(0)), Some((62, 127)));
+    assert_eq!(rt; refused_from_zero(127, None), None);
+    assert_eq!(rt; refused_from_zero(127, Some(127)), None);
+    assert_eq!(rt; refused_from_zero(127, Some(126)), Some((63, 127)));
+    Ok(())
+}
+
+/// Registers of the row of an address under an ABI, as text: each with its rule.
+fn registers_at(
+    alloc: Global,
+    frame: &CheckedFrame<'_>,
+    abi: &Abi,
+    address: u64,
+) -> Result<String, Fail> {
+    let row = frame.row_for_address(address).ok_or("a row")?;
+    let mut text = String::new(alloc);
+    for number in [3, 6, 7, 16, 65535] {
+        let rule = row.register_with(abi, number);
+        text.push_str(&format!(in alloc; "r{number} {rule:?} ")?)?;
+    }
+    Ok(text)
+}
+
+/// Register 6 has a rule from 0x1001 on, register 16 has one in each row.
+#[test]
+fn gives_registers_under_an_abi(rt: HostRuntime) -> Result<(), Fail> {
+    let alloc = rt.alloc();
+    let frame = check_frame(alloc, &FUNCTION, LITTLE)?;
+    let abi = Abi::new(&[65535, 6, 16], Some(7))?;
+    assert_eq!(rt;
+        registers_at(alloc, &frame, &abi, 0x1000)?.as_str(),
+        "r3 Undefined r6 SameValue r7 ValOffset(0) r16 Offset(-8) r65535 SameValue "
+    );
+    assert_eq!(rt;
+        registers_at(alloc, &frame, &abi, 0x1001)?.as_str(),
+        "r3 Undefined r6 Offset(-16) r7 ValOffset(0) r16 Offset(-8) r65535 SameValue "
+    );
+    assert_eq!(rt;
+        registers_at(alloc, &frame, &Abi::none(), 0x1001)?.as_str(),
+        "r3 Undefined r6 Offset(-16) r7 Undefined r16 Offset(-8) r65535 Undefined "
+    );
+    Ok(())
+}
+
+/// The rules of a row under an ABI as text.
+fn rules_at(
+    alloc: Global,
+    frame: &CheckedFrame<'_>,
+    abi: &Abi,
+    address: u64,
+) -> Result<String, Fail> {
+    let row = frame.row_for_address(address).ok_or("a row")?;
+    let mut text = String::new(alloc);
+    for (number, rule) in row.rules_with(abi) {
+        text.push_str(&format!(in alloc; "r{number} {rule:?} ")?)?;
+    }
+    Ok(text)
+}
+
+/// By ascending registers, whatever the order in which an ABI names them.
+#[test]
+fn gives_rules_under_an_abi(rt: HostRuntime) -> Result<(), Fail> {
+    let alloc = rt.alloc();
+    let frame = check_frame(alloc, &FUNCTION, LITTLE)?;
+    let abi = Abi::new(&[65535, 6, 3], Some(7))?;
+    assert_eq!(rt;
+        rules_at(alloc, &frame, &abi, 0x1000)?.as_str(),
+        "r3 SameValue r6 SameValue r7 ValOffset(0) r16 Offset(-8) r65535 SameValue "
+    );
+    assert_eq!(rt;
+        rules_at(alloc, &frame, &abi, 0x101f)?.as_str(),
+        "r3 SameValue r6 Offset(-16) r7 ValOffset(0) r16 Offset(-8) r65535 SameValue "
+    );
+    assert_eq!(rt;
+        rules_at(alloc, &frame, &Abi::none(), 0x101f)?.as_str(),
+        "r6 Offset(-16) r16 Offset(-8) "
+    );
+    Ok(())
+}
