@@ -19,7 +19,8 @@ struct SixAndSeven {
 }
 
 impl Registers for SixAndSeven {
-    ghost contents = { λ r n. if n == 6 then Some r.six else if n == 7 then Some r.seven else None };
+    ghost contents = { λ r n. if n == 6 then Some r.six
+        else if n == 7 then Some r.seven else None };
 
     fn register(&self, number: u16) -> Option<u64> {
         match number {
