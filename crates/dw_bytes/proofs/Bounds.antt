@@ -5,11 +5,10 @@ use Rattle.std.specs.Prelude.{Contains}
 use Rattle.std.specs.List.{AllByRecursion}
 use Rattle.std.proofs.lemmas.List.{length-append}
 use Rattle.std.proofs.lemmas.List.Elements.{All-from_recursion}
-use Rattle.dw_bytes.specs.declared.target.Format.{Format}
 use Rattle.dw_bytes.specs.declared.fault.Fault.{Fault}
 use Rattle.dw_bytes.specs.declared.fault.FaultKind.TheVariants.{Truncated}
-use Rattle.dw_bytes.specs.Encoding.{Bytes, Fixed, Length, Uleb, Sleb, bytes_of_address, bytes_of_offset}
-use Rattle.dw_bytes.specs.Reading.{ReadPosition, IsExact, IsRefusedAt, ◌>>=◌, placed, take_at, fixed_at, address_at, offset_at}
+use Rattle.dw_bytes.specs.Encoding.{Bytes, Fixed, Length, Uleb, Sleb, bytes_of_address}
+use Rattle.dw_bytes.specs.Reading.{ReadPosition, IsExact, IsRefusedAt, ◌>>=◌, placed, take_at, fixed_at, address_at}
 use Rattle.dw_bytes.specs.Reading.{initial_length_at, uleb_at, sleb_at}
 use Rattle.dw_bytes.specs.Sequence.{located_read, and_then, at_most_of, sequence_of}
 use Rattle.dw_bytes.proofs.Fields.{take_exact, fixed_exact, initial_length_exact, uleb_exact, sleb_exact}
@@ -67,9 +66,6 @@ fixed-stays from n r h = field-stays from (fixed_at n) (Fixed r.target.order n) 
 
 pub address-stays : (from : ℕ) → AlwaysStays from address_at
 address-stays from r h = fixed-stays from (bytes_of_address r.target.address_size) r h
-
-pub offset-stays : (from : ℕ) (format : Format) → AlwaysStays from (offset_at format)
-offset-stays from format r h = fixed-stays from (bytes_of_offset format) r h
 
 pub length-stays : (from : ℕ) → AlwaysStays from initial_length_at
 length-stays from r h = field-stays from initial_length_at (Length r.target.order) r (initial_length_exact r) (initial_length_at r) refl

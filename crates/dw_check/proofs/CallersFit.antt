@@ -19,7 +19,7 @@ use Rattle.dw_stack.specs.Machine.{Piece, Run}
 use Rattle.dw_stack.specs.Paths.{Placed}
 use Rattle.dw_rows.specs.Abi.{Abi, Role, unnamed, kept, stack_pointer, rule_of_role, or_rule, rule_under, rules_under}
 use Rattle.dw_rows.specs.Expressions.{expression_at}
-use Rattle.dw_rows.specs.GivenRows.{nowhere, or_nowhere, located_at, rule_with, cfa_with, rules_with, row_with}
+use Rattle.dw_rows.specs.GivenRows.{nowhere, or_nowhere, located_at, given_rule, given_cfa, given_rules, given_row}
 use Rattle.dw_rows.specs.Rules.{PlacedRule, PlacedCfa, PlacedRow, Rule, Cfa, Row, RuleOver, register_and_offset, cfa_expression, rule_in}
 use Rattle.dw_rows.specs.Rules.{default, same_value, offset, val_offset, register, expression, val_expression}
 use Rattle.dw_rows.specs.Section.{Frame, IsChecked, cie_in, covers, rows_behind, rows_in, row_of}
@@ -102,7 +102,7 @@ abbrev RulesWithin : AddressSize → List (ℕ × Rule) → Type 0
 RulesWithin size rules = AllByRecursion (λ (entry : ℕ × Rule). RuleWithin size entry.1) rules
 
 module _ (size : AddressSize) (es : List LocatedExpression) (each : EachWithin size es) where
-  rule_within : (x : PlacedRule) → RuleWithin size (rule_with es x)
+  rule_within : (x : PlacedRule) → RuleWithin size (given_rule es x)
   rule_within (expression at) = found_within size at es each
   rule_within (val_expression at) = found_within size at es each
   rule_within default = tt
@@ -112,12 +112,12 @@ module _ (size : AddressSize) (es : List LocatedExpression) (each : EachWithin s
   rule_within (val_offset n) = tt
   rule_within (register r) = tt
 
-  cfa_within : (o : Option PlacedCfa) → CfaWithin size (option_map (cfa_with es) o)
+  cfa_within : (o : Option PlacedCfa) → CfaWithin size (option_map (given_cfa es) o)
   cfa_within None = tt
   cfa_within (Some (register_and_offset r n)) = tt
   cfa_within (Some (cfa_expression at)) = found_within size at es each
 
-  rules_within : (rules : List (ℕ × PlacedRule)) → RulesWithin size (rules_with es rules)
+  rules_within : (rules : List (ℕ × PlacedRule)) → RulesWithin size (given_rules es rules)
   rules_within [] = tt
   rules_within (x ∷ rules) = (rule_within x.1, rules_within rules)
 
@@ -149,16 +149,16 @@ one_under size abi rules r h = or_within size (rule_in rules r) (abi r) (one_wit
 -- ---- the row of an address is made of a placed one
 
 found_among : (es : List LocatedExpression) (test : Row → Bool) (rows : List PlacedRow) (row : Row)
-    → find test (map (row_with es) rows) ≡ Some row → (x : PlacedRow) × (row_with es x ≡ row)
+    → find test (map (given_row es) rows) ≡ Some row → (x : PlacedRow) × (given_row es x ≡ row)
 found_among es test [] row is = absurd (cc)
-found_among es test (x ∷ rows) row is = go (found_among es test rows row) (test (row_with es x)) is
+found_among es test (x ∷ rows) row is = go (found_among es test rows row) (test (given_row es x)) is
   where
-    go : (find test (map (row_with es) rows) ≡ Some row → (y : PlacedRow) × (row_with es y ≡ row)) → (b : Bool)
-        → cond b (Some (row_with es x)) (find test (map (row_with es) rows)) ≡ Some row → (y : PlacedRow) × (row_with es y ≡ row)
-    go later true e = let same : row_with es x ≡ row = cc in (x, same)
+    go : (find test (map (given_row es) rows) ≡ Some row → (y : PlacedRow) × (given_row es y ≡ row)) → (b : Bool)
+        → cond b (Some (given_row es x)) (find test (map (given_row es) rows)) ≡ Some row → (y : PlacedRow) × (given_row es y ≡ row)
+    go later true e = let same : given_row es x ≡ row = cc in (x, same)
     go later false e = later e
 
-row_is_with : (s : Frame) (a : ℕ) (row : Row) → row_of s a ≡ Some row → (x : PlacedRow) × (row_with s.expressions x ≡ row)
+row_is_with : (s : Frame) (a : ℕ) (row : Row) → row_of s a ≡ Some row → (x : PlacedRow) × (given_row s.expressions x ≡ row)
 row_is_with s a row is =
     option_and_then_some (λ f. find (has_address a) (rows_in s f)) (find (covers a) s.fdes) row is
     (λ f found here. found_among s.expressions (has_address a) (rows_behind (cie_in s f) f) row here)

@@ -8,7 +8,7 @@ use Rattle.std.proofs.lemmas.Grind.{flat_map-append}
 use Rattle.dw_frame.specs.Records.{Cie, Fde}
 use Rattle.dw_rows.specs.Rules.{PlacedRow, Row}
 use Rattle.dw_rows.specs.Section.{Frame, cie_in, rows_in, rows_behind}
-use Rattle.dw_rows.specs.GivenRows.{row_with}
+use Rattle.dw_rows.specs.GivenRows.{given_row}
 use Rattle.dw_rows.specs.UnwindRows.{Cover, rows_of}
 use Rattle.dw_stack.specs.declared.checked.CheckedExpression.{CheckedExpression}
 use Rattle.dw_bytes.specs.declared.target.Target.{Target}
@@ -47,10 +47,10 @@ cover_count from to (row ∷ rows) h =
 pub few_rows : (frame : Frame) (cie : Cie) (fde : Fde) (rows : List Row) → Cover fde.initial (rows_of cie fde) (fde.initial + fde.range)
     → cie_in frame fde ≡ Some cie → rows ≡ rows_in frame fde → fde.initial + fde.range < 2 ^ 64 → length rows < 2 ^ 64
 few_rows frame cie fde rows cover is all short =
-    let same : rows ≡ map (row_with frame.expressions) (rows_of cie fde) =
-    all ∙ ap (λ o. map (row_with frame.expressions) (rows_behind o fde)) is in
+    let same : rows ≡ map (given_row frame.expressions) (rows_of cie fde) =
+    all ∙ ap (λ o. map (given_row frame.expressions) (rows_behind o fde)) is in
     let few = cover_count _ _ (rows_of cie fde) cover in
-    let many : length rows ≡ length (rows_of cie fde) = ap length same ∙ length-map (rows_of cie fde) (row_with frame.expressions) in
+    let many : length rows ≡ length (rows_of cie fde) = ap length same ∙ length-map (rows_of cie fde) (given_row frame.expressions) in
     omega (arith, few, many, short)
 
 -- The rows of the FDEs that came are counted, and the rest is to come.

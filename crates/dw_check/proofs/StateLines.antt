@@ -80,7 +80,3 @@ pub reads_bad : (target : Target) (text : List ℕ) (before : List (List ℕ)) (
     → Reading target text before n (line ∷ lines) → goes_behind target before line ≡ false → facts_of_file target text ≡ Err (n + 1)
 reads_bad target text before n line lines h bad =
     rw (h.first, good_more target text before n line lines h, bad) refl
-
-pub reads_all : (target : Target) (text : List ℕ) (before : List (List ℕ)) (n : ℕ) → Reading target text before n []
-    → facts_of_file target text ≡ Ok (facts_of_lines target before)
-reads_all target text before n h = rw (h.first, h.is, append-nil before) refl

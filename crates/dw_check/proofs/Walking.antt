@@ -69,14 +69,6 @@ walk_stops s first limit frames last stop are some few is why =
           ∙ ap (λ (f : declared.Frame). stop_of_caller (frame_in f).caller) (sym is) ∙ why);
     }
 
--- a walk with as many frames as were asked for
-pub walk_full : (s : Surroundings) (first : Place) (limit : ℕ) (frames : List declared.Frame) → AreFrames s (Some first) (frames_in frames)
-    → length frames ≡ limit → Walks s first limit (frames_in frames) Limit
-walk_full s first limit frames are full =
-    let count : length (frames_in frames) ≡ length frames = length-map frames frame_in in
-    let same : (length (frames_in frames) == limit) ≡ true = grind (arith, nat_tests, count, full) in
-    record { are = are; few = omega (arith, count, full); ends = rw same refl }
-
 -- a walk that goes on
 pub walk_goes : (s : Surroundings) (p : Option Place) (frames : List declared.Frame) (last next : declared.Frame)
     → AreFrames s p (frames_in frames) → 0 < length frames → last ≡ get_or frames (length frames - 1) last

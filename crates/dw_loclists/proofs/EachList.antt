@@ -385,10 +385,6 @@ pub put-one-more : (es : List Entry) (e : Entry) (others : Found) → put_all es
 put-one-more es e (Ok xs) = ap (λ (t : List Entry). finish t xs.1) (sym (append_assoc es (e ∷ []) xs.0))
 put-one-more es e (Err f) = refl
 
-pub put-none : (others : Found) → put_all [] others ≡ others
-put-none (Ok xs) = refl
-put-none (Err f) = refl
-
 nothing-more : (es : List Entry) → es ++ [] ≡ es
 nothing-more [] = refl
 nothing-more (e ∷ es) = ap (λ (t : List Entry). e ∷ t) (nothing-more es)

@@ -14,9 +14,6 @@ nothing {X} (x ∷ xs) = ap (λ (t : List X). x ∷ t) (nothing xs)
 
 -- ---- expressions
 
-pub keeps-none : (ks : List KeptExpression) → KeepsMore [] ks ks
-keeps-none ks = λ xs kept. subst (λ (ys : List LocatedExpression). AreKeptOf ys ks) (sym (nothing xs)) kept
-
 -- some, and then others
 pub keeps-then : (first second : List LocatedExpression) (old mid new : List KeptExpression) → KeepsMore first old mid
     → KeepsMore second mid new → KeepsMore (first ++ second) old new
@@ -64,9 +61,6 @@ pub keeps-list : (ls : List Loclist) (l : Loclist) (old mid new : List KeptExpre
 keeps-list ls l old mid new h k =
     subst (λ (ys : List LocatedExpression). KeepsMore ys old new) (sym (expressions-more ls l))
     (keeps-then (expressions_in ls) (expressions_of l.entries) old mid new h k)
-
-pub none-kept : (k : Kept) → k ≡ with_lists k []
-none-kept k = ap (kept-as k.tables) (sym (nothing k.lists))
 
 -- one table more
 lists-of-more : (ts : List Table) (t : Table) → lists_of (ts ++ t ∷ []) ≡ lists_of ts ++ t.lists

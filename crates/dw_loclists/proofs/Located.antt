@@ -95,9 +95,6 @@ among-tables target at bytes (t ∷ ts) l (first, rest, parts, here, others) amo
           refl (among-tables target (at + length first) rest ts l others behind)
     ]
 
-behind-of : ListSection → Loclist → List ℕ → List ℕ → ReadPosition
-behind-of s l own rest = record { target = s.target; position = l.offset + length own; rest = rest }
-
 -- a list is read at its offset
 pub list-read : (s : ListSection) (l : Loclist) → IsChecked s → Contains (lists_in s) l
     → (after : ReadPosition) × (entries_at false (section_from s.target s.section l.offset) ≡ Ok (l.entries, after))

@@ -10,7 +10,6 @@ use Rattle.dw_bytes.specs.Reading.{ReadPosition}
 use Rattle.dw_loclists.specs.Entries.{Entry, end_of_list, offset_pair, default_location, base_address, start_end, start_length, is_end}
 use Rattle.dw_loclists.specs.Entries.{is_default, expression_in}
 use Rattle.dw_loclists.specs.Locations.{location_of, expressions_of, base_after, holds, held_by, bounded_at, default_of}
-use Rattle.dw_stack.specs.Located.{LocatedExpression}
 use Rattle.dw_loclists.specs.Locations.{defaults_in}
 use Rattle.dw_loclists.specs.Reading.{entry_at, entry_fault, entries_at, no_end}
 use Rattle.dw_loclists.specs.Walks.{default_located, entries_in}
@@ -108,10 +107,6 @@ holds-bounded base address (default_location x) h = absurd cc
 holds-bounded base address (base_address other) h = absurd cc
 holds-bounded base address (start_end begin end x) h = record { going = refl; other = refl; same_base = refl }
 holds-bounded base address (start_length begin count x) h = record { going = refl; other = refl; same_base = refl }
-
-abbrev located-in : Option Block → List LocatedExpression
-located-in None = []
-located-in (Some b) = location_of b ∷ []
 
 pub holds-some : (base address : ℕ) (e : Entry) → holds base address e ≡ true
     → (b : Block) × (expression_in e ≡ Some b) × (held_by base address e ≡ location_of b ∷ [])

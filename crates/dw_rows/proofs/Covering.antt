@@ -1,6 +1,6 @@
 -- The rows of a program lie one behind another, and cover what the FDE covers.
 use Rattle.std.proofs.Common.{◌≡◌, ℕ, ◌+◌, ◌<◌, ◌≤◌, Bool, true, false, cond, List, [], ◌∷◌, ◌++◌, refl, arith, ltb, leb, inl, inr}
-use Rattle.std.proofs.Common.{Option, Some, None, Result, Ok, Err, subst, ◌↔◌, IsSome}
+use Rattle.std.proofs.Common.{Option, Some, None, Result, Ok, Err, subst, IsSome}
 use Rattle.std.proofs.lemmas.Bool.{cases_lt, lt-ltb, le-ltb}
 use Rattle.std.proofs.lemmas.Bool.Decides.{nat_tests}
 use Rattle.std.specs.Prelude.{◌&&◌, find}
@@ -87,29 +87,6 @@ find-some a from to (row ∷ rows) h l g = elim (cases_lt a row.end) [
 none-some : {A : Type 0} (o : Option A) → o ≡ None → IsSome o → ⊥
 none-some None e h = cc
 none-some (Some x) e h = cc
-
-pub find-covered : (a from to : ℕ) (rows : List PlacedRow) → Cover from rows to
-    → IsSome (find (has_address a) rows) ↔ ((from ≤ a) × (a < to))
-find-covered a from to rows h = (
-  (λ some. (
-    elim (cases_lt a from) [ inl below ↦ absurd (none-some _ (find-below a from to rows h below) some) | inr ok ↦ ok ],
-    elim (cases_lt a to) [ inl ok ↦ ok | inr above ↦ absurd (none-some _ (find-above a from to rows h above) some) ],
-  )),
-  (λ k. find-some a from to rows h k.0 k.1),
-)
-
--- the same of what was found
-pub covered-found : (c : Cie) (f : Fde) (a : ℕ) (found : Option PlacedRow) → fde_fault c f ≡ None
-    → found ≡ find (has_address a) (rows_of c f)
-    → IsSome found ↔ ((f.initial ≤ a) × (a < f.initial + f.range))
-covered-found c f a found none e = rw e (find-covered a f.initial (f.initial + f.range) (rows_of c f) (cover-rows c f none))
-
-pub not-found-below : (c : Cie) (f : Fde) (a : ℕ) → fde_fault c f ≡ None → a < f.initial → find (has_address a) (rows_of c f) ≡ None
-not-found-below c f a none h = find-below a f.initial (f.initial + f.range) (rows_of c f) (cover-rows c f none) h
-
-pub not-found-above : (c : Cie) (f : Fde) (a : ℕ) → fde_fault c f ≡ None → f.initial + f.range ≤ a
-    → find (has_address a) (rows_of c f) ≡ None
-not-found-above c f a none h = find-above a f.initial (f.initial + f.range) (rows_of c f) (cover-rows c f none) h
 
 -- a covered address has a row
 pub not-missed : (c : Cie) (f : Fde) (a : ℕ) → fde_fault c f ≡ None → f.initial ≤ a → a < f.initial + f.range

@@ -61,16 +61,6 @@ sorted-back f key xs sorted i j d le lt =
     subst (λ v. key v ≤ key (f (get_or xs j d))) (at_default f xs i d)
     (subst (λ v. key (get_or (map f xs) i (f d)) ≤ key v) (at_default f xs j d) h)
 
--- where FDEs begin above an address from a place on, so does what they stand for
-pub above-map : (xs : List FrameDescriptionEntry) (place a : ℕ)
-    → ((k : ℕ) (e : FrameDescriptionEntry) → place ≤ k → k < length xs → a < (get_or xs k e).initial_location) → (k : ℕ) (d : Fde)
-    → place ≤ k → k < length (map fde_of xs) → a < (get_or (map fde_of xs) k d).initial
-above-map xs place a above k d le lt =
-    let long = length-map xs fde_of in
-    let k_in : k < length xs = omega arith in
-    let e = some-element xs k k_in in
-    subst (λ v. a < v.initial) (sym (get_or-map fde_of xs k e d k_in)) (above k e le k_in)
-
 -- an element, and what it stands for
 pub contains-map : {X Y : Type 0} (f : X → Y) (xs : List X) (x : X) → Contains xs x → Contains (map f xs) (f x)
 contains-map f xs x (k, lt, is) = let long = length-map xs f in (k, omega arith, placed-map f xs k x is)

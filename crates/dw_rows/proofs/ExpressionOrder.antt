@@ -140,9 +140,6 @@ program-rises-by (suc n) r le = elim (cases_lt 0 (length r.rest)) [
 pub program-rises : (r : ReadPosition) → Rise r.target r.position (r.position + length r.rest) (expressions_of r)
 program-rises r = program-rises-by (length r.rest) r (omega arith)
 
-pub program-ascends : (r : ReadPosition) → Ascends at-offset (expressions_of r)
-program-ascends r = rise-ascends r.target r.position (end-of r) (expressions_of r) (program-rises r)
-
 pub program-inside : (r : ReadPosition) (e : LocatedExpression) → Contains (expressions_of r) e
     → IsInside r.target r.position (r.position + length r.rest) e
 program-inside r e among = rise-inside r.target r.position (end-of r) (expressions_of r) (program-rises r) e among

@@ -1,33 +1,30 @@
 -- Rows with their expressions in the place of offsets.
-use Rattle.std.proofs.Common.{◌≡◌, ◌≢◌, ℕ, ◌+◌, ◌-◌, ◌<◌, List, [], ◌∷◌, length, map, Option, Some, Bool, true, false, cond, refl, sym}
-use Rattle.std.proofs.Common.{ap, subst, ◌∙◌, eqb, take, drop, get_or, arith}
+use Rattle.std.proofs.Common.{◌≡◌, ◌≢◌, ℕ, ◌+◌, List, [], ◌∷◌, length, map, Some, Bool, true, false, cond, refl}
+use Rattle.std.proofs.Common.{ap, ◌∙◌, eqb, arith}
 use Rattle.std.specs.List.{AllByRecursion}
-use Rattle.std.proofs.Math.Seq.{take-length}
 use Rattle.std.proofs.lemmas.List.Elements.{All-from_recursion, recursion_from_All}
-use Rattle.dw_rows.specs.declared.map.RuleEntry.{RuleEntry}
-use Rattle.dw_rows.specs.Views.{rule_by, entries_of}
 use Rattle.std.specs.Prelude.{All, find, filter}
 use Rattle.dw_stack.specs.Located.{LocatedExpression}
-use Rattle.dw_rows.specs.Rules.{PlacedRule, PlacedCfa, PlacedRow, Rule, default, undefined, same_value, offset, val_offset, register}
-use Rattle.dw_rows.specs.Rules.{expression, val_expression, register_and_offset, cfa_expression, rule_in, IsTable}
+use Rattle.dw_rows.specs.Rules.{PlacedRule, PlacedRow, Rule, default, undefined, same_value, offset, val_offset, register}
+use Rattle.dw_rows.specs.Rules.{expression, val_expression, rule_in, IsTable}
 use Rattle.dw_rows.specs.UnwindRows.{has_address, Cover}
-use Rattle.dw_rows.specs.GivenRows.{or_nowhere, rule_with, cfa_with, rules_with, row_with, LendsRule, LendsCfa, LendsEntry, LendsEach}
-use Rattle.dw_rows.specs.GivenRows.{IsRuleOfKind, IsCfaOfKind, IsEntryOfKind}
+use Rattle.dw_rows.specs.GivenRows.{or_nowhere, given_rule, given_rules, given_row, LendsRule, LendsEntry, LendsEach}
+use Rattle.dw_rows.specs.GivenRows.{IsRuleOfKind, IsEntryOfKind}
 
 -- ---- rules
 
 if-with : (es : List LocatedExpression) (b : Bool) (x y : PlacedRule)
-    → ◌≡◌ {A = Rule} (cond b (rule_with es x) (rule_with es y)) (rule_with es (cond b x y))
+    → ◌≡◌ {A = Rule} (cond b (given_rule es x) (given_rule es y)) (given_rule es (cond b x y))
 if-with es true x y = refl
 if-with es false x y = refl
 
 pub rule_in-with : (es : List LocatedExpression) (rules : List (ℕ × PlacedRule)) (r : ℕ)
-    → rule_in (rules_with es rules) r ≡ rule_with es (rule_in rules r)
+    → rule_in (given_rules es rules) r ≡ given_rule es (rule_in rules r)
 rule_in-with es [] r = refl
 rule_in-with es (x ∷ rules) r =
-    ap (cond (eqb x.0 r) (rule_with es x.1)) (rule_in-with es rules r) ∙ if-with es (eqb x.0 r) x.1 (rule_in rules r)
+    ap (cond (eqb x.0 r) (given_rule es x.1)) (rule_in-with es rules r) ∙ if-with es (eqb x.0 r) x.1 (rule_in rules r)
 
-with-some : (es : List LocatedExpression) (x : PlacedRule) → x ≢ default → rule_with es x ≢ default
+with-some : (es : List LocatedExpression) (x : PlacedRule) → x ≢ default → given_rule es x ≢ default
 with-some es default other e = other refl
 with-some es undefined other e = cc
 with-some es same_value other e = cc
@@ -38,49 +35,46 @@ with-some es (expression at) other e = cc
 with-some es (val_expression at) other e = cc
 
 pub table-with : (es : List LocatedExpression) (low : ℕ) (rules : List (ℕ × PlacedRule)) → IsTable low rules
-    → IsTable low (rules_with es rules)
+    → IsTable low (given_rules es rules)
 table-with es low [] t = tt
 table-with es low (x ∷ rules) t = (t.0, t.1, with-some es x.1 t.2, table-with es (x.0 + 1) rules t.3)
 
-pub length-with : (es : List LocatedExpression) (rules : List (ℕ × PlacedRule)) → length (rules_with es rules) ≡ length rules
+pub length-with : (es : List LocatedExpression) (rules : List (ℕ × PlacedRule)) → length (given_rules es rules) ≡ length rules
 length-with es [] = refl
 length-with es (x ∷ rules) = omega (arith, length-with es rules)
 
 -- ---- rows
 
 pub find-with : (es : List LocatedExpression) (a : ℕ) (rows : List PlacedRow) (row : PlacedRow) → find (has_address a) rows ≡ Some row
-    → find (has_address a) (map (row_with es) rows) ≡ Some (row_with es row)
+    → find (has_address a) (map (given_row es) rows) ≡ Some (given_row es row)
 find-with es a [] row e = cc
 find-with es a (x ∷ rows) row e = go (λ later. find-with es a rows row later) (has_address a x) e
   where
-    go : (find (has_address a) rows ≡ Some row → find (has_address a) (map (row_with es) rows) ≡ Some (row_with es row)) → (b : Bool)
+    go : (find (has_address a) rows ≡ Some row → find (has_address a) (map (given_row es) rows) ≡ Some (given_row es row)) → (b : Bool)
         → cond b (Some x) (find (has_address a) rows) ≡ Some row
-        → cond b (Some (row_with es x)) (find (has_address a) (map (row_with es) rows)) ≡ Some (row_with es row)
-    go next true e = let same : x ≡ row = cc in ap (λ y. Some (row_with es y)) same
+        → cond b (Some (given_row es x)) (find (has_address a) (map (given_row es) rows)) ≡ Some (given_row es row)
+    go next true e = let same : x ≡ row = cc in ap (λ y. Some (given_row es y)) same
     go next false e = next e
 
 pub filter-with : (es : List LocatedExpression) (a : ℕ) (rows : List PlacedRow)
-    → filter (has_address a) (map (row_with es) rows) ≡ map (row_with es) (filter (has_address a) rows)
+    → filter (has_address a) (map (given_row es) rows) ≡ map (given_row es) (filter (has_address a) rows)
 filter-with es a [] = refl
 filter-with es a (x ∷ rows) = go (filter-with es a rows) (has_address a x)
   where
-    go : filter (has_address a) (map (row_with es) rows) ≡ map (row_with es) (filter (has_address a) rows) → (b : Bool)
-        → cond b (row_with es x ∷ filter (has_address a) (map (row_with es) rows)) (filter (has_address a) (map (row_with es) rows))
-        ≡ map (row_with es) (cond b (x ∷ filter (has_address a) rows) (filter (has_address a) rows))
-    go rest true = ap (λ l. row_with es x ∷ l) rest
+    go : filter (has_address a) (map (given_row es) rows) ≡ map (given_row es) (filter (has_address a) rows) → (b : Bool)
+        → cond b (given_row es x ∷ filter (has_address a) (map (given_row es) rows)) (filter (has_address a) (map (given_row es) rows))
+        ≡ map (given_row es) (cond b (x ∷ filter (has_address a) rows) (filter (has_address a) rows))
+    go rest true = ap (λ l. given_row es x ∷ l) rest
     go rest false = rest
 
 pub cover-with : (es : List LocatedExpression) (from : ℕ) (rows : List PlacedRow) (to : ℕ) → Cover from rows to
-    → Cover from (map (row_with es) rows) to
+    → Cover from (map (given_row es) rows) to
 cover-with es from [] to h = h
 cover-with es from (x ∷ rows) to h = (h.0, h.1, cover-with es x.end rows to h.2)
 
 -- ---- what is lent has the kind of its rule
 
-lent-of-kind : (es : List LocatedExpression) (at : ℕ) (o : Option LocatedExpression) (e : LocatedExpression) → o ≡ Some e → or_nowhere o ≡ e
-lent-of-kind es at o e is = ap or_nowhere is
-
-pub rule-of-kind : (es : List LocatedExpression) (x : PlacedRule) → LendsRule es x → IsRuleOfKind (rule_with es x)
+pub rule-of-kind : (es : List LocatedExpression) (x : PlacedRule) → LendsRule es x → IsRuleOfKind (given_rule es x)
 rule-of-kind es (expression at) h = ap (λ (e : LocatedExpression). e.kind) (ap or_nowhere h.found) ∙ h.of_kind
 rule-of-kind es (val_expression at) h = ap (λ (e : LocatedExpression). e.kind) (ap or_nowhere h.found) ∙ h.of_kind
 rule-of-kind es default h = tt
@@ -90,18 +84,14 @@ rule-of-kind es (offset n) h = tt
 rule-of-kind es (val_offset n) h = tt
 rule-of-kind es (register r) h = tt
 
-pub cfa-of-kind : (es : List LocatedExpression) (x : PlacedCfa) → LendsCfa es x → IsCfaOfKind (cfa_with es x)
-cfa-of-kind es (cfa_expression at) h = ap (λ (e : LocatedExpression). e.kind) (ap or_nowhere h.found) ∙ h.of_kind
-cfa-of-kind es (register_and_offset r n) h = tt
-
 kinds-by : (es : List LocatedExpression) (rules : List (ℕ × PlacedRule)) → AllByRecursion (LendsEntry es) rules
-    → AllByRecursion IsEntryOfKind (rules_with es rules)
+    → AllByRecursion IsEntryOfKind (given_rules es rules)
 kinds-by es [] h = tt
 kinds-by es (x ∷ rules) h = (rule-of-kind es x.1 h.0, kinds-by es rules h.1)
 
 pub kinds-with : (es : List LocatedExpression) (rules : List (ℕ × PlacedRule)) → LendsEach es rules
-    → All IsEntryOfKind (rules_with es rules)
-kinds-with es rules h = All-from_recursion IsEntryOfKind (rules_with es rules)
+    → All IsEntryOfKind (given_rules es rules)
+kinds-with es rules h = All-from_recursion IsEntryOfKind (given_rules es rules)
     (kinds-by es rules (recursion_from_All (LendsEntry es) rules h))
 
 chosen-lent : (es : List LocatedExpression) (b : Bool) (x y : PlacedRule) → LendsRule es x → LendsRule es y → LendsRule es (cond b x y)
@@ -117,18 +107,3 @@ lends-by es (x ∷ rules) r h = chosen-lent es (eqb x.0 r) x.1 (rule_in rules r)
 pub lends-rule_in : (es : List LocatedExpression) (rules : List (ℕ × PlacedRule)) (r : ℕ) → LendsEach es rules
     → LendsRule es (rule_in rules r)
 lends-rule_in es rules r h = lends-by es rules r (recursion_from_All (LendsEntry es) rules h)
-
--- the first of entries, and those behind it
-pub lends-first : (es : List LocatedExpression) (entries : List RuleEntry) (d : RuleEntry) → 0 < length entries
-    → LendsEach es (entries_of entries) → LendsRule es (rule_by (get_or entries 0 d))
-lends-first es [] d lt h = absurd (omega arith)
-lends-first es (x ∷ entries) d lt h = (recursion_from_All (LendsEntry es) (entries_of (x ∷ entries)) h).0
-
-pub lends-rest : (es : List LocatedExpression) (entries : List RuleEntry) → LendsEach es (entries_of entries)
-    → LendsEach es (entries_of (take (length entries - 1) (drop 1 entries)))
-lends-rest es [] h = All-from_recursion (LendsEntry es) [] tt
-lends-rest es (x ∷ entries) h =
-    let count : length (x ∷ entries) - 1 ≡ length entries = omega arith in
-    let same : take (length (x ∷ entries) - 1) (drop 1 (x ∷ entries)) ≡ entries = ap (λ n. take n entries) count ∙ take-length entries in
-    subst (λ (l : List RuleEntry). LendsEach es (entries_of l)) (sym same)
-    (All-from_recursion (LendsEntry es) (entries_of entries) (recursion_from_All (LendsEntry es) (entries_of (x ∷ entries)) h).1)

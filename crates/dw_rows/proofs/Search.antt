@@ -8,7 +8,6 @@ use Rattle.std.proofs.lemmas.Cmp.{ranked}
 use Rattle.std.proofs.lemmas.List.{get_or_default}
 use Rattle.std.proofs.lemmas.List.Elements.{All-from_recursion, Contains-get_or}
 use Rattle.std.proofs.lemmas.Bool.Decides.{nat_tests}
-use Rattle.dw_rows.specs.Overlap.{IsFirst}
 use Rattle.dw_frame.specs.Bounds.{Ascends}
 
 -- below, equal or above
@@ -53,38 +52,6 @@ ascending-same at xs up x y (i, i_in, i_is) (j, j_in, j_is) same =
     subst (λ v. at v < at x) y_is (subst (λ v. at (get_or xs j x) < at v) i_is (ascending-at at xs up j i x lt i_in)) in omega arith in
     let place : i ≡ j = squeeze i j low high in
     sym i_is ∙ (ap (λ k. get_or xs k x) place ∙ y_is)
-
--- where each element before a place passes, each at a lower offset does
-pub first-at : {X : Type 0} (at : X → ℕ) (Passes Fails : X → Type 0) (xs : List X) → Ascends at xs → (i : ℕ) (x : X) → i < length xs
-    → get_or xs i x ≡ x → ((k : ℕ) (d : X) → k < i → Passes (get_or xs k d)) → Fails x → IsFirst at Passes Fails xs x
-first-at at Passes Fails xs up i x i_in i_is passed failed = record {
-  among = (i, i_in, i_is);
-  fails = failed;
-  before = λ y (j, j_in, j_is) lt.
-      let x_is : get_or xs i y ≡ x = get_or_default xs i y x i_in ∙ i_is in
-      let lower : at (get_or xs j y) < at (get_or xs i y) =
-      subst (λ v. at v < at (get_or xs i y)) (sym j_is) (subst (λ v. at y < at v) (sym x_is) lt) in
-      subst Passes j_is (passed j y (ascending-place at xs up j i y j_in i_in lower));
-}
-
--- the same of what a place reads, at any default
-pub first-read : {X : Type 0} (at : X → ℕ) (Passes Fails : X → Type 0) (xs : List X) → Ascends at xs → (i : ℕ) (d : X) → i < length xs
-    → ((k : ℕ) (d : X) → k < i → Passes (get_or xs k d)) → Fails (get_or xs i d) → IsFirst at Passes Fails xs (get_or xs i d)
-first-read at Passes Fails xs up i d i_in passed failed =
-    first-at at Passes Fails xs up i (get_or xs i d) i_in (get_or_default xs i (get_or xs i d) d i_in) passed failed
-
--- where each place passes, each element does
-pub all-at : {X : Type 0} (P : X → Type 0) (xs : List X) (i : ℕ) → length xs ≤ i → ((k : ℕ) (d : X) → k < i → P (get_or xs k d)) → (x : X)
-    → Contains xs x → P x
-all-at P xs i le passed x (j, j_in, j_is) = subst P j_is (passed j x (omega arith))
-
--- one more passes
-pub passed-more : {X : Type 0} (P : X → Type 0) (xs : List X) (i : ℕ) (x : X) → i < length xs → get_or xs i x ≡ x
-    → ((k : ℕ) (d : X) → k < i → P (get_or xs k d)) → P x → (k : ℕ) (d : X) → k < i + 1 → P (get_or xs k d)
-passed-more P xs i x i_in i_is passed here k d lt = elim (before_or_at k i lt) [
-  | inl low ↦ passed k d low
-  | inr e ↦ subst P (sym (ap (λ n. get_or xs n d) e ∙ (get_or_default xs i d x i_in ∙ i_is))) here
-]
 
 index-rises : (a b k : ℕ) → a ≤ b → ordering_index (nat_cmp a k) ≤ ordering_index (nat_cmp b k)
 index-rises a b k le = grind (arith, nat_tests)

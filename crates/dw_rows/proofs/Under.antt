@@ -14,7 +14,7 @@ use Rattle.dw_rows.specs.FirstEntry.{rule_of_either, rules_of_either}
 use Rattle.dw_rows.specs.declared.map.RuleEntry.{RuleEntry}
 use Rattle.dw_rows.specs.FirstEntry.{IsLowest}
 use Rattle.dw_rows.specs.Views.{entry_of, entries_of}
-use Rattle.dw_rows.specs.GivenRows.{rule_with, rules_with, LendsRule, LendsEntry, LendsEach}
+use Rattle.dw_rows.specs.GivenRows.{given_rule, given_rules, LendsRule, LendsEntry, LendsEach}
 use Rattle.dw_rows.proofs.GivenRows.{rule_in-with, table-with, lends-rule_in}
 use Rattle.dw_rows.proofs.NamedExpressions.{listed-have}
 use Rattle.dw_rows.proofs.Tables.{rule_in-below, rule_list-table, rule_list-same, rule_in-rule_list, IsTable-rule_list}
@@ -41,7 +41,7 @@ or-some (register r) y some = refl
 or-some (expression e) y some = refl
 or-some (val_expression e) y some = refl
 
-pub or-with : (es : List LocatedExpression) (x y : PlacedRule) → rule_with es (or_rule x y) ≡ or_rule (rule_with es x) (rule_with es y)
+pub or-with : (es : List LocatedExpression) (x y : PlacedRule) → given_rule es (or_rule x y) ≡ or_rule (given_rule es x) (given_rule es y)
 or-with es default y = refl
 or-with es undefined y = refl
 or-with es same_value y = refl
@@ -198,13 +198,13 @@ few-of-either es os t u = few-by (length es + length os) es os t u (omega arith)
 
 -- ---- with expressions
 
-pub rule_list-with : (es : List LocatedExpression) (f : ℕ → PlacedRule) → rules_with es (rule_list f) ≡ rule_list (λ r. rule_with es (f r))
+pub rule_list-with : (es : List LocatedExpression) (f : ℕ → PlacedRule) → given_rules es (rule_list f) ≡ rule_list (λ r. given_rule es (f r))
 rule_list-with es f =
-    sym (rule_list-table (rules_with es (rule_list f)) (table-with es 0 (rule_list f) (IsTable-rule_list f)))
-    ∙ rule_list-same _ _ (λ r h. rule_in-with es (rule_list f) r ∙ ap (rule_with es) (rule_in-rule_list f r h))
+    sym (rule_list-table (given_rules es (rule_list f)) (table-with es 0 (rule_list f) (IsTable-rule_list f)))
+    ∙ rule_list-same _ _ (λ r h. rule_in-with es (rule_list f) r ∙ ap (given_rule es) (rule_in-rule_list f r h))
 
 -- the rule of a role names no expression
-role-with : (es : List LocatedExpression) (x : Role) → rule_with es (rule_of_role x) ≡ rule_of_role x
+role-with : (es : List LocatedExpression) (x : Role) → given_rule es (rule_of_role x) ≡ rule_of_role x
 role-with es unnamed = refl
 role-with es kept = refl
 role-with es stack_pointer = refl
@@ -240,17 +240,13 @@ lends-either es rules others h k =
 -- the rules of either, with expressions, where the others are those of an ABI
 pub either-with : (es : List LocatedExpression) (rules others : List (ℕ × PlacedRule)) (abi : Abi)
     → ((r : ℕ) → rule_in others r ≡ rule_of_role (abi r))
-    → rules_with es (rules_of_either rules others) ≡ rules_under abi (rules_with es rules)
+    → given_rules es (rules_of_either rules others) ≡ rules_under abi (given_rules es rules)
 either-with es rules others abi are =
     rule_list-with es (rule_of_either rules others)
     ∙ rule_list-same _ _ (λ r h. or-with es (rule_in rules r) (rule_in others r)
-    ∙ ap (λ x. or_rule x (rule_with es (rule_in others r))) (sym (rule_in-with es rules r))
-    ∙ ap (λ x. or_rule (rule_in (rules_with es rules) r) (rule_with es x)) (are r)
-    ∙ ap (λ x. or_rule (rule_in (rules_with es rules) r) x) (role-with es (abi r)))
-
--- a rule of the row, or that of a role
-pub given-under : (es : List LocatedExpression) (x : Role) → rule_with es (rule_of_role x) ≡ rule_of_role x
-given-under es x = role-with es x
+    ∙ ap (λ x. or_rule x (given_rule es (rule_in others r))) (sym (rule_in-with es rules r))
+    ∙ ap (λ x. or_rule (rule_in (given_rules es rules) r) (given_rule es x)) (are r)
+    ∙ ap (λ x. or_rule (rule_in (given_rules es rules) r) x) (role-with es (abi r)))
 
 -- ---- the lowest entry, and what is left
 

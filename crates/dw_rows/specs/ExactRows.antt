@@ -2,7 +2,7 @@
 use Rattle.std.specs.Prelude.{◌≡◌, ℕ, [], ◌∷◌, Some, IfSome, Contains, filter}
 use Rattle.dw_frame.specs.Records.{Cie, Fde}
 use Rattle.dw_rows.specs.Rules.{PlacedRow, Row}
-use Rattle.dw_rows.specs.GivenRows.{row_with, LendsCfa, LendsEach}
+use Rattle.dw_rows.specs.GivenRows.{given_row, LendsCfa, LendsEach}
 use Rattle.dw_rows.specs.UnwindRows.{has_address}
 use Rattle.dw_rows.specs.Good.{IsLast, IsGoodFdeProgram}
 use Rattle.dw_rows.specs.Clauses.{IsRowAt, start_in, program_in}
@@ -30,7 +30,7 @@ pub record HasOneRow (s : Frame) (a : ℕ) : Type 0 where
   -- no other row is so
   pub only : (other : PlacedRow) → IsRowAt (start_in cie fde good) (program_in cie fde good) last other → other ≡ placed
   -- in the place of each offset that its rules name is the expression of the section that begins there, of the rule's kind
-  pub given : row ≡ row_with s.expressions placed
+  pub given : row ≡ given_row s.expressions placed
   pub cfa_lent : IfSome placed.cfa (LendsCfa s.expressions)
   pub lent : LendsEach s.expressions placed.rules
   -- and it is what a look-up answers

@@ -23,32 +23,32 @@ abbrev pub located_at : List LocatedExpression → ℕ → LocatedExpression
 located_at expressions at = or_nowhere (expression_at expressions at)
 
 -- a rule, with the expression that it names
-abbrev pub rule_with : List LocatedExpression → PlacedRule → Rule
-rule_with expressions default = default
-rule_with expressions undefined = undefined
-rule_with expressions same_value = same_value
-rule_with expressions (offset n) = offset n
-rule_with expressions (val_offset n) = val_offset n
-rule_with expressions (register r) = register r
-rule_with expressions (expression at) = expression (located_at expressions at)
-rule_with expressions (val_expression at) = val_expression (located_at expressions at)
+abbrev pub given_rule : List LocatedExpression → PlacedRule → Rule
+given_rule expressions default = default
+given_rule expressions undefined = undefined
+given_rule expressions same_value = same_value
+given_rule expressions (offset n) = offset n
+given_rule expressions (val_offset n) = val_offset n
+given_rule expressions (register r) = register r
+given_rule expressions (expression at) = expression (located_at expressions at)
+given_rule expressions (val_expression at) = val_expression (located_at expressions at)
 
-abbrev pub cfa_with : List LocatedExpression → PlacedCfa → Cfa
-cfa_with expressions (register_and_offset r n) = register_and_offset r n
-cfa_with expressions (cfa_expression at) = cfa_expression (located_at expressions at)
+abbrev pub given_cfa : List LocatedExpression → PlacedCfa → Cfa
+given_cfa expressions (register_and_offset r n) = register_and_offset r n
+given_cfa expressions (cfa_expression at) = cfa_expression (located_at expressions at)
 
-abbrev pub entry_with : List LocatedExpression → ℕ × PlacedRule → ℕ × Rule
-entry_with expressions entry = (entry.0, rule_with expressions entry.1)
+abbrev pub given_entry : List LocatedExpression → ℕ × PlacedRule → ℕ × Rule
+given_entry expressions entry = (entry.0, given_rule expressions entry.1)
 
-abbrev pub rules_with : List LocatedExpression → List (ℕ × PlacedRule) → List (ℕ × Rule)
-rules_with expressions rules = map (entry_with expressions) rules
+abbrev pub given_rules : List LocatedExpression → List (ℕ × PlacedRule) → List (ℕ × Rule)
+given_rules expressions rules = map (given_entry expressions) rules
 
-abbrev pub row_with : List LocatedExpression → PlacedRow → Row
-row_with expressions row = record {
+abbrev pub given_row : List LocatedExpression → PlacedRow → Row
+given_row expressions row = record {
   start = row.start;
   end = row.end;
-  cfa = option_map (cfa_with expressions) row.cfa;
-  rules = rules_with expressions row.rules;
+  cfa = option_map (given_cfa expressions) row.cfa;
+  rules = given_rules expressions row.rules;
 }
 
 -- ---- each expression has the kind of its rule

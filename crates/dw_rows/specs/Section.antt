@@ -12,7 +12,7 @@ use Rattle.dw_rows.specs.Rules.{PlacedRow, Row}
 use Rattle.dw_stack.specs.Located.{LocatedExpression}
 use Rattle.dw_rows.specs.Expressions.{frame_expressions}
 use Rattle.dw_rows.specs.Judgement.{or_else, cie_fault, fde_fault}
-use Rattle.dw_rows.specs.GivenRows.{row_with}
+use Rattle.dw_rows.specs.GivenRows.{given_row}
 use Rattle.dw_rows.specs.UnwindRows.{rows_of, has_address}
 
 -- A section under a target, and what is read of it before its first fault: the CIEs and the FDEs apart, each in the order of
@@ -129,7 +129,7 @@ rows_behind (Some c) f = rows_of c f
 
 -- the rows of an FDE, with the expressions that their rules name
 abbrev pub rows_in : Frame → Fde → List Row
-rows_in s f = map (row_with s.expressions) (rows_behind (cie_in s f) f)
+rows_in s f = map (given_row s.expressions) (rows_behind (cie_in s f) f)
 
 -- ---- the row of an address
 

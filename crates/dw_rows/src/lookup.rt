@@ -8,7 +8,7 @@ ghost use Rattle.dw_rows.specs.UnwindRows.{rows_of, has_address};
 ghost use Rattle.dw_rows.specs.ProgramState.{IsLeftBy};
 ghost use Rattle.dw_rows.specs.RuleSet.{KeptRules};
 ghost use Rattle.dw_rows.specs.RowCursors.{above, Seeks, GoesBehind, Lends};
-ghost use Rattle.dw_rows.specs.GivenRows.{row_with};
+ghost use Rattle.dw_rows.specs.GivenRows.{given_row};
 ghost use Rattle.dw_rows.specs.LentExpressions.{lent_by};
 
 use crate::expressions::LentExpressions;
@@ -33,7 +33,7 @@ pub(crate) fn write_row_at<'f, 'a>(
     requires low { fde.now.initial_location ≤ address }
     requires high { address < fde.now.initial_location + fde.now.address_range }
     ensures { find (has_address address)
-        (map (row_with (lent_by expressions.entry)) (rows_of (cie_of cie.now) (fde_of fde.now)))
+        (map (given_row (lent_by expressions.entry)) (rows_of (cie_of cie.now) (fde_of fde.now)))
         ≡ Some row.new }
 {
     let limit = fde.initial_location + fde.address_range;
@@ -89,7 +89,7 @@ fn write_row_in_bracket<'f, 'a>(
           instructions = instructions.old;
         })) }
     ensures found { OnTrue result (find (has_address address)
-        (map (row_with (lent_by expressions.entry)) (rows_of (cie_of cie.now) (fde_of fde.now)))
+        (map (given_row (lent_by expressions.entry)) (rows_of (cie_of cie.now) (fde_of fde.now)))
         ≡ Some row.new) }
     ensures behind { OnFalse result (GoesBehind (cie_of cie.now) (fde_of fde.now) address
         (record {

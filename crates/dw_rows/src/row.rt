@@ -7,7 +7,7 @@ ghost use Rattle.dw_rows.specs.FirstEntry.{rules_of_either, IsLowest};
 ghost use Rattle.dw_rows.specs.Rules.{CfaOver, IsTable, RuleOver, rule_in};
 ghost use Rattle.dw_rows.specs.Views.{rule_of, cfa_rule_of, entry_of, entries_of, kept_rule_of, kept_cfa_of};
 ghost use Rattle.dw_rows.specs.Expressions.{expression_at};
-ghost use Rattle.dw_rows.specs.GivenRows.{row_with, rule_with, cfa_with, located_at, LendsRule, LendsCfa, LendsEach, IsRuleOfKind};
+ghost use Rattle.dw_rows.specs.GivenRows.{given_row, given_rule, given_cfa, located_at, LendsRule, LendsCfa, LendsEach, IsRuleOfKind};
 ghost use Rattle.dw_rows.specs.GivenRows.{IsCfaOfKind, IsEntryOfKind};
 ghost use Rattle.dw_rows.specs.LentExpressions.{lent_by};
 ghost use Rattle.dw_stack.specs.Located.{LocatedExpression, located_of};
@@ -71,7 +71,7 @@ pub enum CfaRule<'a> {
 /// The rule of a register, with the expression that it names.
 fn given_rule<'a>(rule: KeptRule, expressions: &LentExpressions<'_, 'a>) -> RegisterRule<'a>
     requires { LendsRule (lent_by expressions.now) (kept_rule_of rule) }
-    ensures { rule_of result ≡ rule_with (lent_by expressions.now) (kept_rule_of rule) }
+    ensures { rule_of result ≡ given_rule (lent_by expressions.now) (kept_rule_of rule) }
 {
     match rule {
         KeptRule::Default => RegisterRule::Default,
@@ -94,7 +94,7 @@ fn given_rule<'a>(rule: KeptRule, expressions: &LentExpressions<'_, 'a>) -> Regi
 /// The rule of the CFA, likewise.
 fn given_cfa<'a>(cfa: KeptCfa, expressions: &LentExpressions<'_, 'a>) -> CfaRule<'a>
     requires { LendsCfa (lent_by expressions.now) (kept_cfa_of cfa) }
-    ensures { cfa_rule_of result ≡ cfa_with (lent_by expressions.now) (kept_cfa_of cfa) }
+    ensures { cfa_rule_of result ≡ given_cfa (lent_by expressions.now) (kept_cfa_of cfa) }
 {
     match cfa {
         KeptCfa::RegisterAndOffset { register, offset } => {
@@ -136,10 +136,10 @@ impl<'f, 'a> Model for UnwindTableRow<'f, 'a> {
     ghost Value = { Row };
 
     ghost use Rattle.dw_rows.specs.Views.{kept_cfa_of};
-    ghost use Rattle.dw_rows.specs.GivenRows.{row_with, LendsCfa, LendsEach};
+    ghost use Rattle.dw_rows.specs.GivenRows.{given_row, LendsCfa, LendsEach};
     ghost use Rattle.dw_rows.specs.LentExpressions.{lent_by};
 
-    ghost view = { λ row. row_with (lent_by row.expressions) (record {
+    ghost view = { λ row. given_row (lent_by row.expressions) (record {
       start = row.start;
       end = row.end;
       cfa = Some (kept_cfa_of row.cfa);
@@ -184,7 +184,7 @@ impl<'f, 'a> UnwindTableRow<'f, 'a> {
     )
         requires cfa { LendsCfa (lent_by expressions) (kept_cfa_of cfa) }
         requires rules { LendsEach (lent_by expressions) rules.now }
-        ensures { self.new ≡ row_with (lent_by expressions.entry) (record {
+        ensures { self.new ≡ given_row (lent_by expressions.entry) (record {
           start = start;
           end = end;
           cfa = Some (kept_cfa_of cfa);
@@ -290,12 +290,12 @@ impl<'f, 'a> Model for RegisterRules<'f, 'a> {
     ghost Value = { List (ℕ × Rule) };
 
     ghost use Rattle.dw_rows.specs.Views.{entries_of};
-    ghost use Rattle.dw_rows.specs.GivenRows.{rules_with, LendsEach};
+    ghost use Rattle.dw_rows.specs.GivenRows.{given_rules, LendsEach};
     ghost use Rattle.dw_rows.specs.LentExpressions.{lent_by};
     ghost use Rattle.dw_rows.specs.FirstEntry.{rules_of_either};
     ghost use Rattle.dw_rows.specs.Rules.{IsTable};
 
-    ghost view = { λ r. rules_with (lent_by r.expressions)
+    ghost view = { λ r. given_rules (lent_by r.expressions)
         (rules_of_either (entries_of r.entries.now) (entries_of r.others.now)) };
 
     ghost invariant = { λ r. IsTable 0 (entries_of r.entries.now)

@@ -35,11 +35,11 @@ impl<'f, 'a> Model for Rows<'f, 'a> {
 
     ghost use Rattle.dw_frame.specs.Views.{cie_of, fde_of};
     ghost use Rattle.dw_rows.specs.UnwindRows.{rows_of};
-    ghost use Rattle.dw_rows.specs.GivenRows.{row_with};
+    ghost use Rattle.dw_rows.specs.GivenRows.{given_row};
     ghost use Rattle.dw_rows.specs.LentExpressions.{lent_by};
     ghost use Rattle.dw_rows.specs.RowCursors.{IsReady, Lends};
 
-    ghost view = { λ r. map (row_with (lent_by r.expressions))
+    ghost view = { λ r. map (given_row (lent_by r.expressions))
         (drop r.given (rows_of (cie_of r.cie) (fde_of r.fde))) };
 
     ghost invariant = { λ r. IsReady (cie_of r.cie) (fde_of r.fde)

@@ -1,9 +1,9 @@
 -- What the tests of an expression's operations tell.
-use Rattle.std.proofs.Common.{◌≡◌, ◌≢◌, ◌∙◌, ℕ, zero, suc, ◌+◌, ◌≤◌, ◌⊎◌, ◌||◌, ◌&&◌, Bool, true, false, not, eqb, leb, List, [], ◌∷◌}
+use Rattle.std.proofs.Common.{◌≡◌, ◌≢◌, ◌∙◌, ℕ, zero, suc, ◌+◌, ◌≤◌, ◌⊎◌, ◌||◌, ◌&&◌, Bool, true, false, not, eqb, List, [], ◌∷◌}
 use Rattle.std.proofs.Common.{length, Some, refl, sym, ap, inl, inr, arith}
 use Rattle.std.specs.Prelude.{◌==◌, if◌then◌else◌}
 use Rattle.std.specs.List.{list_any, list_all}
-use Rattle.std.proofs.lemmas.Bool.{cases_Bool, eqb-true, eqb-false, leb-true, leb-false, or_left, or_right}
+use Rattle.std.proofs.lemmas.Bool.{cases_Bool, eqb-true, eqb-false, or_left, or_right}
 use Rattle.dw_stack.specs.declared.state.StackState.{StackState}
 use Rattle.dw_stack.specs.declared.state.Mode.{Mode}
 use Rattle.dw_stack.specs.Paths.{Placed, place}
@@ -22,16 +22,6 @@ bool_tells false = inr (refl, λ e. cc)
 
 pub equal_tells : (a b : ℕ) → Tells (a == b) (a ≡ b)
 equal_tells a b = elim (cases_Bool (eqb a b)) [ inl is ↦ inl (is, eqb-true a b is) | inr is ↦ inr (is, eqb-false a b is) ]
-
-pub le_tells : (a b : ℕ) → Tells (leb a b) (a ≤ b)
-le_tells a b = elim (cases_Bool (leb a b)) [
-  | inl is ↦ inl (is, leb-true a b is)
-  | inr is ↦ inr (
-    is,
-    λ le. let lt = leb-false a b is in
-        omega (arith, le, lt),
-  )
-]
 
 -- ---- states and targets
 

@@ -2,7 +2,7 @@ use Rattle.std.proofs.Common.{◌≡◌, List, Some, ap, map, sym, subst, ◌∙
 use Rattle.std.specs.List.{All}
 use Rattle.dw_frame.specs.Records.{Cie, Fde}
 use Rattle.dw_rows.specs.Rules.{Row}
-use Rattle.dw_rows.specs.GivenRows.{row_with}
+use Rattle.dw_rows.specs.GivenRows.{given_row}
 use Rattle.dw_rows.specs.UnwindRows.{rows_of}
 use Rattle.dw_rows.specs.Section.{Frame, cie_in, rows_in, rows_behind}
 use Rattle.dw_check.specs.Text.{Fits}
@@ -12,8 +12,8 @@ use Rattle.dw_check.proofs.output.write_fde_and_rows.Goals as goal
 
 -- the rows are those behind the CIE
 behind : (s : Frame) (f : Fde) (c : Cie) (rows : List Row) → cie_in s f ≡ Some c → rows ≡ rows_in s f
-    → rows ≡ map (row_with s.expressions) (rows_of c f)
-behind s f c rows is all = all ∙ ap (λ o. map (row_with s.expressions) (rows_behind o f)) is
+    → rows ≡ map (given_row s.expressions) (rows_of c f)
+behind s f c rows is all = all ∙ ap (λ o. map (given_row s.expressions) (rows_behind o f)) is
 
 pub write_fde-requires-clause-fits : goal.write_fde-requires-clause-fits
 write_fde-requires-clause-fits g c = below_top c.args.frame.now.target _ _ c.requires.size c.requires.fits

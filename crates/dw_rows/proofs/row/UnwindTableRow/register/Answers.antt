@@ -1,6 +1,6 @@
 use Rattle.std.proofs.Common.{subst, sym, ap, ◌∙◌}
 use Rattle.dw_rows.specs.Rules.{Row, rule_in}
-use Rattle.dw_rows.specs.GivenRows.{rule_with, LendsRule, IsRuleOfKind}
+use Rattle.dw_rows.specs.GivenRows.{given_rule, LendsRule, IsRuleOfKind}
 use Rattle.dw_rows.specs.LentExpressions.{lent_by}
 use Rattle.dw_rows.proofs.GivenRows.{rule_in-with, lends-rule_in, rule-of-kind}
 use Rattle.dw_rows.proofs.row.UnwindTableRow.register.Goals as goal
@@ -13,7 +13,7 @@ given_rule-requires c =
 pub returns-clause-rule : goal.returns-clause-rule
 returns-clause-rule c =
     let es = lent_by c.self.inside.expressions in
-    c.given_rule.ensures ∙ ap (rule_with es) c.register.ensures ∙ sym (rule_in-with es c.self.inside.rules c.args.number)
+    c.given_rule.ensures ∙ ap (given_rule es) c.register.ensures ∙ sym (rule_in-with es c.self.inside.rules c.args.number)
     ∙ ap (λ (row : Row). rule_in row.rules c.args.number) c.self.view_is
 
 pub returns-clause-kind : goal.returns-clause-kind
@@ -21,5 +21,5 @@ returns-clause-kind c =
     let es = lent_by c.self.inside.expressions in
     let lends : LendsRule es (rule_in c.self.inside.rules c.args.number) =
     lends-rule_in es c.self.inside.rules c.args.number c.self.invariant.1 in
-    subst IsRuleOfKind (sym (c.given_rule.ensures ∙ ap (rule_with es) c.register.ensures))
+    subst IsRuleOfKind (sym (c.given_rule.ensures ∙ ap (given_rule es) c.register.ensures))
     (rule-of-kind es (rule_in c.self.inside.rules c.args.number) lends)

@@ -4,7 +4,7 @@ use Rattle.dw_rows.specs.Abi.{rules_under}
 use Rattle.dw_rows.specs.AbiViews.{roles_of}
 use Rattle.dw_rows.specs.FirstEntry.{rules_of_either}
 use Rattle.dw_rows.specs.Rules.{PlacedRule, Row}
-use Rattle.dw_rows.specs.GivenRows.{IsEntryOfKind, LendsEach, rules_with}
+use Rattle.dw_rows.specs.GivenRows.{IsEntryOfKind, LendsEach, given_rules}
 use Rattle.dw_rows.specs.LentExpressions.{lent_by}
 use Rattle.dw_rows.specs.Views.{entries_of}
 use Rattle.dw_rows.proofs.Edits.{length-entries_of}
@@ -17,7 +17,7 @@ pub returns-clause-rules : goal.returns-clause-rules
 returns-clause-rules c =
     let es = lent_by c.self.inside.expressions in
     let others = entries_of c.as_slice-2.result.now in
-    ap (λ (l : List (ℕ × PlacedRule)). rules_with es (rules_of_either l others)) c.as_slice.ensures.entries
+    ap (λ (l : List (ℕ × PlacedRule)). given_rules es (rules_of_either l others)) c.as_slice.ensures.entries
     ∙ either-with es c.self.inside.rules others (roles_of c.args.abi.now) c.as_slice-2.ensures.rules
     ∙ ap (λ (row : Row). rules_under (roles_of c.args.abi.now) row.rules) c.self.view_is
 
@@ -29,7 +29,7 @@ returns-clause-few c =
     let es = lent_by c.self.inside.expressions in
     let own = entries_of c.as_slice.result.now in
     let others = entries_of c.as_slice-2.result.now in
-    let is : rules_with es (rules_of_either own others) ≡ rules_under (roles_of c.args.abi.now) c.args.self.now.rules = returns-clause-rules c in
+    let is : given_rules es (rules_of_either own others) ≡ rules_under (roles_of c.args.abi.now) c.args.self.now.rules = returns-clause-rules c in
     omega (
       arith,
       ap length is,

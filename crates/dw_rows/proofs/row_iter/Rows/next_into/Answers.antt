@@ -1,6 +1,6 @@
 use Rattle.std.proofs.Common.{rules, arith, refl, ap, map, ◌+◌, ◌<◌, ◌^◌}
 use Rattle.dw_frame.specs.Views.{cie_of, fde_of}
-use Rattle.dw_rows.specs.GivenRows.{row_with}
+use Rattle.dw_rows.specs.GivenRows.{given_row}
 use Rattle.dw_rows.specs.LentExpressions.{lent_by}
 use Rattle.dw_rows.proofs.Coming.{ready-rests, ready-comes}
 use Rattle.dw_rows.proofs.row_iter.Rows.next_into.Goals as goal
@@ -40,7 +40,7 @@ returns-in-None-clause-none c =
       instructions =
           c.next_range.new.instructions;
     }) c.self.inside.given c.self.invariant.0 c.in-None.ensures in
-    let given = map (row_with (lent_by c.self.inside.expressions)) in
+    let given = map (given_row (lent_by c.self.inside.expressions)) in
     rw (← c.self.view_is) (ap given k.none, ap given k.still, refl)
 
 pub overflow_add-self : goal.overflow_add-self
@@ -115,4 +115,4 @@ returns-in-Some-clause-some c =
       instructions =
           c.next_range.new.instructions;
     }) c.self.inside.given c.in-Some.start c.in-Some.end c.self.invariant.0 c.in-Some.ensures in
-    rw (c.write_row.ensures, ← c.self.view_is) (ap (map (row_with (lent_by c.self.inside.expressions))) k.rows)
+    rw (c.write_row.ensures, ← c.self.view_is) (ap (map (given_row (lent_by c.self.inside.expressions))) k.rows)
