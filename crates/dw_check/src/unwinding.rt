@@ -64,7 +64,7 @@ fn callers_fit(frame: &CheckedFrame<'_>)
     let _ = frame.section();
     dw_rows::laws::checked_sections();
     dw_rows::laws::rules_under_abis();
-    dw_eval::laws::numbers_fit();
+    dw_eval::laws::numbers_of_evaluations_fit();
 }
 
 /// The caller of the frame that stands at an address, over the frame's registers and memory, or none where no FDE covers the

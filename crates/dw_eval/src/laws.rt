@@ -38,7 +38,7 @@ pub fn each_has_an_evaluation()
 
 /// All numbers of a run are below 2^w wherever it comes: those on the stack, the value or address that was named, and
 /// those of the pieces.
-pub fn numbers_fit()
+pub fn numbers_of_evaluations_fit()
     ensures { (e : World) (kind : Kind) (ops : List Placed) (len n : ℕ) (s : List ℕ)
         (c : Configuration) → first_stack e kind ≡ Some s
         → Run (meaning_of e) ops len n (started s) c → NumbersFit (2 ^ width e) c }
