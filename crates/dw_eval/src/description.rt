@@ -63,8 +63,8 @@ fn run_on<'a, R: Registers, M: Memory, const PLACES: usize>(
     }
 }
 
-/// Runs a location from its start, with a run that has done nothing. The places of its pieces are made with the first: most have none, and the places take
-/// longer to make than their steps.
+/// Runs a location from its start, with a run that has done nothing. The places of its pieces are made with the first:
+/// most have none, and the places take longer to make than their steps.
 pub fn run_location<'a, R: Registers, M: Memory, const PLACES: usize>(
     expression: &Expression<'a>,
     environment: &Environment<'_, R, M>,

@@ -1,5 +1,6 @@
 -- The rules of an ABI, register after register.
-use Rattle.std.proofs.Common.{◌≡◌, ◌≢◌, ℕ, zero, suc, ◌+◌, ◌<◌, ◌≤◌, Bool, true, false, cond, List, [], ◌∷◌, ◌++◌, length, Option, None, Some, refl, sym, ap, ◌∙◌}
+use Rattle.std.proofs.Common.{◌≡◌, ◌≢◌, ℕ, zero, suc, ◌+◌, ◌<◌, ◌≤◌, Bool, true, false, cond, List, [], ◌∷◌, ◌++◌, length, Option}
+use Rattle.std.proofs.Common.{None, Some, refl, sym, ap, ◌∙◌}
 use Rattle.std.proofs.Common.{arith, eqb, ltb, ◌||◌, take, drop, get_or, inl, inr, subst, length-append}
 use Rattle.std.specs.Prelude.{option_map}
 use Rattle.dw_bytes.specs.declared.fault.Fault.{Fault}
@@ -249,7 +250,8 @@ made-without registers pointer place rules few k ge le none =
     )
 
 -- with one that is kept
-pub kept-pointer : (registers : List ℕ) (pointer : Option ℕ) (place : ℕ) (rules : List (ℕ × PlacedRule)) (n : ℕ) → length registers ≤ MAX_KEPT
+pub kept-pointer : (registers : List ℕ) (pointer : Option ℕ) (place : ℕ) (rules : List (ℕ × PlacedRule)) (n : ℕ)
+    → length registers ≤ MAX_KEPT
     → KeepsUpTo registers (option_to_list pointer) place rules → length registers ≤ place → place ≤ length registers → pointer ≡ Some n
     → n < 65536 → rule_in rules n ≢ default
     → abi_fault registers pointer ≡ Some (record { kind = AbiTwice; at = length registers })
@@ -260,7 +262,8 @@ kept-pointer registers pointer place rules n few k ge le is fits some =
     ∙ second-here registers n [] (named-some registers rules n all.0 fits some))
 
 -- with one that is not
-pub made-with : (registers : List ℕ) (pointer : Option ℕ) (place : ℕ) (rules new : List (ℕ × PlacedRule)) (n : ℕ) → length registers ≤ MAX_KEPT
+pub made-with : (registers : List ℕ) (pointer : Option ℕ) (place : ℕ) (rules new : List (ℕ × PlacedRule)) (n : ℕ)
+    → length registers ≤ MAX_KEPT
     → KeepsUpTo registers (option_to_list pointer) place rules → length registers ≤ place → place ≤ length registers → pointer ≡ Some n
     → n < 65536 → rule_in rules n ≡ default → new ≡ rule_list (changed_at (rule_in rules) n (val_offset (pos 0)))
     → (abi_fault registers pointer ≡ None) × (new ≡ rule_list (abi_rule registers pointer))
@@ -310,7 +313,8 @@ abi-stands registers pointer fault is = go (ltb MAX_KEPT (length registers)) ref
         )
 
     go : (large : Bool) → ltb MAX_KEPT (length registers) ≡ large
-        → cond large (Some (record { kind = AbiTooLarge; at = MAX_KEPT })) (option_map twice (place_of_second [] (registers ++ option_to_list pointer)))
+        → cond large (Some (record { kind = AbiTooLarge; at = MAX_KEPT }))
+            (option_map twice (place_of_second [] (registers ++ option_to_list pointer)))
         ≡ Some fault → fault.at ≤ length registers
     go true e h =
         let same : ◌≡◌ {A = Fault} (record { kind = AbiTooLarge; at = MAX_KEPT }) fault = cc in

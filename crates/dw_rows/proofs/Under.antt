@@ -7,7 +7,8 @@ use Rattle.std.proofs.lemmas.Bool.{cases_lt, cases_eq}
 use Rattle.std.proofs.lemmas.Bool.Decides.{nat_tests}
 use Rattle.std.proofs.lemmas.List.Elements.{All-from_recursion, recursion_from_All}
 use Rattle.dw_stack.specs.Located.{LocatedExpression}
-use Rattle.dw_rows.specs.Rules.{RuleOver, PlacedRule, default, undefined, same_value, offset, val_offset, register, expression, val_expression}
+use Rattle.dw_rows.specs.Rules.{RuleOver, PlacedRule, default, undefined, same_value, offset, val_offset, register, expression}
+use Rattle.dw_rows.specs.Rules.{val_expression}
 use Rattle.dw_rows.specs.Rules.{rule_in, IsTable, rule_list}
 use Rattle.dw_rows.specs.Abi.{Abi, Role, unnamed, kept, stack_pointer, or_rule, rule_of_role, rules_under}
 use Rattle.dw_rows.specs.FirstEntry.{rule_of_either, rules_of_either}
@@ -187,7 +188,8 @@ few-by (suc fuel) (e ∷ es) (o ∷ os) t u f = elim (cases_lt e.0 o.0) [
         let is = ap length (lowest-both e o es os t u same) in omega (arith, later, is)
     | inr other ↦
         let later = few-by fuel (e ∷ es) os t (behind-first o os u) (omega (arith, f)) in
-        let is = ap length (lowest-other o (e ∷ es) os u (λ r l. rule_in-below e.0 (e ∷ es) r (from-first e es t) (omega (arith, le, other)))) in
+        let is = ap length (lowest-other o (e ∷ es) os u
+            (λ r l. rule_in-below e.0 (e ∷ es) r (from-first e es t) (omega (arith, le, other)))) in
         omega (arith, later, is)
   ]
 ]
@@ -198,7 +200,8 @@ few-of-either es os t u = few-by (length es + length os) es os t u (omega arith)
 
 -- ---- with expressions
 
-pub rule_list-with : (es : List LocatedExpression) (f : ℕ → PlacedRule) → given_rules es (rule_list f) ≡ rule_list (λ r. given_rule es (f r))
+pub rule_list-with : (es : List LocatedExpression) (f : ℕ → PlacedRule)
+    → given_rules es (rule_list f) ≡ rule_list (λ r. given_rule es (f r))
 rule_list-with es f =
     sym (rule_list-table (given_rules es (rule_list f)) (table-with es 0 (rule_list f) (IsTable-rule_list f)))
     ∙ rule_list-same _ _ (λ r h. rule_in-with es (rule_list f) r ∙ ap (given_rule es) (rule_in-rule_list f r h))
@@ -256,7 +259,8 @@ lowest-less e left os t u none = record {
   first = lowest-first e left os t none;
   table = behind-first e left t;
   other_table = u;
-  each = λ es h k. let both = recursion_from_All (LendsEntry es) (e ∷ left) h in (both.0, All-from_recursion (LendsEntry es) left both.1, k);
+  each = λ es h k. let both = recursion_from_All (LendsEntry es) (e ∷ left) h in
+      (both.0, All-from_recursion (LendsEntry es) left both.1, k);
 }
 
 pub lowest-equal : (e o : ℕ × PlacedRule) (left right : List (ℕ × PlacedRule)) → IsTable 0 (e ∷ left) → IsTable 0 (o ∷ right)
@@ -277,7 +281,8 @@ lowest-greater o es right t u none = record {
   first = lowest-other o es right u none;
   table = t;
   other_table = behind-first o right u;
-  each = λ xs h k. let other = recursion_from_All (LendsEntry xs) (o ∷ right) k in (other.0, h, All-from_recursion (LendsEntry xs) right other.1);
+  each = λ xs h k. let other = recursion_from_All (LendsEntry xs) (o ∷ right) k in
+      (other.0, h, All-from_recursion (LendsEntry xs) right other.1);
 }
 
 -- no rule stands below the first
@@ -325,7 +330,8 @@ first-equal (x ∷ rest) [] d some more t u same = absurd (omega (arith, more))
 first-equal (x ∷ rest) (y ∷ behind) d some more t u same =
     subst (λ (l : List RuleEntry). IsLowest (entries_of (x ∷ rest)) (entries_of (y ∷ behind)) (entry_of x)
     (entries_of (take (length (x ∷ rest) - 1) (drop 1 (x ∷ rest)))) (entries_of l)) (sym (behind-is y behind))
-    (subst (λ (l : List RuleEntry). IsLowest (entries_of (x ∷ rest)) (entries_of (y ∷ behind)) (entry_of x) (entries_of l) (entries_of behind))
+    (subst (λ (l : List RuleEntry).
+    IsLowest (entries_of (x ∷ rest)) (entries_of (y ∷ behind)) (entry_of x) (entries_of l) (entries_of behind))
     (sym (behind-is x rest)) (lowest-equal (entry_of x) (entry_of y) (entries_of rest) (entries_of behind) t u same))
 
 -- a table's first register is above every one below it
