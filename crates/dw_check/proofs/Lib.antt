@@ -14,6 +14,7 @@ pub mod KnownMachine
 pub mod KnownState
 pub mod Lengths
 pub mod Lined
+pub mod Loading
 pub mod LongFiles
 pub mod OneCaller
 pub mod OneReply

@@ -1,5 +1,5 @@
 -- Walks, frame after frame.
-use Rattle.std.proofs.Common.{◌≡◌, ℕ, zero, suc, ◌+◌, ◌-◌, ◌<◌, ◌≤◌, ◌==◌, List, [], ◌∷◌, ◌++◌, length, Option, None, Some, true, false}
+use Rattle.std.proofs.Common.{◌≡◌, ℕ, zero, suc, ◌+◌, ◌-◌, ◌<◌, ◌≤◌, ◌==◌, List, [], ◌∷◌, ◌++◌, length, Option, None, Some, false}
 use Rattle.std.proofs.Common.{refl, sym, ap, subst, ◌∙◌, arith, take, get_or}
 use Rattle.std.proofs.lemmas.List.{take_more, take_all, map-append, length-map}
 use Rattle.std.specs.Prelude.{All, if◌then◌else◌, Result, Ok, Err}
@@ -8,7 +8,6 @@ use Rattle.std.proofs.lemmas.Bool.Decides.{nat_tests}
 use Rattle.std.proofs.lemmas.List.Elements.{All-append, All-from_recursion}
 use Rattle.dw_check.specs.declared.frames.Frame as declared
 use Rattle.dw_check.specs.declared.frames.Stop.{Stop}
-use Rattle.dw_check.specs.declared.frames.Stop.TheVariants.{Limit}
 use Rattle.dw_check.specs.Walks.{Surroundings, Place, WalkedFrame, AreFrames, IsFrameBehind, Walks, next_place}
 use Rattle.dw_check.specs.Walks.{address_before, stop_behind, stop_of_caller}
 use Rattle.dw_check.proofs.Callers.{of_next}

@@ -1,0 +1,9 @@
+-- Bytes that a source gives, one piece after the other.
+use Rattle.std.proofs.Common.{ℕ, List, ◌++◌, Option, None, Some, ap, sym, ◌∙◌, append_assoc}
+use Rattle.std.specs.Io.KnownBytes.{Consumes}
+
+pub consumes_more : (a b c : Option (List ℕ)) (x y : List ℕ) → Consumes a b x → Consumes b c y → Consumes a c (x ++ y)
+consumes_more None b c x y h k = tt
+consumes_more (Some xs) None c x y h k = absurd h
+consumes_more (Some xs) (Some ys) None x y h k = absurd k
+consumes_more (Some xs) (Some ys) (Some zs) x y h k = h ∙ ap (λ (l : List ℕ). x ++ l) k ∙ sym (append_assoc x y zs)
