@@ -3,7 +3,7 @@ use Rattle.std.proofs.Common.{◌≡◌, ℕ, zero, suc, ◌+◌, ◌-◌, ◌<�
 use Rattle.std.proofs.Common.{◌∷◌, ◌++◌, length, take, slice_index, ap, refl, sym, ◌∙◌, arith}
 use Rattle.std.specs.Prelude.{MatchOption, if◌then◌else◌, slice_get}
 use Rattle.std.specs.Bool.{OnTrue}
-use Rattle.std.specs.Option.{option_or}
+use Rattle.std.specs.Option.{is_none, option_or}
 use Rattle.std.specs.declared.cmp.Ordering.TheVariants.{Less, Equal, Greater}
 use Rattle.std.specs.Ordering.{is_eq, nat_cmp}
 use Rattle.std.specs.Cmp.{nat_cmp_is}
@@ -11,8 +11,9 @@ use Rattle.std.specs.Map.{lookup}
 use Rattle.std.specs.BTreeMap.{BTreeMap, get, Updates, IsUnchanged}
 use Rattle.std.proofs.lemmas.Bool.Decides.{nat_tests}
 use Rattle.std.proofs.lemmas.List.Sums.{fold-append}
+use Rattle.dw_rows.specs.Abi.{abi_fault}
 use Rattle.dw_check.specs.StateFile.{StateFact, bytes, first_that, content_in, byte_in, cfa_in, frame_base_in, object_in}
-use Rattle.dw_check.specs.StateFile.{kept_in, kept_with, stack_pointer_in, fit_together, go_together, KnownState, IsGivenBy}
+use Rattle.dw_check.specs.StateFile.{kept_in, kept_with, stack_pointer_in, go_together, KnownState, IsGivenBy}
 
 cmp_lt : (k q : ℕ) → k < q → is_eq (nat_cmp k q) ≡ (k == q)
 cmp_lt k q h = let other : (k == q) ≡ false = grind (arith, nat_tests) in rw (sym (nat_cmp_is k q Less h), other) refl
@@ -151,14 +152,14 @@ given_more old new g h gs is = record {
 
 -- whether one line more goes with what is known
 pub together_more : (old : KnownState) (gs : List StateFact) (g : StateFact) → IsGivenBy old gs
-    → go_together (gs ++ g ∷ []) ≡ fit_together (kept_with old.kept g) (option_or old.stack_pointer (stack_pointer_in g))
+    → go_together (gs ++ g ∷ []) ≡ is_none (abi_fault (kept_with old.kept g) (option_or old.stack_pointer (stack_pointer_in g)))
 together_more old gs g is =
     rw (kept_more gs g, first_more stack_pointer_in gs g, is.kept, is.stack_pointer) refl
 
 -- one that names no register of the ABI does
 pub plain_goes : (old : KnownState) (g : StateFact) → kept_with old.kept g ≡ old.kept → stack_pointer_in g ≡ None
-    → fit_together old.kept old.stack_pointer ≡ true → (gs : List StateFact) → IsGivenBy old gs → true ≡ go_together (gs ++ g ∷ [])
-plain_goes old g keeps none fit gs is = rw (together_more old gs g is, keeps, none, or_none old.stack_pointer) (sym fit)
+    → abi_fault old.kept old.stack_pointer ≡ None → (gs : List StateFact) → IsGivenBy old gs → true ≡ go_together (gs ++ g ∷ [])
+plain_goes old g keeps none fit gs is = rw (together_more old gs g is, keeps, none, or_none old.stack_pointer, fit) refl
 
 pub where_true : {A B : Type 0} → (t : Bool) → OnTrue t A → (A → B) → OnTrue t B
 where_true true h f = f h

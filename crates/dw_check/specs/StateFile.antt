@@ -1,16 +1,15 @@
 -- What a state file says of a machine, line by line.
-use Rattle.std.specs.Prelude.{◌≡◌, ℕ, suc, ◌+◌, ◌-◌, ◌≤◌, ◌^◌, ◌==◌, nat_lt, nat_le, Bool, true, not, ◌&&◌, ◌||◌, if◌then◌else◌}
+use Rattle.std.specs.Prelude.{◌≡◌, ℕ, suc, ◌+◌, ◌-◌, ◌≤◌, ◌^◌, ◌==◌, nat_lt, nat_le, Bool, not, ◌&&◌, ◌||◌, if◌then◌else◌}
 use Rattle.std.specs.Prelude.{List, [], ◌∷◌, ◌++◌, length, take, find, fold, slice_get}
 use Rattle.std.specs.Prelude.{Option, Some, None, is_some, option_map, option_and_then, Result, Ok, Err, codes}
 use Rattle.std.specs.List.{filter_map, list_all, range_with_len}
-use Rattle.std.specs.Option.{option_or, option_to_list}
+use Rattle.std.specs.Option.{is_none, option_or}
 use Rattle.std.specs.Result.{result_ok}
 use Rattle.std.specs.Str.{bytes_eq}
 use Rattle.hex.specs.Hex.{decode_of}
 use Rattle.dw_bytes.specs.declared.target.Target.{Target}
 use Rattle.dw_frame.specs.Sections.{top_of}
-use Rattle.dw_rows.specs.Abi.{is_among}
-use Rattle.dw_rows.specs.declared.abi.TheConstants.{MAX_KEPT}
+use Rattle.dw_rows.specs.Abi.{is_among, abi_fault}
 use Rattle.dw_check.specs.Addresses.{short_number, address_of}
 use Rattle.dw_check.specs.Parts.{parts_of}
 
@@ -45,15 +44,16 @@ abbrev pub memory_fact : Target → List ℕ → List ℕ → Option StateFact
 memory_fact target place value = option_and_then (λ a. option_and_then (bytes_fact target a) (result_ok (decode_of value)))
     (address_of target place)
 
-abbrev pub numbered : Target → List ℕ → List ℕ → List ℕ → Option StateFact
-numbered target word place value =
+-- a line of three words
+abbrev pub fact_of_three_words : Target → List ℕ → List ℕ → List ℕ → Option StateFact
+fact_of_three_words target word place value =
     if bytes_eq word (codes "reg") then register_fact target place value
     else (if bytes_eq word (codes "mem") then memory_fact target place value
     else None)
 
--- `cfa 0xV`, `frame 0xV`, `object 0xV`, `keep N` and `sp N`
-abbrev pub named : Target → List ℕ → List ℕ → Option StateFact
-named target word value =
+-- a line of two words: `cfa 0xV`, `frame 0xV`, `object 0xV`, `keep N` and `sp N`
+abbrev pub fact_of_two_words : Target → List ℕ → List ℕ → Option StateFact
+fact_of_two_words target word value =
     if bytes_eq word (codes "cfa") then option_map cfa (address_of target value)
     else (if bytes_eq word (codes "frame") then option_map frame_base (address_of target value)
     else (if bytes_eq word (codes "object") then option_map object (address_of target value)
@@ -62,8 +62,8 @@ named target word value =
     else None))))
 
 abbrev pub fact_of_words : Target → List (List ℕ) → Option StateFact
-fact_of_words target (word ∷ value ∷ []) = named target word value
-fact_of_words target (word ∷ place ∷ value ∷ []) = numbered target word place value
+fact_of_words target (word ∷ value ∷ []) = fact_of_two_words target word value
+fact_of_words target (word ∷ place ∷ value ∷ []) = fact_of_three_words target word place value
 fact_of_words target words = None
 
 -- what a line's words give, with single spaces between them
@@ -111,15 +111,6 @@ kept_with ns _ = ns
 abbrev pub kept_in : List StateFact → List ℕ
 kept_in gs = fold kept_with [] gs
 
--- none of them is there twice
-abbrev pub are_distinct : List ℕ → Bool
-are_distinct [] = true
-are_distinct (n ∷ ns) = not (is_among n ns) && are_distinct ns
-
--- No more than `MAX_KEPT` numbers are kept, and none of them is there twice or is the stack pointer.
-abbrev pub fit_together : List ℕ → Option ℕ → Bool
-fit_together kept sp = nat_le (length kept) MAX_KEPT && are_distinct (kept ++ option_to_list sp)
-
 -- ---- the file
 
 -- what lines give, in their order
@@ -130,9 +121,9 @@ facts_of_lines target lines = filter_map (fact_of_line target) lines
 abbrev pub is_line : Target → List ℕ → Bool
 is_line target line = length line == 0 || is_some (fact_of_line target line)
 
--- what they say of calls and of the stack pointer fits together
+-- the ABI that they give has no fault
 abbrev pub go_together : List StateFact → Bool
-go_together gs = fit_together (kept_in gs) (first_that stack_pointer_in gs)
+go_together gs = is_none (abi_fault (kept_in gs) (first_that stack_pointer_in gs))
 
 -- each is one, and what they give goes together
 abbrev pub are_good : Target → List (List ℕ) → Bool

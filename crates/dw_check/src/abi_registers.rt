@@ -1,11 +1,11 @@
 //! The registers that a state file names for the ABI.
 
-ghost use Rattle.std.specs.Prelude.{◌≡◌, [], None, Some, IsTrue};
+ghost use Rattle.std.specs.Prelude.{◌≡◌, [], None, Some};
 ghost use Rattle.std.specs.Bool.{OnTrue};
-ghost use Rattle.std.specs.Option.{option_or};
-ghost use Rattle.dw_rows.specs.Abi.{abi_of};
+ghost use Rattle.std.specs.Option.{is_none, option_or};
+ghost use Rattle.dw_rows.specs.Abi.{abi_fault, abi_of};
 ghost use Rattle.dw_rows.specs.AbiViews.{roles_of};
-ghost use Rattle.dw_check.specs.StateFile.{keep, kept_with, fit_together};
+ghost use Rattle.dw_check.specs.StateFile.{keep, kept_with};
 
 use arrayvec::ArrayVec;
 use dw_rows::{Abi, MAX_KEPT};
@@ -15,7 +15,7 @@ use dw_rows::{Abi, MAX_KEPT};
 pub(crate) struct AbiRegisters {
     kept: ArrayVec<u16, MAX_KEPT>,
     stack_pointer: Option<u16>,
-    ghost fit: { IsTrue (fit_together kept.items stack_pointer) },
+    ghost fit: { abi_fault kept.items stack_pointer ≡ None },
 }
 
 impl AbiRegisters {
@@ -32,8 +32,8 @@ impl AbiRegisters {
 
     /// Names a register that calls keep, unless it is the stack pointer or one too many. One that is kept already stays so.
     pub fn keep(&mut self, number: u16) -> bool
-        ensures taken { result ≡ fit_together (kept_with self.old.kept.items (keep number))
-            self.old.stack_pointer }
+        ensures taken { result ≡ is_none (abi_fault
+            (kept_with self.old.kept.items (keep number)) self.old.stack_pointer) }
         ensures kept { OnTrue result (self.new.kept.items
             ≡ kept_with self.old.kept.items (keep number)) }
         ensures stays { self.new.stack_pointer ≡ self.old.stack_pointer }
@@ -50,8 +50,8 @@ impl AbiRegisters {
 
     /// Names the stack pointer, unless calls keep it. Where there is one already, that stays.
     pub fn set_stack_pointer(&mut self, number: u16) -> bool
-        ensures taken { result ≡ fit_together self.old.kept.items
-            (option_or self.old.stack_pointer (Some number)) }
+        ensures taken { result ≡ is_none (abi_fault self.old.kept.items
+            (option_or self.old.stack_pointer (Some number))) }
         ensures named { OnTrue result (self.new.stack_pointer
             ≡ option_or self.old.stack_pointer (Some number)) }
         ensures stays { self.new.kept ≡ self.old.kept }

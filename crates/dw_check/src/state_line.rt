@@ -1,8 +1,8 @@
 //! The lines of a state file.
 
 ghost use Rattle.std.specs.Prelude.{◌≡◌, IfOk, IfSome, option_map};
-ghost use Rattle.dw_check.specs.StateFile.{FitsAddresses, bytes_fact, register_fact, memory_fact, numbered, named};
-ghost use Rattle.dw_check.specs.StateFile.{fact_of_line};
+ghost use Rattle.dw_check.specs.StateFile.{FitsAddresses, bytes_fact, register_fact, memory_fact};
+ghost use Rattle.dw_check.specs.StateFile.{fact_of_three_words, fact_of_two_words, fact_of_line};
 ghost use Rattle.dw_check.specs.StateViews.{fact_of};
 
 use crate::addresses::{parse_address, parse_short};
@@ -67,7 +67,7 @@ fn parse_memory_line(
 }
 
 /// What a line of three words gives.
-fn parse_numbered(
+fn parse_three_words(
     alloc: Global,
     target: Target,
     word: &[u8],
@@ -75,7 +75,7 @@ fn parse_numbered(
     value: &[u8],
 ) -> Result<Option<StateLine>, AllocError>
     ensures given { IfOk result (λ r. option_map fact_of r
-        ≡ numbered target word.now place.now value.now) }
+        ≡ fact_of_three_words target word.now place.now value.now) }
     ensures fits { IfOk result (λ r. IfSome r (λ line. FitsAddresses (fact_of line))) }
 {
     if word == "reg".as_bytes() {
@@ -88,8 +88,8 @@ fn parse_numbered(
 }
 
 /// What a line of two words gives.
-fn parse_named(target: Target, word: &[u8], value: &[u8]) -> Option<StateLine>
-    ensures given { option_map fact_of result ≡ named target word.now value.now }
+fn parse_two_words(target: Target, word: &[u8], value: &[u8]) -> Option<StateLine>
+    ensures given { option_map fact_of result ≡ fact_of_two_words target word.now value.now }
     ensures fits { IfSome result (λ line. FitsAddresses (fact_of line)) }
 {
     if word == "cfa".as_bytes() {
@@ -123,8 +123,8 @@ pub(crate) fn parse_line(
     let (first, second) = (words.next(), words.next());
     let (third, fourth) = (words.next(), words.next());
     match (first, second, third, fourth) {
-        (Some(word), Some(value), None, _) => Ok(parse_named(target, word, value)),
-        (Some(word), Some(place), Some(value), None) => parse_numbered(
+        (Some(word), Some(value), None, _) => Ok(parse_two_words(target, word, value)),
+        (Some(word), Some(place), Some(value), None) => parse_three_words(
             alloc, target, word, place, value,
         ),
         _ => Ok(None),

@@ -1,6 +1,5 @@
 use Rattle.std.proofs.Common.{rules, arith, ◌≡◌, ◌<◌, ◌∙◌, sym, false, true, nat_eq, Some, length}
 use Rattle.std.specs.Option.{option_eq}
-use Rattle.dw_check.specs.StateFile.{fit_together}
 use Rattle.dw_rows.specs.Abi.{is_among}
 use Rattle.dw_rows.specs.declared.abi.TheConstants.{MAX_KEPT}
 use Rattle.dw_check.proofs.KeptNumbers.{one_more_fits, one_too_many, stack_pointer_stays, is_stack_pointer}
@@ -29,6 +28,5 @@ invariant_of-self c =
     let n = c.args.number in
     let new : is_among n kept ≡ false = search rules in
     let other : option_eq nat_eq sp (Some n) ≡ false = search rules in
-    let fit : fit_together kept sp ≡ true = search rules in
     let small : length kept < MAX_KEPT = grind arith in
-    rw c.push.ensures.items (record { fit = one_more_fits kept sp n fit new (is_stack_pointer sp n ∙ other) small })
+    rw c.push.ensures.items (record { fit = one_more_fits kept sp n c.args.self.now.fit new (is_stack_pointer sp n ∙ other) small })

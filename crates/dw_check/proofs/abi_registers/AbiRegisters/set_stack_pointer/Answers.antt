@@ -1,6 +1,6 @@
 use Rattle.std.proofs.Common.{rules, ◌≡◌, None, false, true, refl}
 use Rattle.dw_rows.specs.Abi.{is_among}
-use Rattle.dw_check.specs.StateFile.{fit_together}
+use Rattle.dw_rows.specs.Abi.{abi_fault}
 use Rattle.dw_check.proofs.KeptNumbers.{stack_pointer_fits, kept_stays}
 use Rattle.dw_check.proofs.abi_registers.AbiRegisters.set_stack_pointer.Goals as goal
 
@@ -14,5 +14,5 @@ pub invariant_of-self : goal.invariant_of-self
 invariant_of-self c =
     let kept = c.args.self.now.kept.items in
     let new : is_among c.args.number kept ≡ false = search rules in
-    let fit : fit_together kept None ≡ true = search rules in
+    let fit : abi_fault kept None ≡ None = search rules in
     record { fit = stack_pointer_fits kept c.args.number fit new }

@@ -1,7 +1,9 @@
 use Rattle.std.proofs.Common.{sym, ap, rules, refl, ◌∙◌}
 use Rattle.std.specs.Ordering.{nat_cmp}
 use Rattle.std.specs.BTreeMap.{get}
-use Rattle.dw_check.specs.StateFile.{register, bytes, cfa, frame_base, object, keep, stack_pointer, kept_with, fit_together}
+use Rattle.std.specs.Option.{is_none}
+use Rattle.dw_rows.specs.Abi.{abi_fault}
+use Rattle.dw_check.specs.StateFile.{register, bytes, cfa, frame_base, object, keep, stack_pointer, kept_with}
 use Rattle.dw_check.specs.StateViews.{known_state_of}
 use Rattle.dw_check.proofs.KnownState.{added, given_more, plain_goes, together_more, or_none, where_true}
 use Rattle.dw_check.proofs.machine_state.MachineState.add.Goals as goal
@@ -96,7 +98,8 @@ pub returns-in-Keep-clause-taken : goal.returns-in-Keep-clause-taken
 returns-in-Keep-clause-taken c =
     let old = known_state_of c.args.self.now in
     let g = keep c.in-Keep.number in
-    rw c.in-Keep.is (λ gs is. c.keep.ensures.taken ∙ ap (fit_together (kept_with old.kept g)) (sym (or_none old.stack_pointer))
+    rw c.in-Keep.is (λ gs is. c.keep.ensures.taken
+    ∙ ap (λ sp. is_none (abi_fault (kept_with old.kept g) sp)) (sym (or_none old.stack_pointer))
     ∙ sym (together_more old gs g is))
 
 pub returns-in-Keep-clause-given : goal.returns-in-Keep-clause-given
