@@ -12,8 +12,9 @@ use Rattle.dw_stack.proofs.Named.{good_if_none}
 use Rattle.dw_check.specs.Requests.{Asked}
 use Rattle.dw_check.specs.StateFile.{StateFact, first_that, content_in, byte_in}
 use Rattle.dw_check.specs.Runs.{Reply, text, refusal, not_hex, bad_line, frame_reply, IsOutcome, OfSection, OfState, OfChecked}
-use Rattle.dw_check.specs.Runs.{ShowsUnwound, abi_given, machine_of, IsCheckReply, IsRowsReply, IsFound, IsLocsReply, IsEvalReply, IsUnwindReply}
-use Rattle.dw_check.specs.Runs.{IsReplyTo, IsReply}
+use Rattle.dw_check.specs.Runs.{OfFrame, OfFrameAndState, ShowsCaller, ShowsWalk, abi_given, machine_of, IsFound, IsCheckReply, IsLocsReply}
+use Rattle.dw_check.specs.Runs.{IsEvalReply, IsReplyTo, IsReply}
+use Rattle.dw_check.specs.Text.{frame_text, lookup_text}
 use Rattle.dw_check.specs.Files.{section_bytes, state_facts}
 use Rattle.dw_check.specs.Report.{IsReport}
 use Rattle.dw_loclists.specs.Reading.{ListSection, IsChecked}
@@ -64,11 +65,11 @@ each_of_state : (given : Result (List StateFact) ℕ) (Is : List StateFact → R
 each_of_state (Err n) Is each = (bad_line n, refl)
 each_of_state (Ok gs) Is each = each gs
 
-each_rows : (address : Option ℕ) (target : Target) (hex : Bool) (files : List (List ℕ))
-    → (r : Reply) × IsRowsReply address target hex files r
-each_rows address target hex files =
-    each_of_section 0 (section_bytes hex (slice_get files 0)) (λ section r. r ≡ frame_reply address target section)
-    (λ section. (frame_reply address target section, refl))
+each_of_frame : (text_for : Frame → List ℕ) (target : Target) (hex : Bool) (files : List (List ℕ))
+    → (r : Reply) × OfFrame text_for target hex files r
+each_of_frame text_for target hex files =
+    each_of_section 0 (section_bytes hex (slice_get files 0)) (λ section r. r ≡ frame_reply text_for target section)
+    (λ section. (frame_reply text_for target section, refl))
 
 each_eval : (kind : Kind) (target : Target) (hex : Bool) (files : List (List ℕ)) → (r : Reply) × IsEvalReply kind target hex files r
 each_eval kind target hex files =
@@ -89,12 +90,27 @@ EachReport = (frame : Frame) (lists : ListSection) → rows.IsChecked frame → 
 
 -- and of unwindings
 abbrev EachUnwinding : Type 0
-EachUnwinding = (e : World) (abi : Abi) (frame : Frame) (address : ℕ) → rows.IsChecked frame → (c : Option Caller) × Unwinds e abi frame address c
+EachUnwinding = (e : World) (abi : Abi) (frame : Frame) (address : ℕ) → rows.IsChecked frame
+    → (c : Option Caller) × Unwinds e abi frame address c
 
 -- and of walks
 abbrev EachWalk : Type 0
 EachWalk = (s : Surroundings) (first : Place) (limit : ℕ) → rows.IsChecked s.frame
     → (xs : List WalkedFrame) × (stop : Stop) × Walks s first limit xs stop
+
+-- of a section that is checked, and of what a state file gives, there is a text
+abbrev EachShown : (List StateFact → Frame → ListSection → List ℕ → Type 0) → Type 0
+EachShown Shows = (gs : List StateFact) (frame : Frame) (lists : ListSection) → rows.IsChecked frame
+    → (t : List ℕ) × Shows gs frame lists t
+
+each_of_frame_and_state : (Shows : List StateFact → Frame → ListSection → List ℕ → Type 0) → EachShown Shows
+    → (target : Target) (hex : Bool) (files : List (List ℕ)) → (r : Reply) × OfFrameAndState Shows target hex files r
+each_of_frame_and_state Shows each target hex files =
+    each_of_section 0 (section_bytes hex (slice_get files 0))
+    (λ section. OfState (state_facts target (slice_get files 1)) (λ gs. OfChecked target section [] (Shows gs)))
+    (λ section. each_of_state (state_facts target (slice_get files 1)) (λ gs. OfChecked target section [] (Shows gs))
+    (λ gs. each_of_checked target section [] (Shows gs)
+    (λ checked. each gs (frame_of target section) (record { target = target; section = [] }) checked.0)))
 
 module _ (report : EachReport) (unwinding : EachUnwinding) (walk : EachWalk) where
   each_check : (target : Target) (hex : Bool) (files : List (List ℕ)) → (r : Reply) × IsCheckReply target hex files r
@@ -105,34 +121,26 @@ module _ (report : EachReport) (unwinding : EachUnwinding) (walk : EachWalk) whe
       (λ lists. each_of_checked target frame lists IsReport
       (λ checked. report (frame_of target frame) (record { target = target; section = lists }) checked.0 checked.1)))
 
-  each_shown : (gs : List StateFact) (address : ℕ) (limit : Option ℕ) (frame : Frame) (lists : ListSection) → rows.IsChecked frame
-      → (t : List ℕ) × ShowsUnwound gs address limit frame lists t
-  each_shown gs address None frame lists checked =
+  each_caller : (address : ℕ) → EachShown (ShowsCaller address)
+  each_caller address gs frame lists checked =
       let found = unwinding (machine_of frame.target gs) (abi_given gs) frame address checked in
       (caller_text frame.target.address_size found.0, (found.0, found.1, refl))
-  each_shown gs address (Some limit) frame lists checked =
+
+  each_walk : (address limit : ℕ) → EachShown (ShowsWalk address limit)
+  each_walk address limit gs frame lists checked =
       let found = walk (record { frame = frame; abi = abi_given gs; memory = λ a. first_that (byte_in a) gs })
       (first_place address (λ n. first_that (content_in n) gs)) limit checked in
       (walk_text frame.target.address_size found.0 found.1, (found.0, found.1, found.2, refl))
 
-  each_unwind : (address : ℕ) (limit : Option ℕ) (target : Target) (hex : Bool) (files : List (List ℕ))
-      → (r : Reply) × IsUnwindReply address limit target hex files r
-  each_unwind address limit target hex files =
-      let shows = λ (gs : List StateFact). ShowsUnwound gs address limit in
-      each_of_section 0 (section_bytes hex (slice_get files 0))
-      (λ section. OfState (state_facts target (slice_get files 1)) (λ gs. OfChecked target section [] (shows gs)))
-      (λ section. each_of_state (state_facts target (slice_get files 1)) (λ gs. OfChecked target section [] (shows gs))
-      (λ gs. each_of_checked target section [] (shows gs)
-      (λ checked. each_shown gs address limit (frame_of target section) (record { target = target; section = [] }) checked.0)))
-
   each_to : (task : Task) (target : Target) (hex : Bool) (files : List (List ℕ)) → (r : Reply) × IsReplyTo task target hex files r
   each_to Check target hex files = each_check target hex files
-  each_to Rows target hex files = each_rows None target hex files
-  each_to (Row a) target hex files = each_rows (Some a) target hex files
+  each_to Rows target hex files = each_of_frame frame_text target hex files
+  each_to (Row address) target hex files = each_of_frame (λ frame. lookup_text frame address) target hex files
   each_to (Locs lookup) target hex files = each_locs lookup target hex files
   each_to (Eval kind) target hex files = each_eval kind target hex files
-  each_to (Unwind address) target hex files = each_unwind address None target hex files
-  each_to (Backtrace address limit) target hex files = each_unwind address (Some limit) target hex files
+  each_to (Unwind address) target hex files = each_of_frame_and_state (ShowsCaller address) (each_caller address) target hex files
+  each_to (Backtrace address limit) target hex files =
+      each_of_frame_and_state (ShowsWalk address limit) (each_walk address limit) target hex files
 
   pub each_reply : (asked : Asked) (files : List (List ℕ)) → (r : Reply) × IsReply asked files r
   each_reply asked files = each_to asked.task asked.target asked.hex files

@@ -14,8 +14,9 @@ use Rattle.dw_check.specs.Checked.{check_fault, fault_within, length_fault, or_n
 use Rattle.dw_check.specs.LongFiles.{needed_parts}
 use Rattle.dw_check.specs.Report.{IsReport}
 use Rattle.dw_check.specs.StateFile.{StateFact}
-use Rattle.dw_check.specs.Runs.{Reply, text, refusal, not_hex, bad_line, frame_reply, text_unless, rows_text}
-use Rattle.dw_check.specs.Runs.{ShowsUnwound, IsUnwindReply, IsOutcome, IsFound, OfChecked, OfState, IsReplyTo}
+use Rattle.dw_check.specs.Runs.{Reply, text, refusal, not_hex, bad_line, frame_reply, text_unless}
+use Rattle.dw_check.specs.Runs.{ShowsCaller, ShowsWalk, OfFrameAndState, IsOutcome, IsFound, OfChecked, OfState, IsReplyTo}
+use Rattle.dw_check.specs.Text.{frame_text, lookup_text}
 use Rattle.dw_check.specs.declared.requests.ListLookup.{ListLookup}
 use Rattle.dw_check.specs.declared.requests.Task.{Task}
 use Rattle.dw_check.specs.declared.requests.Task.TheVariants.{Check, Rows, Row, Locs, Eval, Unwind, Backtrace}
@@ -42,17 +43,17 @@ turned xs ys (inr long) = inr (long.1, long.0)
 
 -- ---- each kind of judgement
 
-long_frame : (address : Option ℕ) (target : Target) (xs : List ℕ) → 2 ^ 32 ≤ length xs
-    → frame_reply address target xs ≡ refusal sections.Frame too_long
+long_frame : (text_for : Frame → List ℕ) (target : Target) (xs : List ℕ) → 2 ^ 32 ≤ length xs
+    → frame_reply text_for target xs ≡ refusal sections.Frame too_long
 unfolding frame_reply
-long_frame address target xs long =
-    ap (λ (f : Option Fault). text_unless f sections.Frame (rows_text address (frame_of target xs)))
+long_frame text_for target xs long =
+    ap (λ (f : Option Fault). text_unless f sections.Frame (text_for (frame_of target xs)))
     (long_fault xs (section_fault target xs) (Some too_long) long)
 
-frame_alike : (address : Option ℕ) (target : Target) (xs ys : List ℕ) → Alike xs ys
-    → frame_reply address target xs ≡ frame_reply address target ys
-frame_alike address target xs ys (inl same) = ap (frame_reply address target) same
-frame_alike address target xs ys (inr long) = long_frame address target xs long.0 ∙ sym (long_frame address target ys long.1)
+frame_alike : (text_for : Frame → List ℕ) (target : Target) (xs ys : List ℕ) → Alike xs ys
+    → frame_reply text_for target xs ≡ frame_reply text_for target ys
+frame_alike text_for target xs ys (inl same) = ap (frame_reply text_for target) same
+frame_alike text_for target xs ys (inr long) = long_frame text_for target xs long.0 ∙ sym (long_frame text_for target ys long.1)
 
 outcome_alike : (kind : Kind) (target : Target) (xs ys : List ℕ) (gs : List StateFact) → Alike xs ys → (r : Reply)
     → IsOutcome kind target xs gs r → IsOutcome kind target ys gs r
@@ -141,27 +142,27 @@ whole_hex task place (file ∷ files) = ap (λ (more : List (List ℕ)). file �
 abbrev Moves : Task → Target → List (List ℕ) → List (List ℕ) → Type 0
 Moves task target files others = (r : Reply) → IsReplyTo task target false files r → IsReplyTo task target false others r
 
--- a section that is alike, by which one unwinds
-unwound_alike : (address : ℕ) (limit : Option ℕ) (target : Target) (xs ys : List ℕ) (more : List (List ℕ)) → Alike xs ys → (r : Reply)
-    → IsUnwindReply address limit target false (xs ∷ more) r → IsUnwindReply address limit target false (ys ∷ more) r
-unwound_alike address limit target xs ys more alike r h =
-    let shows = λ (gs : List StateFact). ShowsUnwound gs address limit in
-    state_alike _ (λ gs. OfChecked target xs [] (shows gs)) (λ gs. OfChecked target ys [] (shows gs))
-    (λ gs s k. first_alike target xs ys [] (shows gs) alike s k) r h
+-- a section that is alike, beside a state
+with_state_alike : (Shows : List StateFact → Frame → ListSection → List ℕ → Type 0) (target : Target) (xs ys : List ℕ)
+    (more : List (List ℕ)) → Alike xs ys → (r : Reply) → OfFrameAndState Shows target false (xs ∷ more) r
+    → OfFrameAndState Shows target false (ys ∷ more) r
+with_state_alike Shows target xs ys more alike r h =
+    state_alike _ (λ gs. OfChecked target xs [] (Shows gs)) (λ gs. OfChecked target ys [] (Shows gs))
+    (λ gs s k. first_alike target xs ys [] (Shows gs) alike s k) r h
 
 -- a file that is alike, before the same files
 one_alike : (task : Task) (target : Target) (xs ys : List ℕ) (more : List (List ℕ)) → Alike xs ys
     → Moves task target (xs ∷ more) (ys ∷ more)
 one_alike Check target xs ys [] alike r h = first_alike target xs ys [] IsReport alike r h
 one_alike Check target xs ys (lists ∷ more) alike r h = first_alike target xs ys lists IsReport alike r h
-one_alike Rows target xs ys more alike r h = h ∙ frame_alike None target xs ys alike
-one_alike (Row address) target xs ys more alike r h = h ∙ frame_alike (Some address) target xs ys alike
+one_alike Rows target xs ys more alike r h = h ∙ frame_alike frame_text target xs ys alike
+one_alike (Row address) target xs ys more alike r h = h ∙ frame_alike (λ frame. lookup_text frame address) target xs ys alike
 one_alike (Locs lookup) target xs ys more alike r h =
     state_alike _ (IsFound lookup target xs) (IsFound lookup target ys) (λ gs s k. found_alike lookup target xs ys gs alike s k) r h
 one_alike (Eval kind) target xs ys more alike r h =
     state_alike _ (IsOutcome kind target xs) (IsOutcome kind target ys) (λ gs s k. outcome_alike kind target xs ys gs alike s k) r h
-one_alike (Unwind address) target xs ys more alike r h = unwound_alike address None target xs ys more alike r h
-one_alike (Backtrace address limit) target xs ys more alike r h = unwound_alike address (Some limit) target xs ys more alike r h
+one_alike (Unwind address) target xs ys more alike r h = with_state_alike (ShowsCaller address) target xs ys more alike r h
+one_alike (Backtrace address limit) target xs ys more alike r h = with_state_alike (ShowsWalk address limit) target xs ys more alike r h
 
 -- a second section that is alike, behind the same
 other_alike : (target : Target) (xs ys zs : List ℕ) (more others : List (List ℕ)) → Alike ys zs

@@ -10,8 +10,9 @@ use Rattle.dw_check.specs.Requests.{Asked}
 use Rattle.dw_check.specs.StateFile.{StateFact}
 use Rattle.dw_check.specs.Evaluations.{Evaluates}
 use Rattle.dw_check.specs.Runs.{Reply, text, refusal, not_hex, bad_line, frame_reply, expression_refusal, IsOutcome, OfSection, OfState}
-use Rattle.dw_check.specs.Runs.{OfChecked, ShowsUnwound, abi_given, machine_of, IsCheckReply, IsRowsReply, IsFound, IsLocsReply, IsEvalReply}
-use Rattle.dw_check.specs.Runs.{IsUnwindReply, IsReplyTo, IsReply}
+use Rattle.dw_check.specs.Runs.{OfChecked, OfFrame, OfFrameAndState, ShowsCaller, ShowsWalk, abi_given, machine_of, IsFound, IsCheckReply}
+use Rattle.dw_check.specs.Runs.{IsLocsReply, IsEvalReply, IsReplyTo, IsReply}
+use Rattle.dw_check.specs.Text.{frame_text, lookup_text}
 use Rattle.dw_check.specs.Files.{section_bytes, state_facts}
 use Rattle.dw_check.specs.Report.{IsReport}
 use Rattle.dw_loclists.specs.Reading.{ListSection}
@@ -31,6 +32,7 @@ use Rattle.dw_check.specs.declared.requests.Task.TheVariants.{Check, Rows, Row, 
 use Rattle.dw_check.proofs.Evaluated.{same_text}
 use Rattle.dw_check.proofs.Found.{one_found}
 use Rattle.dw_check.proofs.BothSections.{one_of_checked}
+use Rattle.dw_check.proofs.Sections.{OneShown}
 
 not_both : (kind : Kind) (target : Target) (bytes : List ℕ) (gs : List StateFact) (a : List ℕ) (f : Fault)
     → Evaluates kind target bytes gs a → expression_refusal kind target bytes ≡ Some f → ⊥
@@ -68,10 +70,10 @@ one_of_state : (given : Result (List StateFact) ℕ) (Is : List StateFact → Re
 one_of_state (Err n) Is one r s h k = h ∙ sym k
 one_of_state (Ok gs) Is one r s h k = one gs r s h k
 
-one_rows : (address : Option ℕ) (target : Target) (hex : Bool) (files : List (List ℕ)) (r s : Reply)
-    → IsRowsReply address target hex files r → IsRowsReply address target hex files s → r ≡ s
-one_rows address target hex files r s h k =
-    one_of_section 0 (section_bytes hex (slice_get files 0)) (λ section r. r ≡ frame_reply address target section)
+one_of_frame : (text_for : Frame → List ℕ) (target : Target) (hex : Bool) (files : List (List ℕ)) (r s : Reply)
+    → OfFrame text_for target hex files r → OfFrame text_for target hex files s → r ≡ s
+one_of_frame text_for target hex files r s h k =
+    one_of_section 0 (section_bytes hex (slice_get files 0)) (λ section r. r ≡ frame_reply text_for target section)
     (λ section r s h k. h ∙ sym k) r s h k
 
 one_eval : (kind : Kind) (target : Target) (hex : Bool) (files : List (List ℕ)) (r s : Reply) → IsEvalReply kind target hex files r
@@ -103,18 +105,28 @@ abbrev pub OneWalk : Type 0
 OneWalk = (s : Surroundings) (first : Place) (limit : ℕ) (xs ys : List WalkedFrame) (a b : Stop) → rows.IsChecked s.frame
     → Walks s first limit xs a → Walks s first limit ys b → (xs ≡ ys) × (a ≡ b)
 
-pub one_shown : OneCaller → OneWalk → (gs : List StateFact) (address : ℕ) (limit : Option ℕ) (frame : Frame) (lists : ListSection)
-    → rows.IsChecked frame → (s t : List ℕ) → ShowsUnwound gs address limit frame lists s → ShowsUnwound gs address limit frame lists t
-    → s ≡ t
-one_shown caller walk gs address None frame lists checked s t (c, h, is) (d, k, same) =
+pub one_caller_shown : OneCaller → (address : ℕ) → OneShown (ShowsCaller address)
+one_caller_shown caller address gs frame lists checked s t (c, h, is) (d, k, same) =
     is
     ∙ ap (caller_text frame.target.address_size) (caller (machine_of frame.target gs) (abi_given gs) frame address c d checked h k)
     ∙ sym same
-one_shown caller walk gs address (Some limit) frame lists checked s t (xs, a, h, is) (ys, b, k, same) =
+
+pub one_walk_shown : OneWalk → (address limit : ℕ) → OneShown (ShowsWalk address limit)
+one_walk_shown walk address limit gs frame lists checked s t (xs, a, h, is) (ys, b, k, same) =
     let one = walk _ _ limit xs ys a b checked h k in
     is
     ∙ ap (λ l. walk_text frame.target.address_size l a) one.0 ∙ ap (walk_text frame.target.address_size ys) one.1
     ∙ sym same
+
+one_of_frame_and_state : (Shows : List StateFact → Frame → ListSection → List ℕ → Type 0) → OneShown Shows
+    → (target : Target) (hex : Bool) (files : List (List ℕ)) (r s : Reply)
+    → OfFrameAndState Shows target hex files r → OfFrameAndState Shows target hex files s → r ≡ s
+one_of_frame_and_state Shows one target hex files r s h k =
+    one_of_section 0 (section_bytes hex (slice_get files 0))
+    (λ section. OfState (state_facts target (slice_get files 1)) (λ gs. OfChecked target section [] (Shows gs)))
+    (λ section. one_of_state (state_facts target (slice_get files 1)) (λ gs. OfChecked target section [] (Shows gs))
+    (λ gs. one_of_checked target section [] (Shows gs)
+    (λ checked. one gs (frame_of target section) (record { target = target; section = [] }) checked.0))) r s h k
 
 module _ (report : OneReport) (caller : OneCaller) (walk : OneWalk) where
   one_check : (target : Target) (hex : Bool) (files : List (List ℕ)) (r s : Reply) → IsCheckReply target hex files r
@@ -126,26 +138,17 @@ module _ (report : OneReport) (caller : OneCaller) (walk : OneWalk) where
       (λ lists. one_of_checked target frame lists IsReport
       (λ checked. report (frame_of target frame) (record { target = target; section = lists })))) r s h k
 
-  one_unwind : (address : ℕ) (limit : Option ℕ) (target : Target) (hex : Bool) (files : List (List ℕ)) (r s : Reply)
-      → IsUnwindReply address limit target hex files r → IsUnwindReply address limit target hex files s → r ≡ s
-  one_unwind address limit target hex files r s h k =
-      let shows = λ (gs : List StateFact). ShowsUnwound gs address limit in
-      one_of_section 0 (section_bytes hex (slice_get files 0))
-      (λ section. OfState (state_facts target (slice_get files 1)) (λ gs. OfChecked target section [] (shows gs)))
-      (λ section. one_of_state (state_facts target (slice_get files 1)) (λ gs. OfChecked target section [] (shows gs))
-      (λ gs. one_of_checked target section [] (shows gs)
-      (λ checked. one_shown caller walk gs address limit (frame_of target section) (record { target = target; section = [] }) checked.0)))
-      r s h k
-
   one_to : (task : Task) (target : Target) (hex : Bool) (files : List (List ℕ)) (r s : Reply) → IsReplyTo task target hex files r
       → IsReplyTo task target hex files s → r ≡ s
   one_to Check target hex files r s h k = one_check target hex files r s h k
-  one_to Rows target hex files r s h k = one_rows None target hex files r s h k
-  one_to (Row a) target hex files r s h k = one_rows (Some a) target hex files r s h k
+  one_to Rows target hex files r s h k = one_of_frame frame_text target hex files r s h k
+  one_to (Row address) target hex files r s h k = one_of_frame (λ frame. lookup_text frame address) target hex files r s h k
   one_to (Locs lookup) target hex files r s h k = one_locs lookup target hex files r s h k
   one_to (Eval kind) target hex files r s h k = one_eval kind target hex files r s h k
-  one_to (Unwind address) target hex files r s h k = one_unwind address None target hex files r s h k
-  one_to (Backtrace address limit) target hex files r s h k = one_unwind address (Some limit) target hex files r s h k
+  one_to (Unwind address) target hex files r s h k =
+      one_of_frame_and_state (ShowsCaller address) (one_caller_shown caller address) target hex files r s h k
+  one_to (Backtrace address limit) target hex files r s h k =
+      one_of_frame_and_state (ShowsWalk address limit) (one_walk_shown walk address limit) target hex files r s h k
 
   pub one_reply : (asked : Asked) (files : List (List ℕ)) (r s : Reply) → IsReply asked files r → IsReply asked files s → r ≡ s
   one_reply asked files r s h k = one_to asked.task asked.target asked.hex files r s h k

@@ -1,18 +1,93 @@
--- What a frame section comes to.
-use Rattle.std.proofs.Common.{◌≡◌, ℕ, List, ap, sym}
-use Rattle.std.specs.Prelude.{Option, Some, None}
+-- What a frame section comes to, alone and with a state.
+use Rattle.std.proofs.Common.{◌≡◌, ◌∙◌, ℕ, Bool, List, [], ap, sym, subst}
+use Rattle.std.specs.Prelude.{Option, Some, None, Result, Ok, Err, slice_get}
 use Rattle.dw_bytes.specs.declared.target.Target.{Target}
 use Rattle.dw_bytes.specs.declared.fault.Fault.{Fault}
+use Rattle.dw_loclists.specs.Reading.{ListSection}
+use Rattle.dw_rows.specs.Section as rows
 use Rattle.dw_rows.specs.Section.{frame_of}
-use Rattle.dw_check.specs.Runs.{text, refusal, rows_text, frame_refusal, frame_reply, text_unless}
+use Rattle.dw_check.specs.Checked.{check_fault}
+use Rattle.dw_check.specs.Files.{section_bytes, state_facts}
+use Rattle.dw_check.specs.Runs.{Reply, text, refusal, frame_refusal, frame_reply, text_unless, OfState, OfChecked, OfFrame}
+use Rattle.dw_check.specs.Runs.{OfFrameAndState, Goes}
+use Rattle.dw_check.specs.StateFile.{StateFact}
+use Rattle.dw_check.specs.Stops.{IsBadState, IsFirstFault, IsRefusal, ended_by}
+use Rattle.dw_check.specs.WriteResults.{Writes}
+use Rattle.dw_check.specs.declared.stop.ReportFault.{ReportFault}
+use Rattle.dw_check.specs.declared.stop.RunFault.{RunFault}
 use Rattle.dw_check.specs.declared.stop.Section.TheVariants.{Frame}
+use Rattle.dw_check.proofs.BothSections.{one_of_checked}
+use Rattle.dw_check.proofs.Replies.{goes_section, goes_state, goes_bad_state, goes_refusal, goes_first_fault, goes_text}
 
-pub rows_done : (address : Option ℕ) (target : Target) (section : List ℕ) → frame_refusal target section ≡ None
-    → text (rows_text address (frame_of target section)) ≡ frame_reply address target section
-unfolding frame_reply
-rows_done address target section e = sym (ap (λ f. text_unless f Frame (rows_text address (frame_of target section))) e)
+-- ---- alone
 
-pub rows_refused : (address : Option ℕ) (target : Target) (section : List ℕ) (fault : Fault) → frame_refusal target section ≡ Some fault
-    → refusal Frame fault ≡ frame_reply address target section
-unfolding frame_reply
-rows_refused address target section fault e = sym (ap (λ f. text_unless f Frame (rows_text address (frame_of target section))) e)
+module _ (text_for : rows.Frame → List ℕ) (target : Target) (section : List ℕ) where
+  shown : frame_refusal target section ≡ None → text (text_for (frame_of target section)) ≡ frame_reply text_for target section
+  unfolding frame_reply
+  shown e = sym (ap (λ f. text_unless f Frame (text_for (frame_of target section))) e)
+
+  refused : (fault : Fault) → frame_refusal target section ≡ Some fault → refusal Frame fault ≡ frame_reply text_for target section
+  unfolding frame_reply
+  refused fault e = sym (ap (λ f. text_unless f Frame (text_for (frame_of target section))) e)
+
+  module _ (count : ℕ) (hex : Bool) (files : List (List ℕ)) where
+    abbrev Are : List ℕ → Reply → Type 0
+    Are bytes reply = reply ≡ frame_reply text_for target bytes
+
+    pub goes_refused_frame : (a : Option (List ℕ)) (stop : RunFault) → section_bytes hex (slice_get files 0) ≡ Some section
+        → IsRefusal Frame (frame_refusal target section) stop → Goes count (OfFrame text_for target hex files) a a (Err stop)
+    goes_refused_frame a stop bytes h =
+        goes_section count 0 (section_bytes hex (slice_get files 0)) section Are a a (Err stop) bytes
+        (goes_refusal count Frame (frame_refusal target section) (Are section) a stop refused h)
+
+    pub goes_frame : (old new : Option (List ℕ)) (r : Result (Unit {0}) ReportFault) → section_bytes hex (slice_get files 0) ≡ Some section
+        → frame_refusal target section ≡ None → Writes old new r (text_for (frame_of target section))
+        → Goes count (OfFrame text_for target hex files) old new (ended_by r)
+    goes_frame old new r bytes whole written =
+        goes_section count 0 (section_bytes hex (slice_get files 0)) section Are old new (ended_by r) bytes
+        (goes_text count (Are section) (text_for (frame_of target section)) old new r (shown whole) (λ reply i. i ∙ sym (shown whole))
+        written)
+
+-- ---- with a state
+
+-- of a section that is checked, and of what a state file gives, there is one text
+abbrev pub OneShown : (List StateFact → rows.Frame → ListSection → List ℕ → Type 0) → Type 0
+OneShown Shows = (gs : List StateFact) (frame : rows.Frame) (lists : ListSection) → rows.IsChecked frame → (s t : List ℕ)
+    → Shows gs frame lists s → Shows gs frame lists t → s ≡ t
+
+module _ (Shows : List StateFact → rows.Frame → ListSection → List ℕ → Type 0) (target : Target) (section : List ℕ) where
+  module _ (count : ℕ) (hex : Bool) (files : List (List ℕ)) where
+    abbrev Is : List ℕ → List StateFact → Reply → Type 0
+    Is bytes gs = OfChecked target bytes [] (Shows gs)
+
+    abbrev given : Result (List StateFact) ℕ
+    given = state_facts target (slice_get files 1)
+
+    pub goes_without_state : (a : Option (List ℕ)) (stop : RunFault) → section_bytes hex (slice_get files 0) ≡ Some section
+        → IsBadState given stop → Goes count (OfFrameAndState Shows target hex files) a a (Err stop)
+    goes_without_state a stop bytes h =
+        goes_section count 0 (section_bytes hex (slice_get files 0)) section (λ b. OfState given (Is b)) a a (Err stop) bytes
+        (goes_bad_state count given (Is section) a stop h)
+
+    pub goes_faulty : (gs : List StateFact) (a : Option (List ℕ)) (stop : RunFault) → section_bytes hex (slice_get files 0) ≡ Some section
+        → given ≡ Ok gs → IsFirstFault (check_fault target section []) stop
+        → Goes count (OfFrameAndState Shows target hex files) a a (Err stop)
+    goes_faulty gs a stop bytes is h =
+        goes_section count 0 (section_bytes hex (slice_get files 0)) section (λ b. OfState given (Is b)) a a (Err stop) bytes
+        (goes_state count given gs (Is section) a a (Err stop) is
+        (goes_first_fault count (check_fault target section []) (Is section gs) a stop (λ found k. k) h))
+
+    -- where there is one text to be shown
+    pub goes_shown : (gs : List StateFact) (frame : rows.Frame) (lists : ListSection) (old new : Option (List ℕ))
+        (r : Result (Unit {0}) ReportFault) (written : List ℕ) → OneShown Shows → section_bytes hex (slice_get files 0) ≡ Some section
+        → given ≡ Ok gs → check_fault target section [] ≡ None → frame ≡ frame_of target section
+        → lists ≡ record { target = target; section = [] } → Shows gs frame lists written → Writes old new r written
+        → Goes count (OfFrameAndState Shows target hex files) old new (ended_by r)
+    goes_shown gs frame lists old new r written one bytes is none of_frame of_lists shows writes =
+        let by_frame = subst (λ (f : rows.Frame). Shows gs f lists written) of_frame shows in
+        let all = subst (λ (l : ListSection). Shows gs (frame_of target section) l written) of_lists by_frame in
+        let only = one gs (frame_of target section) (record { target = target; section = [] }) in
+        goes_section count 0 (section_bytes hex (slice_get files 0)) section (λ b. OfState given (Is b)) old new (ended_by r) bytes
+        (goes_state count given gs (Is section) old new (ended_by r) is
+        (goes_text count (Is section gs) written old new r (none, all)
+        (λ reply i. one_of_checked target section [] (Shows gs) (λ checked. only checked.0) reply (text written) i (none, all)) writes))

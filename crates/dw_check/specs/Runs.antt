@@ -80,13 +80,9 @@ abbrev pub text_unless : Option Fault → Section → List ℕ → Reply
 text_unless (Some fault) section bytes = refusal section fault
 text_unless None section bytes = text bytes
 
--- of a frame section without a fault: the row of an address, or all rows
-abbrev pub rows_text : Option ℕ → Frame → List ℕ
-rows_text None frame = frame_text frame
-rows_text (Some address) frame = lookup_text frame address
-
-unfoldable pub frame_reply : Option ℕ → Target → List ℕ → Reply
-frame_reply address target section = text_unless (frame_refusal target section) sections.Frame (rows_text address (frame_of target section))
+-- a text of a frame section, unless that has a fault
+unfoldable pub frame_reply : (Frame → List ℕ) → Target → List ℕ → Reply
+frame_reply text_for target section = text_unless (frame_refusal target section) sections.Frame (text_for (frame_of target section))
 
 -- ---- expressions
 
@@ -135,22 +131,30 @@ abbrev pub abi_given : List StateFact → Abi
 abi_given gs = abi_of (kept_in gs) (first_that stack_pointer_in gs)
 
 -- the text shows the caller at an address, or that no FDE covers it, on a machine of which this was given
-abbrev pub ShowsCaller : List StateFact → ℕ → Frame → ListSection → List ℕ → Type 0
-ShowsCaller gs address frame lists written = (caller : Option Caller)
+abbrev pub ShowsCaller : ℕ → List StateFact → Frame → ListSection → List ℕ → Type 0
+ShowsCaller address gs frame lists written = (caller : Option Caller)
     × Unwinds (machine_of frame.target gs) (abi_given gs) frame address caller
     × (written ≡ caller_text frame.target.address_size caller)
 
 -- it shows a walk from an address with a limit
-abbrev pub ShowsWalk : List StateFact → ℕ → ℕ → Frame → ListSection → List ℕ → Type 0
-ShowsWalk gs address limit frame lists written = (frames : List WalkedFrame) × (stop : Stop)
+abbrev pub ShowsWalk : ℕ → ℕ → List StateFact → Frame → ListSection → List ℕ → Type 0
+ShowsWalk address limit gs frame lists written = (frames : List WalkedFrame) × (stop : Stop)
     × Walks (record { frame = frame; abi = abi_given gs; memory = λ a. first_that (byte_in a) gs })
     (first_place address (λ n. first_that (content_in n) gs)) limit frames stop
     × (written ≡ walk_text frame.target.address_size frames stop)
 
--- it shows the caller, or with a limit the walk
-abbrev pub ShowsUnwound : List StateFact → ℕ → Option ℕ → Frame → ListSection → List ℕ → Type 0
-ShowsUnwound gs address None frame lists written = ShowsCaller gs address frame lists written
-ShowsUnwound gs address (Some limit) frame lists written = ShowsWalk gs address limit frame lists written
+-- ---- what two commands share
+
+-- `rows` and `row`: a text of a frame section
+abbrev pub OfFrame : (Frame → List ℕ) → Target → Bool → List (List ℕ) → Reply → Type 0
+OfFrame text_for target hex files reply =
+    OfSection 0 (section_bytes hex (slice_get files 0)) (λ section r. r ≡ frame_reply text_for target section) reply
+
+-- `unwind` and `backtrace`: a text of a frame section, checked as `check` does with no lists, and of what a state file gives
+abbrev pub OfFrameAndState : (List StateFact → Frame → ListSection → List ℕ → Type 0) → Target → Bool → List (List ℕ) → Reply → Type 0
+OfFrameAndState Shows target hex files reply =
+    OfSection 0 (section_bytes hex (slice_get files 0))
+    (λ section. OfState (state_facts target (slice_get files 1)) (λ gs. OfChecked target section [] (Shows gs))) reply
 
 -- ---- requests: a definition for each command
 
@@ -160,10 +164,13 @@ IsCheckReply target hex files reply =
     OfSection 0 (section_bytes hex (slice_get files 0))
     (λ frame. OfSection 1 (section_bytes hex (slice_get files 1)) (λ lists. OfChecked target frame lists IsReport)) reply
 
--- `rows`, and `row` with its address
-abbrev pub IsRowsReply : Option ℕ → Target → Bool → List (List ℕ) → Reply → Type 0
-IsRowsReply address target hex files reply =
-    OfSection 0 (section_bytes hex (slice_get files 0)) (λ section r. r ≡ frame_reply address target section) reply
+-- `rows`
+abbrev pub IsRowsReply : Target → Bool → List (List ℕ) → Reply → Type 0
+IsRowsReply target hex files reply = OfFrame frame_text target hex files reply
+
+-- `row`
+abbrev pub IsRowReply : ℕ → Target → Bool → List (List ℕ) → Reply → Type 0
+IsRowReply address target hex files reply = OfFrame (λ frame. lookup_text frame address) target hex files reply
 
 -- `eval`
 abbrev pub IsEvalReply : Kind → Target → Bool → List (List ℕ) → Reply → Type 0
@@ -177,20 +184,22 @@ IsLocsReply lookup target hex files reply =
     OfSection 0 (section_bytes hex (slice_get files 0))
     (λ section. OfState (state_facts target (slice_get files 1)) (IsFound lookup target section)) reply
 
--- `unwind`, and `backtrace` with its limit, whose section is checked as `check` does, with no lists
-abbrev pub IsUnwindReply : ℕ → Option ℕ → Target → Bool → List (List ℕ) → Reply → Type 0
-IsUnwindReply address limit target hex files reply =
-    OfSection 0 (section_bytes hex (slice_get files 0))
-    (λ section. OfState (state_facts target (slice_get files 1)) (λ gs. OfChecked target section [] (ShowsUnwound gs address limit))) reply
+-- `unwind`
+abbrev pub IsUnwindReply : ℕ → Target → Bool → List (List ℕ) → Reply → Type 0
+IsUnwindReply address target hex files reply = OfFrameAndState (ShowsCaller address) target hex files reply
+
+-- `backtrace`
+abbrev pub IsBacktraceReply : ℕ → ℕ → Target → Bool → List (List ℕ) → Reply → Type 0
+IsBacktraceReply address limit target hex files reply = OfFrameAndState (ShowsWalk address limit) target hex files reply
 
 abbrev pub IsReplyTo : Task → Target → Bool → List (List ℕ) → Reply → Type 0
 IsReplyTo Check target hex files reply = IsCheckReply target hex files reply
-IsReplyTo Rows target hex files reply = IsRowsReply None target hex files reply
-IsReplyTo (Row address) target hex files reply = IsRowsReply (Some address) target hex files reply
+IsReplyTo Rows target hex files reply = IsRowsReply target hex files reply
+IsReplyTo (Row address) target hex files reply = IsRowReply address target hex files reply
 IsReplyTo (Locs lookup) target hex files reply = IsLocsReply lookup target hex files reply
 IsReplyTo (Eval kind) target hex files reply = IsEvalReply kind target hex files reply
-IsReplyTo (Unwind address) target hex files reply = IsUnwindReply address None target hex files reply
-IsReplyTo (Backtrace address limit) target hex files reply = IsUnwindReply address (Some limit) target hex files reply
+IsReplyTo (Unwind address) target hex files reply = IsUnwindReply address target hex files reply
+IsReplyTo (Backtrace address limit) target hex files reply = IsBacktraceReply address limit target hex files reply
 
 -- The reply to a request with one content for each of its files.
 abbrev pub IsReply : Asked → List (List ℕ) → Reply → Type 0

@@ -4,8 +4,8 @@ ghost use Rattle.std.specs.Prelude.{◌≡◌, ◌<◌, ◌^◌, ℕ, List, fals
 ghost use Rattle.dw_rows.specs.Section.{frame_of};
 ghost use Rattle.dw_stack.specs.Certificates.{checked_of};
 ghost use Rattle.dw_stack.specs.Expressions.{IsOf};
-ghost use Rattle.dw_check.specs.Runs.{Ends, Goes, IsPlaceIn, IsReply, IsReplyTo, IsCheckReply, IsRowsReply, IsLocsReply, IsEvalReply};
-ghost use Rattle.dw_check.specs.Runs.{IsUnwindReply, ShowsCaller, ShowsWalk, ShowsUnwound, rows_text};
+ghost use Rattle.dw_check.specs.Runs.{Ends, Goes, IsPlaceIn, IsReply, IsReplyTo, IsCheckReply, IsRowsReply, IsRowReply, IsLocsReply};
+ghost use Rattle.dw_check.specs.Runs.{IsEvalReply, IsUnwindReply, IsBacktraceReply, ShowsCaller, ShowsWalk};
 ghost use Rattle.dw_check.specs.Runs.{frame_refusal, lists_refusal, expression_refusal};
 ghost use Rattle.dw_check.specs.Checked.{check_fault};
 ghost use Rattle.dw_check.specs.StateFile.{StateFact, IsGivenBy};
@@ -160,29 +160,9 @@ fn show_report<S: Sink>(
     ended(write_report(out, &checked))
 }
 
-/// Writes the row of an address, or all rows.
-fn write_rows_of<S: Sink>(
-    out: &mut Writer<'_, S>,
-    address: Option<u64>,
-    frame: &CheckedFrame<'_>,
-) -> Result<(), ReportFault>
-    requires size { out.old.size ≡ frame.now.target.address_size }
-    requires runs { S.has_stopped out.old.sink.now ≡ false }
-    ensures same { IsSame out.old out.new }
-    ensures written { Writes (S.taken out.old.sink.now) (S.taken out.new.sink.now) result
-        (rows_text address frame.now) }
-    ensures stops { S.has_stopped out.new.sink.now ≡ is_write result }
-{
-    match address {
-        None => write_frame(out, frame),
-        Some(address) => write_lookup(out, frame, address),
-    }
-}
-
-/// Shows the row of an address in a frame section, or all rows.
+/// Shows all rows of a frame section.
 fn show_rows<S: Sink>(
     alloc: Global,
-    address: Option<u64>,
     files: &Files<'_>,
     out: &mut Writer<'_, S>,
 ) -> Result<(), RunFault>
@@ -190,14 +170,35 @@ fn show_rows<S: Sink>(
     requires runs { S.has_stopped out.old.sink.now ≡ false }
     ensures same { IsSame out.old out.new }
     ensures goes { Goes (length files.now.contents.now)
-        (IsRowsReply address files.now.target files.now.hex
+        (IsRowsReply files.now.target files.now.hex
         (map (λ file. file.items) files.now.contents.now))
         (S.taken out.old.sink.now) (S.taken out.new.sink.now) result }
     ensures stops { S.has_stopped out.new.sink.now ≡ is_output result }
 {
     let section = section_at(alloc, files.hex, files.contents, 0)?;
     let frame = checked_frame(alloc, files.target, section.as_slice())?;
-    ended(write_rows_of(out, address, &frame))
+    ended(write_frame(out, &frame))
+}
+
+/// Shows the row of an address in a frame section.
+fn show_row<S: Sink>(
+    alloc: Global,
+    address: u64,
+    files: &Files<'_>,
+    out: &mut Writer<'_, S>,
+) -> Result<(), RunFault>
+    requires size { out.old.size ≡ files.now.target.address_size }
+    requires runs { S.has_stopped out.old.sink.now ≡ false }
+    ensures same { IsSame out.old out.new }
+    ensures goes { Goes (length files.now.contents.now)
+        (IsRowReply address files.now.target files.now.hex
+        (map (λ file. file.items) files.now.contents.now))
+        (S.taken out.old.sink.now) (S.taken out.new.sink.now) result }
+    ensures stops { S.has_stopped out.new.sink.now ≡ is_output result }
+{
+    let section = section_at(alloc, files.hex, files.contents, 0)?;
+    let frame = checked_frame(alloc, files.target, section.as_slice())?;
+    ended(write_lookup(out, &frame, address))
 }
 
 /// Shows what a location list says of an address, on a machine of which a state file says something, if there is one.
@@ -255,7 +256,7 @@ fn write_one_caller<S: Sink>(
     requires runs { S.has_stopped out.old.sink.now ≡ false }
     ensures same { IsSame out.old out.new }
     ensures written { (gs : List StateFact) → IsGivenBy (known_state_of state.now) gs
-        → (text : List ℕ) × ShowsCaller gs address checked.now.frame checked.now.lists text
+        → (text : List ℕ) × ShowsCaller address gs checked.now.frame checked.now.lists text
         × Writes (S.taken out.old.sink.now) (S.taken out.new.sink.now) result text }
     ensures stops { S.has_stopped out.new.sink.now ≡ is_write result }
 {
@@ -276,7 +277,7 @@ fn write_backtrace<S: Sink>(
     requires runs { S.has_stopped out.old.sink.now ≡ false }
     ensures same { IsSame out.old out.new }
     ensures written { (gs : List StateFact) → IsGivenBy (known_state_of state.now) gs
-        → (text : List ℕ) × ShowsWalk gs address limit checked.now.frame checked.now.lists text
+        → (text : List ℕ) × ShowsWalk address limit gs checked.now.frame checked.now.lists text
         × Writes (S.taken out.old.sink.now) (S.taken out.new.sink.now) result text }
     ensures stops { S.has_stopped out.new.sink.now ≡ is_write result }
 {
@@ -289,36 +290,10 @@ fn write_backtrace<S: Sink>(
     }
 }
 
-/// Writes the caller of the frame at an address over what is known, or with a limit the walk from there.
-fn write_unwound<S: Sink>(
-    alloc: Global,
-    out: &mut Writer<'_, S>,
-    checked: &Checked<'_>,
-    address: u64,
-    limit: Option<u32>,
-    state: &MachineState,
-) -> Result<(), ReportFault>
-    requires size { out.old.size ≡ checked.now.frame.target.address_size }
-    requires runs { S.has_stopped out.old.sink.now ≡ false }
-    ensures same { IsSame out.old out.new }
-    ensures written { (gs : List StateFact) → IsGivenBy (known_state_of state.now) gs
-        → (text : List ℕ)
-        × ShowsUnwound gs address limit checked.now.frame checked.now.lists text
-        × Writes (S.taken out.old.sink.now) (S.taken out.new.sink.now) result text }
-    ensures stops { S.has_stopped out.new.sink.now ≡ is_write result }
-{
-    match limit {
-        Some(limit) => write_backtrace(alloc, out, checked, address, limit, state),
-        None => write_one_caller(out, checked, address, state),
-    }
-}
-
-/// Shows the caller of the frame at an address, or with a limit the walk from there, on a machine of which a state file says
-/// something.
-fn show_unwound<S: Sink>(
+/// Shows the caller of the frame at an address, on a machine of which a state file says something.
+fn show_caller<S: Sink>(
     alloc: Global,
     address: u64,
-    limit: Option<u32>,
     files: &Files<'_>,
     out: &mut Writer<'_, S>,
 ) -> Result<(), RunFault>
@@ -326,17 +301,40 @@ fn show_unwound<S: Sink>(
     requires runs { S.has_stopped out.old.sink.now ≡ false }
     ensures same { IsSame out.old out.new }
     ensures goes { Goes (length files.now.contents.now)
-        (IsUnwindReply address limit files.now.target files.now.hex
+        (IsUnwindReply address files.now.target files.now.hex
         (map (λ file. file.items) files.now.contents.now))
         (S.taken out.old.sink.now) (S.taken out.new.sink.now) result }
     ensures stops { S.has_stopped out.new.sink.now ≡ is_output result }
 {
     one_caller();
+    let section = section_at(alloc, files.hex, files.contents, 0)?;
+    let state = state_at(alloc, files.target, files.contents, 1)?;
+    let checked = checked_sections(alloc, files.target, section.as_slice(), &[])?;
+    ended(write_one_caller(out, &checked, address, &state))
+}
+
+/// Shows the walk from the frame at an address, on a machine of which a state file says something.
+fn show_walk<S: Sink>(
+    alloc: Global,
+    address: u64,
+    limit: u32,
+    files: &Files<'_>,
+    out: &mut Writer<'_, S>,
+) -> Result<(), RunFault>
+    requires size { out.old.size ≡ files.now.target.address_size }
+    requires runs { S.has_stopped out.old.sink.now ≡ false }
+    ensures same { IsSame out.old out.new }
+    ensures goes { Goes (length files.now.contents.now)
+        (IsBacktraceReply address limit files.now.target files.now.hex
+        (map (λ file. file.items) files.now.contents.now))
+        (S.taken out.old.sink.now) (S.taken out.new.sink.now) result }
+    ensures stops { S.has_stopped out.new.sink.now ≡ is_output result }
+{
     one_walk();
     let section = section_at(alloc, files.hex, files.contents, 0)?;
     let state = state_at(alloc, files.target, files.contents, 1)?;
     let checked = checked_sections(alloc, files.target, section.as_slice(), &[])?;
-    ended(write_unwound(alloc, out, &checked, address, limit, &state))
+    ended(write_backtrace(alloc, out, &checked, address, limit, &state))
 }
 
 /// Does a task with these files.
@@ -357,14 +355,12 @@ fn show<S: Sink>(
 {
     match task {
         Task::Check => show_report(alloc, files, out),
-        Task::Rows => show_rows(alloc, None, files, out),
-        Task::Row { address } => show_rows(alloc, Some(address), files, out),
+        Task::Rows => show_rows(alloc, files, out),
+        Task::Row { address } => show_row(alloc, address, files, out),
         Task::Locs { lookup } => show_locations(alloc, lookup, files, out),
         Task::Eval { kind } => show_outcome(alloc, kind, files, out),
-        Task::Unwind { address } => show_unwound(alloc, address, None, files, out),
-        Task::Backtrace { address, limit } => {
-            show_unwound(alloc, address, Some(limit), files, out)
-        }
+        Task::Unwind { address } => show_caller(alloc, address, files, out),
+        Task::Backtrace { address, limit } => show_walk(alloc, address, limit, files, out),
     }
 }
 
