@@ -29,7 +29,7 @@ pub enum Stop {
 }
 
 /// The frames of a walk up the stack, the innermost first, and why they end.
-#[derive(Debug, Drop)]
+#[derive(Clone, Debug, Drop, PartialEq, Eq)]
 pub struct Backtrace {
     /// The frames, at most as many as were asked for.
     pub frames: Vec<Frame>,
