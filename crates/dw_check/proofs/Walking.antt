@@ -8,17 +8,16 @@ use Rattle.std.proofs.lemmas.Bool.Decides.{nat_tests}
 use Rattle.std.proofs.lemmas.List.Elements.{All-append, All-from_recursion}
 use Rattle.dw_check.specs.declared.frames.Frame as declared
 use Rattle.dw_check.specs.declared.frames.Stop.{Stop}
-use Rattle.dw_check.specs.Walks.{Surroundings, Place, WalkedFrame, AreFrames, IsFrameBehind, Walks, next_place}
+use Rattle.dw_check.specs.Walks.{Surroundings, Place, WalkedFrame, AreFrames, Walks, next_place}
 use Rattle.dw_check.specs.Walks.{address_before, stop_behind, stop_of_caller}
 use Rattle.dw_check.proofs.Callers.{of_next}
 use Rattle.dw_check.specs.WalkViews.{frame_in, frames_in}
 
 -- behind the last of frames comes the one behind it
-pub one_more_frame : (s : Surroundings) (p : Option Place) (frames : List WalkedFrame) (f g : WalkedFrame) → AreFrames s p (frames ++ f ∷ [])
-    → IsFrameBehind s f g → AreFrames s p ((frames ++ f ∷ []) ++ g ∷ [])
+pub one_more_frame : (s : Surroundings) (p : Option Place) (frames : List WalkedFrame) (f g : WalkedFrame)
+    → AreFrames s p (frames ++ f ∷ []) → AreFrames s (next_place f.caller) (g ∷ []) → AreFrames s p ((frames ++ f ∷ []) ++ g ∷ [])
 one_more_frame s None [] f g h behind = absurd h
-one_more_frame s (Some p) [] f g h behind =
-    (h.0, subst (λ (q : Option Place). AreFrames s q (g ∷ [])) (sym behind.1) (behind.2, tt))
+one_more_frame s (Some p) [] f g h behind = (h.0, behind)
 one_more_frame s None (x ∷ frames) f g h behind = absurd h
 one_more_frame s (Some p) (x ∷ frames) f g h behind = (h.0, one_more_frame s (next_place x.caller) frames f g h.1 behind)
 
@@ -71,7 +70,7 @@ walk_stops s first limit frames last stop are some few is why =
 -- a walk that goes on
 pub walk_goes : (s : Surroundings) (p : Option Place) (frames : List declared.Frame) (last next : declared.Frame)
     → AreFrames s p (frames_in frames) → 0 < length frames → last ≡ get_or frames (length frames - 1) last
-    → IsFrameBehind s (frame_in last) (frame_in next) → AreFrames s p (frames_in (frames ++ next ∷ []))
+    → AreFrames s (next_place (frame_in last).caller) (frame_in next ∷ []) → AreFrames s p (frames_in (frames ++ next ∷ []))
 walk_goes s p frames last next are some is behind =
     let front = frames_in (take (length frames - 1) frames) in
     let cut : frames_in frames ≡ front ++ frame_in last ∷ [] =

@@ -71,10 +71,6 @@ AreFrames s p [] = Unit {0}
 AreFrames s None (f ∷ frames) = ⊥
 AreFrames s (Some p) (f ∷ frames) = IsFrameAt s p f × AreFrames s (next_place f.caller) frames
 
--- the next of one
-abbrev pub IsFrameBehind : Surroundings → WalkedFrame → WalkedFrame → Type 0
-IsFrameBehind s f next = (p : Place) × (next_place f.caller ≡ Some p) × IsFrameAt s p next
-
 -- why there is no frame behind one, if there is none
 abbrev pub stop_of_return : Answer → Option Stop
 stop_of_return (value a) = None

@@ -1,11 +1,11 @@
 //! A walk up the stack: frames, one the caller of the other.
 
-ghost use Rattle.std.specs.Prelude.{◌≡◌, ◌<◌, ◌^◌, All, IfErr, IfOk, IsOk, IfSome, MatchResult, Some, map};
+ghost use Rattle.std.specs.Prelude.{◌≡◌, ◌<◌, ◌^◌, ◌∷◌, [], All, IfErr, IfOk, IsOk, IfSome, MatchResult, Some, map};
 ghost use Rattle.dw_bytes.specs.Answers.{memory as want_of_memory};
 ghost use Rattle.dw_eval.specs.Numbers.{width_of};
 ghost use Rattle.dw_check.specs.CallerFits.{CallerFits, FrameFits};
 ghost use Rattle.dw_check.specs.CallerViews.{caller_in, found_in};
-ghost use Rattle.dw_check.specs.Walks.{Walks, IsFrameAt, IsFrameBehind, contents_of, first_place, place_of_caller, stop_of_caller};
+ghost use Rattle.dw_check.specs.Walks.{Walks, AreFrames, IsFrameAt, contents_of, first_place, next_place, place_of_caller, stop_of_caller};
 ghost use Rattle.dw_check.specs.WalkViews.{frame_in, frames_in, surroundings_in};
 
 use crate::frames::{Backtrace, Frame, Stop};
@@ -85,8 +85,8 @@ fn next_frame<M: Memory>(
     memory: &M,
 ) -> Result<Frame, Stop>
     ensures next { MatchResult result
-        (λ next. IsFrameBehind (surroundings_in checked.now.frame abi.now (M.bytes memory.now))
-        (frame_in frame.now) (frame_in next))
+        (λ next. AreFrames (surroundings_in checked.now.frame abi.now (M.bytes memory.now))
+        (next_place (frame_in frame.now).caller) (frame_in next ∷ []))
         (λ stop. stop_of_caller (frame_in frame.now).caller ≡ Some stop) }
     ensures fits { IfOk result (λ next. IfSome (frame_in frame.now).caller
         (CallerFits (2 ^ width_of checked.now.frame.target.address_size))
