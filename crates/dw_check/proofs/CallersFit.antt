@@ -254,8 +254,10 @@ module _ (each : (abi : Abi) (rules : List (ℕ × Rule)) → All (λ entry. ent
 
     under_within : (abi : Abi) (rules : List (ℕ × Rule)) → RulesWithin e.target.address_size rules
         → RulesWithin e.target.address_size (rules_under abi rules)
-    under_within abi rules within = recursion_from_All (λ (entry : ℕ × Rule). RuleWithin e.target.address_size entry.1) (rules_under abi rules)
-        (λ k d lt. subst (RuleWithin e.target.address_size) (sym (each abi rules k d lt)) (one_under e.target.address_size abi rules _ within))
+    under_within abi rules within =
+        recursion_from_All (λ (entry : ℕ × Rule). RuleWithin e.target.address_size entry.1) (rules_under abi rules)
+        (λ k d lt. subst (RuleWithin e.target.address_size) (sym (each abi rules k d lt))
+        (one_under e.target.address_size abi rules _ within))
 
     caller_fits : (abi : Abi) (back : ℕ) (row : Row) (c : Caller) → CfaWithin e.target.address_size row.cfa
         → RulesWithin e.target.address_size row.rules → IsCaller e abi back row c → CallerFits m c

@@ -21,7 +21,8 @@ pub same_abi : (k : KnownState) (gs : List StateFact) → IsGivenBy k gs → abi
 same_abi k gs is = rw (is.kept, is.stack_pointer) refl
 
 -- so a walk over what is known is one over what was given
-pub same_walk : (frame : Frame) (abi : Abi) (k : KnownState) (gs : List StateFact) (address limit : ℕ) (frames : List WalkedFrame) (stop : Stop)
+pub same_walk : (frame : Frame) (abi : Abi) (k : KnownState) (gs : List StateFact) (address limit : ℕ) (frames : List WalkedFrame)
+    (stop : Stop)
     → IsGivenBy k gs → abi ≡ abi_of k.kept k.stack_pointer
     → Walks (record { frame = frame; abi = abi; memory = k.memory }) (first_place address k.registers) limit frames stop
     → Walks (record { frame = frame; abi = abi_given gs; memory = λ a. first_that (byte_in a) gs })
@@ -32,6 +33,7 @@ same_walk frame abi k gs address limit frames stop is of_abi walks =
     let given : abi ≡ abi_given gs = of_abi ∙ same_abi k gs is in
     subst (λ r. Walks (record { frame = frame; abi = abi_given gs; memory = λ a. first_that (byte_in a) gs }) (first_place address r) limit
     frames stop) registers
-    (subst (λ m. Walks (record { frame = frame; abi = abi_given gs; memory = m }) (first_place address k.registers) limit frames stop) memory
+    (subst (λ m. Walks (record { frame = frame; abi = abi_given gs; memory = m })
+    (first_place address k.registers) limit frames stop) memory
     (subst (λ (a : Abi). Walks (record { frame = frame; abi = a; memory = k.memory }) (first_place address k.registers) limit frames stop)
     given walks))

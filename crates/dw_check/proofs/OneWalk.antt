@@ -94,7 +94,8 @@ module _ (s : Surroundings)
   one_behind (suc n) c (x ∷ xs) [] g h e (inr (stop, is)) = absurd (subst (λ p. AreFrames s p (x ∷ xs)) (no_place c stop is) g)
   one_behind (suc n) c (x ∷ xs) (y ∷ ys) g h e k = go (one_behind n y.caller xs ys) (next_place c) g h
     where
-      go : (AreFrames s (next_place y.caller) xs → AreFrames s (next_place y.caller) ys → Ended n y.caller xs → Ended n y.caller ys → xs ≡ ys)
+      go : (AreFrames s (next_place y.caller) xs → AreFrames s (next_place y.caller) ys
+          → Ended n y.caller xs → Ended n y.caller ys → xs ≡ ys)
           → (p : Option Place) → AreFrames s p (x ∷ xs) → AreFrames s p (y ∷ ys) → ◌≡◌ {A = List WalkedFrame} (x ∷ xs) (y ∷ ys)
       go later None g h = absurd g
       go later (Some p) g h =
@@ -104,7 +105,8 @@ module _ (s : Surroundings)
           let rest : xs ≡ ys = later behind h.1 ended k in
           rw (same, rest) refl
 
-  one_list : (first : Place) (limit : ℕ) (xs ys : List WalkedFrame) (a b : Stop) → Walks s first limit xs a → Walks s first limit ys b → xs ≡ ys
+  one_list : (first : Place) (limit : ℕ) (xs ys : List WalkedFrame) (a b : Stop) → Walks s first limit xs a → Walks s first limit ys b
+      → xs ≡ ys
   one_list first limit [] [] a b g h = refl
   one_list first zero [] (y ∷ ys) a b g h = absurd (omega (arith, h.few))
   one_list first (suc n) [] (y ∷ ys) a b g h = absurd (none_ends n a g.ends)
@@ -129,7 +131,8 @@ module _ (s : Surroundings)
 -- ---- some
 
 module _ (s : Surroundings)
-    (some : (registers : ℕ → Option ℕ) (a : ℕ) → (c : Option Caller) × Unwinds (machine s.frame.target registers s.memory) s.abi s.frame a c) where
+    (some : (registers : ℕ → Option ℕ) (a : ℕ)
+    → (c : Option Caller) × Unwinds (machine s.frame.target registers s.memory) s.abi s.frame a c) where
   some_caller_at : (registers : ℕ → Option ℕ) (o : Option ℕ) → (c : Option Caller) × UnwindsAt s registers o c
   some_caller_at registers None = (None, refl)
   some_caller_at registers (Some a) = some registers a
@@ -177,7 +180,8 @@ module _ (s : Surroundings)
 
 -- ---- a walk, cut short
 
-cut_frames : (s : Surroundings) (p : Option Place) (n : ℕ) (frames : List WalkedFrame) → AreFrames s p frames → AreFrames s p (take n frames)
+cut_frames : (s : Surroundings) (p : Option Place) (n : ℕ) (frames : List WalkedFrame) → AreFrames s p frames
+    → AreFrames s p (take n frames)
 cut_frames s p zero frames h = tt
 cut_frames s p (suc n) [] h = tt
 cut_frames s None (suc n) (f ∷ frames) h = absurd h

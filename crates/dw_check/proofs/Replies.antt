@@ -98,7 +98,8 @@ writes_if_whole old new (Err faults.Memory) bytes h = front_none old new bytes h
 writes_if_whole old new (Err faults.Write) bytes h = h
 
 -- what a `?` hands on
-pub handed_on : (P : Result (Unit {0}) RunFault → Type 0) (r : Result (Unit {0}) RunFault) (e : RunFault) → IsErr r × IsErrAnd r (λ x. x ≡ e)
+pub handed_on : (P : Result (Unit {0}) RunFault → Type 0) (r : Result (Unit {0}) RunFault) (e : RunFault)
+    → IsErr r × IsErrAnd r (λ x. x ≡ e)
     → P (Err e) → P r
 handed_on P (Ok _) e h p = let f = h.0 in cc
 handed_on P (Err x) e h p = subst (λ y. P (Err y)) (sym h.1) p

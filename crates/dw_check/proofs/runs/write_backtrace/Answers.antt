@@ -25,7 +25,8 @@ returns-in-Ok-clause-written g c = λ gs given.
     c.abi.ensures c.in-Ok.ensures.walks in (
       walk_text size frames stop,
       (frames, stop, walks, refl),
-      subst (λ (z : AddressSize). Writes old new c.write_walk.result (walk_text z frames stop)) c.requires.size c.write_walk.ensures.written,
+      subst (λ (z : AddressSize). Writes old new c.write_walk.result (walk_text z frames stop)) c.requires.size
+          c.write_walk.ensures.written,
     )
 
 pub returns-in-Err-clause-written : goal.returns-in-Err-clause-written

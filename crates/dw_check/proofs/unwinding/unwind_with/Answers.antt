@@ -8,7 +8,8 @@ use Rattle.dw_check.proofs.unwinding.unwind_with.Goals as goal
 
 pub returns-in-Some-clause-unwinds : goal.returns-in-Some-clause-unwinds
 returns-in-Some-clause-unwinds g c =
-    by_row (g.R.Registers.contents c.args.registers.now) (g.M.Memory.bytes c.args.memory.now) _ _ _ _ _ _ _ _ (roles_of c.args.abi.now) _ _ _ _ _
+    by_row (g.R.Registers.contents c.args.registers.now) (g.M.Memory.bytes c.args.memory.now) _ _ _ _ _ _ _ _
+    (roles_of c.args.abi.now) _ _ _ _ _
     c.frame-frame.ensures c.target.ensures c.in-Some.ensures.only c.in-Some.ensures.cie c.in-Some.ensures.row c.cfa.ensures.cfa
     c.cfa-cfa.ensures c.rules_with.ensures.rules c.registers.ensures c.register_with.ensures.rule c.register.ensures
 

@@ -34,7 +34,8 @@ loop-frames-preserved g c =
     let all : c.push-in-loop-frames.new.self.items ≡ frames ++ c.in-Ok.frame ∷ [] =
     pushed c.push-in-loop-frames.result frames c.push-in-loop-frames.new.self.items c.in-Ok.frame c.if-is_err-2.ensures.value
     c.push-in-loop-frames.ensures.items in
-    let many : length c.push-in-loop-frames.new.self.items ≡ length frames + 1 = ap length all ∙ length-append frames (c.in-Ok.frame ∷ []) in
+    let many : length c.push-in-loop-frames.new.self.items ≡ length frames + 1 =
+    ap length all ∙ length-append frames (c.in-Ok.frame ∷ []) in
     record {
       are = subst (λ (l : List declared.Frame). AreFrames s (Some first) (frames_in l)) (sym all)
           (walk_goes s (Some first) frames c.index.result.now c.in-Ok.frame c.loop-frames.invariant.are some last c.in-Ok.ensures.next);

@@ -18,11 +18,13 @@ returns-clause-frame g c =
         | in-Some w ↦
             subst (λ (o : Option ℕ). UnwindsAt s known o (option_map caller_in c.match-checked_sub.caller))
             (sym (before_is c.args.address w.in-Some.before w.in-Some.ensures.0 w.in-Some.ensures.1))
-            (subst (λ (o : Option declared_caller.Caller). UnwindsAt s known (Some w.in-Some.before) (option_map caller_in o)) (sym w.caller-is)
+            (subst (λ (o : Option declared_caller.Caller).
+            UnwindsAt s known (Some w.in-Some.before) (option_map caller_in o)) (sym w.caller-is)
             (subst (λ (l : List (ℕ × declared.Answer)). UnwindsAt s (contents_of (map found_in l)) (Some w.in-Some.before)
             (option_map caller_in w.unwind_with-caller.result)) c.as_slice.ensures.value w.unwind_with-caller.ensures.unwinds))
         | in-None w ↦
             subst (λ (o : Option ℕ). UnwindsAt s known o (option_map caller_in c.match-checked_sub.caller))
-            (sym (none_before c.args.address w.in-None.ensures)) (ap (λ (o : Option declared_caller.Caller). option_map caller_in o) w.caller-is)
+            (sym (none_before c.args.address w.in-None.ensures))
+            (ap (λ (o : Option declared_caller.Caller). option_map caller_in o) w.caller-is)
       ],
     )
