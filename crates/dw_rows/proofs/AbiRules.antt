@@ -314,7 +314,7 @@ abi-stands registers pointer fault is = go (ltb MAX_KEPT (length registers)) ref
 
     go : (large : Bool) → ltb MAX_KEPT (length registers) ≡ large
         → cond large (Some (record { kind = AbiTooLarge; at = MAX_KEPT }))
-            (option_map twice (place_of_second [] (registers ++ option_to_list pointer)))
+        (option_map twice (place_of_second [] (registers ++ option_to_list pointer)))
         ≡ Some fault → fault.at ≤ length registers
     go true e h =
         let same : ◌≡◌ {A = Fault} (record { kind = AbiTooLarge; at = MAX_KEPT }) fault = cc in

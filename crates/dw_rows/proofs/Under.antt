@@ -189,7 +189,7 @@ few-by (suc fuel) (e ∷ es) (o ∷ os) t u f = elim (cases_lt e.0 o.0) [
     | inr other ↦
         let later = few-by fuel (e ∷ es) os t (behind-first o os u) (omega (arith, f)) in
         let is = ap length (lowest-other o (e ∷ es) os u
-            (λ r l. rule_in-below e.0 (e ∷ es) r (from-first e es t) (omega (arith, le, other)))) in
+        (λ r l. rule_in-below e.0 (e ∷ es) r (from-first e es t) (omega (arith, le, other)))) in
         omega (arith, later, is)
   ]
 ]

@@ -162,9 +162,10 @@ write_row_in_bracket-requires t c =
     let ks : List KeptRules = rules ∷ c.requires.seeks.0 in
     let h = c.loop-start.invariant.seeks c.requires.seeks.0 c.requires.seeks.1 in
     let there = seeks-remembers cie fde c.args.address w new ks h c.in-Remembers.ensures.next in
-    let i = c.loop-start.invariant in
-    (omega (arith, c.decreases, i.shorter, c.in-Remembers.ensures.on),
-    (c.requires.lent, (c.requires.fde, (c.requires.low, (c.requires.high, (ks, there))))))
+    let i = c.loop-start.invariant in (
+      omega (arith, c.decreases, i.shorter, c.in-Remembers.ensures.on),
+      (c.requires.lent, (c.requires.fde, (c.requires.low, (c.requires.high, (ks, there))))),
+    )
 
 pub loop-start-smaller : goal.loop-start-smaller
 loop-start-smaller t c =

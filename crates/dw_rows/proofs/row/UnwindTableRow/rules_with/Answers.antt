@@ -30,7 +30,7 @@ returns-clause-few c =
     let own = entries_of c.as_slice.result.now in
     let others = entries_of c.as_slice-2.result.now in
     let is : given_rules es (rules_of_either own others) ≡ rules_under (roles_of c.args.abi.now) c.args.self.now.rules =
-        returns-clause-rules c in
+    returns-clause-rules c in
     omega (
       arith,
       ap length is,
@@ -49,9 +49,9 @@ returns-clause-kinds c =
     let others = entries_of c.as_slice-2.result.now in
     let lends : LendsEach es own = subst (LendsEach es) (sym c.as_slice.ensures.entries) c.self.invariant.1 in
     let other_lends : LendsEach es others =
-        roles-lend es others (roles_of c.args.abi.now) c.as_slice-2.ensures.table c.as_slice-2.ensures.rules in
+    roles-lend es others (roles_of c.args.abi.now) c.as_slice-2.ensures.table c.as_slice-2.ensures.rules in
     subst (All IsEntryOfKind) (returns-clause-rules c)
-        (kinds-with es (rules_of_either own others) (lends-either es own others lends other_lends))
+    (kinds-with es (rules_of_either own others) (lends-either es own others lends other_lends))
 
 pub invariant_of-result : goal.invariant_of-result
 invariant_of-result c =
