@@ -290,7 +290,7 @@ few-named : (pointer : Option ℕ) → length (option_to_list pointer) ≤ 1
 few-named None = omega arith
 few-named (Some n) = omega arith
 
-abbrev twice : ℕ → Fault
+abbrev pub twice : ℕ → Fault
 twice at = record { kind = AbiTwice; at = at }
 
 -- each fault stands at a number, or behind all that are kept

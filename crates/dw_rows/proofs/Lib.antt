@@ -38,3 +38,4 @@ mod GoodRows
 mod JudgedInPlace
 mod Under
 mod AbiRules
+mod AbiFaults

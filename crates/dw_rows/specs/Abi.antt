@@ -1,7 +1,8 @@
 -- What an ABI says of registers. DWARF 5, section 6.4.1, leaves it to the ABI what a register is that no instruction gives a rule; what
 -- can be said of it here is the profile's own.
-use Rattle.std.specs.Prelude.{ℕ, Bool, pos, nat_lt, if◌then◌else◌, List, [], ◌∷◌, ◌++◌, length, ◌==◌, Option, Some, None, option_map}
-use Rattle.std.specs.List.{list_any}
+use Rattle.std.specs.Prelude.{◌≡◌, ℕ, ◌≤◌, Bool, true, pos, nat_eq, nat_lt, if◌then◌else◌, List, [], ◌∷◌, ◌++◌, length, ◌==◌, take}
+use Rattle.std.specs.Prelude.{Option, Some, None, option_map, slice_get}
+use Rattle.std.specs.List.{list_any, IsDistinct}
 use Rattle.std.specs.Option.{option_to_list}
 use Rattle.dw_bytes.specs.declared.fault.Fault.{Fault}
 use Rattle.dw_bytes.specs.declared.fault.FaultKind.TheVariants.{AbiTooLarge, AbiTwice}
@@ -50,6 +51,20 @@ rule_under abi rules r = or_rule (rule_in rules r) (rule_of_role (abi r))
 -- those other than default, by ascending registers
 abbrev pub rules_under : Abi → List (ℕ × Rule) → List (ℕ × Rule)
 rules_under abi rules = rule_list (rule_under abi rules)
+
+-- ---- what can be an ABI
+
+-- Calls keep no more registers than the limit, and no number stands twice, be it that of the stack pointer.
+pub record CanBeAbi (registers : List ℕ) (pointer : Option ℕ) : Type 0 where
+  pub few : length registers ≤ MAX_KEPT
+  pub distinct : IsDistinct nat_eq (registers ++ option_to_list pointer)
+
+-- the first number that stood before is at this place
+pub record StandsAgain (numbers : List ℕ) (place : ℕ) : Type 0 where
+  pub number : ℕ
+  pub here : slice_get numbers place ≡ Some number
+  pub again : is_among number (take place numbers) ≡ true
+  pub first : IsDistinct nat_eq (take place numbers)
 
 -- ---- the first fault
 

@@ -2,9 +2,11 @@
 //! its contract.
 
 ghost use Rattle.std.specs.Prelude.{◌≡◌, ◌⊎◌, false, ℕ, ◌+◌, ◌<◌, ◌≤◌, ◌↔◌, List, length, Option, Some, None, slice_get, filter, [], ◌∷◌};
-ghost use Rattle.std.specs.Prelude.{Err, All, Contains};
+ghost use Rattle.std.specs.Prelude.{Err, All, Contains, ◌++◌};
 ghost use Rattle.dw_frame.specs.Records.{Cie, Fde};
-ghost use Rattle.dw_rows.specs.Abi.{Abi, abi_fault, no_abi, rule_under, rules_under};
+ghost use Rattle.std.specs.Option.{option_to_list};
+ghost use Rattle.dw_bytes.specs.declared.fault.FaultKind.TheVariants.{AbiTwice};
+ghost use Rattle.dw_rows.specs.Abi.{Abi, CanBeAbi, StandsAgain, abi_fault, no_abi, rule_under, rules_under};
 ghost use Rattle.dw_rows.specs.Rules.{Rule, PlacedRule, PlacedCfa, PlacedRow, Row, IsTable, rule_in, rule_list};
 ghost use Rattle.dw_bytes.specs.declared.fault.FaultKind.{FaultKind};
 ghost use Rattle.dw_frame.specs.Instructions.{Instruction};
@@ -95,6 +97,16 @@ pub fn rules_under_abis()
         → rule_in (rules_under abi rules) r ≡ rule_under abi rules r }
     ensures table { (abi : Abi) (rules : List (ℕ × Rule)) → IsTable 0 (rules_under abi rules) }
     ensures none { (rules : List (ℕ × Rule)) → IsTable 0 rules → rules_under no_abi rules ≡ rules }
+{}
+
+/// What is named for an ABI has no fault exactly where it can be one. A number that is refused since it stands twice is the first
+/// that stood before.
+pub fn abis_without_fault_are_distinct()
+    ensures good { (registers : List ℕ) (pointer : Option ℕ)
+        → (abi_fault registers pointer ≡ None) ↔ CanBeAbi registers pointer }
+    ensures twice { (registers : List ℕ) (pointer : Option ℕ) (place : ℕ)
+        → abi_fault registers pointer ≡ Some (record { kind = AbiTwice; at = place })
+        → StandsAgain (registers ++ option_to_list pointer) place }
 {}
 
 /// A section has no fault exactly where it is well formed: a concatenation of records whose CIE_pointers point to CIEs,
