@@ -21,25 +21,45 @@ fn refused_from_zero(count: usize, stack_pointer: Option<u16>) -> Option<(u8, u3
     refused(&numbers[..count.min(128)], stack_pointer)
 }
 
-#[test]
-fn names_a_register_that_stands_twice(rt: HostRuntime) -> Result<(), Fail> {
-    assert_eq!(rt; refused(&[6, 7, 6], None), Some((63, 2)));
-    assert_eq!(rt; refused(&[6, 7, 6], Some(7)), Some((63, 2)));
-    assert_eq!(rt; refused(&[7], Some(7)), Some((63, 1)));
-    assert_eq!(rt; refused(&[7], Some(6)), None);
-    assert_eq!(rt; refused(&[], None), None);
-    assert_eq!(rt; refused(&[], Some(65535)), None);
-    Ok(())
-}
+/// Registers that are kept, stack pointers, and the number of the fault and its place.
+const NAMED: [(&[u16], Option<u16>, Option<(u8, u32)>); 7] = [
+    (&[6, 7, 6], None, Some((63, 2))),
+    (&[6, 7, 6], Some(7), Some((63, 2))),
+    (&[7], Some(7), Some((63, 1))),
+    (&[7], Some(6), None),
+    (&[], None, None),
+    (&[], Some(65535), None),
+    (&[0; 128], Some(0), Some((62, 127))),
+];
 
 #[test]
-fn keeps_so_many_registers(rt: HostRuntime) -> Result<(), Fail> {
-    assert_eq!(rt; refused_from_zero(128, None), Some((62, 127)));
-    assert_eq!(rt; refused(&[0; 128], Some(0)), Some((62, 127)));
-    assert_eq!(rt; refused_from_zero(127, None), None);
-    assert_eq!(rt; refused_from_zero(127, Some(127)), None);
-    assert_eq!(rt; refused_from_zero(127, Some(126)), Some((63, 127)));
-    Ok(())
+fn names_a_register_that_stands_twice(rt: HostRuntime) {
+    for (kept, stack_pointer, fault) in &NAMED {
+        assert_eq!(rt;
+            refused(kept, *stack_pointer),
+            *fault,
+            "{kept:?} {stack_pointer:?}"
+        );
+    }
+}
+
+/// How many numbers from 0 are kept, stack pointers, and the number of the fault and its place.
+const COUNTED: [(usize, Option<u16>, Option<(u8, u32)>); 4] = [
+    (128, None, Some((62, 127))),
+    (127, None, None),
+    (127, Some(127), None),
+    (127, Some(126), Some((63, 127))),
+];
+
+#[test]
+fn keeps_so_many_registers(rt: HostRuntime) {
+    for (count, stack_pointer, fault) in &COUNTED {
+        assert_eq!(rt;
+            refused_from_zero(*count, *stack_pointer),
+            *fault,
+            "{count}"
+        );
+    }
 }
 
 /// Registers of the row of an address under an ABI, as text: each with its rule.
@@ -58,20 +78,29 @@ fn registers_at(
     Ok(text)
 }
 
-/// Register 6 has a rule from 0x1001 on, register 16 has one in each row.
+/// Addresses of the function, and what an ABI says there of registers: 6 has a rule from 0x1001 on, and 16 in each row.
+const REGISTERS: [(u64, &str); 2] = [
+    (
+        0x1000,
+        "r3 Undefined r6 SameValue r7 ValOffset(0) r16 Offset(-8) r65535 SameValue ",
+    ),
+    (
+        0x1001,
+        "r3 Undefined r6 Offset(-16) r7 ValOffset(0) r16 Offset(-8) r65535 SameValue ",
+    ),
+];
+
 #[test]
 fn gives_registers_under_an_abi(rt: HostRuntime) -> Result<(), Fail> {
     let alloc = rt.alloc();
     let frame = check_frame(alloc, &FUNCTION, LITTLE)?;
     let abi = Abi::new(&[65535, 6, 16], Some(7))?;
-    assert_eq!(rt;
-        registers_at(alloc, &frame, &abi, 0x1000)?.as_str(),
-        "r3 Undefined r6 SameValue r7 ValOffset(0) r16 Offset(-8) r65535 SameValue "
-    );
-    assert_eq!(rt;
-        registers_at(alloc, &frame, &abi, 0x1001)?.as_str(),
-        "r3 Undefined r6 Offset(-16) r7 ValOffset(0) r16 Offset(-8) r65535 SameValue "
-    );
+    for (address, text) in &REGISTERS {
+        assert_eq!(rt;
+            registers_at(alloc, &frame, &abi, *address)?.as_str(),
+            *text
+        );
+    }
     assert_eq!(rt;
         registers_at(alloc, &frame, &Abi::none(), 0x1001)?.as_str(),
         "r3 Undefined r6 Offset(-16) r7 Undefined r16 Offset(-8) r65535 Undefined "
@@ -94,20 +123,26 @@ fn rules_at(
     Ok(text)
 }
 
-/// By ascending registers, whatever the order in which an ABI names them.
+/// Addresses of the function, and the rules there, by ascending registers, whatever the order in which an ABI names them.
+const RULES: [(u64, &str); 2] = [
+    (
+        0x1000,
+        "r3 SameValue r6 SameValue r7 ValOffset(0) r16 Offset(-8) r65535 SameValue ",
+    ),
+    (
+        0x101f,
+        "r3 SameValue r6 Offset(-16) r7 ValOffset(0) r16 Offset(-8) r65535 SameValue ",
+    ),
+];
+
 #[test]
 fn gives_rules_under_an_abi(rt: HostRuntime) -> Result<(), Fail> {
     let alloc = rt.alloc();
     let frame = check_frame(alloc, &FUNCTION, LITTLE)?;
     let abi = Abi::new(&[65535, 6, 3], Some(7))?;
-    assert_eq!(rt;
-        rules_at(alloc, &frame, &abi, 0x1000)?.as_str(),
-        "r3 SameValue r6 SameValue r7 ValOffset(0) r16 Offset(-8) r65535 SameValue "
-    );
-    assert_eq!(rt;
-        rules_at(alloc, &frame, &abi, 0x101f)?.as_str(),
-        "r3 SameValue r6 Offset(-16) r7 ValOffset(0) r16 Offset(-8) r65535 SameValue "
-    );
+    for (address, text) in &RULES {
+        assert_eq!(rt; rules_at(alloc, &frame, &abi, *address)?.as_str(), *text);
+    }
     assert_eq!(rt;
         rules_at(alloc, &frame, &Abi::none(), 0x101f)?.as_str(),
         "r6 Offset(-16) r16 Offset(-8) "

@@ -40,10 +40,10 @@ fn first_fault(alloc: Global, section: &[u8]) -> Option<(FaultKind, u32)>
 }
 
 /// How many tables, lists and expressions a section has.
-fn counts(alloc: Global, section: &[u8], target: Target) -> Option<(usize, usize, usize)>
+fn counts(alloc: Global, section: &[u8]) -> Option<(usize, usize, usize)>
     requires { length section.now < 2 ^ 32 }
 {
-    let lists = check_lists(alloc, section, target).ok()?;
+    let lists = check_lists(alloc, section, LITTLE).ok()?;
     Some((
         lists.tables().len(),
         lists.lists().len(),
@@ -59,9 +59,10 @@ fn shown(
     list: u32,
     base: u64,
     address: u64,
-) -> Result<String, Fail>
-    requires { length section.now < 2 ^ 32 }
-{
+) -> Result<String, Fail> {
+    if section.len() >= 100 {
+        return Err(Fail::from("a long section"));
+    }
     let Ok(lists) = check_lists(alloc, section, target) else {
         return Err(Fail::from("a bad section"));
     };
@@ -78,98 +79,145 @@ fn shown(
     Ok(text)
 }
 
+/// A list of no entry at 0x1c, of a table in the 64-bit format.
+const LONG: [u8; 29] = [
+    0xff, 0xff, 0xff, 0xff, 0x11, 0, 0, 0, 0, 0, 0, 0, 5, 0, 8, 0, 1, 0, 0, 0, 8, 0, 0, 0, 0, 0, 0,
+    0, 0,
+];
+
+/// A list at 0xc of big order and with addresses of four bytes: 0x1000 to 0x2000, where the value is 0.
+const SHORT: [u8; 25] = [
+    0, 0, 0, 0x15, 0, 5, 4, 0, 0, 0, 0, 0, 7, 0, 0, 0x10, 0, 0, 0, 0x20, 0, 2, 0x30, 0x9f, 0,
+];
+
+/// Sections, lists, bases, addresses, and what holds there. Sums do not wrap.
+const FOUND: [(&[u8], Target, u32, u64, u64, &str); 11] = [
+    (
+        &PAIR_AND_DEFAULT,
+        LITTLE,
+        0xc,
+        0x1000,
+        0x1005,
+        "0x10 [80]\n",
+    ),
+    (
+        &PAIR_AND_DEFAULT,
+        LITTLE,
+        0xc,
+        0x1000,
+        0x1010,
+        "0x13 [48, 159]\n",
+    ),
+    (&PAIR_AND_DEFAULT, LITTLE, 0xd, 0x1000, 0x1005, "no list\n"),
+    (
+        &PAIR_AND_DEFAULT,
+        LITTLE,
+        0xc,
+        0xffff_ffff_ffff_fff8,
+        0xffff_ffff_ffff_ffff,
+        "0x10 [80]\n",
+    ),
+    (
+        &PAIR_AND_DEFAULT,
+        LITTLE,
+        0xc,
+        0xffff_ffff_ffff_fff8,
+        4,
+        "0x13 [48, 159]\n",
+    ),
+    (&OVERLAPPING, LITTLE, 0xc, 0, 0x2000, "0x19 [80]\n"),
+    (
+        &OVERLAPPING,
+        LITTLE,
+        0xc,
+        0,
+        0x2008,
+        "0x19 [80]\n0x25 [81]\n",
+    ),
+    (&OVERLAPPING, LITTLE, 0xc, 0, 0x2010, "0x25 [81]\n"),
+    (&OVERLAPPING, LITTLE, 0xc, 0, 0x2018, ""),
+    (&LONG, LITTLE, 0x1c, 0, 0, ""),
+    (&SHORT, BIG, 0xc, 0, 0x1fff, "0x16 [48, 159]\n"),
+];
+
 #[test]
-fn pair_and_default(rt: HostRuntime) -> Result<(), Fail> {
-    let alloc = rt.alloc();
-    let section = &PAIR_AND_DEFAULT;
-    assert_eq!(rt; counts(alloc, section, LITTLE), Some((1, 1, 2)));
-    let text = shown(alloc, section, LITTLE, 0xc, 0x1000, 0x1005)?;
-    assert_eq!(rt; text.as_str(), "0x10 [80]\n");
-    let text = shown(alloc, section, LITTLE, 0xc, 0x1000, 0x1010)?;
-    assert_eq!(rt; text.as_str(), "0x13 [48, 159]\n");
-    let text = shown(alloc, section, LITTLE, 0xd, 0x1000, 0x1005)?;
-    assert_eq!(rt; text.as_str(), "no list\n");
+fn what_holds(rt: HostRuntime) -> Result<(), Fail> {
+    for (section, target, list, base, address, text) in &FOUND {
+        let found = shown(rt.alloc(), section, *target, *list, *base, *address)?;
+        assert_eq!(rt; found.as_str(), *text, "{list:#x} {base:#x} {address:#x}");
+    }
     Ok(())
 }
 
-#[test]
-fn sums_do_not_wrap(rt: HostRuntime) -> Result<(), Fail> {
-    let alloc = rt.alloc();
-    let base = 0xffff_ffff_ffff_fff8;
-    let text = shown(alloc, &PAIR_AND_DEFAULT, LITTLE, 0xc, base, u64::MAX)?;
-    assert_eq!(rt; text.as_str(), "0x10 [80]\n");
-    let text = shown(alloc, &PAIR_AND_DEFAULT, LITTLE, 0xc, base, 4)?;
-    assert_eq!(rt; text.as_str(), "0x13 [48, 159]\n");
-    Ok(())
-}
+/// Sections, and how many tables, lists and expressions they have.
+const COUNTS: [(&[u8], (usize, usize, usize)); 6] = [
+    (&[], (0, 0, 0)),
+    (&PAIR_AND_DEFAULT, (1, 1, 2)),
+    (&OVERLAPPING, (1, 1, 3)),
+    (&LONG, (1, 1, 0)),
+    // A table without a list, and a list of no entry that the table names.
+    (&[8, 0, 0, 0, 5, 0, 8, 0, 0, 0, 0, 0], (1, 0, 0)),
+    (
+        &[0x0d, 0, 0, 0, 5, 0, 8, 0, 1, 0, 0, 0, 4, 0, 0, 0, 0],
+        (1, 1, 0),
+    ),
+];
 
 #[test]
-fn overlapping_ranges(rt: HostRuntime) -> Result<(), Fail> {
-    let alloc = rt.alloc();
-    assert_eq!(rt; counts(alloc, &OVERLAPPING, LITTLE), Some((1, 1, 3)));
-    let text = shown(alloc, &OVERLAPPING, LITTLE, 0xc, 0, 0x2000)?;
-    assert_eq!(rt; text.as_str(), "0x19 [80]\n");
-    let text = shown(alloc, &OVERLAPPING, LITTLE, 0xc, 0, 0x2008)?;
-    assert_eq!(rt; text.as_str(), "0x19 [80]\n0x25 [81]\n");
-    let text = shown(alloc, &OVERLAPPING, LITTLE, 0xc, 0, 0x2010)?;
-    assert_eq!(rt; text.as_str(), "0x25 [81]\n");
-    let text = shown(alloc, &OVERLAPPING, LITTLE, 0xc, 0, 0x2018)?;
-    assert_eq!(rt; text.as_str(), "");
-    Ok(())
+fn counts_what_a_section_has(rt: HostRuntime) {
+    for (section, wanted) in &COUNTS {
+        assert!(rt; section.len() < 100);
+        assert_eq!(rt; counts(rt.alloc(), section), Some(*wanted), "{section:?}");
+    }
 }
 
-#[test]
-fn other_forms(rt: HostRuntime) -> Result<(), Fail> {
-    let alloc = rt.alloc();
-    assert_eq!(rt; counts(alloc, &[], LITTLE), Some((0, 0, 0)));
-    let long = [
-        0xff, 0xff, 0xff, 0xff, 0x11, 0, 0, 0, 0, 0, 0, 0, 5, 0, 8, 0, 1, 0, 0, 0, 8, 0, 0, 0, 0,
-        0, 0, 0, 0,
-    ];
-    assert_eq!(rt; counts(alloc, &long, LITTLE), Some((1, 1, 0)));
-    let text = shown(alloc, &long, LITTLE, 0x1c, 0, 0)?;
-    assert_eq!(rt; text.as_str(), "");
-    let big = [
-        0, 0, 0, 0x15, 0, 5, 4, 0, 0, 0, 0, 0, 7, 0, 0, 0x10, 0, 0, 0, 0x20, 0, 2, 0x30, 0x9f, 0,
-    ];
-    let text = shown(alloc, &big, BIG, 0xc, 0, 0x1fff)?;
-    assert_eq!(rt; text.as_str(), "0x16 [48, 159]\n");
-    Ok(())
-}
+/// Sections, and their first faults.
+const FAULTS: [(&[u8], FaultKind, u32); 7] = [
+    (
+        &[0x0d, 0, 0, 0, 5, 0, 8, 0, 0, 0, 0, 0, 5, 0, 5, 0, 0],
+        FaultKind::SecondDefault,
+        14,
+    ),
+    (
+        &[0x0a, 0, 0, 0, 5, 0, 8, 0, 0, 0, 0, 0, 1, 0],
+        FaultKind::UnknownEntry,
+        12,
+    ),
+    (
+        &[0x0c, 0, 0, 0, 5, 0, 8, 0, 0, 0, 0, 0, 5, 1, 0x12, 0],
+        FaultKind::Underflow,
+        14,
+    ),
+    (
+        &[0x0d, 0, 0, 0, 5, 0, 8, 0, 0, 0, 0, 0, 4, 0x10, 0, 0, 0],
+        FaultKind::BackRange,
+        12,
+    ),
+    (
+        &[0x0a, 0, 0, 0, 5, 0, 8, 0, 0, 0, 0, 0, 5, 0],
+        FaultKind::NoEnd,
+        14,
+    ),
+    (
+        &[8, 0, 0, 0, 4, 0, 8, 0, 0, 0, 0, 0],
+        FaultKind::ListVersion,
+        4,
+    ),
+    (
+        &[0x0d, 0, 0, 0, 5, 0, 8, 0, 1, 0, 0, 0, 5, 0, 0, 0, 0],
+        FaultKind::BadOffsetEntry,
+        12,
+    ),
+];
 
 #[test]
-fn faults_of_lists(rt: HostRuntime) {
-    let alloc = rt.alloc();
-    let second = [0x0d, 0, 0, 0, 5, 0, 8, 0, 0, 0, 0, 0, 5, 0, 5, 0, 0];
-    assert_eq!(rt;
-        first_fault(alloc, &second),
-        Some((FaultKind::SecondDefault, 14))
-    );
-    let unknown = [0x0a, 0, 0, 0, 5, 0, 8, 0, 0, 0, 0, 0, 1, 0];
-    assert_eq!(rt;
-        first_fault(alloc, &unknown),
-        Some((FaultKind::UnknownEntry, 12))
-    );
-    let low = [0x0c, 0, 0, 0, 5, 0, 8, 0, 0, 0, 0, 0, 5, 1, 0x12, 0];
-    assert_eq!(rt; first_fault(alloc, &low), Some((FaultKind::Underflow, 14)));
-    let back = [0x0d, 0, 0, 0, 5, 0, 8, 0, 0, 0, 0, 0, 4, 0x10, 0, 0, 0];
-    assert_eq!(rt; first_fault(alloc, &back), Some((FaultKind::BackRange, 12)));
-    let endless = [0x0a, 0, 0, 0, 5, 0, 8, 0, 0, 0, 0, 0, 5, 0];
-    assert_eq!(rt; first_fault(alloc, &endless), Some((FaultKind::NoEnd, 14)));
-}
-
-#[test]
-fn faults_of_tables(rt: HostRuntime) {
-    let alloc = rt.alloc();
-    let old = [8, 0, 0, 0, 4, 0, 8, 0, 0, 0, 0, 0];
-    assert_eq!(rt; first_fault(alloc, &old), Some((FaultKind::ListVersion, 4)));
-    let empty = [8, 0, 0, 0, 5, 0, 8, 0, 0, 0, 0, 0];
-    assert_eq!(rt; counts(alloc, &empty, LITTLE), Some((1, 0, 0)));
-    let inside = [0x0d, 0, 0, 0, 5, 0, 8, 0, 1, 0, 0, 0, 5, 0, 0, 0, 0];
-    assert_eq!(rt;
-        first_fault(alloc, &inside),
-        Some((FaultKind::BadOffsetEntry, 12))
-    );
-    let named = [0x0d, 0, 0, 0, 5, 0, 8, 0, 1, 0, 0, 0, 4, 0, 0, 0, 0];
-    assert_eq!(rt; counts(alloc, &named, LITTLE), Some((1, 1, 0)));
+fn names_the_first_fault(rt: HostRuntime) {
+    for (section, kind, at) in &FAULTS {
+        assert!(rt; section.len() < 100);
+        assert_eq!(rt;
+            first_fault(rt.alloc(), section),
+            Some((*kind, *at)),
+            "{section:?}"
+        );
+    }
 }

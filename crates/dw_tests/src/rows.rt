@@ -106,29 +106,33 @@ fn gives_the_rows_of_a_remembered_state(rt: HostRuntime) -> Result<(), Fail> {
     Ok(())
 }
 
+/// Programs, and their first faults.
+const FAULTS: [([u8; 8], Option<(FaultKind, u32)>); 6] = [
+    ([0x60, 0, 0, 0, 0, 0, 0, 0], None),
+    (
+        [0x61, 0, 0, 0, 0, 0, 0, 0],
+        Some((FaultKind::LocationPastEnd, 48)),
+    ),
+    (
+        [0x0b, 0, 0, 0, 0, 0, 0, 0],
+        Some((FaultKind::RestoreWithoutRemember, 48)),
+    ),
+    (
+        [0x0a, 0, 0, 0, 0, 0, 0, 0],
+        Some((FaultKind::Unrestored, 56)),
+    ),
+    (
+        [0, 0x0f, 1, 0x12, 0, 0, 0, 0],
+        Some((FaultKind::Underflow, 51)),
+    ),
+    ([0, 0x16, 6, 1, 0x12, 0, 0, 0], None),
+];
+
 #[test]
 fn names_the_first_fault(rt: HostRuntime) -> Result<(), Fail> {
-    assert_eq!(rt; first_fault(rt.alloc(), [0x60, 0, 0, 0, 0, 0, 0, 0])?, None);
-    assert_eq!(rt;
-        first_fault(rt.alloc(), [0x61, 0, 0, 0, 0, 0, 0, 0])?,
-        Some((FaultKind::LocationPastEnd, 48))
-    );
-    assert_eq!(rt;
-        first_fault(rt.alloc(), [0x0b, 0, 0, 0, 0, 0, 0, 0])?,
-        Some((FaultKind::RestoreWithoutRemember, 48))
-    );
-    assert_eq!(rt;
-        first_fault(rt.alloc(), [0x0a, 0, 0, 0, 0, 0, 0, 0])?,
-        Some((FaultKind::Unrestored, 56))
-    );
-    assert_eq!(rt;
-        first_fault(rt.alloc(), [0, 0x0f, 1, 0x12, 0, 0, 0, 0])?,
-        Some((FaultKind::Underflow, 51))
-    );
-    assert_eq!(rt;
-        first_fault(rt.alloc(), [0, 0x16, 6, 1, 0x12, 0, 0, 0])?,
-        None
-    );
+    for (program, fault) in &FAULTS {
+        assert_eq!(rt; first_fault(rt.alloc(), *program)?, *fault, "{program:?}");
+    }
     Ok(())
 }
 
