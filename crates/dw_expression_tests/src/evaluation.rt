@@ -204,28 +204,38 @@ fn unreadable(at: u32, steps: u32) -> Answer<'static> {
     Some((Outcome::Unreadable { at }, steps))
 }
 
+/// Locations that want what isn't handed in, where that is, and their steps.
+const UNREADABLE: [(&[u8], Target, u32, u32); 7] = [
+    (&[0x77, 0x00], LITTLE, 0, 1),
+    (&[0x92, 0x07, 0x00], LITTLE, 0, 1),
+    (&[0x96, 0x91, 0x00], LITTLE, 1, 2),
+    (&[0x97], SMALL, 0, 1),
+    (&[0x9c], SMALL, 0, 1),
+    (&[0x0a, 0x00, 0x10, 0x06], LITTLE, 3, 2),
+    (&[0x30, 0x94, 0x01], LITTLE, 1, 2),
+];
+
 #[test]
 fn what_is_not_handed_in(rt: HostRuntime) {
-    let alloc = rt.alloc();
-    assert_eq!(rt; alone(alloc, &[0x77, 0x00], LITTLE), unreadable(0, 1));
-    assert_eq!(rt; alone(alloc, &[0x92, 0x07, 0x00], LITTLE), unreadable(0, 1));
-    assert_eq!(rt; alone(alloc, &[0x96, 0x91, 0x00], LITTLE), unreadable(1, 2));
-    assert_eq!(rt; alone(alloc, &[0x97], SMALL), unreadable(0, 1));
-    assert_eq!(rt; alone(alloc, &[0x9c], SMALL), unreadable(0, 1));
-    assert_eq!(rt;
-        alone(alloc, &[0x0a, 0x00, 0x10, 0x06], LITTLE),
-        unreadable(3, 2)
-    );
-    assert_eq!(rt; alone(alloc, &[0x30, 0x94, 0x01], LITTLE), unreadable(1, 2));
+    for (bytes, target, at, steps) in &UNREADABLE {
+        let found = alone(rt.alloc(), bytes, *target);
+        assert_eq!(rt; found, unreadable(*at, *steps), "{bytes:?}");
+    }
 }
+
+/// Quotients and remainders of 1 and 0.
+const DIVISIONS: [(&[u8], Target); 3] = [
+    (&[0x31, 0x30, 0x1b], LITTLE),
+    (&[0x31, 0x30, 0x1d], LITTLE),
+    (&[0x31, 0x30, 0x1b], SMALL),
+];
 
 #[test]
 fn divisions_by_zero(rt: HostRuntime) {
-    let alloc = rt.alloc();
-    let by_zero = Some((Outcome::DivisionByZero { at: 2 }, 3));
-    assert_eq!(rt; alone(alloc, &[0x31, 0x30, 0x1b], LITTLE), by_zero);
-    assert_eq!(rt; alone(alloc, &[0x31, 0x30, 0x1d], LITTLE), by_zero);
-    assert_eq!(rt; alone(alloc, &[0x31, 0x30, 0x1b], SMALL), by_zero);
+    for (bytes, target) in &DIVISIONS {
+        let by_zero = Some((Outcome::DivisionByZero { at: 2 }, 3));
+        assert_eq!(rt; alone(rt.alloc(), bytes, *target), by_zero, "{bytes:?}");
+    }
 }
 
 #[test]
@@ -249,67 +259,77 @@ fn reads_at_the_top(rt: HostRuntime) {
     );
 }
 
+/// Locations that stand alone, and their steps.
+const LOCATIONS: [(&[u8], Location<'static>, u32); 7] = [
+    (&[], Location::Empty, 0),
+    (&[0x50], Location::Register(0), 1),
+    (&[0x6f], Location::Register(31), 1),
+    (&[0x90, 0xac, 0x02], Location::Register(300), 1),
+    (&[0x31, 0x9f], Location::Value(1), 2),
+    (&[0x31, 0x32, 0x9f], Location::Value(2), 3),
+    (&[0x9e, 0x02, 0xca, 0xfe], Location::Bytes(&[0xca, 0xfe]), 1),
+];
+
 #[test]
 fn locations(rt: HostRuntime) {
-    let alloc = rt.alloc();
-    assert_eq!(rt; alone(alloc, &[], LITTLE), single(Location::Empty, 0));
-    assert_eq!(rt;
-        alone(alloc, &[0x50], LITTLE),
-        single(Location::Register(0), 1)
-    );
-    assert_eq!(rt;
-        alone(alloc, &[0x6f], LITTLE),
-        single(Location::Register(31), 1)
-    );
-    assert_eq!(rt;
-        alone(alloc, &[0x90, 0xac, 0x02], LITTLE),
-        single(Location::Register(300), 1)
-    );
-    assert_eq!(rt;
-        alone(alloc, &[0x31, 0x9f], LITTLE),
-        single(Location::Value(1), 2)
-    );
-    assert_eq!(rt;
-        alone(alloc, &[0x31, 0x32, 0x9f], LITTLE),
-        single(Location::Value(2), 3)
-    );
-    assert_eq!(rt;
-        alone(alloc, &[0x9e, 0x02, 0xca, 0xfe], LITTLE),
-        single(Location::Bytes(&[0xca, 0xfe]), 1)
-    );
+    for (bytes, location, steps) in &LOCATIONS {
+        let found = alone(rt.alloc(), bytes, LITTLE);
+        assert_eq!(rt; found, single(*location, *steps), "{bytes:?}");
+    }
 }
+
+/// Expressions of rules, the CFA that is handed in, their values and their steps.
+const FRAMES: [(&[u8], Target, Kind, Option<u64>, u64, u32); 4] = [
+    (
+        &[0x12, 0x22],
+        LITTLE,
+        Kind::FrameRegister,
+        Some(0x10),
+        0x20,
+        2,
+    ),
+    (
+        &[],
+        LITTLE,
+        Kind::FrameRegister,
+        Some(0x1_0000_0010),
+        0x1_0000_0010,
+        0,
+    ),
+    (
+        &[],
+        SMALL,
+        Kind::FrameRegister,
+        Some(0x1_0000_0010),
+        0x10,
+        0,
+    ),
+    (&[0x35], LITTLE, Kind::FrameCfa, None, 5, 1),
+];
 
 #[test]
 fn frames(rt: HostRuntime) {
+    for (bytes, target, kind, cfa, wanted, steps) in &FRAMES {
+        let found = framed(rt.alloc(), bytes, *target, *kind, *cfa);
+        assert_eq!(rt; found, value(*wanted, *steps), "{bytes:?}");
+    }
+}
+
+/// The CFA or a register isn't known, and an expression that is none of a CFA.
+#[test]
+fn frames_without_a_value(rt: HostRuntime) {
     let alloc = rt.alloc();
-    let twice = [0x12, 0x22];
     assert_eq!(rt;
-        framed(alloc, &twice, LITTLE, Kind::FrameRegister, Some(0x10)),
-        value(0x20, 2)
-    );
-    assert_eq!(rt;
-        framed(alloc, &twice, LITTLE, Kind::FrameRegister, None),
+        framed(alloc, &[0x12, 0x22], LITTLE, Kind::FrameRegister, None),
         unreadable(0, 0)
-    );
-    assert_eq!(rt;
-        framed(alloc, &twice, LITTLE, Kind::FrameCfa, Some(0x10)),
-        None
-    );
-    assert_eq!(rt;
-        framed(alloc, &[], LITTLE, Kind::FrameRegister, Some(0x1_0000_0010)),
-        value(0x1_0000_0010, 0)
-    );
-    assert_eq!(rt;
-        framed(alloc, &[], SMALL, Kind::FrameRegister, Some(0x1_0000_0010)),
-        value(0x10, 0)
-    );
-    assert_eq!(rt;
-        framed(alloc, &[0x35], LITTLE, Kind::FrameCfa, None),
-        value(5, 1)
     );
     assert_eq!(rt;
         framed(alloc, &[0x77, 0x00], LITTLE, Kind::FrameCfa, Some(0x10)),
         unreadable(0, 1)
+    );
+    assert_eq!(rt;
+        framed(alloc, &[0x12, 0x22], LITTLE, Kind::FrameCfa, Some(0x10)),
+        None
     );
 }
 

@@ -2,94 +2,127 @@
 
 ghost use Rattle.std.specs.Prelude.{◌<◌, ◌^◌, length};
 
-use crate::certificates::{LITTLE, refusal};
+use crate::certificates::{LITTLE, Verdict, refusal};
 use dw_bytes::FaultKind;
 use dw_ops::Expression;
-use dw_stack::{CertFault, Kind, Mode, State, certify, recheck};
+use dw_stack::{Kind, Mode, State, certify, recheck};
 use std::alloc::Global;
 use std::process::Abort;
 use std::test::Fail;
 
 /// The depth and the count of operations, or the refusal.
 fn rechecked(
+    rt: &impl Abort,
     alloc: Global,
     bytes: &[u8],
     kind: Kind,
     states: &[State],
-) -> Result<(u8, u32), CertFault>
-    requires { length bytes.now < 2 ^ 32 }
-{
+) -> Verdict {
+    assert!(rt; bytes.len() < 0x1_0000);
     let checked = recheck(alloc, Expression::new(bytes, LITTLE), kind, states)?;
     Ok((checked.depth(), checked.operation_count()))
 }
 
-fn state(offset: u32, height: u8) -> State {
-    State {
-        offset,
-        height,
-        mode: Mode::Stack,
-        pieced: false,
+/// States before these operations, each with its offset and the height of the stack, whose location is on the stack.
+fn states_of(alloc: Global, numbers: &[(u32, u8)]) -> Result<Vec<State>, Fail> {
+    let mut states = Vec::new(alloc);
+    for (offset, height) in numbers {
+        states.push(State {
+            offset: *offset,
+            height: *height,
+            mode: Mode::Stack,
+            pieced: false,
+        })?;
     }
+    Ok(states)
 }
 
-#[test]
-fn given_states(rt: HostRuntime) {
-    let alloc = rt.alloc();
-    let kind = Kind::Location;
-    let sum = [0x32, 0x33, 0x22];
-    let right = [state(0, 0), state(1, 1), state(2, 2)];
-    assert_eq!(rt; rechecked(alloc, &sum, kind, &right), Ok((2, 3)));
-    let late = [state(0, 0), state(1, 1), state(2, 1)];
-    assert_eq!(rt;
-        rechecked(alloc, &sum, kind, &late),
-        refusal(FaultKind::CertState, 2)
-    );
-    let early = [state(0, 1), state(1, 1), state(2, 2)];
-    assert_eq!(rt;
-        rechecked(alloc, &sum, kind, &early),
-        refusal(FaultKind::CertState, 0)
-    );
-    let moved = [state(0, 0), state(1, 1), state(3, 2)];
-    assert_eq!(rt;
-        rechecked(alloc, &sum, kind, &moved),
-        refusal(FaultKind::CertState, 2)
-    );
-    assert_eq!(rt;
-        rechecked(alloc, &sum, kind, &right[..2]),
-        refusal(FaultKind::CertLength, 0)
-    );
-    let meeting = [0x30, 0x28, 0x01, 0x00, 0x31, 0x32];
-    let falling = [state(0, 0), state(1, 1), state(4, 0), state(5, 1)];
-    assert_eq!(rt;
-        rechecked(alloc, &meeting, kind, &falling),
-        refusal(FaultKind::Mismatch, 5)
-    );
-    let branching = [state(0, 0), state(1, 1), state(4, 0), state(5, 0)];
-    assert_eq!(rt;
-        rechecked(alloc, &meeting, kind, &branching),
-        refusal(FaultKind::Mismatch, 5)
-    );
-    assert_eq!(rt;
-        rechecked(
-            alloc,
-            &[0x12, 0x22],
-            Kind::FrameRegister,
-            &[state(0, 1), state(1, 2)]
-        ),
-        Ok((2, 2))
-    );
+/// The sum of 2 and 3, and its states.
+const SUM: [u8; 3] = [0x32, 0x33, 0x22];
+
+const STATES_OF_SUM: [(u32, u8); 3] = [(0, 0), (1, 1), (2, 2)];
+
+/// A branch past a literal, whose ways meet with another height.
+const MEETING: [u8; 6] = [0x30, 0x28, 0x01, 0x00, 0x31, 0x32];
+
+/// Expressions, states, and the first fault where they are handed in.
+const REFUSED: [(&[u8], Kind, &[(u32, u8)], FaultKind, u32); 7] = [
+    (
+        &SUM,
+        Kind::Location,
+        &[(0, 0), (1, 1), (2, 1)],
+        FaultKind::CertState,
+        2,
+    ),
+    (
+        &SUM,
+        Kind::Location,
+        &[(0, 1), (1, 1), (2, 2)],
+        FaultKind::CertState,
+        0,
+    ),
+    (
+        &SUM,
+        Kind::Location,
+        &[(0, 0), (1, 1), (3, 2)],
+        FaultKind::CertState,
+        2,
+    ),
+    (
+        &SUM,
+        Kind::Location,
+        &[(0, 0), (1, 1)],
+        FaultKind::CertLength,
+        0,
+    ),
+    (
+        &MEETING,
+        Kind::Location,
+        &[(0, 0), (1, 1), (4, 0), (5, 1)],
+        FaultKind::Mismatch,
+        5,
+    ),
+    (
+        &MEETING,
+        Kind::Location,
+        &[(0, 0), (1, 1), (4, 0), (5, 0)],
+        FaultKind::Mismatch,
+        5,
+    ),
     // The given state comes before the kind.
-    assert_eq!(rt;
-        rechecked(alloc, &[0x9c], Kind::FrameCfa, &[state(0, 1)]),
-        refusal(FaultKind::CertState, 0)
-    );
+    (&[0x9c], Kind::FrameCfa, &[(0, 1)], FaultKind::CertState, 0),
+];
+
+#[test]
+fn other_states(rt: HostRuntime) -> Result<(), Fail> {
+    for (bytes, kind, numbers, fault, at) in &REFUSED {
+        let states = states_of(rt.alloc(), numbers)?;
+        let found = rechecked(&rt, rt.alloc(), bytes, *kind, &states);
+        assert_eq!(rt; found, refusal(*fault, *at), "{bytes:?} {numbers:?}");
+    }
+    Ok(())
+}
+
+/// Expressions, their states, and their depths and counts of operations.
+const ACCEPTED: [(&[u8], Kind, &[(u32, u8)], u8, u32); 2] = [
+    (&SUM, Kind::Location, &STATES_OF_SUM, 2, 3),
+    (&[0x12, 0x22], Kind::FrameRegister, &[(0, 1), (1, 2)], 2, 2),
+];
+
+#[test]
+fn their_own_states(rt: HostRuntime) -> Result<(), Fail> {
+    for (bytes, kind, numbers, depth, count) in &ACCEPTED {
+        let states = states_of(rt.alloc(), numbers)?;
+        let found = rechecked(&rt, rt.alloc(), bytes, *kind, &states);
+        assert_eq!(rt; found, Ok((*depth, *count)), "{bytes:?}");
+    }
+    Ok(())
 }
 
 #[test]
 fn states_of_a_sum(rt: HostRuntime) -> Result<(), Fail> {
-    let bytes = [0x32, 0x33, 0x22];
-    let certificate = certify(rt.alloc(), Expression::new(&bytes, LITTLE), Kind::Location)?;
-    let right = [state(0, 0), state(1, 1), state(2, 2)];
+    let certificate = certify(rt.alloc(), Expression::new(&SUM, LITTLE), Kind::Location)?;
+    let right = states_of(rt.alloc(), &STATES_OF_SUM)?;
     assert_eq!(rt; certificate.states(), right.as_slice());
     drop(certificate);
     Ok(())
@@ -107,23 +140,19 @@ struct Certified<'a> {
 
 impl Certified<'_> {
     /// The state with this number is another, which is refused there.
-    fn refuses(&self, rt: &impl Abort, alloc: Global, i: usize, other: State) -> Result<(), Fail>
-        requires { length self.now.bytes.now < 2 ^ 32 }
-    {
+    fn refuses(&self, rt: &impl Abort, alloc: Global, i: usize, other: State) -> Result<(), Fail> {
         let mut given = self.states.to_vec(alloc)?;
         assert!(rt; i < given.len() && i < self.states.len());
         given[i] = other;
         assert_eq!(rt;
-            rechecked(alloc, self.bytes, self.kind, &given),
+            rechecked(rt, alloc, self.bytes, self.kind, &given),
             refusal(FaultKind::CertState, self.states[i].offset)
         );
         Ok(())
     }
 
     /// The state with this number differs in its offset or its height.
-    fn refuses_numbers(&self, rt: &impl Abort, alloc: Global, i: usize) -> Result<(), Fail>
-        requires { length self.now.bytes.now < 2 ^ 32 }
-    {
+    fn refuses_numbers(&self, rt: &impl Abort, alloc: Global, i: usize) -> Result<(), Fail> {
         assert!(rt; i < self.states.len());
         let state = self.states[i];
         for number in 0..=255u8 {
@@ -147,9 +176,7 @@ impl Certified<'_> {
     }
 
     /// The state with this number differs in its mode, or in whether a piece came before.
-    fn refuses_modes(&self, rt: &impl Abort, alloc: Global, i: usize) -> Result<(), Fail>
-        requires { length self.now.bytes.now < 2 ^ 32 }
-    {
+    fn refuses_modes(&self, rt: &impl Abort, alloc: Global, i: usize) -> Result<(), Fail> {
         assert!(rt; i < self.states.len());
         let state = self.states[i];
         for mode in MODES {
@@ -162,22 +189,20 @@ impl Certified<'_> {
     }
 
     /// One state is left out, or comes twice.
-    fn refuses_counts(&self, rt: &impl Abort, alloc: Global) -> Result<(), Fail>
-        requires { length self.now.bytes.now < 2 ^ 32 }
-    {
+    fn refuses_counts(&self, rt: &impl Abort, alloc: Global) -> Result<(), Fail> {
         let other_count = refusal(FaultKind::CertLength, 0);
         let mut given = self.states.to_vec(alloc)?;
         let Some(last) = given.pop() else {
             return Ok(());
         };
         assert_eq!(rt;
-            rechecked(alloc, self.bytes, self.kind, &given),
+            rechecked(rt, alloc, self.bytes, self.kind, &given),
             other_count
         );
         given.push(last)?;
         given.push(last)?;
         assert_eq!(rt;
-            rechecked(alloc, self.bytes, self.kind, &given),
+            rechecked(rt, alloc, self.bytes, self.kind, &given),
             other_count
         );
         Ok(())
@@ -191,7 +216,7 @@ fn takes_only_its_own(rt: &impl Abort, alloc: Global, bytes: &[u8], kind: Kind) 
     let certificate = certify(alloc, Expression::new(bytes, LITTLE), kind)?;
     let states = certificate.states().to_vec(alloc)?;
     drop(certificate);
-    assert!(rt; rechecked(alloc, bytes, kind, &states).is_ok());
+    assert!(rt; rechecked(rt, alloc, bytes, kind, &states).is_ok());
     let certified = Certified {
         bytes,
         kind,

@@ -111,49 +111,37 @@ fn worked(alloc: Global, is_whole: bool, limit: u32) -> Result<Backtrace, Fail> 
     walked(alloc, &FUNCTION, 0x1010, register, memory, limit)
 }
 
-#[test]
-fn walks_up_a_stack(rt: HostRuntime) -> Result<(), Fail> {
-    let frames = [
-        (0x1010, Some(Answer::Value(0x7f10))),
-        (0x1020, Some(Answer::Value(0x7f50))),
-        (0x2000, None),
-    ];
-    is_walk(
-        &rt,
-        &worked(rt.alloc(), true, 9)?,
-        &frames,
-        Stop::NotCovered,
-    );
-    is_walk(
-        &rt,
-        &worked(rt.alloc(), true, 4)?,
-        &frames,
-        Stop::NotCovered,
-    );
-    is_walk(&rt, &worked(rt.alloc(), true, 3)?, &frames, Stop::Limit);
-    is_walk(&rt, &worked(rt.alloc(), true, 0)?, &[], Stop::Limit);
-    Ok(())
-}
+/// The addresses of frames, and their CFAs where they have a caller.
+type Frames = &'static [(u64, Option<Answer>)];
+
+const WALK: Frames = &[
+    (0x1010, Some(Answer::Value(0x7f10))),
+    (0x1020, Some(Answer::Value(0x7f50))),
+    (0x2000, None),
+];
+
+const WALK_TO_CALLER: Frames = &[
+    (0x1010, Some(Answer::Value(0x7f10))),
+    (0x1020, Some(Answer::Value(0x7f50))),
+];
+
+/// Whether the whole stack is known, limits, and how the walk goes.
+const WORKED: [(bool, u32, Frames, Stop); 7] = [
+    (true, 9, WALK, Stop::NotCovered),
+    (true, 4, WALK, Stop::NotCovered),
+    (true, 3, WALK, Stop::Limit),
+    (true, 0, &[], Stop::Limit),
+    (false, 9, WALK_TO_CALLER, Stop::ReturnUnreadable),
+    (false, 3, WALK_TO_CALLER, Stop::ReturnUnreadable),
+    (false, 2, WALK_TO_CALLER, Stop::Limit),
+];
 
 #[test]
-fn walks_as_far_as_memory_is_known(rt: HostRuntime) -> Result<(), Fail> {
-    let frames = [
-        (0x1010, Some(Answer::Value(0x7f10))),
-        (0x1020, Some(Answer::Value(0x7f50))),
-    ];
-    is_walk(
-        &rt,
-        &worked(rt.alloc(), false, 9)?,
-        &frames,
-        Stop::ReturnUnreadable,
-    );
-    is_walk(
-        &rt,
-        &worked(rt.alloc(), false, 3)?,
-        &frames,
-        Stop::ReturnUnreadable,
-    );
-    is_walk(&rt, &worked(rt.alloc(), false, 2)?, &frames, Stop::Limit);
+fn walks_up_a_stack(rt: HostRuntime) -> Result<(), Fail> {
+    for (is_whole, limit, frames, stop) in &WORKED {
+        let walk = worked(rt.alloc(), *is_whole, *limit)?;
+        is_walk(&rt, &walk, frames, *stop);
+    }
     Ok(())
 }
 
@@ -190,62 +178,61 @@ fn from_three(alloc: Global, program: [u8; 8], limit: u32) -> Result<Backtrace, 
     walked(alloc, &covering(program), 3, register, memory, limit)
 }
 
-#[test]
-fn walks_round_up_to_the_limit(rt: HostRuntime) -> Result<(), Fail> {
-    let cfa = Some(Answer::Value(0xf));
-    let walk = from_three(rt.alloc(), ROUND, 5)?;
-    is_walk(
-        &rt,
-        &walk,
-        &[(3, cfa), (7, cfa), (7, cfa), (7, cfa), (7, cfa)],
+/// Programs, limits, and how the walk from 3 goes: round and round; to 0, which is no address behind a call though an FDE
+/// covers it; and to where the return address can't be had.
+const FROM_THREE: [([u8; 8], u32, Frames, Stop); 6] = [
+    (
+        ROUND,
+        4,
+        &[
+            (3, Some(Answer::Value(0xf))),
+            (7, Some(Answer::Value(0xf))),
+            (7, Some(Answer::Value(0xf))),
+            (7, Some(Answer::Value(0xf))),
+        ],
         Stop::Limit,
-    );
+    ),
+    (
+        TO_ZERO,
+        9,
+        &[(3, Some(Answer::Value(0xf))), (0, None)],
+        Stop::NotCovered,
+    ),
+    (
+        TO_ZERO,
+        2,
+        &[(3, Some(Answer::Value(0xf))), (0, None)],
+        Stop::Limit,
+    ),
+    (
+        UNDEFINED,
+        9,
+        &[(3, Some(Answer::Value(0x18)))],
+        Stop::ReturnUndefined,
+    ),
+    (UNDEFINED, 1, &[(3, Some(Answer::Value(0x18)))], Stop::Limit),
+    (
+        DIVISION,
+        9,
+        &[(3, Some(Answer::Value(0x18)))],
+        Stop::ReturnDivisionByZero,
+    ),
+];
+
+#[test]
+fn walks_from_three(rt: HostRuntime) -> Result<(), Fail> {
+    for (program, limit, frames, stop) in &FROM_THREE {
+        let walk = from_three(rt.alloc(), *program, *limit)?;
+        is_walk(&rt, &walk, frames, *stop);
+    }
+    Ok(())
+}
+
+#[test]
+fn walks_up_to_the_greatest_limit(rt: HostRuntime) -> Result<(), Fail> {
     let walk = from_three(rt.alloc(), ROUND, 65535)?;
     assert_eq!(rt; walk.frames.len(), 65535);
     assert_eq!(rt; walk.stop, Stop::Limit);
-    Ok(())
-}
-
-/// An FDE covers 0, which is no address behind a call.
-#[test]
-fn looks_zero_up_nowhere(rt: HostRuntime) -> Result<(), Fail> {
-    let frames = [(3, Some(Answer::Value(0xf))), (0, None)];
-    is_walk(
-        &rt,
-        &from_three(rt.alloc(), TO_ZERO, 9)?,
-        &frames,
-        Stop::NotCovered,
-    );
-    is_walk(
-        &rt,
-        &from_three(rt.alloc(), TO_ZERO, 2)?,
-        &frames,
-        Stop::Limit,
-    );
-    Ok(())
-}
-
-#[test]
-fn ends_without_a_return_address(rt: HostRuntime) -> Result<(), Fail> {
-    let frames = [(3, Some(Answer::Value(0x18)))];
-    is_walk(
-        &rt,
-        &from_three(rt.alloc(), UNDEFINED, 9)?,
-        &frames,
-        Stop::ReturnUndefined,
-    );
-    is_walk(
-        &rt,
-        &from_three(rt.alloc(), UNDEFINED, 1)?,
-        &frames,
-        Stop::Limit,
-    );
-    is_walk(
-        &rt,
-        &from_three(rt.alloc(), DIVISION, 9)?,
-        &frames,
-        Stop::ReturnDivisionByZero,
-    );
     Ok(())
 }
 
