@@ -6,6 +6,8 @@ mod abi_lines;
 #[cfg(test)]
 mod callers;
 #[cfg(test)]
+mod cases;
+#[cfg(test)]
 mod cie_versions;
 #[cfg(test)]
 mod expressions;
@@ -14,7 +16,7 @@ mod lists_text;
 #[cfg(test)]
 mod operations;
 #[cfg(test)]
-mod reads_and_writes;
+mod reads;
 #[cfg(test)]
 mod sections;
 #[cfg(test)]
@@ -22,4 +24,6 @@ mod walks;
 #[cfg(test)]
 mod whole_checks;
 #[cfg(test)]
-mod words_and_sinks;
+mod words;
+#[cfg(test)]
+mod writes;

@@ -1,12 +1,7 @@
 //! One case for each operation, through `request` and `run`.
 
-use crate::expressions::evaluated;
-use dw_check::End;
-use std::process::Abort;
-use std::test::Fail;
-
-/// An expression, a state file, and what it comes to but for its last LF.
-type Case = (&'static str, Option<&'static str>, &'static str);
+use crate::expressions::{Case, LOCATION, SHORT_LOCATION, evaluate_to};
+use std::alloc::AllocError;
 
 /// With addresses of eight bytes.
 const LONG: [Case; 47] = [
@@ -305,23 +300,12 @@ const SHORT: [Case; 26] = [
     ),
 ];
 
-/// Each case comes to its outcome.
-fn comes_to(rt: &(impl Abort + AllocGlobal), words: &[&str], cases: &[Case]) -> Result<(), Fail> {
-    for (expression, state, text) in cases {
-        let wanted = format!(in rt.alloc(); "{text}\n")?;
-        let (end, written) = evaluated(rt.alloc(), words, expression, *state)?;
-        assert_eq!(rt; end, End::Done);
-        assert_eq!(rt; written.as_slice(), wanted.as_bytes());
-    }
-    Ok(())
+#[test]
+fn operations(rt: HostRuntime) -> Result<(), AllocError> {
+    evaluate_to(&rt, LOCATION, &LONG)
 }
 
 #[test]
-fn operations(rt: HostRuntime) -> Result<(), Fail> {
-    comes_to(&rt, &["location"], &LONG)
-}
-
-#[test]
-fn short_operations(rt: HostRuntime) -> Result<(), Fail> {
-    comes_to(&rt, &["--addr4", "location"], &SHORT)
+fn short_operations(rt: HostRuntime) -> Result<(), AllocError> {
+    evaluate_to(&rt, SHORT_LOCATION, &SHORT)
 }

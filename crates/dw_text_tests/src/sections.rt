@@ -1,10 +1,9 @@
 //! Frame sections through `request` and `run`.
 
-ghost use Rattle.std.specs.Prelude.{◌≡◌, length};
-
-use dw_check::{End, Request, Through, Usage, request, run};
-use std::alloc::Global;
-use std::test::Fail;
+use crate::cases::{comes_to, files_come_to, is_refused, joined};
+use dw_check::End;
+use std::alloc::{AllocError, Global};
+use std::process::Abort;
 
 /// A CIE of 24 bytes.
 pub(crate) const C1: &str = "14000000 ffffffff 04 00 08 00 01 78 10 0c0708 9001 00000000";
@@ -25,7 +24,13 @@ pub(crate) const NOPS: &str = "0000000000000000";
 pub(crate) const LONG_C1: &str =
     "ffffffff 1400000000000000 ffffffffffffffff 04 00 08 00 01 78 10 0c0708 9001";
 
-const FIRST_ROW: &str = "row 0x0000000000001000..0x0000000000001020 cfa=r7+8 r16=[c-8]\n";
+/// The program of the first row's FDE.
+pub(crate) const PUSHES: &str = "41 0e10 8602 43 0d06";
+
+/// The first row's section.
+pub(crate) const FIRST_SECTION: &[&str] = &[C1, H1, PUSHES];
+
+const ONE_ROW: &str = "row 0x0000000000001000..0x0000000000001020 cfa=r7+8 r16=[c-8]\n";
 
 pub(crate) const FDE: &str =
     "fde 0x00000018 cie 0x00000000 0x0000000000001000..0x0000000000001020 ra r16\n";
@@ -36,40 +41,12 @@ row 0x0000000000001001..0x0000000000001004 cfa=r7+16 r6=[c-16] r16=[c-8]
 row 0x0000000000001004..0x0000000000001020 cfa=r6+16 r6=[c-16] r16=[c-8]
 ";
 
-/// The request of these words.
-pub(crate) fn asked(alloc: Global, words: &[&str]) -> Result<Result<Request, Usage>, Fail> {
-    let mut list: Vec<String> = Vec::new(alloc);
-    for word in words {
-        list.push(String::from_str(alloc, word)?)?;
-    }
-    Ok(request(alloc, list))
-}
-
-/// How a run of these words ends with this content of its file, and what it writes.
-pub(crate) fn shown(alloc: Global, words: &[&str], content: &[u8]) -> Result<(End, Vec<u8>), Fail> {
-    let request = asked(alloc, words)?.ok().ok_or("a request")?;
-    let files = vec![in alloc; Vec::from_slice(alloc, content)?]?;
-    let files = files.as_slice();
-    if files.len() != request.files().len() {
-        return Err("one file".into());
-    }
-    let mut sink = Through::new(Vec::new(alloc));
-    let end = run(alloc, &request, files, &mut sink);
-    Ok((end, sink.into_inner()))
-}
-
-/// All parts, one behind the other.
-pub(crate) fn joined(alloc: Global, parts: &[&str]) -> Result<String, Fail> {
-    let mut text = String::new(alloc);
-    for part in parts {
-        text.push_str(part)?;
-    }
-    Ok(text)
-}
+/// The rows of a section as hex text.
+pub(crate) const ROWS_OF: &str = "dwcheck rows --hex f";
 
 /// Sections as hex text, and the texts of their rows.
 const SHOWN: [(&[&str], &[&str]); 16] = [
-    (&[C1, H1, "41 0e10 8602 43 0d06"], &[FDE, ROWS]),
+    (FIRST_SECTION, &[FDE, ROWS]),
     (
         &[C1, "\n", H1, "\r\n\t0a 0e10 41 0b 000000"],
         &[
@@ -84,9 +61,9 @@ const SHOWN: [(&[&str], &[&str]); 16] = [
             "2c000000 00000000 0010000000000000 2000000000000000",
             "0a0a0a0a0a0a0a0a0a 0b0b0b0b0b0b0b0b0b 000000000000",
         ],
-        &[FDE, FIRST_ROW],
+        &[FDE, ONE_ROW],
     ),
-    (&[C1, H1, "60 00000000000000"], &[FDE, FIRST_ROW]),
+    (&[C1, H1, "60 00000000000000"], &[FDE, ONE_ROW]),
     // Expressions, of the CFA and of registers; the last one is empty.
     (
         &[C1, H1, "0f 03 770806 000000"],
@@ -124,7 +101,7 @@ const SHOWN: [(&[&str], &[&str]); 16] = [
         &[
             C1,
             H1,
-            "41 0e10 8602 43 0d06",
+            PUSHES,
             H2,
             "2010000000000000 0100000000000000",
             NOPS,
@@ -140,7 +117,7 @@ const SHOWN: [(&[&str], &[&str]); 16] = [
         &[
             C1,
             H1,
-            "41 0e10 8602 43 0d06",
+            PUSHES,
             H2,
             "1010000000000000 0000000000000000",
             NOPS,
@@ -183,22 +160,16 @@ const SHOWN: [(&[&str], &[&str]); 16] = [
         ],
         &[
             "fde 0x00000000 cie 0x00000020 0x0000000000001000..0x0000000000001020 ra r16\n",
-            FIRST_ROW,
+            ONE_ROW,
         ],
     ),
     (&[], &[]),
 ];
 
 #[test]
-fn rows_of_sections(rt: HostRuntime) -> Result<(), Fail> {
-    for (section, lines) in SHOWN {
-        let text = joined(rt.alloc(), section)?;
-        let wanted = joined(rt.alloc(), lines)?;
-        let words = ["dwcheck", "rows", "--hex", "f"];
-        let (end, written) = shown(rt.alloc(), &words, text.as_bytes())?;
-        assert_eq!(rt; end, End::Done);
-        assert_eq!(rt; end.status(), 0);
-        assert_eq!(rt; written.as_slice(), wanted.as_bytes());
+fn rows_of_sections(rt: HostRuntime) -> Result<(), AllocError> {
+    for (section, lines) in &SHOWN {
+        comes_to(&rt, ROWS_OF, &[section], End::Done, lines)?;
     }
     Ok(())
 }
@@ -242,7 +213,7 @@ const REFUSED: [(&[&str], &str); 17] = [
         &[
             C1,
             H1,
-            "41 0e10 8602 43 0d06",
+            PUSHES,
             H2,
             "1f10000000000000 0100000000000000",
             NOPS,
@@ -253,7 +224,7 @@ const REFUSED: [(&[&str], &str); 17] = [
         &[
             C1,
             H1,
-            "41 0e10 8602 43 0d06",
+            PUSHES,
             H2,
             "0020000000000000 0100000000000000",
             NOPS,
@@ -311,48 +282,39 @@ const REFUSED: [(&[&str], &str); 17] = [
 ];
 
 #[test]
-fn refusals(rt: HostRuntime) -> Result<(), Fail> {
-    for (section, fault) in REFUSED {
-        let text = joined(rt.alloc(), section)?;
-        let line = format!(in rt.alloc(); "refused {fault}\n")?;
-        for words in [
-            &["dwcheck", "rows", "--hex", "f"] as &[&str],
-            &["dwcheck", "row", "--hex", "f", "0x1000"],
-        ] {
-            let (end, written) = shown(rt.alloc(), words, text.as_bytes())?;
-            assert_eq!(rt; end, End::Refused);
-            assert_eq!(rt; end.status(), 1);
-            assert_eq!(rt; written.as_slice(), line.as_bytes());
-        }
+fn refusals(rt: HostRuntime) -> Result<(), AllocError> {
+    for (section, fault) in &REFUSED {
+        is_refused(&rt, ROWS_OF, &[section], fault)?;
+        is_refused(&rt, "dwcheck row --hex f 0x1000", &[section], fault)?;
     }
     Ok(())
 }
 
 /// The rules of 129 registers.
 #[test]
-fn too_many_rules(rt: HostRuntime) -> Result<(), Fail> {
-    let mut text = joined(
-        rt.alloc(),
-        &[C1, "1c010000 00000000 0010000000000000 2000000000000000"],
-    )?;
+fn too_many_rules(rt: HostRuntime) -> Result<(), AllocError> {
+    let mut rules = String::new(rt.alloc());
     for register in 0..128u8 {
-        write!(text, "07{register:02x}")?;
+        rules.push_str(&format!(in rt.alloc(); "07{register:02x}")?)?;
     }
-    text.push_str("078001 0000000000")?;
-    let words = ["dwcheck", "rows", "--hex", "f"];
-    let (end, written) = shown(rt.alloc(), &words, text.as_bytes())?;
-    assert_eq!(rt; end, End::Refused);
-    assert_eq!(rt;
-        written.as_slice(),
-        "refused 21 TooManyRules frame 0x00000130\n".as_bytes()
-    );
-    Ok(())
+    let section = [
+        C1,
+        "1c010000 00000000 0010000000000000 2000000000000000",
+        rules.as_str(),
+        "078001 0000000000",
+    ];
+    is_refused(
+        &rt,
+        ROWS_OF,
+        &[&section],
+        "21 TooManyRules frame 0x00000130",
+    )
 }
 
 /// The first row's section as hex text without blanks.
-pub(crate) fn first_row_digits(alloc: Global) -> Result<Vec<u8>, Fail> {
-    let text = joined(alloc, &[C1, H1, "41 0e10 8602 43 0d06"])?;
-    Ok(text.bytes().filter(|b| *b != b' ').collect(alloc)?)
+pub(crate) fn first_row_digits(alloc: Global) -> Result<Vec<u8>, AllocError> {
+    let text = joined(alloc, FIRST_SECTION)?;
+    text.bytes().filter(|b| *b != b' ').collect(alloc)
 }
 
 /// The offset of the fault where the first row's section ends behind so many bytes, if that is within a record.
@@ -366,99 +328,86 @@ pub(crate) fn cut_off_at(length: usize) -> Option<u32> {
     }
 }
 
+/// A run over these files says that the frame section is truncated at this offset.
+pub(crate) fn is_truncated(
+    rt: &(impl Abort + AllocGlobal),
+    line: &str,
+    files: &[Vec<u8>],
+    at: u32,
+) -> Result<(), AllocError> {
+    let wanted = format!(in rt.alloc(); "refused 1 Truncated frame 0x{at:08x}\n")?;
+    files_come_to(rt, line, files, End::Refused, &[wanted.as_str()])
+}
+
 /// The first row's section, cut at each length.
 #[test]
-fn cut_sections(rt: HostRuntime) -> Result<(), Fail> {
+fn cut_sections(rt: HostRuntime) -> Result<(), AllocError> {
     let digits = first_row_digits(rt.alloc())?;
     assert_eq!(rt; digits.len(), 112);
     for n in 0..57usize {
-        let at = cut_off_at(n);
-        let (end, written) = shown(
-            rt.alloc(),
-            &["dwcheck", "rows", "--hex", "f"],
-            &digits[..2 * n],
-        )?;
-        match at {
-            Some(at) => {
-                let line = format!(in rt.alloc(); "refused 1 Truncated frame 0x{at:08x}\n")?;
-                assert_eq!(rt; end, End::Refused);
-                assert_eq!(rt; written.as_slice(), line.as_bytes());
-            }
-            None => {
-                assert_eq!(rt; end, End::Done);
-                assert_eq!(rt; written.is_empty(), n < 56);
-            }
+        if let Some(at) = cut_off_at(n) {
+            let files = vec![in rt.alloc(); Vec::from_slice(rt.alloc(), &digits[..2 * n])?]?;
+            is_truncated(&rt, ROWS_OF, &files, at)?;
         }
     }
     Ok(())
 }
 
-/// A big-endian section with addresses of four bytes, and raw bytes.
+/// A big-endian section with addresses of four bytes.
 #[test]
-fn flags(rt: HostRuntime) -> Result<(), Fail> {
-    let text = "00000010 ffffffff 04 00 04 00 04 7c 0e 0c0d00 0000 \
-                00000014 00000000 00008000 00000010 42 0e08 8e01 000000";
-    let (end, written) = shown(
-        rt.alloc(),
-        &["dwcheck", "rows", "--big", "--addr4", "--hex", "f"],
-        text.as_bytes(),
-    )?;
-    assert_eq!(rt; end, End::Done);
-    assert_eq!(rt;
-        written.as_slice(),
-        "fde 0x00000014 cie 0x00000000 0x00008000..0x00008010 ra r14\n\
-          row 0x00008000..0x00008008 cfa=r13+0\n\
-          row 0x00008008..0x00008010 cfa=r13+8 r14=[c-4]\n"
-            .as_bytes()
-    );
-    let (end, written) = shown(
-        rt.alloc(),
-        &["dwcheck", "rows", "f"],
-        &[0xf0, 0xff, 0xff, 0xff],
-    )?;
-    assert_eq!(rt; end, End::Refused);
-    assert_eq!(rt;
-        written.as_slice(),
-        "refused 3 ReservedLength frame 0x00000000\n".as_bytes()
-    );
+fn flags(rt: HostRuntime) -> Result<(), AllocError> {
+    let section = [
+        "00000010 ffffffff 04 00 04 00 04 7c 0e 0c0d00 0000",
+        "00000014 00000000 00008000 00000010 42 0e08 8e01 000000",
+    ];
+    let rows = [
+        "fde 0x00000014 cie 0x00000000 0x00008000..0x00008010 ra r14\n",
+        "row 0x00008000..0x00008008 cfa=r13+0\n",
+        "row 0x00008008..0x00008010 cfa=r13+8 r14=[c-4]\n",
+    ];
+    let line = "dwcheck rows --big --addr4 --hex f";
+    comes_to(&rt, line, &[&section], End::Done, &rows)
+}
+
+/// Text that is no hex text.
+#[test]
+fn bad_hex_text(rt: HostRuntime) -> Result<(), AllocError> {
     for text in ["0", "0g", "12 3", "00\u{b}"] {
-        let (end, written) = shown(
-            rt.alloc(),
-            &["dwcheck", "rows", "--hex", "f"],
-            text.as_bytes(),
-        )?;
-        assert_eq!(rt; end, End::BadHex(0));
-        assert_eq!(rt; end.status(), 3);
-        assert_eq!(rt; written.len(), 0);
+        comes_to(&rt, ROWS_OF, &[&[text]], End::BadHex(0), &[])?;
     }
     Ok(())
 }
 
-/// The rows of the first section, by address.
+/// A section of bytes that are no text.
 #[test]
-fn rows_by_address(rt: HostRuntime) -> Result<(), Fail> {
-    let text = format!(in rt.alloc(); "{C1}{H1} 41 0e10 8602 43 0d06")?;
-    let mut rows = ROWS.lines();
-    let first = rows.next().ok_or("a row")?;
-    let third = rows.nth(1).ok_or("a row")?;
-    for (address, line) in [
-        ("0xfff", "none"),
-        ("0x1000", first),
-        ("0x000000000000101F", third),
-        ("0x1020", "none"),
-    ] {
-        let words = ["dwcheck", "row", "--hex", "f", address];
-        let (end, written) = shown(rt.alloc(), &words, text.as_bytes())?;
-        let wanted = format!(in rt.alloc(); "{line}\n")?;
-        assert_eq!(rt; end, End::Done);
-        assert_eq!(rt; written.as_slice(), wanted.as_bytes());
+fn other_bytes(rt: HostRuntime) -> Result<(), AllocError> {
+    let bytes: [u8; 4] = [0xf0, 0xff, 0xff, 0xff];
+    let files = vec![in rt.alloc(); Vec::from_slice(rt.alloc(), &bytes)?]?;
+    for line in ["dwcheck rows f", "dwcheck row f 0x0"] {
+        let text = "refused 3 ReservedLength frame 0x00000000\n";
+        files_come_to(&rt, line, &files, End::Refused, &[text])?;
     }
-    let words = ["dwcheck", "row", "f", "0x0"];
-    let (end, written) = shown(rt.alloc(), &words, &[0xf0, 0xff, 0xff, 0xff])?;
-    assert_eq!(rt; end, End::Refused);
-    assert_eq!(rt;
-        written.as_slice(),
-        "refused 3 ReservedLength frame 0x00000000\n".as_bytes()
-    );
+    Ok(())
+}
+
+/// What the first row's section has at an address.
+const BY_ADDRESS: [(&str, &str); 4] = [
+    ("dwcheck row --hex f 0xfff", "none\n"),
+    (
+        "dwcheck row --hex f 0x1000",
+        "row 0x0000000000001000..0x0000000000001001 cfa=r7+8 r16=[c-8]\n",
+    ),
+    (
+        "dwcheck row --hex f 0x000000000000101F",
+        "row 0x0000000000001004..0x0000000000001020 cfa=r6+16 r6=[c-16] r16=[c-8]\n",
+    ),
+    ("dwcheck row --hex f 0x1020", "none\n"),
+];
+
+#[test]
+fn rows_by_address(rt: HostRuntime) -> Result<(), AllocError> {
+    for (line, row) in &BY_ADDRESS {
+        comes_to(&rt, line, &[FIRST_SECTION], End::Done, &[row])?;
+    }
     Ok(())
 }
