@@ -3,9 +3,8 @@
 use dw_bytes::{AddressSize, Fault, FaultKind, Order, Target};
 use dw_ops::Expression;
 use dw_stack::{Kind, certify, check_expression};
-use std::alloc::Global;
+use std::alloc::{AllocError, Global};
 use std::process::Abort;
-use std::test::Fail;
 
 pub(crate) const LITTLE: Target = Target {
     order: Order::Little,
@@ -196,7 +195,7 @@ fn distances_in_both_orders(rt: HostRuntime) {
 }
 
 /// The same bytes so many times.
-pub(crate) fn push_times(bytes: &mut Vec<u8>, part: &[u8], count: usize) -> Result<(), Fail> {
+pub(crate) fn push_times(bytes: &mut Vec<u8>, part: &[u8], count: usize) -> Result<(), AllocError> {
     for _ in 0..count {
         bytes.extend_from_slice(part)?;
     }
@@ -205,7 +204,7 @@ pub(crate) fn push_times(bytes: &mut Vec<u8>, part: &[u8], count: usize) -> Resu
 
 /// Pieces of no byte, as many as there may be, and one more.
 #[test]
-fn many_pieces(rt: HostRuntime) -> Result<(), Fail> {
+fn many_pieces(rt: HostRuntime) -> Result<(), AllocError> {
     for (count, verdict) in [
         (32, Ok((0, 32))),
         (33, refusal(FaultKind::TooManyPieces, 64)),
@@ -218,15 +217,15 @@ fn many_pieces(rt: HostRuntime) -> Result<(), Fail> {
 }
 
 #[test]
-fn what_was_handed_in(rt: HostRuntime) -> Result<(), Fail> {
+fn what_was_handed_in(rt: HostRuntime) {
     let bytes = [0x12, 0x22];
     let expression = Expression::new(&bytes, LITTLE);
-    let certificate = certify(rt.alloc(), expression, Kind::FrameRegister)?;
+    let Ok(certificate) = certify(rt.alloc(), expression, Kind::FrameRegister) else {
+        panic!(rt; "refused")
+    };
     let checked = certificate.into_checked();
     let again = checked;
     assert_eq!(rt; again.expression().bytes(), bytes.as_slice());
     assert_eq!(rt; again.kind(), Kind::FrameRegister);
-    assert_eq!(rt; checked.depth(), 2);
-    assert_eq!(rt; checked.operation_count(), 2);
-    Ok(())
+    assert_eq!(rt; (checked.depth(), checked.operation_count()), (2, 2));
 }

@@ -6,9 +6,8 @@ use crate::certificates::{LITTLE, Verdict, refusal};
 use dw_bytes::FaultKind;
 use dw_ops::Expression;
 use dw_stack::{Kind, Mode, State, certify, recheck};
-use std::alloc::Global;
+use std::alloc::{AllocError, Global};
 use std::process::Abort;
-use std::test::Fail;
 
 /// The depth and the count of operations, or the refusal.
 fn rechecked(
@@ -24,7 +23,7 @@ fn rechecked(
 }
 
 /// States before these operations, each with its offset and the height of the stack, whose location is on the stack.
-fn states_of(alloc: Global, numbers: &[(u32, u8)]) -> Result<Vec<State>, Fail> {
+fn states_of(alloc: Global, numbers: &[(u32, u8)]) -> Result<Vec<State>, AllocError> {
     let mut states = Vec::new(alloc);
     for (offset, height) in numbers {
         states.push(State {
@@ -94,7 +93,7 @@ const REFUSED: [(&[u8], Kind, &[(u32, u8)], FaultKind, u32); 7] = [
 ];
 
 #[test]
-fn other_states(rt: HostRuntime) -> Result<(), Fail> {
+fn other_states(rt: HostRuntime) -> Result<(), AllocError> {
     for (bytes, kind, numbers, fault, at) in &REFUSED {
         let states = states_of(rt.alloc(), numbers)?;
         let found = rechecked(&rt, rt.alloc(), bytes, *kind, &states);
@@ -110,7 +109,7 @@ const ACCEPTED: [(&[u8], Kind, &[(u32, u8)], u8, u32); 2] = [
 ];
 
 #[test]
-fn their_own_states(rt: HostRuntime) -> Result<(), Fail> {
+fn their_own_states(rt: HostRuntime) -> Result<(), AllocError> {
     for (bytes, kind, numbers, depth, count) in &ACCEPTED {
         let states = states_of(rt.alloc(), numbers)?;
         let found = rechecked(&rt, rt.alloc(), bytes, *kind, &states);
@@ -120,9 +119,12 @@ fn their_own_states(rt: HostRuntime) -> Result<(), Fail> {
 }
 
 #[test]
-fn states_of_a_sum(rt: HostRuntime) -> Result<(), Fail> {
-    let certificate = certify(rt.alloc(), Expression::new(&SUM, LITTLE), Kind::Location)?;
+fn states_of_a_sum(rt: HostRuntime) -> Result<(), AllocError> {
     let right = states_of(rt.alloc(), &STATES_OF_SUM)?;
+    let expression = Expression::new(&SUM, LITTLE);
+    let Ok(certificate) = certify(rt.alloc(), expression, Kind::Location) else {
+        panic!(rt; "refused")
+    };
     assert_eq!(rt; certificate.states(), right.as_slice());
     drop(certificate);
     Ok(())
@@ -139,44 +141,61 @@ struct Certified<'a> {
 }
 
 impl Certified<'_> {
+    /// These states are refused so.
+    fn refuses_states(
+        &self,
+        rt: &impl Abort,
+        alloc: Global,
+        given: &[State],
+        fault: FaultKind,
+        at: u32,
+    ) {
+        let found = rechecked(rt, alloc, self.bytes, self.kind, given);
+        assert_eq!(rt; found, refusal(fault, at));
+    }
+
     /// The state with this number is another, which is refused there.
-    fn refuses(&self, rt: &impl Abort, alloc: Global, i: usize, other: State) -> Result<(), Fail> {
+    fn refuses(
+        &self,
+        rt: &impl Abort,
+        alloc: Global,
+        i: usize,
+        other: State,
+    ) -> Result<(), AllocError> {
         let mut given = self.states.to_vec(alloc)?;
         assert!(rt; i < given.len() && i < self.states.len());
         given[i] = other;
-        assert_eq!(rt;
-            rechecked(rt, alloc, self.bytes, self.kind, &given),
-            refusal(FaultKind::CertState, self.states[i].offset)
-        );
+        let at = self.states[i].offset;
+        self.refuses_states(rt, alloc, &given, FaultKind::CertState, at);
         Ok(())
     }
 
-    /// The state with this number differs in its offset or its height.
-    fn refuses_numbers(&self, rt: &impl Abort, alloc: Global, i: usize) -> Result<(), Fail> {
+    /// The state with this number differs in its offset.
+    fn refuses_offsets(&self, rt: &impl Abort, alloc: Global, i: usize) -> Result<(), AllocError> {
         assert!(rt; i < self.states.len());
         let state = self.states[i];
-        for number in 0..=255u8 {
-            let offset = u32::from(number);
+        for offset in 0..=255u32 {
             if offset != state.offset {
                 self.refuses(rt, alloc, i, State { offset, ..state })?;
             }
-            if number != state.height {
-                self.refuses(
-                    rt,
-                    alloc,
-                    i,
-                    State {
-                        height: number,
-                        ..state
-                    },
-                )?;
+        }
+        Ok(())
+    }
+
+    /// The state with this number differs in its height.
+    fn refuses_heights(&self, rt: &impl Abort, alloc: Global, i: usize) -> Result<(), AllocError> {
+        assert!(rt; i < self.states.len());
+        let state = self.states[i];
+        for height in 0..=255u8 {
+            if height != state.height {
+                self.refuses(rt, alloc, i, State { height, ..state })?;
             }
         }
         Ok(())
     }
 
     /// The state with this number differs in its mode, or in whether a piece came before.
-    fn refuses_modes(&self, rt: &impl Abort, alloc: Global, i: usize) -> Result<(), Fail> {
+    fn refuses_modes(&self, rt: &impl Abort, alloc: Global, i: usize) -> Result<(), AllocError> {
         assert!(rt; i < self.states.len());
         let state = self.states[i];
         for mode in MODES {
@@ -189,33 +208,39 @@ impl Certified<'_> {
     }
 
     /// One state is left out, or comes twice.
-    fn refuses_counts(&self, rt: &impl Abort, alloc: Global) -> Result<(), Fail> {
-        let other_count = refusal(FaultKind::CertLength, 0);
+    fn refuses_counts(&self, rt: &impl Abort, alloc: Global) -> Result<(), AllocError> {
         let mut given = self.states.to_vec(alloc)?;
         let Some(last) = given.pop() else {
             return Ok(());
         };
-        assert_eq!(rt;
-            rechecked(rt, alloc, self.bytes, self.kind, &given),
-            other_count
-        );
+        self.refuses_states(rt, alloc, &given, FaultKind::CertLength, 0);
         given.push(last)?;
         given.push(last)?;
-        assert_eq!(rt;
-            rechecked(rt, alloc, self.bytes, self.kind, &given),
-            other_count
-        );
+        self.refuses_states(rt, alloc, &given, FaultKind::CertLength, 0);
         Ok(())
     }
 }
 
-/// The certificate's states are taken; none that differs in one place is, nor one with a state more or less.
-fn takes_only_its_own(rt: &impl Abort, alloc: Global, bytes: &[u8], kind: Kind) -> Result<(), Fail>
+/// The states on the paths of an expression.
+fn own_states(alloc: Global, bytes: &[u8], kind: Kind) -> Option<Vec<State>>
     requires { length bytes.now < 2 ^ 32 }
 {
-    let certificate = certify(alloc, Expression::new(bytes, LITTLE), kind)?;
-    let states = certificate.states().to_vec(alloc)?;
-    drop(certificate);
+    let certificate = certify(alloc, Expression::new(bytes, LITTLE), kind).ok()?;
+    certificate.states().to_vec(alloc).ok()
+}
+
+/// The certificate's states are taken; none that differs in one place is, nor one with a state more or less.
+fn takes_only_its_own(
+    rt: &impl Abort,
+    alloc: Global,
+    bytes: &[u8],
+    kind: Kind,
+) -> Result<(), AllocError>
+    requires { length bytes.now < 2 ^ 32 }
+{
+    let Some(states) = own_states(alloc, bytes, kind) else {
+        panic!(rt; "{bytes:?} is refused")
+    };
     assert!(rt; rechecked(rt, alloc, bytes, kind, &states).is_ok());
     let certified = Certified {
         bytes,
@@ -224,14 +249,15 @@ fn takes_only_its_own(rt: &impl Abort, alloc: Global, bytes: &[u8], kind: Kind) 
     };
     certified.refuses_counts(rt, alloc)?;
     for i in 0..states.len() {
-        certified.refuses_numbers(rt, alloc, i)?;
+        certified.refuses_offsets(rt, alloc, i)?;
+        certified.refuses_heights(rt, alloc, i)?;
         certified.refuses_modes(rt, alloc, i)?;
     }
     Ok(())
 }
 
 #[test]
-fn forged_states(rt: HostRuntime) -> Result<(), Fail> {
+fn forged_states(rt: HostRuntime) -> Result<(), AllocError> {
     let alloc = rt.alloc();
     takes_only_its_own(&rt, alloc, &[0x32, 0x33, 0x22], Kind::Location)?;
     takes_only_its_own(&rt, alloc, &[0x31, 0x32, 0x28, 0x00, 0x00], Kind::Location)?;

@@ -3,11 +3,10 @@
 use crate::certificates::{judged, push_times, refusal};
 use dw_bytes::FaultKind;
 use dw_stack::Kind;
-use std::alloc::Global;
-use std::test::Fail;
+use std::alloc::{AllocError, Global};
 
 #[test]
-fn many_branches_to_one_target(rt: HostRuntime) -> Result<(), Fail> {
+fn many_branches_to_one_target(rt: HostRuntime) -> Result<(), AllocError> {
     let mut bytes = Vec::new(rt.alloc());
     for i in 1..=1_000u16 {
         let [low, high] = (4_000 - 4 * i).to_le_bytes();
@@ -22,7 +21,7 @@ fn many_branches_to_one_target(rt: HostRuntime) -> Result<(), Fail> {
 }
 
 #[test]
-fn diamonds_in_a_row(rt: HostRuntime) -> Result<(), Fail> {
+fn diamonds_in_a_row(rt: HostRuntime) -> Result<(), AllocError> {
     let mut bytes = Vec::new(rt.alloc());
     // Each doubles the number of paths.
     push_times(&mut bytes, &[0x30, 0x28, 0x01, 0x00, 0x96], 10_000)?;
@@ -35,7 +34,7 @@ fn diamonds_in_a_row(rt: HostRuntime) -> Result<(), Fail> {
 }
 
 #[test]
-fn many_operations(rt: HostRuntime) -> Result<(), Fail> {
+fn many_operations(rt: HostRuntime) -> Result<(), AllocError> {
     let mut bytes = Vec::new(rt.alloc());
     bytes.push(0x30)?;
     push_times(&mut bytes, &[0x12, 0x13], 32_499)?;
@@ -48,7 +47,7 @@ fn many_operations(rt: HostRuntime) -> Result<(), Fail> {
 }
 
 #[test]
-fn far_target(rt: HostRuntime) -> Result<(), Fail> {
+fn far_target(rt: HostRuntime) -> Result<(), AllocError> {
     let mut bytes = Vec::new(rt.alloc());
     push_times(&mut bytes, &[0x30, 0x28, 0xff, 0x7f], 1)?;
     push_times(&mut bytes, &[0x96], 32_767)?;
@@ -61,7 +60,7 @@ fn far_target(rt: HostRuntime) -> Result<(), Fail> {
 }
 
 /// One way of a branch pushes so many entries and takes them off again, the other goes past them.
-fn one_high_way(alloc: Global, count: u8) -> Result<Vec<u8>, Fail> {
+fn one_high_way(alloc: Global, count: u8) -> Result<Vec<u8>, AllocError> {
     let mut bytes = Vec::new(alloc);
     let [low, high] = (2 * u16::from(count)).to_le_bytes();
     push_times(&mut bytes, &[0x30, 0x28, low, high], 1)?;
@@ -72,16 +71,13 @@ fn one_high_way(alloc: Global, count: u8) -> Result<Vec<u8>, Fail> {
 }
 
 #[test]
-fn limit_on_one_path(rt: HostRuntime) -> Result<(), Fail> {
-    let high = one_high_way(rt.alloc(), 128)?;
-    assert_eq!(rt;
-        judged(&rt, rt.alloc(), &high, Kind::Location),
-        Ok((128, 259))
-    );
-    let higher = one_high_way(rt.alloc(), 129)?;
-    assert_eq!(rt;
-        judged(&rt, rt.alloc(), &higher, Kind::Location),
-        refusal(FaultKind::TooDeep, 132)
-    );
+fn limit_on_one_path(rt: HostRuntime) -> Result<(), AllocError> {
+    for (count, verdict) in [
+        (128, Ok((128, 259))),
+        (129, refusal(FaultKind::TooDeep, 132)),
+    ] {
+        let bytes = one_high_way(rt.alloc(), count)?;
+        assert_eq!(rt; judged(&rt, rt.alloc(), &bytes, Kind::Location), verdict);
+    }
     Ok(())
 }

@@ -3,13 +3,12 @@
 ghost use Rattle.std.specs.Prelude.{◌==◌, if◌then◌else◌, Some, None};
 
 use crate::evaluation::{Bytes, LITTLE, OneRegister};
-use crate::whole::FUNCTION;
-use dw_check::{Answer, Backtrace, FoundRegisters, Frame, Stop, backtrace, check, unwind_with};
+use crate::whole::{FUNCTION, is_caller};
+use dw_check::{Answer, Backtrace, Caller, Frame, Stop, backtrace, check, unwind_with};
 use dw_eval::Registers;
 use dw_rows::Abi;
 use std::alloc::Global;
 use std::process::Abort;
-use std::test::Fail;
 
 /// Registers 6 and 7, which are known.
 #[derive(Clone, Copy)]
@@ -73,12 +72,10 @@ fn walked(
     register: OneRegister,
     memory: Bytes<'_>,
     limit: u32,
-) -> Result<Backtrace, Fail> {
-    let checked = check(alloc, section, &[], LITTLE)
-        .ok()
-        .ok_or("a frame section")?;
+) -> Option<Backtrace> {
+    let checked = check(alloc, section, &[], LITTLE).ok()?;
     let abi = Abi::none();
-    Ok(backtrace(alloc, &checked, &abi, address, &register, &memory, limit)?)
+    backtrace(alloc, &checked, &abi, address, &register, &memory, limit).ok()
 }
 
 /// The CFA of a frame, if it has a caller.
@@ -87,8 +84,11 @@ fn cfa_of(frame: &Frame) -> Option<Answer> {
     Some(caller.cfa)
 }
 
-/// The walk has frames of these addresses, with these CFAs, and ends so.
-fn is_walk(rt: &impl Abort, walk: &Backtrace, frames: &[(u64, Option<Answer>)], stop: Stop) {
+/// There is a walk, with frames of these addresses and these CFAs, and it ends so.
+fn is_walk(rt: &impl Abort, walk: Option<Backtrace>, frames: &[(u64, Option<Answer>)], stop: Stop) {
+    let Some(walk) = walk else {
+        panic!(rt; "no walk")
+    };
     assert_eq!(rt; walk.frames.len(), frames.len());
     for (frame, (address, cfa)) in walk.frames.iter().zip(frames) {
         assert_eq!(rt; frame.address, *address);
@@ -98,7 +98,7 @@ fn is_walk(rt: &impl Abort, walk: &Backtrace, frames: &[(u64, Option<Answer>)], 
 }
 
 /// The walk of the worked example, with its whole stack or without the last word.
-fn worked(alloc: Global, is_whole: bool, limit: u32) -> Result<Backtrace, Fail> {
+fn worked(alloc: Global, is_whole: bool, limit: u32) -> Option<Backtrace> {
     let register = OneRegister {
         known: 6,
         content: 0x7f00,
@@ -137,17 +137,16 @@ const WORKED: [(bool, u32, Frames, Stop); 7] = [
 ];
 
 #[test]
-fn walks_up_a_stack(rt: HostRuntime) -> Result<(), Fail> {
+fn walks_up_a_stack(rt: HostRuntime) {
     for (is_whole, limit, frames, stop) in &WORKED {
-        let walk = worked(rt.alloc(), *is_whole, *limit)?;
-        is_walk(&rt, &walk, frames, *stop);
+        let walk = worked(rt.alloc(), *is_whole, *limit);
+        is_walk(&rt, walk, frames, *stop);
     }
-    Ok(())
 }
 
 /// Behind the first frame register 6, which isn't saved where memory is known, has no content, though it is handed in.
 #[test]
-fn keeps_no_register_without_a_value(rt: HostRuntime) -> Result<(), Fail> {
+fn keeps_no_register_without_a_value(rt: HostRuntime) {
     let register = OneRegister {
         known: 6,
         content: 0x7f00,
@@ -156,17 +155,16 @@ fn keeps_no_register_without_a_value(rt: HostRuntime) -> Result<(), Fail> {
         start: 0x7f08,
         bytes: &[0x20, 0x10, 0, 0, 0, 0, 0, 0],
     };
-    let walk = walked(rt.alloc(), &FUNCTION, 0x1010, register, memory, 9)?;
+    let walk = walked(rt.alloc(), &FUNCTION, 0x1010, register, memory, 9);
     let frames = [
         (0x1010, Some(Answer::Value(0x7f10))),
         (0x1020, Some(Answer::Unreadable)),
     ];
-    is_walk(&rt, &walk, &frames, Stop::ReturnUnreadable);
-    Ok(())
+    is_walk(&rt, walk, &frames, Stop::ReturnUnreadable);
 }
 
 /// A walk over the function at 0 with this program, from 3 on, where register 7 alone is known.
-fn from_three(alloc: Global, program: [u8; 8], limit: u32) -> Result<Backtrace, Fail> {
+fn from_three(alloc: Global, program: [u8; 8], limit: u32) -> Option<Backtrace> {
     let register = OneRegister {
         known: 7,
         content: 0x10,
@@ -220,27 +218,24 @@ const FROM_THREE: [([u8; 8], u32, Frames, Stop); 6] = [
 ];
 
 #[test]
-fn walks_from_three(rt: HostRuntime) -> Result<(), Fail> {
+fn walks_from_three(rt: HostRuntime) {
     for (program, limit, frames, stop) in &FROM_THREE {
-        let walk = from_three(rt.alloc(), *program, *limit)?;
-        is_walk(&rt, &walk, frames, *stop);
+        let walk = from_three(rt.alloc(), *program, *limit);
+        is_walk(&rt, walk, frames, *stop);
     }
-    Ok(())
 }
 
 #[test]
-fn walks_up_to_the_greatest_limit(rt: HostRuntime) -> Result<(), Fail> {
-    let walk = from_three(rt.alloc(), ROUND, 65535)?;
-    assert_eq!(rt; walk.frames.len(), 65535);
-    assert_eq!(rt; walk.stop, Stop::Limit);
-    Ok(())
+fn walks_up_to_the_greatest_limit(rt: HostRuntime) {
+    let Some(walk) = from_three(rt.alloc(), ROUND, 65535) else {
+        panic!(rt; "no walk")
+    };
+    assert_eq!(rt; (walk.frames.len(), walk.stop), (65535, Stop::Limit));
 }
 
-/// The registers of the first caller of the first function, under an ABI.
-fn registers_under(alloc: Global, abi: &Abi) -> Result<FoundRegisters, Fail> {
-    let checked = check(alloc, &FUNCTION, &[], LITTLE)
-        .ok()
-        .ok_or("a frame section")?;
+/// The first caller of the first function, under an ABI.
+fn caller_under(alloc: Global, abi: &Abi) -> Option<Caller> {
+    let checked = check(alloc, &FUNCTION, &[], LITTLE).ok()?;
     let registers = SixAndSeven {
         six: 5,
         seven: 0x7f08,
@@ -249,28 +244,32 @@ fn registers_under(alloc: Global, abi: &Abi) -> Result<FoundRegisters, Fail> {
         start: 0x7f08,
         bytes: &[0x34, 0x12, 0, 0, 0, 0, 0, 0],
     };
-    let caller = unwind_with(&checked, abi, 0x1000, &registers, &memory).ok_or("a caller")?;
-    if caller.cfa != Answer::Value(0x7f10) || caller.return_address != Answer::Value(0x1234) {
-        return Err("another caller".into());
-    }
-    Ok(caller.registers)
+    unwind_with(&checked, abi, 0x1000, &registers, &memory)
 }
 
+/// This caller's CFA, and where it goes on.
+const CFA: Answer = Answer::Value(0x7f10);
+
+const RETURN: Answer = Answer::Value(0x1234);
+
 #[test]
-fn unwinds_under_an_abi(rt: HostRuntime) -> Result<(), Fail> {
-    let abi = Abi::new(&[6], Some(7))?;
-    assert_eq!(rt;
-        registers_under(rt.alloc(), &abi)?.as_slice(),
-        [
-            (6, Answer::Value(5)),
-            (7, Answer::Value(0x7f10)),
-            (16, Answer::Value(0x1234)),
-        ]
-        .as_slice()
+fn unwinds_under_an_abi(rt: HostRuntime) {
+    let Ok(abi) = Abi::new(&[6], Some(7)) else {
+        panic!(rt; "no ABI")
+    };
+    let six = (6, Answer::Value(5));
+    is_caller(
+        &rt,
+        caller_under(rt.alloc(), &abi),
+        CFA,
+        &[six, (7, CFA), (16, RETURN)],
+        RETURN,
     );
-    assert_eq!(rt;
-        registers_under(rt.alloc(), &Abi::none())?.as_slice(),
-        [(16, Answer::Value(0x1234))].as_slice()
+    is_caller(
+        &rt,
+        caller_under(rt.alloc(), &Abi::none()),
+        CFA,
+        &[(16, RETURN)],
+        RETURN,
     );
-    Ok(())
 }

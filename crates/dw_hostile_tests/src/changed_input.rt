@@ -5,12 +5,11 @@ use dw_bytes::{Fault, FaultKind};
 use dw_check::{CheckFault, Checked, Section, check, unwind};
 use dw_loclists::CheckedLists;
 use dw_rows::{CheckedFrame, UnwindTableRow};
-use std::alloc::Global;
+use std::alloc::{AllocError, Global};
 use std::process::Abort;
-use std::test::Fail;
 
 /// A row as text: its addresses and its rules.
-fn text_of(alloc: Global, row: &UnwindTableRow<'_, '_>) -> Result<String, Fail> {
+fn text_of(alloc: Global, row: &UnwindTableRow<'_, '_>) -> Result<String, AllocError> {
     let (start, end, cfa) = (row.start_address(), row.end_address(), row.cfa());
     let mut text = format!(in alloc; "{start:x}..{end:x} {cfa:?}")?;
     for (register, rule) in row.rules() {
@@ -26,8 +25,10 @@ fn is_found(
     frame: &CheckedFrame<'_>,
     row: &UnwindTableRow<'_, '_>,
     address: u64,
-) -> Result<(), Fail> {
-    let found = frame.row_for_address(address).ok_or("a row")?;
+) -> Result<(), AllocError> {
+    let Some(found) = frame.row_for_address(address) else {
+        panic!(rt; "no row at {address}")
+    };
     assert_eq!(rt;
         text_of(alloc, &found)?.as_str(),
         text_of(alloc, row)?.as_str()
@@ -42,8 +43,10 @@ fn rows_cover(
     frame: &CheckedFrame<'_>,
     start: u64,
     end: u64,
-) -> Result<(), Fail> {
-    let fde = frame.fde_for_address(start).ok_or("an FDE")?;
+) -> Result<(), AllocError> {
+    let Some(fde) = frame.fde_for_address(start) else {
+        panic!(rt; "no FDE at {start}")
+    };
     let mut next = start;
     for row in frame.rows(&fde) {
         let (first, behind) = (row.start_address(), row.end_address());
@@ -53,6 +56,11 @@ fn rows_cover(
         next = behind;
     }
     assert_eq!(rt; next, end);
+    Ok(())
+}
+
+/// The rows beside these addresses, if there are any, don't reach into them.
+fn rows_end(rt: &impl Abort, frame: &CheckedFrame<'_>, start: u64, end: u64) {
     if let Some(row) = frame.row_for_address(end) {
         assert!(rt; row.start_address() >= end);
     }
@@ -61,24 +69,31 @@ fn rows_cover(
             assert!(rt; row.end_address() <= start);
         }
     }
-    Ok(())
 }
 
-/// The same of each FDE. Where an address is covered, it has a caller, and else none.
-fn rows_agree(rt: &impl Abort, alloc: Global, checked: &Checked<'_>) -> Result<(), Fail> {
+/// Where an address is covered, it has a row and a caller, and else none.
+fn covered_have_callers(rt: &impl Abort, checked: &Checked<'_>, address: u64) {
+    let is_covered = checked.frame().fde_for_address(address).is_some();
+    let has_row = checked.frame().row_for_address(address).is_some();
+    assert_eq!(rt; has_row, is_covered);
+    let caller = unwind(checked, address, &Unknown, &Unknown);
+    assert_eq!(rt; caller.is_some(), is_covered);
+}
+
+/// All this of each FDE.
+fn rows_agree(rt: &impl Abort, alloc: Global, checked: &Checked<'_>) -> Result<(), AllocError> {
     let frame = checked.frame();
     for fde in frame.fdes() {
         let start = fde.initial_location;
-        let end = start.checked_add(fde.address_range).ok_or("an end")?;
+        let Some(end) = start.checked_add(fde.address_range) else {
+            panic!(rt; "no end behind {start}")
+        };
         if start < end {
             rows_cover(rt, alloc, frame, start, end)?;
+            rows_end(rt, frame, start, end);
         }
-        for address in [start, end] {
-            let is_covered = frame.fde_for_address(address).is_some();
-            assert_eq!(rt; frame.row_for_address(address).is_some(), is_covered);
-            let caller = unwind(checked, address, &Unknown, &Unknown);
-            assert_eq!(rt; caller.is_some(), is_covered);
-        }
+        covered_have_callers(rt, checked, start);
+        covered_have_callers(rt, checked, end);
     }
     Ok(())
 }
@@ -94,9 +109,11 @@ fn has_expression(lists: &CheckedLists<'_>, offset: u32) -> bool {
 }
 
 /// Each list is found, and what it says of an address are expressions of the section.
-fn lists_agree(rt: &impl Abort, lists: &CheckedLists<'_>) -> Result<(), Fail> {
+fn lists_agree(rt: &impl Abort, lists: &CheckedLists<'_>) {
     for list in lists.lists() {
-        let found = lists.list(list.offset()).ok_or("a list")?;
+        let Some(found) = lists.list(list.offset()) else {
+            panic!(rt; "no list")
+        };
         assert_eq!(rt; found.offset(), list.offset());
         for address in [0, 0x1005, 0x200c, u64::MAX] {
             for (offset, _) in lists.locations_at(&found, 0x1000, address) {
@@ -104,15 +121,15 @@ fn lists_agree(rt: &impl Abort, lists: &CheckedLists<'_>) -> Result<(), Fail> {
             }
         }
     }
-    Ok(())
 }
 
 /// A check answers; its refusal stands in the section that it names, and what it accepts agrees.
-fn answers(rt: &impl Abort, alloc: Global, frame: &[u8], lists: &[u8]) -> Result<(), Fail> {
+fn answers(rt: &impl Abort, alloc: Global, frame: &[u8], lists: &[u8]) -> Result<(), AllocError> {
     match check(alloc, frame, lists, LITTLE) {
         Ok(checked) => {
             rows_agree(rt, alloc, &checked)?;
-            lists_agree(rt, checked.lists())
+            lists_agree(rt, checked.lists());
+            Ok(())
         }
         Err(CheckFault { section, fault }) => {
             let length = match section {
@@ -131,7 +148,7 @@ fn section_answers(
     alloc: Global,
     section: Section,
     bytes: &[u8],
-) -> Result<(), Fail> {
+) -> Result<(), AllocError> {
     match section {
         Section::Frame => answers(rt, alloc, bytes, &[]),
         _ => answers(rt, alloc, &[], bytes),
@@ -144,7 +161,7 @@ fn each_change_answers(
     alloc: Global,
     section: Section,
     bytes: &[u8],
-) -> Result<(), Fail> {
+) -> Result<(), AllocError> {
     for n in 0..=bytes.len() {
         section_answers(rt, alloc, section, &bytes[..n])?;
     }
@@ -163,17 +180,17 @@ fn each_change_answers(
 }
 
 #[test]
-fn changes_of_a_function(rt: HostRuntime) -> Result<(), Fail> {
+fn changes_of_a_function(rt: HostRuntime) -> Result<(), AllocError> {
     each_change_answers(&rt, rt.alloc(), Section::Frame, &FUNCTION)
 }
 
 #[test]
-fn changes_of_rules_with_expressions(rt: HostRuntime) -> Result<(), Fail> {
+fn changes_of_rules_with_expressions(rt: HostRuntime) -> Result<(), AllocError> {
     each_change_answers(&rt, rt.alloc(), Section::Frame, &EXPRESSIONS)
 }
 
 #[test]
-fn changes_of_lists(rt: HostRuntime) -> Result<(), Fail> {
+fn changes_of_lists(rt: HostRuntime) -> Result<(), AllocError> {
     each_change_answers(&rt, rt.alloc(), Section::Lists, &PAIR_AND_DEFAULT)?;
     each_change_answers(&rt, rt.alloc(), Section::Lists, &OVERLAPPING)
 }
@@ -214,59 +231,71 @@ fn changed(
     bytes: &[u8],
     at: usize,
     byte: u8,
-) -> Result<Vec<u8>, Fail> {
+) -> Result<Vec<u8>, AllocError> {
     let mut section = bytes.to_vec(alloc)?;
     assert!(rt; at < section.len());
     section[at] = byte;
     Ok(section)
 }
 
+/// The first fault of the two sections.
+fn first_fault(alloc: Global, frame: &[u8], lists: &[u8]) -> Option<CheckFault> {
+    check(alloc, frame, lists, LITTLE).err()
+}
+
+/// A fault of this section.
+fn fault_in(section: Section, kind: FaultKind, at: u32) -> Option<CheckFault> {
+    let fault = Fault { kind, at };
+    Some(CheckFault { section, fault })
+}
+
 #[test]
-fn faults_of_chosen_changes(rt: HostRuntime) -> Result<(), Fail> {
+fn faults_of_chosen_changes(rt: HostRuntime) -> Result<(), AllocError> {
     let alloc = rt.alloc();
     for (at, byte, kind, stands) in FUNCTION_CHANGES {
         let section = changed(&rt, alloc, &FUNCTION, at, byte)?;
-        let found = check(alloc, section.as_slice(), &PAIR_AND_DEFAULT, LITTLE).err();
-        let wanted = CheckFault {
-            section: Section::Frame,
-            fault: Fault { kind, at: stands },
-        };
-        assert_eq!(rt; found, Some(wanted), "at {at}");
+        let found = first_fault(alloc, section.as_slice(), &PAIR_AND_DEFAULT);
+        assert_eq!(rt; found, fault_in(Section::Frame, kind, stands), "at {at}");
     }
     for (at, byte, kind, stands) in LIST_CHANGES {
         let section = changed(&rt, alloc, &PAIR_AND_DEFAULT, at, byte)?;
-        let found = check(alloc, &FUNCTION, section.as_slice(), LITTLE).err();
-        let wanted = CheckFault {
-            section: Section::Lists,
-            fault: Fault { kind, at: stands },
-        };
-        assert_eq!(rt; found, Some(wanted), "at {at}");
+        let found = first_fault(alloc, &FUNCTION, section.as_slice());
+        assert_eq!(rt; found, fault_in(Section::Lists, kind, stands), "at {at}");
     }
     Ok(())
 }
 
+/// Changes of the function, and the row of an address: the highest byte of the range, and the offset of register 6.
+const ROW_CHANGES: [(usize, u8, u64, &str); 2] = [
+    (
+        47,
+        0xff,
+        0x1004,
+        "1004..ff00000000001020 RegisterAndOffset { register: 6, offset: 16 } r6 Offset(-16) r16 Offset(-8)",
+    ),
+    (
+        52,
+        0xff,
+        0x1001,
+        "1001..1020 RegisterAndOffset { register: 6, offset: 16 } r6 Offset(-69624) r16 Offset(-8)",
+    ),
+];
+
+/// The row of an address as text, where the section is accepted.
+fn row_at(alloc: Global, section: &[u8], address: u64) -> Option<String> {
+    let checked = check(alloc, section, &[], LITTLE).ok()?;
+    let row = checked.frame().row_for_address(address)?;
+    text_of(alloc, &row).ok()
+}
+
 #[test]
-fn rows_of_chosen_changes(rt: HostRuntime) -> Result<(), Fail> {
-    let alloc = rt.alloc();
-    // The highest byte of the range.
-    let section = changed(&rt, alloc, &FUNCTION, 47, 0xff)?;
-    let checked = check(alloc, section.as_slice(), &[], LITTLE)
-        .ok()
-        .ok_or("a section")?;
-    let row = checked.frame().row_for_address(0x1004).ok_or("a row")?;
-    assert_eq!(rt;
-        (row.start_address(), row.end_address()),
-        (0x1004, 0xff00_0000_0000_1020)
-    );
-    // The offset of register 6.
-    let section = changed(&rt, alloc, &FUNCTION, 52, 0xff)?;
-    let checked = check(alloc, section.as_slice(), &[], LITTLE)
-        .ok()
-        .ok_or("a section")?;
-    let row = checked.frame().row_for_address(0x1001).ok_or("a row")?;
-    assert_eq!(rt;
-        text_of(alloc, &row)?.as_str(),
-        "1001..1020 RegisterAndOffset { register: 6, offset: 16 } r6 Offset(-69624) r16 Offset(-8)"
-    );
+fn rows_of_chosen_changes(rt: HostRuntime) -> Result<(), AllocError> {
+    for (at, byte, address, text) in ROW_CHANGES {
+        let section = changed(&rt, rt.alloc(), &FUNCTION, at, byte)?;
+        let Some(found) = row_at(rt.alloc(), section.as_slice(), address) else {
+            panic!(rt; "no row where {at} is changed")
+        };
+        assert_eq!(rt; found.as_str(), text);
+    }
     Ok(())
 }

@@ -7,8 +7,8 @@ ghost use Rattle.std.specs.Prelude.{◌≡◌, ◌≤◌, length};
 use crate::sections::{EXPRESSIONS, FUNCTION, LITTLE, PAIR_AND_DEFAULT, ROUND, Unknown};
 use dw_bytes::{Fault, FaultKind};
 use dw_check::{
-    Checked, End, LoadFault, Reading, Reads, ReportFault, Source, Stop, Through, Usage, backtrace,
-    check, load, report, request, run, unwind,
+    Checked, End, LoadFault, Reading, Reads, ReportFault, Request, Source, Stop, Through, Usage,
+    backtrace, check, load, report, request, run, unwind,
 };
 use dw_eval::{Context, evaluate};
 use dw_loclists::CheckedLists;
@@ -19,7 +19,6 @@ use std::alloc::{AllocError, Global};
 use std::io;
 use std::io::Write;
 use std::process::Abort;
-use std::test::Fail;
 
 const MEMORY: Fault = Fault {
     kind: FaultKind::Memory,
@@ -113,13 +112,13 @@ enum Call {
 
 impl Call {
     /// Makes the call. It has the memory that it asks for and gives its worked answer, or answers want of memory.
-    fn has_memory(self, rt: &impl Abort, alloc: Global) -> Result<bool, Fail> {
+    fn has_memory(self, rt: &impl Abort, alloc: Global) -> bool {
         match self {
-            Call::Operations => Ok(reads_operations(rt, alloc)),
-            Call::Certify => Ok(certifies(rt, alloc)),
-            Call::Recheck => Ok(rechecks(rt, alloc)),
-            Call::Check => Ok(checks(rt, alloc, &FUNCTION, (1, 1, 1, 1, 2))),
-            Call::CheckOfExpressions => Ok(checks(rt, alloc, &EXPRESSIONS, (1, 1, 1, 1, 4))),
+            Call::Operations => reads_operations(rt, alloc),
+            Call::Certify => certifies(rt, alloc),
+            Call::Recheck => rechecks(rt, alloc),
+            Call::Check => checks(rt, alloc, &FUNCTION, (1, 1, 1, 1, 2)),
+            Call::CheckOfExpressions => checks(rt, alloc, &EXPRESSIONS, (1, 1, 1, 1, 4)),
             Call::Report => reports(rt, alloc, &FUNCTION, &PAIR_AND_DEFAULT, REPORT),
             Call::ReportOfExpressions => reports(
                 rt,
@@ -134,8 +133,8 @@ impl Call {
                 let line = "refused 3 ReservedLength frame 0x00000000\n";
                 runs(rt, alloc, "f0ffffff", End::Refused, line)
             }
-            Call::Load => Ok(loads(rt, alloc)),
-            Call::Backtrace => Ok(walks(rt, alloc)),
+            Call::Load => loads(rt, alloc),
+            Call::Backtrace => walks(rt, alloc),
             Call::LookUps => looks_up(rt, alloc),
         }
     }
@@ -233,15 +232,9 @@ fn checks(
     }
 }
 
-fn reports(
-    rt: &impl Abort,
-    alloc: Global,
-    frame: &[u8],
-    lists: &[u8],
-    text: &str,
-) -> Result<bool, Fail> {
+fn reports(rt: &impl Abort, alloc: Global, frame: &[u8], lists: &[u8], text: &str) -> bool {
     let Ok(checked) = check(alloc, frame, lists, LITTLE) else {
-        return Ok(false);
+        return false;
     };
     let mut sink = Through::new(Fixed::new());
     let result = report(alloc, &checked, &mut sink);
@@ -249,12 +242,12 @@ fn reports(
     match result {
         Ok(()) => {
             assert_eq!(rt; fixed.written(), text.as_bytes());
-            Ok(true)
+            true
         }
         Err(fault) => {
             assert_eq!(rt; fault, ReportFault::Memory);
             assert!(rt; text.as_bytes().starts_with(fixed.written()));
-            Ok(false)
+            false
         }
     }
 }
@@ -268,21 +261,22 @@ fn words(alloc: Global) -> Result<Vec<String>, AllocError> {
     Ok(words)
 }
 
-fn requests(rt: &impl Abort, alloc: Global) -> Result<bool, Fail> {
+fn requests(rt: &impl Abort, alloc: Global) -> bool {
     let Ok(words) = words(alloc) else {
-        return Ok(false);
+        return false;
     };
     match request(alloc, words) {
         Ok(request) => {
-            let mut names = request.files().iter();
-            assert_eq!(rt; names.next().ok_or("a name")?.as_str(), "f");
-            assert!(rt; names.next().is_none());
-            Ok(true)
+            assert_eq!(rt; request.files().len(), 1);
+            for name in request.files() {
+                assert_eq!(rt; name.as_str(), "f");
+            }
+            true
         }
         Err(usage) => {
             assert!(rt; matches!(usage, Usage::Memory));
             assert_eq!(rt; usage.status(), 3);
-            Ok(false)
+            false
         }
     }
 }
@@ -294,32 +288,29 @@ fn files(alloc: Global, text: &str) -> Result<Vec<Vec<u8>>, AllocError> {
     Ok(files)
 }
 
-fn runs(rt: &impl Abort, alloc: Global, content: &str, end: End, text: &str) -> Result<bool, Fail> {
-    let Ok(words) = words(alloc) else {
-        return Ok(false);
+/// The request of these words, and its file with this content, if there is memory for them.
+fn request_and_files(alloc: Global, content: &str) -> Option<(Request, Vec<Vec<u8>>)> {
+    let request = request(alloc, words(alloc).ok()?).ok()?;
+    Some((request, files(alloc, content).ok()?))
+}
+
+fn runs(rt: &impl Abort, alloc: Global, content: &str, end: End, text: &str) -> bool {
+    let Some((request, files)) = request_and_files(alloc, content) else {
+        return false;
     };
-    let Ok(request) = request(alloc, words) else {
-        return Ok(false);
-    };
-    let Ok(files) = files(alloc, content) else {
-        return Ok(false);
-    };
-    let files = files.as_slice();
-    if files.len() != request.files().len() {
-        return Err("one file".into());
-    }
+    assert_eq!(rt; files.len(), request.files().len());
     let mut sink = Through::new(Fixed::new());
-    let found = run(alloc, &request, files, &mut sink);
+    let found = run(alloc, &request, files.as_slice(), &mut sink);
     let fixed = sink.into_inner();
     if found == End::Memory {
         assert_eq!(rt; found.status(), 3);
         assert!(rt; text.as_bytes().starts_with(fixed.written()));
         assert!(rt; end == End::Done || fixed.written().is_empty());
-        return Ok(false);
+        return false;
     }
     assert_eq!(rt; found, end);
     assert_eq!(rt; fixed.written(), text.as_bytes());
-    Ok(true)
+    true
 }
 
 fn loads(rt: &impl Abort, alloc: Global) -> bool {
@@ -371,107 +362,108 @@ fn evaluates(rt: &impl Abort, frame: &CheckedFrame<'_>) {
 }
 
 /// The FDE, the rows and the row of an address.
-fn finds_rows(rt: &impl Abort, frame: &CheckedFrame<'_>) -> Result<(), Fail> {
-    let fde = frame.fde_for_address(0x1000).ok_or("an FDE")?;
+fn finds_rows(rt: &impl Abort, frame: &CheckedFrame<'_>) {
+    let Some(fde) = frame.fde_for_address(0x1000) else {
+        panic!(rt; "no FDE")
+    };
     for row in frame.rows(&fde) {
         assert_eq!(rt; row.end_address(), 0x1020);
     }
     assert!(rt; frame.row_for_address(0x101f).is_some());
-    Ok(())
 }
 
 /// A list, and what it says of an address.
-fn finds_locations(rt: &impl Abort, lists: &CheckedLists<'_>) -> Result<(), Fail> {
-    let list = lists.list(0xc).ok_or("a list")?;
+fn finds_locations(rt: &impl Abort, lists: &CheckedLists<'_>) {
+    let Some(list) = lists.list(0xc) else {
+        panic!(rt; "no list")
+    };
     for (offset, _) in lists.locations_at(&list, 0x1000, 0x1005) {
         assert_eq!(rt; offset, 0x10);
     }
-    Ok(())
 }
 
 /// A check, and behind it every call that takes no memory.
-fn looks_up(rt: &impl Abort, alloc: Global) -> Result<bool, Fail> {
+fn looks_up(rt: &impl Abort, alloc: Global) -> bool {
     let Ok(checked) = check(alloc, &EXPRESSIONS, &PAIR_AND_DEFAULT, LITTLE) else {
-        return Ok(false);
+        return false;
     };
     evaluates(rt, checked.frame());
-    finds_rows(rt, checked.frame())?;
-    finds_locations(rt, checked.lists())?;
+    finds_rows(rt, checked.frame());
+    finds_locations(rt, checked.lists());
     assert!(rt; unwind(&checked, 0x101f, &Unknown, &Unknown).is_some());
-    Ok(true)
+    true
 }
 
 /// A call that lacks memory is made again.
-fn is_made(rt: &(impl Abort + Print + AllocGlobal), call: Call) -> Result<(), Fail> {
-    if !call.has_memory(rt, rt.alloc())? {
-        println!(rt; "refused")?;
-        assert!(rt; call.has_memory(rt, rt.alloc())?);
+fn is_made(rt: &(impl Abort + Print + AllocGlobal), call: Call) {
+    if !call.has_memory(rt, rt.alloc()) {
+        assert!(rt; println!(rt; "refused").is_ok());
+        assert!(rt; call.has_memory(rt, rt.alloc()));
     }
-    Ok(())
 }
 
 #[test]
-fn operations_lack_memory(rt: HostRuntime) -> Result<(), Fail> {
-    is_made(&rt, Call::Operations)
+fn operations_lack_memory(rt: HostRuntime) {
+    is_made(&rt, Call::Operations);
 }
 
 #[test]
-fn certify_lacks_memory(rt: HostRuntime) -> Result<(), Fail> {
-    is_made(&rt, Call::Certify)
+fn certify_lacks_memory(rt: HostRuntime) {
+    is_made(&rt, Call::Certify);
 }
 
 #[test]
-fn recheck_lacks_memory(rt: HostRuntime) -> Result<(), Fail> {
-    is_made(&rt, Call::Recheck)
+fn recheck_lacks_memory(rt: HostRuntime) {
+    is_made(&rt, Call::Recheck);
 }
 
 #[test]
-fn check_lacks_memory(rt: HostRuntime) -> Result<(), Fail> {
-    is_made(&rt, Call::Check)
+fn check_lacks_memory(rt: HostRuntime) {
+    is_made(&rt, Call::Check);
 }
 
 #[test]
-fn check_of_expressions_lacks_memory(rt: HostRuntime) -> Result<(), Fail> {
-    is_made(&rt, Call::CheckOfExpressions)
+fn check_of_expressions_lacks_memory(rt: HostRuntime) {
+    is_made(&rt, Call::CheckOfExpressions);
 }
 
 #[test]
-fn report_lacks_memory(rt: HostRuntime) -> Result<(), Fail> {
-    is_made(&rt, Call::Report)
+fn report_lacks_memory(rt: HostRuntime) {
+    is_made(&rt, Call::Report);
 }
 
 #[test]
-fn report_of_expressions_lacks_memory(rt: HostRuntime) -> Result<(), Fail> {
-    is_made(&rt, Call::ReportOfExpressions)
+fn report_of_expressions_lacks_memory(rt: HostRuntime) {
+    is_made(&rt, Call::ReportOfExpressions);
 }
 
 #[test]
-fn request_lacks_memory(rt: HostRuntime) -> Result<(), Fail> {
-    is_made(&rt, Call::Request)
+fn request_lacks_memory(rt: HostRuntime) {
+    is_made(&rt, Call::Request);
 }
 
 #[test]
-fn run_lacks_memory(rt: HostRuntime) -> Result<(), Fail> {
-    is_made(&rt, Call::Run)
+fn run_lacks_memory(rt: HostRuntime) {
+    is_made(&rt, Call::Run);
 }
 
 #[test]
-fn run_of_refused_lacks_memory(rt: HostRuntime) -> Result<(), Fail> {
-    is_made(&rt, Call::RunOfRefused)
+fn run_of_refused_lacks_memory(rt: HostRuntime) {
+    is_made(&rt, Call::RunOfRefused);
 }
 
 #[test]
-fn load_lacks_memory(rt: HostRuntime) -> Result<(), Fail> {
-    is_made(&rt, Call::Load)
+fn load_lacks_memory(rt: HostRuntime) {
+    is_made(&rt, Call::Load);
 }
 
 #[test]
-fn backtrace_lacks_memory(rt: HostRuntime) -> Result<(), Fail> {
-    is_made(&rt, Call::Backtrace)
+fn backtrace_lacks_memory(rt: HostRuntime) {
+    is_made(&rt, Call::Backtrace);
 }
 
 /// These ask for as many requests as the check of the same sections alone.
 #[test]
-fn look_ups_take_no_memory(rt: HostRuntime) -> Result<(), Fail> {
-    is_made(&rt, Call::LookUps)
+fn look_ups_take_no_memory(rt: HostRuntime) {
+    is_made(&rt, Call::LookUps);
 }
