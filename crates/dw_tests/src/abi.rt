@@ -1,9 +1,9 @@
 //! What an ABI says of registers that a row gives no rule.
 
 use crate::rows::{FUNCTION, LITTLE};
+use dw_bytes::Fault;
 use dw_rows::{Abi, CheckedFrame, check_frame};
 use std::alloc::Global;
-use std::test::Fail;
 
 /// The number of the fault of an ABI that keeps these registers and has this stack pointer, and its place.
 fn refused(kept: &[u16], stack_pointer: Option<u16>) -> Option<(u8, u32)> {
@@ -68,14 +68,15 @@ fn registers_at(
     frame: &CheckedFrame<'_>,
     abi: &Abi,
     address: u64,
-) -> Result<String, Fail> {
-    let row = frame.row_for_address(address).ok_or("a row")?;
+) -> Option<String> {
+    let row = frame.row_for_address(address)?;
     let mut text = String::new(alloc);
     for number in [3, 6, 7, 16, 65535] {
         let rule = row.register_with(abi, number);
-        text.push_str(&format!(in alloc; "r{number} {rule:?} ")?)?;
+        text.push_str(&format!(in alloc; "r{number} {rule:?} ").ok()?)
+            .ok()?;
     }
-    Ok(text)
+    Some(text)
 }
 
 /// Addresses of the function, and what an ABI says there of registers: 6 has a rule from 0x1001 on, and 16 in each row.
@@ -91,36 +92,31 @@ const REGISTERS: [(u64, &str); 2] = [
 ];
 
 #[test]
-fn gives_registers_under_an_abi(rt: HostRuntime) -> Result<(), Fail> {
+fn gives_registers_under_an_abi(rt: HostRuntime) -> Result<(), Fault> {
     let alloc = rt.alloc();
     let frame = check_frame(alloc, &FUNCTION, LITTLE)?;
     let abi = Abi::new(&[65535, 6, 16], Some(7))?;
     for (address, text) in &REGISTERS {
-        assert_eq!(rt;
-            registers_at(alloc, &frame, &abi, *address)?.as_str(),
-            *text
-        );
+        let found = registers_at(alloc, &frame, &abi, *address);
+        assert_eq!(rt; found.as_deref(), Some(*text));
     }
+    let found = registers_at(alloc, &frame, &Abi::none(), 0x1001);
     assert_eq!(rt;
-        registers_at(alloc, &frame, &Abi::none(), 0x1001)?.as_str(),
-        "r3 Undefined r6 Offset(-16) r7 Undefined r16 Offset(-8) r65535 Undefined "
+        found.as_deref(),
+        Some("r3 Undefined r6 Offset(-16) r7 Undefined r16 Offset(-8) r65535 Undefined ")
     );
     Ok(())
 }
 
 /// The rules of a row under an ABI as text.
-fn rules_at(
-    alloc: Global,
-    frame: &CheckedFrame<'_>,
-    abi: &Abi,
-    address: u64,
-) -> Result<String, Fail> {
-    let row = frame.row_for_address(address).ok_or("a row")?;
+fn rules_at(alloc: Global, frame: &CheckedFrame<'_>, abi: &Abi, address: u64) -> Option<String> {
+    let row = frame.row_for_address(address)?;
     let mut text = String::new(alloc);
     for (number, rule) in row.rules_with(abi) {
-        text.push_str(&format!(in alloc; "r{number} {rule:?} ")?)?;
+        text.push_str(&format!(in alloc; "r{number} {rule:?} ").ok()?)
+            .ok()?;
     }
-    Ok(text)
+    Some(text)
 }
 
 /// Addresses of the function, and the rules there, by ascending registers, whatever the order in which an ABI names them.
@@ -136,16 +132,15 @@ const RULES: [(u64, &str); 2] = [
 ];
 
 #[test]
-fn gives_rules_under_an_abi(rt: HostRuntime) -> Result<(), Fail> {
+fn gives_rules_under_an_abi(rt: HostRuntime) -> Result<(), Fault> {
     let alloc = rt.alloc();
     let frame = check_frame(alloc, &FUNCTION, LITTLE)?;
     let abi = Abi::new(&[65535, 6, 3], Some(7))?;
     for (address, text) in &RULES {
-        assert_eq!(rt; rules_at(alloc, &frame, &abi, *address)?.as_str(), *text);
+        let found = rules_at(alloc, &frame, &abi, *address);
+        assert_eq!(rt; found.as_deref(), Some(*text));
     }
-    assert_eq!(rt;
-        rules_at(alloc, &frame, &Abi::none(), 0x101f)?.as_str(),
-        "r6 Offset(-16) r16 Offset(-8) "
-    );
+    let found = rules_at(alloc, &frame, &Abi::none(), 0x101f);
+    assert_eq!(rt; found.as_deref(), Some("r6 Offset(-16) r16 Offset(-8) "));
     Ok(())
 }

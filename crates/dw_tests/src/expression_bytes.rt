@@ -1,6 +1,5 @@
 use dw_bytes::{AddressSize, Fault, FaultKind, Order, Target};
 use dw_ops::{Expression, Operation, decode_one, operations};
-use std::test::Fail;
 
 const LITTLE: Target = Target {
     order: Order::Little,
@@ -123,29 +122,24 @@ const OPERATIONS: [(&[u8], Operation<'static>); 58] = [
 ];
 
 #[test]
-fn every_operation(rt: HostRuntime) -> Result<(), Fail> {
+fn every_operation(rt: HostRuntime) {
     for (bytes, operation) in &OPERATIONS {
         assert!(rt; bytes.len() < 16 && !bytes.is_empty());
-        let answer = decode_one(&Expression::new(bytes, LITTLE), 0);
-        let (read, next) = answer.ok().ok_or("an operation")?;
-        assert_eq!(rt; read, *operation, "at {bytes:?}");
-        assert_eq!(rt; next as usize, bytes.len());
+        let found = decode_one(&Expression::new(bytes, LITTLE), 0);
+        let wanted = (*operation, bytes.len() as u32);
+        assert_eq!(rt; found, Ok(wanted), "{bytes:?}");
     }
-    Ok(())
 }
 
 /// An address has the target's size and order.
 #[test]
-fn an_address(rt: HostRuntime) -> Result<(), Fail> {
+fn an_address(rt: HostRuntime) {
     let bytes = [0x03, 1, 2, 3, 4];
-    let (read, _) = decode_one(&Expression::new(&bytes, BIG), 0)
-        .ok()
-        .ok_or("an address")?;
     let address = Operation::Addr {
         address: 0x0102_0304,
     };
-    assert!(rt; read == address);
-    Ok(())
+    let found = decode_one(&Expression::new(&bytes, BIG), 0);
+    assert_eq!(rt; found, Ok((address, 5)));
 }
 
 /// Bytes that encode no operation: the kind of the fault, and where it stands.
@@ -197,16 +191,18 @@ fn a_wide_read(rt: HostRuntime) {
 
 /// Seventeen operations take memory: with ample memory all are read.
 #[test]
-fn a_list_of_seventeen(rt: HostRuntime) -> Result<(), Fail> {
-    let bytes = [0x31; 17];
-    let list = operations(rt.alloc(), &Expression::new(&bytes, LITTLE))
-        .ok()
-        .ok_or("a list")?;
+fn a_list_of_seventeen(rt: HostRuntime) -> Result<(), Fault> {
+    let list = operations(rt.alloc(), &Expression::new(&[0x31; 17], LITTLE))?;
     assert_eq!(rt; list.len(), 17);
     for (at, item) in list.iter().enumerate() {
         assert_eq!(rt; item.0 as usize, at);
         assert_eq!(rt; item.1, Operation::Lit { value: 1 });
     }
+    Ok(())
+}
+
+#[test]
+fn a_list_with_an_unknown_code(rt: HostRuntime) {
     let refused = operations(rt.alloc(), &Expression::new(&[0x31, 0x18], LITTLE));
     assert_eq!(rt;
         refused.err(),
@@ -215,5 +211,4 @@ fn a_list_of_seventeen(rt: HostRuntime) -> Result<(), Fail> {
             at: 1
         })
     );
-    Ok(())
 }

@@ -5,8 +5,8 @@ use dw_frame::{CommonInformationEntry, Entry, FrameDescriptionEntry, entries};
 use dw_rows::{
     CfaRule, CheckedFrame, RegisterRule, UnwindTableRow, check_cie, check_fde, check_frame,
 };
-use std::alloc::Global;
-use std::test::Fail;
+use std::alloc::{AllocError, Global};
+use std::process::Abort;
 
 pub(crate) const LITTLE: Target = Target {
     order: Order::Little,
@@ -35,36 +35,40 @@ const fn with(program: [u8; 8]) -> [u8; 56] {
 }
 
 /// The last CIE and the last FDE of a section.
-fn records(section: &[u8]) -> Result<(CommonInformationEntry<'_>, FrameDescriptionEntry<'_>), Fail>
+fn records(section: &[u8]) -> Option<(CommonInformationEntry<'_>, FrameDescriptionEntry<'_>)>
     requires { length section.now < 2 ^ 32 }
 {
     let mut cie = None;
     let mut fde = None;
     for entry in entries(section, LITTLE) {
-        match entry {
-            Ok(Entry::Cie(found)) => cie = Some(found),
-            Ok(Entry::Fde(found)) => fde = Some(found),
-            Err(_) => return Err(Fail::from("a bad record")),
+        match entry.ok()? {
+            Entry::Cie(found) => cie = Some(found),
+            Entry::Fde(found) => fde = Some(found),
         }
     }
-    Ok((cie.ok_or("a CIE")?, fde.ok_or("an FDE")?))
+    Some((cie?, fde?))
+}
+
+/// What the check of a section's last CIE says, and that of its last FDE.
+fn judged(alloc: Global, section: &[u8]) -> Option<(Result<(), Fault>, Result<(), Fault>)>
+    requires { length section.now < 2 ^ 32 }
+{
+    let (cie, fde) = records(section)?;
+    Some((check_cie(alloc, &cie), check_fde(alloc, &cie, &fde)))
 }
 
 /// The first fault of a program, and where it stands.
-fn first_fault(alloc: Global, program: [u8; 8]) -> Result<Option<(FaultKind, u32)>, Fail> {
-    let section = with(program);
-    let (cie, fde) = records(&section)?;
-    Ok(
-        check_fde(alloc, &cie, &fde)
-            .err()
-            .map(|fault| (fault.kind, fault.at)),
-    )
+fn first_fault(alloc: Global, program: [u8; 8]) -> Option<Option<(FaultKind, u32)>> {
+    let (_, of_fde) = judged(alloc, &with(program))?;
+    Some(of_fde.err().map(|fault| (fault.kind, fault.at)))
 }
 
 /// The rows of the FDE of 0x1000 as text.
-fn text_in(alloc: Global, frame: &CheckedFrame<'_>) -> Result<String, Fail> {
-    let fde = frame.fde_for_address(0x1000).ok_or("an FDE")?;
+fn text_in(alloc: Global, frame: &CheckedFrame<'_>) -> Result<String, AllocError> {
     let mut text = String::new(alloc);
+    let Some(fde) = frame.fde_for_address(0x1000) else {
+        return Ok(text);
+    };
     for row in frame.rows(&fde) {
         let start = row.start_address();
         let end = row.end_address();
@@ -79,31 +83,33 @@ fn text_in(alloc: Global, frame: &CheckedFrame<'_>) -> Result<String, Fail> {
 }
 
 /// The rows of a section as text.
-fn shown(alloc: Global, section: &[u8]) -> Result<String, Fail>
+fn shown(alloc: Global, section: &[u8]) -> Option<String>
     requires { length section.now < 2 ^ 32 }
 {
-    let frame = check_frame(alloc, section, LITTLE)?;
-    text_in(alloc, &frame)
+    let frame = check_frame(alloc, section, LITTLE).ok()?;
+    text_in(alloc, &frame).ok()
 }
 
 #[test]
-fn gives_the_rows_of_a_function(rt: HostRuntime) -> Result<(), Fail> {
-    let text = shown(rt.alloc(), &FUNCTION)?;
+fn gives_the_rows_of_a_function(rt: HostRuntime) {
+    let text = shown(rt.alloc(), &FUNCTION);
     assert_eq!(rt;
-        text.as_str(),
-        "1000..1001 RegisterAndOffset { register: 7, offset: 8 } r16 Offset(-8)\n1001..1004 RegisterAndOffset { register: 7, offset: 16 } r6 Offset(-16) r16 Offset(-8)\n1004..1020 RegisterAndOffset { register: 6, offset: 16 } r6 Offset(-16) r16 Offset(-8)\n"
+        text.as_deref(),
+        Some(
+            "1000..1001 RegisterAndOffset { register: 7, offset: 8 } r16 Offset(-8)\n1001..1004 RegisterAndOffset { register: 7, offset: 16 } r6 Offset(-16) r16 Offset(-8)\n1004..1020 RegisterAndOffset { register: 6, offset: 16 } r6 Offset(-16) r16 Offset(-8)\n"
+        )
     );
-    Ok(())
 }
 
 #[test]
-fn gives_the_rows_of_a_remembered_state(rt: HostRuntime) -> Result<(), Fail> {
-    let text = shown(rt.alloc(), &with([0x0a, 0x0e, 0x10, 0x41, 0x0b, 0, 0, 0]))?;
+fn gives_the_rows_of_a_remembered_state(rt: HostRuntime) {
+    let text = shown(rt.alloc(), &with([0x0a, 0x0e, 0x10, 0x41, 0x0b, 0, 0, 0]));
     assert_eq!(rt;
-        text.as_str(),
-        "1000..1001 RegisterAndOffset { register: 7, offset: 16 } r16 Offset(-8)\n1001..1020 RegisterAndOffset { register: 7, offset: 8 } r16 Offset(-8)\n"
+        text.as_deref(),
+        Some(
+            "1000..1001 RegisterAndOffset { register: 7, offset: 16 } r16 Offset(-8)\n1001..1020 RegisterAndOffset { register: 7, offset: 8 } r16 Offset(-8)\n"
+        )
     );
-    Ok(())
 }
 
 /// Programs, and their first faults.
@@ -129,46 +135,55 @@ const FAULTS: [([u8; 8], Option<(FaultKind, u32)>); 6] = [
 ];
 
 #[test]
-fn names_the_first_fault(rt: HostRuntime) -> Result<(), Fail> {
+fn names_the_first_fault(rt: HostRuntime) {
     for (program, fault) in &FAULTS {
-        assert_eq!(rt; first_fault(rt.alloc(), *program)?, *fault, "{program:?}");
+        let found = first_fault(rt.alloc(), *program);
+        assert_eq!(rt; found, Some(*fault), "{program:?}");
     }
-    Ok(())
 }
 
 #[test]
-fn checks_a_cie_and_its_fde(rt: HostRuntime) -> Result<(), Fail> {
-    let (cie, fde) = records(&FUNCTION)?;
-    assert_eq!(rt; check_cie(rt.alloc(), &cie), Ok(()));
-    assert_eq!(rt; check_fde(rt.alloc(), &cie, &fde), Ok(()));
+fn checks_a_cie_and_its_fde(rt: HostRuntime) {
+    assert_eq!(rt; judged(rt.alloc(), &FUNCTION), Some((Ok(()), Ok(()))));
     let mut section = FUNCTION;
     // An advance in the CIE's program.
     section[15] = 0x41;
-    let (cie, fde) = records(&section)?;
     let refused = Err(Fault {
         kind: FaultKind::NotInCie,
         at: 15,
     });
-    assert_eq!(rt; check_cie(rt.alloc(), &cie), refused);
-    assert_eq!(rt; check_fde(rt.alloc(), &cie, &fde), refused);
-    Ok(())
+    assert_eq!(rt; judged(rt.alloc(), &section), Some((refused, refused)));
 }
 
+/// Addresses, and where the row of each begins and ends.
+type Ranges = [(u64, Option<(u64, u64)>); 4];
+
+/// A look-up of each of these addresses gives such a row.
+fn has_ranges(rt: &impl Abort, frame: &CheckedFrame<'_>, ranges: &Ranges) {
+    for (address, range) in ranges {
+        assert_eq!(rt; range_at(frame, *address), *range, "{address:#x}");
+    }
+}
+
+const RANGES_OF_REMEMBERED: Ranges = [
+    (0xfff, None),
+    (0x1000, Some((0x1000, 0x1001))),
+    (0x101f, Some((0x1002, 0x1020))),
+    (0x1020, None),
+];
+
 #[test]
-fn finds_the_row_of_an_address(rt: HostRuntime) -> Result<(), Fail> {
+fn finds_the_row_of_an_address(rt: HostRuntime) -> Result<(), Fault> {
     let section = with([0x41, 0x0a, 0x0e, 0x10, 0x41, 0x0b, 0, 0]);
     let frame = check_frame(rt.alloc(), &section, LITTLE)?;
-    assert_eq!(rt; range_at(&frame, 0xfff), None);
-    assert_eq!(rt; range_at(&frame, 0x1000), Some((0x1000, 0x1001)));
+    has_ranges(&rt, &frame, &RANGES_OF_REMEMBERED);
     assert_eq!(rt; rules_at(&frame, 0x1001), Some((16, Some(-8), None)));
-    assert_eq!(rt; range_at(&frame, 0x101f), Some((0x1002, 0x1020)));
     assert_eq!(rt; rules_at(&frame, 0x101f), Some((8, Some(-8), None)));
-    assert_eq!(rt; range_at(&frame, 0x1020), None);
     Ok(())
 }
 
 /// The CIE of `FUNCTION`, and 1,000 FDEs of eight nops, the highest addresses first. Each covers 16 addresses of 32.
-fn descending(alloc: Global) -> Result<Vec<u8>, Fail> {
+fn descending(alloc: Global) -> Result<Vec<u8>, AllocError> {
     let mut section = FUNCTION[..24].to_vec(alloc)?;
     for i in (0..1000u64).rev() {
         push_fde(&mut section, 0x1000 + 0x20 * i, 0x10)?;
@@ -177,7 +192,7 @@ fn descending(alloc: Global) -> Result<Vec<u8>, Fail> {
 }
 
 /// One more FDE of eight nops, of the first CIE.
-fn push_fde(section: &mut Vec<u8>, initial: u64, range: u64) -> Result<(), Fail> {
+fn push_fde(section: &mut Vec<u8>, initial: u64, range: u64) -> Result<(), AllocError> {
     section.extend_from_slice(&[0x1c, 0, 0, 0, 0, 0, 0, 0])?;
     section.extend_from_slice(&initial.to_le_bytes())?;
     section.extend_from_slice(&range.to_le_bytes())?;
@@ -215,9 +230,12 @@ fn rules_at(frame: &CheckedFrame<'_>, address: u64) -> Option<(i64, Option<i64>,
     }
 }
 
-/// How many rows the FDE of an address has.
-fn row_count(frame: &CheckedFrame<'_>, address: u64) -> Option<u32> {
-    let fde = frame.fde_for_address(address)?;
+/// How many rows the FDE of 0x1000 has.
+fn row_count(alloc: Global, section: &[u8]) -> Option<u32>
+    requires { length section.now < 2 ^ 32 }
+{
+    let frame = check_frame(alloc, section, LITTLE).ok()?;
+    let fde = frame.fde_for_address(0x1000)?;
     let mut count = 0u32;
     for _ in frame.rows(&fde) {
         count = count.saturating_add(1);
@@ -250,15 +268,18 @@ fn places_at(frame: &CheckedFrame<'_>, address: u64, other: u64) -> Option<(u32,
     Some((cie.offset, fde.offset, end, row.end_address()))
 }
 
+const RANGES: Ranges = [
+    (0xfff, None),
+    (0x1000, Some((0x1000, 0x1001))),
+    (0x101f, Some((0x1004, 0x1020))),
+    (0x1020, None),
+];
+
 #[test]
-fn checks_a_section(rt: HostRuntime) -> Result<(), Fail> {
+fn checks_a_section(rt: HostRuntime) -> Result<(), Fault> {
     let frame = check_frame(rt.alloc(), &FUNCTION, LITTLE)?;
-    assert_eq!(rt; frame.cies().len(), 1);
-    assert_eq!(rt; frame.fdes().len(), 1);
-    assert_eq!(rt; range_at(&frame, 0xfff), None);
-    assert_eq!(rt; range_at(&frame, 0x1000), Some((0x1000, 0x1001)));
-    assert_eq!(rt; range_at(&frame, 0x101f), Some((0x1004, 0x1020)));
-    assert_eq!(rt; range_at(&frame, 0x1020), None);
+    assert_eq!(rt; (frame.cies().len(), frame.fdes().len()), (1, 1));
+    has_ranges(&rt, &frame, &RANGES);
     assert_eq!(rt; ends_at(&frame, 0x1000), Some((0x1001, 0x1004, 0x1001)));
     assert_eq!(rt;
         places_at(&frame, 0x1001, 0x1020),
@@ -268,32 +289,40 @@ fn checks_a_section(rt: HostRuntime) -> Result<(), Fail> {
     Ok(())
 }
 
+/// The last address of the first and of the last FDE of `descending`, each with the one behind it, which none covers.
+const RANGES_AMONG_MANY: Ranges = [
+    (0x100f, Some((0x1000, 0x1010))),
+    (0x1010, None),
+    (0x8cef, Some((0x8ce0, 0x8cf0))),
+    (0x8cf0, None),
+];
+
 #[test]
-fn looks_up_among_many(rt: HostRuntime) -> Result<(), Fail> {
+fn looks_up_among_many(rt: HostRuntime) -> Result<(), AllocError> {
     let section = descending(rt.alloc())?;
     assert_eq!(rt; section.len(), 32_024);
-    let frame = check_frame(rt.alloc(), &section, LITTLE)?;
-    assert_eq!(rt; range_at(&frame, 0x100f), Some((0x1000, 0x1010)));
-    assert_eq!(rt; range_at(&frame, 0x1010), None);
-    assert_eq!(rt; range_at(&frame, 0x8cef), Some((0x8ce0, 0x8cf0)));
-    assert_eq!(rt; range_at(&frame, 0x8cf0), None);
+    match check_frame(rt.alloc(), &section, LITTLE) {
+        Ok(frame) => has_ranges(&rt, &frame, &RANGES_AMONG_MANY),
+        Err(fault) => panic!(rt; "{fault:?}"),
+    }
     Ok(())
 }
 
 #[test]
-fn names_an_overlap_among_many(rt: HostRuntime) -> Result<(), Fail> {
+fn names_an_overlap_among_many(rt: HostRuntime) -> Result<(), AllocError> {
     let mut section = descending(rt.alloc())?;
     push_fde(&mut section, 0x100f, 1)?;
     assert_eq!(rt; section.len(), 32_056);
-    let fault = check_frame(rt.alloc(), &section, LITTLE)
-        .err()
-        .ok_or("an overlap")?;
-    assert_eq!(rt; (fault.kind, fault.at), (FaultKind::Overlap, 32_024));
+    let fault = check_frame(rt.alloc(), &section, LITTLE).err();
+    assert_eq!(rt;
+        fault.map(|fault| (fault.kind, fault.at)),
+        Some((FaultKind::Overlap, 32_024))
+    );
     Ok(())
 }
 
 /// The CIE of `FUNCTION`, and an FDE of 4,096 addresses whose program is 1,000 times the same byte.
-fn repeated(alloc: Global, instruction: u8) -> Result<Vec<u8>, Fail> {
+fn repeated(alloc: Global, instruction: u8) -> Result<Vec<u8>, AllocError> {
     let mut section = FUNCTION[..24].to_vec(alloc)?;
     section.extend_from_slice(&[0xfc, 3, 0, 0, 0, 0, 0, 0])?;
     section.extend_from_slice(&[0, 0x10, 0, 0, 0, 0, 0, 0, 0, 0x10, 0, 0, 0, 0, 0, 0])?;
@@ -302,19 +331,17 @@ fn repeated(alloc: Global, instruction: u8) -> Result<Vec<u8>, Fail> {
 }
 
 #[test]
-fn checks_one_row(rt: HostRuntime) -> Result<(), Fail> {
+fn checks_one_row(rt: HostRuntime) -> Result<(), AllocError> {
     let section = repeated(rt.alloc(), 0)?;
     assert_eq!(rt; section.len(), 1048);
-    let frame = check_frame(rt.alloc(), &section, LITTLE)?;
-    assert_eq!(rt; row_count(&frame, 0x1000), Some(1));
+    assert_eq!(rt; row_count(rt.alloc(), &section), Some(1));
     Ok(())
 }
 
 #[test]
-fn checks_many_rows(rt: HostRuntime) -> Result<(), Fail> {
+fn checks_many_rows(rt: HostRuntime) -> Result<(), AllocError> {
     let section = repeated(rt.alloc(), 0x41)?;
     assert_eq!(rt; section.len(), 1048);
-    let frame = check_frame(rt.alloc(), &section, LITTLE)?;
-    assert_eq!(rt; row_count(&frame, 0x1000), Some(1001));
+    assert_eq!(rt; row_count(rt.alloc(), &section), Some(1001));
     Ok(())
 }
