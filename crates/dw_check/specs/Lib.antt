@@ -46,6 +46,8 @@ pub mod Statuses
 -- what a run writes, and how it ends
 pub mod Runs
 -- ---- What the code's own values stand for, and what its calls answer.
+-- the table of the command line
+pub mod CommandViews
 -- lines of expressions of the code
 pub mod ReportViews
 -- answers and callers of the code

@@ -1,0 +1,14 @@
+use Rattle.std.proofs.Common.{◌≡◌, false, drop, map}
+use Rattle.clap.specs.Words.{app_of}
+use Rattle.clap.specs.declared.builder.Command.TheViews.{out-Command as fields_of}
+use Rattle.dw_check.specs.Commands.{with_commands}
+use Rattle.dw_check.specs.CommandViews.{command_in}
+use Rattle.dw_check.proofs.command_line.with_commands.Given as goal
+
+-- the commands that are left lead to the app that all of them lead to
+abbrev pub invariant-loop-outline : goal.invariant-loop-outline
+invariant-loop-outline l = record {
+  app : with_commands (app_of l.command) (map command_in (drop l.outline-index l.outlines))
+      ≡ with_commands (app_of l.fn.command) (map command_in l.outlines);
+  local : (fields_of l.command).has_globals ≡ false;
+}

@@ -1,0 +1,20 @@
+-- The table of the command line in the words of Commands. clap isn't told what a word names, nor what a command does.
+use Rattle.std.specs.Prelude.{ℕ, List, map, None}
+use Rattle.std.specs.Borrow.{Bor}
+use Rattle.clap.specs.Words.{Text}
+use Rattle.dw_check.specs.Arguments.{Word, file}
+use Rattle.dw_check.specs.Commands.{Command}
+use Rattle.dw_check.specs.declared.command_line.Outline.{Outline}
+
+-- words by their names
+abbrev pub named : List (Bor (List ℕ) × Bor (List ℕ)) → List (Text × Word)
+named words = map (λ word. (word.0.now, file)) words
+
+-- a command by its outline
+abbrev pub command_in : Outline → Command
+command_in outline = record {
+  name = outline.name.now;
+  words = named outline.words.now;
+  has_state = outline.has_state;
+  task = λ rows. None;
+}
