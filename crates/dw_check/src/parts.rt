@@ -9,7 +9,7 @@ use std::iter::FusedIterator;
 use std::marker::Model;
 
 /// The parts of bytes between separators, the empty ones too. Seen as the list of what is still to come.
-#[derive(Debug, Drop)]
+#[derive(Drop)]
 pub(crate) struct Parts<'a> {
     separator: u8,
     /// What is behind the last separator that was met; nothing once all of it was given.

@@ -13,7 +13,7 @@ use std::alloc::{AllocError, AllocFailed};
 use std::marker::Model;
 
 /// What is looked up in a section of location lists.
-#[derive(Clone, Copy, Debug, PartialEq, Eq)]
+#[derive(Clone, Copy, Debug)]
 pub struct ListLookup {
     /// The offset of the list's first byte in the section.
     pub list: u32,
@@ -24,7 +24,7 @@ pub struct ListLookup {
 }
 
 /// What is done with the files of a request.
-#[derive(Clone, Copy, Debug, PartialEq, Eq)]
+#[derive(Clone, Copy, Debug)]
 pub enum Task {
     /// The report on a frame section and a section of location lists.
     Check,

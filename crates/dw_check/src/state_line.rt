@@ -12,7 +12,7 @@ use hex::FromHexError;
 use std::alloc::{AllocError, Global};
 
 /// What a line of a state file gives.
-#[derive(Debug, Drop)]
+#[derive(Drop)]
 pub(crate) enum StateLine {
     Register { number: u16, content: u64 },
     Memory { address: u64, bytes: Vec<u8> },

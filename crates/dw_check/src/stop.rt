@@ -35,7 +35,7 @@ pub enum ReportFault {
 }
 
 /// Why a run ends without its text.
-#[derive(Clone, Copy, Debug, PartialEq, Eq)]
+#[derive(Clone, Copy)]
 pub(crate) enum RunFault {
     /// What a file contains is refused.
     Refused(Section, Fault),

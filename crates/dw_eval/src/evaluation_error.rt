@@ -1,7 +1,7 @@
 //! Why an operation has no answer.
 
 /// Why an operation has no answer.
-#[derive(Clone, Copy, Debug, PartialEq, Eq)]
+#[derive(Clone, Copy)]
 pub enum EvaluationError {
     /// A register, memory or what the context has isn't handed in, or a read goes past the greatest address.
     Unreadable,

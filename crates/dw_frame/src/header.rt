@@ -11,7 +11,7 @@ ghost use Rattle.dw_frame.specs.Records.{is_version};
 use dw_bytes::{Cursor, Fault, FaultKind, Format, Target};
 
 /// What stands between the length of a CIE and its program.
-#[derive(Clone, Copy, Debug)]
+#[derive(Clone, Copy)]
 pub struct CieHeader {
     pub version: u8,
     pub code_alignment_factor: u64,
@@ -21,7 +21,7 @@ pub struct CieHeader {
 }
 
 /// What stands between the length of an FDE and its program.
-#[derive(Clone, Copy, Debug)]
+#[derive(Clone, Copy)]
 pub struct FdeHeader {
     pub cie_pointer: u64,
     pub initial_location: u64,
@@ -30,7 +30,7 @@ pub struct FdeHeader {
 }
 
 /// The header of a record.
-#[derive(Clone, Copy, Debug)]
+#[derive(Clone, Copy)]
 pub enum Header {
     Cie(CieHeader),
     Fde(FdeHeader),

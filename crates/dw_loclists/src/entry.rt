@@ -9,7 +9,7 @@ ghost use Rattle.dw_loclists.specs.Views.{entry_of};
 use dw_bytes::{Block, Cursor, Fault, FaultKind, operands};
 
 /// An entry of a location list (DWARF 5, section 7.7.3), with its operands as they are encoded.
-#[derive(Clone, Copy, Debug)]
+#[derive(Clone, Copy)]
 pub enum Entry<'a> {
     EndOfList,
     OffsetPair {

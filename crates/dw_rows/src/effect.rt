@@ -10,7 +10,7 @@ use dw_frame::{CallFrameInstruction, CommonInformationEntry};
 
 /// What an instruction does to the location, the rules and what is remembered. Its numbers are
 /// whole: an offset is not yet judged to fit.
-#[derive(Clone, Copy, Debug)]
+#[derive(Clone, Copy)]
 pub enum InstructionEffect {
     Stays,
     AdvanceLoc(u128),

@@ -13,7 +13,7 @@ use dw_frame::FrameDescriptionEntry;
 use std::alloc::{AllocError, Global};
 
 /// Where an FDE begins in the address space, and its place among all FDEs: what halving looks at takes 16 bytes.
-#[derive(Clone, Copy, Debug)]
+#[derive(Clone, Copy)]
 pub struct IndexEntry {
     pub start: u64,
     pub place: usize,

@@ -9,7 +9,7 @@ use std::alloc::{AllocError, Global};
 use std::marker::Model;
 
 /// Where the rules of one CIE lie among those of all, and the rule of its CFA.
-#[derive(Clone, Copy, Debug)]
+#[derive(Clone, Copy)]
 pub struct RuleSpan {
     pub cfa: Option<KeptCfa>,
     pub start: usize,

@@ -1,7 +1,7 @@
 //! Rules as programs give them and states keep them: an expression is named by its offset in the section.
 
 /// What a register of the caller is (DWARF 5, section 6.4.1). An offset counts from the CFA.
-#[derive(Clone, Copy, Debug)]
+#[derive(Clone, Copy)]
 pub enum KeptRule {
     /// No instruction has set it, or a restore has given back that the CIE's did not.
     Default,
