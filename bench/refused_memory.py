@@ -3,7 +3,7 @@
 
     bench/refused_memory.py TESTS DWCHECK
 
-TESTS is the tests' program that `rt test` leaves in crates/dw_hostile_tests/out, DWCHECK the program. It needs cc and glibc.
+TESTS is the tests' program that `rt test` leaves in crates/dw_tests/out, DWCHECK the program. It needs cc and glibc.
 
 A library that is loaded before the C library's refuses the Nth request. Each test of `refused_memory` then has to pass for every N from 1
 until none is refused. Each run of the program has to end with its text, or with status 3, the line of want of memory, and a beginning

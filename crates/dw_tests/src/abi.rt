@@ -1,6 +1,6 @@
 //! What an ABI says of registers that a row gives no rule.
 
-use crate::rows::{FUNCTION, LITTLE};
+use crate::inputs::{FUNCTION, LITTLE};
 use dw_bytes::Fault;
 use dw_rows::{Abi, CheckedFrame, check_frame};
 use std::alloc::Global;

@@ -1,133 +1,101 @@
-use dw_bytes::{AddressSize, Fault, FaultKind, Order, Target};
+use crate::inputs::{BIG_SHORT, LITTLE};
+use dw_bytes::{Fault, FaultKind};
 use dw_ops::{Expression, Operation, decode_one, operations};
+use std::alloc::Global;
 
-const LITTLE: Target = Target {
-    order: Order::Little,
-    address_size: AddressSize::Eight,
-};
-
-const BIG: Target = Target {
-    order: Order::Big,
-    address_size: AddressSize::Four,
-};
-
-/// Bytes, and the operation that they encode: one line of the table of operations each, and the ends of those of 32 codes.
-const OPERATIONS: [(&[u8], Operation<'static>); 58] = [
+/// Bytes, and the operation that they encode, as text: one line of the table of operations each, and the ends of those of 32 codes.
+const OPERATIONS: [(&[u8], &str); 58] = [
     (
         &[0x03, 1, 2, 3, 4, 5, 6, 7, 8],
-        Operation::Addr {
-            address: 0x0807_0605_0403_0201,
-        },
+        "Addr { address: 578437695752307201 }",
     ),
-    (&[0x08, 0xff], Operation::Const1u { value: 255 }),
-    (&[0x09, 0xff], Operation::Const1s { value: -1 }),
-    (&[0x0a, 0x34, 0x12], Operation::Const2u { value: 0x1234 }),
-    (&[0x0b, 0xfe, 0xff], Operation::Const2s { value: -2 }),
-    (
-        &[0x0c, 1, 0, 0, 0x80],
-        Operation::Const4u { value: 0x8000_0001 },
-    ),
-    (
-        &[0x0d, 0xff, 0xff, 0xff, 0xff],
-        Operation::Const4s { value: -1 },
-    ),
+    (&[0x08, 0xff], "Const1u { value: 255 }"),
+    (&[0x09, 0xff], "Const1s { value: -1 }"),
+    (&[0x0a, 0x34, 0x12], "Const2u { value: 4660 }"),
+    (&[0x0b, 0xfe, 0xff], "Const2s { value: -2 }"),
+    (&[0x0c, 1, 0, 0, 0x80], "Const4u { value: 2147483649 }"),
+    (&[0x0d, 0xff, 0xff, 0xff, 0xff], "Const4s { value: -1 }"),
     (
         &[0x0e, 1, 0, 0, 0, 0, 0, 0, 0x80],
-        Operation::Const8u {
-            value: 0x8000_0000_0000_0001,
-        },
+        "Const8u { value: 9223372036854775809 }",
     ),
     (
         &[0x0f, 0, 0, 0, 0, 0, 0, 0, 0x80],
-        Operation::Const8s { value: i64::MIN },
+        "Const8s { value: -9223372036854775808 }",
     ),
-    (
-        &[0x10, 0xe5, 0x8e, 0x26],
-        Operation::Constu { value: 624_485 },
-    ),
-    (&[0x11, 0x80, 0x7f], Operation::Consts { value: -128 }),
-    (&[0x15, 7], Operation::Pick { index: 7 }),
-    (&[0x23, 8], Operation::PlusUconst { value: 8 }),
-    (&[0x28, 1, 0], Operation::Bra { offset: 1 }),
-    (&[0x2f, 0xfc, 0xff], Operation::Skip { offset: -4 }),
-    (&[0x30], Operation::Lit { value: 0 }),
-    (&[0x4f], Operation::Lit { value: 31 }),
-    (&[0x50], Operation::Reg { register: 0 }),
-    (&[0x6f], Operation::Reg { register: 31 }),
-    (
-        &[0x77, 8],
-        Operation::Breg {
-            register: 7,
-            offset: 8,
-        },
-    ),
-    (
-        &[0x8f, 0x78],
-        Operation::Breg {
-            register: 31,
-            offset: -8,
-        },
-    ),
-    (
-        &[0x90, 0xff, 0xff, 0x03],
-        Operation::Regx { register: 65535 },
-    ),
-    (&[0x91, 0x70], Operation::Fbreg { offset: -16 }),
+    (&[0x10, 0xe5, 0x8e, 0x26], "Constu { value: 624485 }"),
+    (&[0x11, 0x80, 0x7f], "Consts { value: -128 }"),
+    (&[0x15, 7], "Pick { index: 7 }"),
+    (&[0x23, 8], "PlusUconst { value: 8 }"),
+    (&[0x28, 1, 0], "Bra { offset: 1 }"),
+    (&[0x2f, 0xfc, 0xff], "Skip { offset: -4 }"),
+    (&[0x30], "Lit { value: 0 }"),
+    (&[0x4f], "Lit { value: 31 }"),
+    (&[0x50], "Reg { register: 0 }"),
+    (&[0x6f], "Reg { register: 31 }"),
+    (&[0x77, 8], "Breg { register: 7, offset: 8 }"),
+    (&[0x8f, 0x78], "Breg { register: 31, offset: -8 }"),
+    (&[0x90, 0xff, 0xff, 0x03], "Regx { register: 65535 }"),
+    (&[0x91, 0x70], "Fbreg { offset: -16 }"),
     (
         &[0x92, 0x90, 0x01, 0x7f],
-        Operation::Bregx {
-            register: 144,
-            offset: -1,
-        },
+        "Bregx { register: 144, offset: -1 }",
     ),
-    (&[0x93, 4], Operation::Piece { size: 4 }),
-    (&[0x94, 8], Operation::DerefSize { size: 8 }),
-    (&[0x96], Operation::Nop),
-    (&[0x97], Operation::PushObjectAddress),
-    (&[0x9c], Operation::CallFrameCfa),
-    (&[0x9d, 8, 4], Operation::BitPiece { size: 8, offset: 4 }),
+    (&[0x93, 4], "Piece { size: 4 }"),
+    (&[0x94, 8], "DerefSize { size: 8 }"),
+    (&[0x96], "Nop"),
+    (&[0x97], "PushObjectAddress"),
+    (&[0x9c], "CallFrameCfa"),
+    (&[0x9d, 8, 4], "BitPiece { size: 8, offset: 4 }"),
     (
         &[0x9e, 2, 0xca, 0xfe],
-        Operation::ImplicitValue {
-            bytes: &[0xca, 0xfe],
-        },
+        "ImplicitValue { bytes: [202, 254] }",
     ),
-    (&[0x9f], Operation::StackValue),
-    (&[0x06], Operation::Deref),
-    (&[0x12], Operation::Dup),
-    (&[0x13], Operation::Drop),
-    (&[0x14], Operation::Over),
-    (&[0x16], Operation::Swap),
-    (&[0x17], Operation::Rot),
-    (&[0x19], Operation::Abs),
-    (&[0x1a], Operation::And),
-    (&[0x1b], Operation::Div),
-    (&[0x1c], Operation::Minus),
-    (&[0x1d], Operation::Mod),
-    (&[0x1e], Operation::Mul),
-    (&[0x1f], Operation::Neg),
-    (&[0x20], Operation::Not),
-    (&[0x21], Operation::Or),
-    (&[0x22], Operation::Plus),
-    (&[0x24], Operation::Shl),
-    (&[0x25], Operation::Shr),
-    (&[0x26], Operation::Shra),
-    (&[0x27], Operation::Xor),
-    (&[0x29], Operation::Eq),
-    (&[0x2d], Operation::Lt),
-    (&[0x2e], Operation::Ne),
-    (&[0x2a], Operation::Ge),
-    (&[0x2b], Operation::Gt),
-    (&[0x2c], Operation::Le),
+    (&[0x9f], "StackValue"),
+    (&[0x06], "Deref"),
+    (&[0x12], "Dup"),
+    (&[0x13], "Drop"),
+    (&[0x14], "Over"),
+    (&[0x16], "Swap"),
+    (&[0x17], "Rot"),
+    (&[0x19], "Abs"),
+    (&[0x1a], "And"),
+    (&[0x1b], "Div"),
+    (&[0x1c], "Minus"),
+    (&[0x1d], "Mod"),
+    (&[0x1e], "Mul"),
+    (&[0x1f], "Neg"),
+    (&[0x20], "Not"),
+    (&[0x21], "Or"),
+    (&[0x22], "Plus"),
+    (&[0x24], "Shl"),
+    (&[0x25], "Shr"),
+    (&[0x26], "Shra"),
+    (&[0x27], "Xor"),
+    (&[0x29], "Eq"),
+    (&[0x2d], "Lt"),
+    (&[0x2e], "Ne"),
+    (&[0x2a], "Ge"),
+    (&[0x2b], "Gt"),
+    (&[0x2c], "Le"),
 ];
+
+/// The operation that is all of these bytes, as text.
+fn shown(alloc: Global, bytes: &[u8]) -> Option<String> {
+    if bytes.is_empty() || bytes.len() >= 16 {
+        return None;
+    }
+    match decode_one(&Expression::new(bytes, LITTLE), 0) {
+        Ok((found, next)) if next as usize == bytes.len() => format!(in alloc; "{found:?}").ok(),
+        _ => None,
+    }
+}
 
 #[test]
 fn every_operation(rt: HostRuntime) {
-    for (bytes, operation) in &OPERATIONS {
-        assert!(rt; bytes.len() < 16 && !bytes.is_empty());
-        let found = decode_one(&Expression::new(bytes, LITTLE), 0);
-        let wanted = (*operation, bytes.len() as u32);
-        assert_eq!(rt; found, Ok(wanted), "{bytes:?}");
+    for (bytes, wanted) in &OPERATIONS {
+        let found = shown(rt.alloc(), bytes);
+        assert_eq!(rt; found.as_deref(), Some(*wanted), "{bytes:?}");
     }
 }
 
@@ -138,7 +106,7 @@ fn an_address(rt: HostRuntime) {
     let address = Operation::Addr {
         address: 0x0102_0304,
     };
-    let found = decode_one(&Expression::new(&bytes, BIG), 0);
+    let found = decode_one(&Expression::new(&bytes, BIG_SHORT), 0);
     assert_eq!(rt; found, Ok((address, 5)));
 }
 
@@ -182,7 +150,7 @@ fn each_fault(rt: HostRuntime) {
 /// More bytes are read than an address has.
 #[test]
 fn a_wide_read(rt: HostRuntime) {
-    let fault = decode_one(&Expression::new(&[0x94, 8], BIG), 0).err();
+    let fault = decode_one(&Expression::new(&[0x94, 8], BIG_SHORT), 0).err();
     assert_eq!(rt;
         fault.map(|fault| (fault.kind, fault.at)),
         Some((FaultKind::BadSize, 0))

@@ -1,24 +1,8 @@
 ghost use Rattle.std.specs.Prelude.{◌<◌, ◌^◌, length};
 
-use dw_bytes::{AddressSize, Fault, FaultKind, Format, Order, Target};
+use crate::inputs::{BIG_FUNCTION, BIG_SHORT, FUNCTION, LITTLE};
+use dw_bytes::{AddressSize, Fault, FaultKind, Format, Target};
 use dw_frame::{CallFrameInstruction, Entry, cie_at, entries};
-
-const LITTLE: Target = Target {
-    order: Order::Little,
-    address_size: AddressSize::Eight,
-};
-
-const BIG: Target = Target {
-    order: Order::Big,
-    address_size: AddressSize::Four,
-};
-
-/// A CIE and an FDE of a small function: the first of the worked examples.
-const FUNCTION: [u8; 56] = [
-    0x14, 0, 0, 0, 0xff, 0xff, 0xff, 0xff, 4, 0, 8, 0, 1, 0x78, 0x10, 0x0c, 7, 8, 0x90, 1, 0, 0, 0,
-    0, 0x1c, 0, 0, 0, 0, 0, 0, 0, 0, 0x10, 0, 0, 0, 0, 0, 0, 0x20, 0, 0, 0, 0, 0, 0, 0, 0x41, 0x0e,
-    0x10, 0x86, 2, 0x43, 0x0d, 6,
-];
 
 /// The first fault of the records of a section, and where it stands.
 fn first_fault(section: &[u8], target: Target) -> Option<(FaultKind, u32)>
@@ -89,12 +73,6 @@ const LONG: [u8; 80] = [
     0x0e, 0x10, 0x86, 2, 0x43, 0x0d, 6, 0, 0, 0, 0,
 ];
 
-/// A CIE and an FDE of big order and with addresses of four bytes.
-const SMALL: [u8; 44] = [
-    0, 0, 0, 0x10, 0xff, 0xff, 0xff, 0xff, 4, 0, 4, 0, 4, 0x7c, 0x0e, 0x0c, 0x0d, 0, 0, 0, 0, 0, 0,
-    0x14, 0, 0, 0, 0, 0, 0, 0x80, 0, 0, 0, 0, 0x10, 0x42, 0x0e, 8, 0x8e, 1, 0, 0, 0,
-];
-
 /// What a record's header says, and where its program begins and ends.
 fn header_of(entry: &Entry<'_>) -> (u32, Format, u64, i64, u64, u32, u32) {
     match entry {
@@ -135,8 +113,8 @@ fn records_of_both_formats_and_orders(rt: HostRuntime) {
             [(0, 1, -8, 16, 27, 32), (32, 0, 44, 0x1020, 68, 80)],
         ),
         (
-            &SMALL,
-            BIG,
+            &BIG_FUNCTION,
+            BIG_SHORT,
             Format::Dwarf32,
             [(0, 4, -4, 14, 15, 20), (20, 0, 24, 0x8010, 36, 44)],
         ),
@@ -259,7 +237,7 @@ const OLDER: [(&[u8], Target, u16, usize, &[usize]); 8] = [
         &[
             0, 0, 0, 0x10, 0xff, 0xff, 0xff, 0xff, 1, 0, 1, 0x78, 0x0e, 0x0c, 0x0d, 0, 0, 0, 0, 0,
         ],
-        BIG,
+        BIG_SHORT,
         14,
         3,
         &[4, 8, 9, 10, 11, 12, 13],
@@ -268,7 +246,7 @@ const OLDER: [(&[u8], Target, u16, usize, &[usize]); 8] = [
         &[
             0, 0, 0, 0x10, 0xff, 0xff, 0xff, 0xff, 3, 0, 1, 0x78, 0x8e, 0, 0x0c, 0x0d, 0, 0, 0, 0,
         ],
-        BIG,
+        BIG_SHORT,
         14,
         3,
         &[4, 8, 9, 10, 11, 12, 14],
@@ -278,7 +256,7 @@ const OLDER: [(&[u8], Target, u16, usize, &[usize]); 8] = [
             0xff, 0xff, 0xff, 0xff, 0, 0, 0, 0, 0, 0, 0, 0x0f, 0xff, 0xff, 0xff, 0xff, 0xff, 0xff,
             0xff, 0xff, 1, 0, 1, 0x78, 0x0e, 0, 0,
         ],
-        BIG,
+        BIG_SHORT,
         14,
         11,
         &[12, 20, 21, 22, 23, 24, 25],
@@ -288,7 +266,7 @@ const OLDER: [(&[u8], Target, u16, usize, &[usize]); 8] = [
             0xff, 0xff, 0xff, 0xff, 0, 0, 0, 0, 0, 0, 0, 0x0f, 0xff, 0xff, 0xff, 0xff, 0xff, 0xff,
             0xff, 0xff, 3, 0, 1, 0x78, 0x8e, 0, 0,
         ],
-        BIG,
+        BIG_SHORT,
         14,
         11,
         &[12, 20, 21, 22, 23, 24, 26],
@@ -370,10 +348,22 @@ fn bodies_cut_short(rt: HostRuntime) {
         (&FUNCTION, LITTLE, 24, 0, &[4, 8, 16, 24]),
         (&LONG, LITTLE, 0, 4, &[12, 20, 21, 22, 23, 24, 25, 26, 27]),
         (&LONG, LITTLE, 32, 4, &[12, 20, 28, 36]),
-        (&SMALL, BIG, 0, 3, &[4, 8, 9, 10, 11, 12, 13, 14, 15]),
-        (&SMALL, BIG, 20, 3, &[4, 8, 12, 16]),
-        (&LONG_BIG, BIG, 0, 11, &[12, 20, 21, 22, 23, 24, 25, 26, 27]),
-        (&LONG_BIG, BIG, 27, 11, &[12, 20, 24, 28]),
+        (
+            &BIG_FUNCTION,
+            BIG_SHORT,
+            0,
+            3,
+            &[4, 8, 9, 10, 11, 12, 13, 14, 15],
+        ),
+        (&BIG_FUNCTION, BIG_SHORT, 20, 3, &[4, 8, 12, 16]),
+        (
+            &LONG_BIG,
+            BIG_SHORT,
+            0,
+            11,
+            &[12, 20, 21, 22, 23, 24, 25, 26, 27],
+        ),
+        (&LONG_BIG, BIG_SHORT, 27, 11, &[12, 20, 24, 28]),
     ];
     for (section, target, start, low, fields) in headers {
         assert_eq!(rt; misjudged(section, target, start, low, fields), None);
@@ -444,7 +434,12 @@ fn headers_out_of_range(rt: HostRuntime) {
             FaultKind::ReservedLength,
             0,
         ),
-        (&[0xff, 0xff, 0xff, 0xfe], BIG, FaultKind::ReservedLength, 0),
+        (
+            &[0xff, 0xff, 0xff, 0xfe],
+            BIG_SHORT,
+            FaultKind::ReservedLength,
+            0,
+        ),
         (
             &[
                 13, 0, 0, 0, 0xff, 0xff, 0xff, 0xff, 4, 0, 8, 0, 1, 0x78, 0x80, 0x80, 4,
@@ -457,7 +452,7 @@ fn headers_out_of_range(rt: HostRuntime) {
             &[
                 0, 0, 0, 12, 0, 0, 0, 0, 0xff, 0xff, 0xff, 0xf0, 0, 0, 0, 0x10,
             ],
-            BIG,
+            BIG_SHORT,
             FaultKind::RangePastTop,
             12,
         ),
@@ -481,7 +476,7 @@ fn the_last_address(rt: HostRuntime) {
     let section = [
         0, 0, 0, 12, 0, 0, 0, 0, 0xff, 0xff, 0xff, 0xf0, 0, 0, 0, 0x0f,
     ];
-    assert_eq!(rt; first_fault(&section, BIG), None);
+    assert_eq!(rt; first_fault(&section, BIG_SHORT), None);
 }
 
 #[test]

@@ -1,13 +1,9 @@
 //! One case a line of the table of instructions, each alone in the program of an FDE.
 
-use dw_bytes::{AddressSize, FaultKind, Order, Target};
+use crate::inputs::BIG_SHORT;
+use dw_bytes::{FaultKind, Target};
 use dw_frame::{Entry, Program, entries, instruction};
 use std::alloc::Global;
-
-const BIG: Target = Target {
-    order: Order::Big,
-    address_size: AddressSize::Four,
-};
 
 /// A section of one FDE, whose program begins at 16.
 fn section_with(alloc: Global, program: &[u8]) -> Option<Vec<u8>> {
@@ -21,7 +17,7 @@ fn section_with(alloc: Global, program: &[u8]) -> Option<Vec<u8>> {
 /// The program of the first record, if that is an FDE.
 fn first_program(section: &[u8]) -> Option<Program<'_>> {
     u32::try_from(section.len()).ok()?;
-    match entries(section, BIG).next()?.ok()? {
+    match entries(section, BIG_SHORT).next()?.ok()? {
         Entry::Fde(fde) => Some(fde.program),
         Entry::Cie(_) => None,
     }

@@ -1,19 +1,43 @@
-//! Tests of the libraries by their public calls alone: bytes, operations, records, rows and location lists.
+//! Tests of the libraries by their public calls alone; those of what `run` writes are in `texts`.
 //! `examples` has callers that are proved.
 #![tactic(auto)]
 
 #[cfg(test)]
 mod abi;
 #[cfg(test)]
+mod bad_rules;
+#[cfg(test)]
 mod bytes;
+#[cfg(test)]
+mod certificates;
+#[cfg(test)]
+mod changed_input;
+#[cfg(test)]
+mod evaluation;
+#[cfg(test)]
+mod evaluation_rows;
 pub mod examples;
 #[cfg(test)]
 mod expression_bytes;
 #[cfg(test)]
 mod frame_bytes;
 #[cfg(test)]
+mod given_states;
+#[cfg(test)]
+mod hostile_expressions;
+#[cfg(test)]
+mod inputs;
+#[cfg(test)]
 mod instructions;
 #[cfg(test)]
 mod lists;
 #[cfg(test)]
+mod refused_memory;
+#[cfg(test)]
 mod rows;
+#[cfg(test)]
+mod texts;
+#[cfg(test)]
+mod walks;
+#[cfg(test)]
+mod whole;

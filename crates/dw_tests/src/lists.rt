@@ -2,32 +2,10 @@
 
 ghost use Rattle.std.specs.Prelude.{◌<◌, ◌^◌, length};
 
-use dw_bytes::{AddressSize, FaultKind, Order, Target};
+use crate::inputs::{BIG_SHORT, LITTLE, OVERLAPPING, PAIR_AND_DEFAULT};
+use dw_bytes::{FaultKind, Target};
 use dw_loclists::check_lists;
 use std::alloc::Global;
-
-const LITTLE: Target = Target {
-    order: Order::Little,
-    address_size: AddressSize::Eight,
-};
-
-const BIG: Target = Target {
-    order: Order::Big,
-    address_size: AddressSize::Four,
-};
-
-/// A list at 0xc: 0 to 0x10 behind the base in register 0, and else the value 0.
-const PAIR_AND_DEFAULT: [u8; 22] = [
-    0x12, 0, 0, 0, 5, 0, 8, 0, 0, 0, 0, 0, 4, 0, 0x10, 1, 0x50, 5, 2, 0x30, 0x9f, 0,
-];
-
-/// A list at 0xc: behind the base 0x2000, 0x2000 to 0x2010 in register 0, 0x2008 to 0x2018 in register 1, and an empty
-/// range in register 2.
-const OVERLAPPING: [u8; 58] = [
-    0x36, 0, 0, 0, 5, 0, 8, 0, 0, 0, 0, 0, 6, 0, 0x20, 0, 0, 0, 0, 0, 0, 4, 0, 0x10, 1, 0x50, 8, 8,
-    0x20, 0, 0, 0, 0, 0, 0, 0x10, 1, 0x51, 7, 0, 0x20, 0, 0, 0, 0, 0, 0, 0, 0x20, 0, 0, 0, 0, 0, 0,
-    1, 0x52, 0,
-];
 
 /// The first fault of a section, and where it stands.
 fn first_fault(alloc: Global, section: &[u8]) -> Option<(FaultKind, u32)>
@@ -134,7 +112,7 @@ const FOUND: [(&[u8], Target, u32, u64, u64, &str); 11] = [
     (&OVERLAPPING, LITTLE, 0xc, 0, 0x2010, "0x25 [81]\n"),
     (&OVERLAPPING, LITTLE, 0xc, 0, 0x2018, ""),
     (&LONG, LITTLE, 0x1c, 0, 0, ""),
-    (&SHORT, BIG, 0xc, 0, 0x1fff, "0x16 [48, 159]\n"),
+    (&SHORT, BIG_SHORT, 0xc, 0, 0x1fff, "0x16 [48, 159]\n"),
 ];
 
 #[test]

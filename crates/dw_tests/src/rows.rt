@@ -1,24 +1,13 @@
 ghost use Rattle.std.specs.Prelude.{◌<◌, ◌^◌, length};
 
-use dw_bytes::{AddressSize, Fault, FaultKind, Order, Target};
+use crate::inputs::{FUNCTION, LITTLE};
+use dw_bytes::{Fault, FaultKind};
 use dw_frame::{CommonInformationEntry, Entry, FrameDescriptionEntry, entries};
 use dw_rows::{
     CfaRule, CheckedFrame, RegisterRule, UnwindTableRow, check_cie, check_fde, check_frame,
 };
 use std::alloc::{AllocError, Global};
 use std::process::Abort;
-
-pub(crate) const LITTLE: Target = Target {
-    order: Order::Little,
-    address_size: AddressSize::Eight,
-};
-
-/// A CIE and the header of an FDE, and a program of eight bytes: the first of the worked examples.
-pub(crate) const FUNCTION: [u8; 56] = [
-    0x14, 0, 0, 0, 0xff, 0xff, 0xff, 0xff, 4, 0, 8, 0, 1, 0x78, 0x10, 0x0c, 7, 8, 0x90, 1, 0, 0, 0,
-    0, 0x1c, 0, 0, 0, 0, 0, 0, 0, 0, 0x10, 0, 0, 0, 0, 0, 0, 0x20, 0, 0, 0, 0, 0, 0, 0, 0x41, 0x0e,
-    0x10, 0x86, 2, 0x43, 0x0d, 6,
-];
 
 /// The same with another program.
 const fn with(program: [u8; 8]) -> [u8; 56] {

@@ -1,0 +1,159 @@
+//! Rules whose expressions are bad, each in its own way, and what is judged before and behind them.
+
+use crate::inputs::LITTLE;
+use dw_bytes::{Fault, FaultKind};
+use dw_check::{CheckFault, Section, check};
+use dw_stack::MAX_HEIGHT;
+use std::alloc::{AllocError, Global};
+
+/// What stands before the program of a CIE, behind its length: the CFA is register 7 and 8, and register 16 is saved 8 below it.
+const CIE: [u8; 16] = [
+    0xff, 0xff, 0xff, 0xff, 4, 0, 8, 0, 1, 0x78, 0x10, 0x0c, 7, 8, 0x90, 1,
+];
+
+/// What stands before the program of an FDE of that CIE, behind its length: it covers 0x1000 to 0x1020.
+const FDE: [u8; 20] = [
+    0, 0, 0, 0, 0, 0x10, 0, 0, 0, 0, 0, 0, 0x20, 0, 0, 0, 0, 0, 0, 0,
+];
+
+/// As many literals as an expression may push where nothing stands before them.
+const DEEP: [u8; MAX_HEIGHT as usize] = [0x30; MAX_HEIGHT as usize];
+
+/// Expressions of registers, which begin with the CFA on the stack, and the fault of each, counted from its first byte.
+const BAD: [(&[u8], FaultKind, u32); 14] = [
+    (&[0x08], FaultKind::Truncated, 1),
+    (
+        &[
+            0x10, 0x80, 0x80, 0x80, 0x80, 0x80, 0x80, 0x80, 0x80, 0x80, 0x80, 0,
+        ],
+        FaultKind::LebRange,
+        1,
+    ),
+    (
+        &[0x96, 0x92, 0x80, 0x80, 4, 0],
+        FaultKind::RegisterNumber,
+        1,
+    ),
+    (&[0x96, 0x18], FaultKind::UnknownOperation, 1),
+    (&[0x96, 0x50], FaultKind::NotInFrame, 1),
+    (&[0x94, 3], FaultKind::BadSize, 0),
+    (&[0x2f, 0xfd, 0xff], FaultKind::Backward, 0),
+    (&[0x28, 1, 0, 0x0a, 5, 0], FaultKind::TargetNotStart, 0),
+    (&[0x96, 0x22], FaultKind::Underflow, 1),
+    (&DEEP, FaultKind::TooDeep, MAX_HEIGHT as u32 - 1),
+    (&[0x12, 0x28, 1, 0, 0x12, 0x96], FaultKind::Mismatch, 5),
+    (&[0x2f, 1, 0, 0x96, 0x96], FaultKind::Unreachable, 3),
+    (&[0x13], FaultKind::EndsEmpty, 1),
+    (
+        &[0x93, 0x80, 0x80, 0x80, 0x80, 0x10],
+        FaultKind::PieceSize,
+        0,
+    ),
+];
+
+/// Adds a record whose body has these two parts.
+fn push_record(section: &mut Vec<u8>, header: &[u8], program: &[u8]) -> Option<()> {
+    let length = u32::try_from(header.len().saturating_add(program.len())).ok()?;
+    section.extend_from_slice(&length.to_le_bytes()).ok()?;
+    section.extend_from_slice(header).ok()?;
+    section.extend_from_slice(program).ok()
+}
+
+/// The first fault of a CIE that goes on with one program, and an FDE with the other.
+fn first_fault(alloc: Global, common: &[u8], own: &[u8]) -> Option<CheckFault> {
+    let mut section = Vec::new(alloc);
+    push_record(&mut section, &CIE, common)?;
+    push_record(&mut section, &FDE, own)?;
+    check(alloc, section.as_slice(), &[], LITTLE).err()
+}
+
+/// Saves register 6 where an expression says, which begins at the fifth byte.
+fn saved_by(alloc: Global, expression: &[u8]) -> Option<Vec<u8>> {
+    let length = u8::try_from(expression.len()).ok()?;
+    let mut program = Vec::new(alloc);
+    program
+        .extend_from_slice(&[0x10, 6, 0x80 | (length & 0x7f), length >> 7])
+        .ok()?;
+    program.extend_from_slice(expression).ok()?;
+    Some(program)
+}
+
+/// The first fault where the expression stands in a CIE, and where it stands in an FDE.
+fn faults_by(alloc: Global, expression: &[u8]) -> Option<(CheckFault, CheckFault)> {
+    let program = saved_by(alloc, expression)?;
+    let common = first_fault(alloc, &program, &[])?;
+    Some((common, first_fault(alloc, &[], &program)?))
+}
+
+/// A fault of the frame section.
+fn in_frame(kind: FaultKind, at: u32) -> CheckFault {
+    CheckFault {
+        section: Section::Frame,
+        fault: Fault { kind, at },
+    }
+}
+
+#[test]
+fn bad_expressions_of_rules(rt: HostRuntime) {
+    for (expression, kind, at) in BAD {
+        let common = in_frame(kind, at.saturating_add(24));
+        let own = in_frame(kind, at.saturating_add(48));
+        let found = faults_by(rt.alloc(), expression);
+        assert_eq!(rt; found, Some((common, own)), "{expression:?}");
+    }
+}
+
+/// Programs of a CIE and of an FDE, and their first fault: a block that is cut short; an offset that doesn't fit before a bad
+/// expression; and a CIE's bad expression before an FDE's fault.
+const BEFORE: [(&[u8], &[u8], FaultKind, u32); 3] = [
+    (&[], &[0x10, 6, 5, 0x12], FaultKind::Truncated, 47),
+    (
+        &[],
+        &[
+            0x0e, 0xff, 0xff, 0xff, 0xff, 0xff, 0xff, 0xff, 0xff, 0xff, 1, 0x10, 6, 1, 0x18,
+        ],
+        FaultKind::OffsetRange,
+        44,
+    ),
+    (
+        &[0x16, 6, 1, 0x18],
+        &[0x61],
+        FaultKind::UnknownOperation,
+        23,
+    ),
+];
+
+#[test]
+fn faults_before_expressions(rt: HostRuntime) {
+    for (common, own, kind, at) in BEFORE {
+        let found = first_fault(rt.alloc(), common, own);
+        assert_eq!(rt; found, Some(in_frame(kind, at)), "{own:?}");
+    }
+}
+
+/// A program with as many rules as there may be, and behind them this one.
+fn behind_most(alloc: Global, rule: &[u8]) -> Result<Vec<u8>, AllocError> {
+    let mut program = Vec::new(alloc);
+    for register in 0..128u8 {
+        program.extend_from_slice(&[7, register])?;
+    }
+    program.extend_from_slice(rule)?;
+    Ok(program)
+}
+
+/// Rules behind them, with a bad expression and with a good one.
+const ONE_TOO_MANY: [(&[u8], FaultKind, u32); 2] = [
+    (&[0x10, 0x80, 1, 1, 0x18], FaultKind::UnknownOperation, 304),
+    (&[0x10, 0x80, 1, 0], FaultKind::TooManyRules, 300),
+];
+
+/// The expression of the rule that is one too many is judged before their number.
+#[test]
+fn too_many_rules_behind_expressions(rt: HostRuntime) -> Result<(), AllocError> {
+    for (rule, kind, at) in ONE_TOO_MANY {
+        let program = behind_most(rt.alloc(), rule)?;
+        let found = first_fault(rt.alloc(), &[], &program);
+        assert_eq!(rt; found, Some(in_frame(kind, at)), "{rule:?}");
+    }
+    Ok(())
+}

@@ -1,0 +1,301 @@
+//! Sections that are cut or changed: a check answers, and what it accepts holds together.
+
+use crate::inputs::{EXPRESSIONS, FUNCTION, LITTLE, OVERLAPPING, PAIR_AND_DEFAULT, Unknown};
+use dw_bytes::{Fault, FaultKind};
+use dw_check::{CheckFault, Checked, Section, check, unwind};
+use dw_loclists::CheckedLists;
+use dw_rows::{CheckedFrame, UnwindTableRow};
+use std::alloc::{AllocError, Global};
+use std::process::Abort;
+
+/// A row as text: its addresses and its rules.
+fn text_of(alloc: Global, row: &UnwindTableRow<'_, '_>) -> Result<String, AllocError> {
+    let (start, end, cfa) = (row.start_address(), row.end_address(), row.cfa());
+    let mut text = format!(in alloc; "{start:x}..{end:x} {cfa:?}")?;
+    for (register, rule) in row.rules() {
+        text.push_str(&format!(in alloc; " r{register} {rule:?}")?)?;
+    }
+    Ok(text)
+}
+
+/// A look-up of this address gives this row.
+fn is_found(
+    rt: &impl Abort,
+    alloc: Global,
+    frame: &CheckedFrame<'_>,
+    row: &UnwindTableRow<'_, '_>,
+    address: u64,
+) -> Result<(), AllocError> {
+    let Some(found) = frame.row_for_address(address) else {
+        panic!(rt; "no row at {address}")
+    };
+    assert_eq!(rt;
+        text_of(alloc, &found)?.as_str(),
+        text_of(alloc, row)?.as_str()
+    );
+    Ok(())
+}
+
+/// The rows of the FDE that covers these addresses lie one behind the other over them, and no look-up disagrees.
+fn rows_cover(
+    rt: &impl Abort,
+    alloc: Global,
+    frame: &CheckedFrame<'_>,
+    start: u64,
+    end: u64,
+) -> Result<(), AllocError> {
+    let Some(fde) = frame.fde_for_address(start) else {
+        panic!(rt; "no FDE at {start}")
+    };
+    let mut next = start;
+    for row in frame.rows(&fde) {
+        let (first, behind) = (row.start_address(), row.end_address());
+        assert!(rt; first == next && first < behind && behind <= end);
+        is_found(rt, alloc, frame, &row, first)?;
+        is_found(rt, alloc, frame, &row, behind - 1)?;
+        next = behind;
+    }
+    assert_eq!(rt; next, end);
+    Ok(())
+}
+
+/// The rows beside these addresses, if there are any, don't reach into them.
+fn rows_end(rt: &impl Abort, frame: &CheckedFrame<'_>, start: u64, end: u64) {
+    if let Some(row) = frame.row_for_address(end) {
+        assert!(rt; row.start_address() >= end);
+    }
+    if start > 0 {
+        if let Some(row) = frame.row_for_address(start - 1) {
+            assert!(rt; row.end_address() <= start);
+        }
+    }
+}
+
+/// Where an address is covered, it has a row and a caller, and else none.
+fn covered_have_callers(rt: &impl Abort, checked: &Checked<'_>, address: u64) {
+    let is_covered = checked.frame().fde_for_address(address).is_some();
+    let has_row = checked.frame().row_for_address(address).is_some();
+    assert_eq!(rt; has_row, is_covered);
+    let caller = unwind(checked, address, &Unknown, &Unknown);
+    assert_eq!(rt; caller.is_some(), is_covered);
+}
+
+/// All this of each FDE.
+fn rows_agree(rt: &impl Abort, alloc: Global, checked: &Checked<'_>) -> Result<(), AllocError> {
+    let frame = checked.frame();
+    for fde in frame.fdes() {
+        let start = fde.initial_location;
+        let Some(end) = start.checked_add(fde.address_range) else {
+            panic!(rt; "no end behind {start}")
+        };
+        if start < end {
+            rows_cover(rt, alloc, frame, start, end)?;
+            rows_end(rt, frame, start, end);
+        }
+        covered_have_callers(rt, checked, start);
+        covered_have_callers(rt, checked, end);
+    }
+    Ok(())
+}
+
+/// One of the expressions begins at this offset.
+fn has_expression(lists: &CheckedLists<'_>, offset: u32) -> bool {
+    for (other, _) in lists.expressions() {
+        if other == offset {
+            return true;
+        }
+    }
+    false
+}
+
+/// Each list is found, and what it says of an address are expressions of the section.
+fn lists_agree(rt: &impl Abort, lists: &CheckedLists<'_>) {
+    for list in lists.lists() {
+        let Some(found) = lists.list(list.offset()) else {
+            panic!(rt; "no list")
+        };
+        assert_eq!(rt; found.offset(), list.offset());
+        for address in [0, 0x1005, 0x200c, u64::MAX] {
+            for (offset, _) in lists.locations_at(&found, 0x1000, address) {
+                assert!(rt; has_expression(lists, offset));
+            }
+        }
+    }
+}
+
+/// A check answers; its refusal stands in the section that it names, and what it accepts agrees.
+fn answers(rt: &impl Abort, alloc: Global, frame: &[u8], lists: &[u8]) -> Result<(), AllocError> {
+    match check(alloc, frame, lists, LITTLE) {
+        Ok(checked) => {
+            rows_agree(rt, alloc, &checked)?;
+            lists_agree(rt, checked.lists());
+            Ok(())
+        }
+        Err(CheckFault { section, fault }) => {
+            let length = match section {
+                Section::Frame => frame.len(),
+                _ => lists.len(),
+            };
+            assert!(rt; fault.kind != FaultKind::Memory && fault.at as usize <= length);
+            Ok(())
+        }
+    }
+}
+
+/// What `answers` says of a section, as a frame section or as lists.
+fn section_answers(
+    rt: &impl Abort,
+    alloc: Global,
+    section: Section,
+    bytes: &[u8],
+) -> Result<(), AllocError> {
+    match section {
+        Section::Frame => answers(rt, alloc, bytes, &[]),
+        _ => answers(rt, alloc, &[], bytes),
+    }
+}
+
+/// The same of each beginning, and of each change of one byte.
+fn each_change_answers(
+    rt: &impl Abort,
+    alloc: Global,
+    section: Section,
+    bytes: &[u8],
+) -> Result<(), AllocError> {
+    for n in 0..=bytes.len() {
+        section_answers(rt, alloc, section, &bytes[..n])?;
+    }
+    let mut changed = bytes.to_vec(alloc)?;
+    for at in 0..changed.len() {
+        let byte = changed[at];
+        for other in 0..=255u8 {
+            if other != byte {
+                changed[at] = other;
+                section_answers(rt, alloc, section, changed.as_slice())?;
+            }
+        }
+        changed[at] = byte;
+    }
+    Ok(())
+}
+
+#[test]
+fn changes_of_a_function(rt: HostRuntime) -> Result<(), AllocError> {
+    each_change_answers(&rt, rt.alloc(), Section::Frame, &FUNCTION)
+}
+
+#[test]
+fn changes_of_rules_with_expressions(rt: HostRuntime) -> Result<(), AllocError> {
+    each_change_answers(&rt, rt.alloc(), Section::Frame, &EXPRESSIONS)
+}
+
+#[test]
+fn changes_of_lists(rt: HostRuntime) -> Result<(), AllocError> {
+    each_change_answers(&rt, rt.alloc(), Section::Lists, &PAIR_AND_DEFAULT)?;
+    each_change_answers(&rt, rt.alloc(), Section::Lists, &OVERLAPPING)
+}
+
+/// Changes of the function, each an offset and a new byte, with the first fault.
+const FUNCTION_CHANGES: [(usize, u8, FaultKind, u32); 12] = [
+    (0, 0x15, FaultKind::Truncated, 29),
+    (0, 0xff, FaultKind::Truncated, 4),
+    (4, 0, FaultKind::NoSuchCie, 4),
+    (9, 0x7a, FaultKind::Augmentation, 9),
+    (10, 4, FaultKind::AddressSize, 10),
+    (11, 1, FaultKind::SegmentSize, 11),
+    (12, 0x80, FaultKind::LocationPastEnd, 48),
+    (15, 0x41, FaultKind::NotInCie, 15),
+    (28, 0x18, FaultKind::NoSuchCie, 28),
+    (49, 0x1f, FaultKind::UnknownInstruction, 49),
+    (54, 0x0f, FaultKind::Truncated, 56),
+    (55, 0x80, FaultKind::Truncated, 55),
+];
+
+/// Changes of the list of a pair and a default.
+const LIST_CHANGES: [(usize, u8, FaultKind, u32); 9] = [
+    (0, 0x11, FaultKind::NoEnd, 21),
+    (4, 4, FaultKind::ListVersion, 4),
+    (6, 4, FaultKind::AddressSize, 6),
+    (8, 1, FaultKind::UnknownEntry, 16),
+    (12, 1, FaultKind::UnknownEntry, 12),
+    (13, 0x11, FaultKind::BackRange, 12),
+    (15, 0, FaultKind::UnknownEntry, 16),
+    (16, 0x12, FaultKind::Underflow, 16),
+    (21, 5, FaultKind::Truncated, 22),
+];
+
+/// The section with another byte.
+fn changed(
+    rt: &impl Abort,
+    alloc: Global,
+    bytes: &[u8],
+    at: usize,
+    byte: u8,
+) -> Result<Vec<u8>, AllocError> {
+    let mut section = bytes.to_vec(alloc)?;
+    assert!(rt; at < section.len());
+    section[at] = byte;
+    Ok(section)
+}
+
+/// The first fault of the two sections.
+fn first_fault(alloc: Global, frame: &[u8], lists: &[u8]) -> Option<CheckFault> {
+    check(alloc, frame, lists, LITTLE).err()
+}
+
+/// A fault of this section.
+fn fault_in(section: Section, kind: FaultKind, at: u32) -> Option<CheckFault> {
+    let fault = Fault { kind, at };
+    Some(CheckFault { section, fault })
+}
+
+#[test]
+fn faults_of_chosen_changes(rt: HostRuntime) -> Result<(), AllocError> {
+    let alloc = rt.alloc();
+    for (at, byte, kind, stands) in FUNCTION_CHANGES {
+        let section = changed(&rt, alloc, &FUNCTION, at, byte)?;
+        let found = first_fault(alloc, section.as_slice(), &PAIR_AND_DEFAULT);
+        assert_eq!(rt; found, fault_in(Section::Frame, kind, stands), "at {at}");
+    }
+    for (at, byte, kind, stands) in LIST_CHANGES {
+        let section = changed(&rt, alloc, &PAIR_AND_DEFAULT, at, byte)?;
+        let found = first_fault(alloc, &FUNCTION, section.as_slice());
+        assert_eq!(rt; found, fault_in(Section::Lists, kind, stands), "at {at}");
+    }
+    Ok(())
+}
+
+/// Changes of the function, and the row of an address: the highest byte of the range, and the offset of register 6.
+const ROW_CHANGES: [(usize, u8, u64, &str); 2] = [
+    (
+        47,
+        0xff,
+        0x1004,
+        "1004..ff00000000001020 RegisterAndOffset { register: 6, offset: 16 } r6 Offset(-16) r16 Offset(-8)",
+    ),
+    (
+        52,
+        0xff,
+        0x1001,
+        "1001..1020 RegisterAndOffset { register: 6, offset: 16 } r6 Offset(-69624) r16 Offset(-8)",
+    ),
+];
+
+/// The row of an address as text, where the section is accepted.
+fn row_at(alloc: Global, section: &[u8], address: u64) -> Option<String> {
+    let checked = check(alloc, section, &[], LITTLE).ok()?;
+    let row = checked.frame().row_for_address(address)?;
+    text_of(alloc, &row).ok()
+}
+
+#[test]
+fn rows_of_chosen_changes(rt: HostRuntime) -> Result<(), AllocError> {
+    for (at, byte, address, text) in ROW_CHANGES {
+        let section = changed(&rt, rt.alloc(), &FUNCTION, at, byte)?;
+        let Some(found) = row_at(rt.alloc(), section.as_slice(), address) else {
+            panic!(rt; "no row where {at} is changed")
+        };
+        assert_eq!(rt; found.as_str(), text);
+    }
+    Ok(())
+}

@@ -1,0 +1,267 @@
+//! States that are handed in.
+
+ghost use Rattle.std.specs.Prelude.{◌<◌, ◌^◌, length};
+
+use crate::certificates::{Verdict, refusal};
+use crate::inputs::LITTLE;
+use dw_bytes::FaultKind;
+use dw_ops::Expression;
+use dw_stack::{Kind, Mode, State, certify, recheck};
+use std::alloc::{AllocError, Global};
+use std::process::Abort;
+
+/// The depth and the count of operations, or the refusal.
+fn rechecked(
+    rt: &impl Abort,
+    alloc: Global,
+    bytes: &[u8],
+    kind: Kind,
+    states: &[State],
+) -> Verdict {
+    assert!(rt; bytes.len() < 0x1_0000);
+    let checked = recheck(alloc, Expression::new(bytes, LITTLE), kind, states)?;
+    Ok((checked.depth(), checked.operation_count()))
+}
+
+/// States before these operations, each with its offset and the height of the stack, whose location is on the stack.
+fn states_of(alloc: Global, numbers: &[(u32, u8)]) -> Result<Vec<State>, AllocError> {
+    let mut states = Vec::new(alloc);
+    for (offset, height) in numbers {
+        states.push(State {
+            offset: *offset,
+            height: *height,
+            mode: Mode::Stack,
+            pieced: false,
+        })?;
+    }
+    Ok(states)
+}
+
+/// The sum of 2 and 3, and its states.
+const SUM: [u8; 3] = [0x32, 0x33, 0x22];
+
+const STATES_OF_SUM: [(u32, u8); 3] = [(0, 0), (1, 1), (2, 2)];
+
+/// A branch past a literal, whose ways meet with another height.
+const MEETING: [u8; 6] = [0x30, 0x28, 0x01, 0x00, 0x31, 0x32];
+
+/// Expressions, states, and the first fault where they are handed in.
+const REFUSED: [(&[u8], Kind, &[(u32, u8)], FaultKind, u32); 7] = [
+    (
+        &SUM,
+        Kind::Location,
+        &[(0, 0), (1, 1), (2, 1)],
+        FaultKind::CertState,
+        2,
+    ),
+    (
+        &SUM,
+        Kind::Location,
+        &[(0, 1), (1, 1), (2, 2)],
+        FaultKind::CertState,
+        0,
+    ),
+    (
+        &SUM,
+        Kind::Location,
+        &[(0, 0), (1, 1), (3, 2)],
+        FaultKind::CertState,
+        2,
+    ),
+    (
+        &SUM,
+        Kind::Location,
+        &[(0, 0), (1, 1)],
+        FaultKind::CertLength,
+        0,
+    ),
+    (
+        &MEETING,
+        Kind::Location,
+        &[(0, 0), (1, 1), (4, 0), (5, 1)],
+        FaultKind::Mismatch,
+        5,
+    ),
+    (
+        &MEETING,
+        Kind::Location,
+        &[(0, 0), (1, 1), (4, 0), (5, 0)],
+        FaultKind::Mismatch,
+        5,
+    ),
+    // The given state comes before the kind.
+    (&[0x9c], Kind::FrameCfa, &[(0, 1)], FaultKind::CertState, 0),
+];
+
+#[test]
+fn other_states(rt: HostRuntime) -> Result<(), AllocError> {
+    for (bytes, kind, numbers, fault, at) in &REFUSED {
+        let states = states_of(rt.alloc(), numbers)?;
+        let found = rechecked(&rt, rt.alloc(), bytes, *kind, &states);
+        assert_eq!(rt; found, refusal(*fault, *at), "{bytes:?} {numbers:?}");
+    }
+    Ok(())
+}
+
+/// Expressions, their states, and their depths and counts of operations.
+const ACCEPTED: [(&[u8], Kind, &[(u32, u8)], u8, u32); 2] = [
+    (&SUM, Kind::Location, &STATES_OF_SUM, 2, 3),
+    (&[0x12, 0x22], Kind::FrameRegister, &[(0, 1), (1, 2)], 2, 2),
+];
+
+#[test]
+fn their_own_states(rt: HostRuntime) -> Result<(), AllocError> {
+    for (bytes, kind, numbers, depth, count) in &ACCEPTED {
+        let states = states_of(rt.alloc(), numbers)?;
+        let found = rechecked(&rt, rt.alloc(), bytes, *kind, &states);
+        assert_eq!(rt; found, Ok((*depth, *count)), "{bytes:?}");
+    }
+    Ok(())
+}
+
+#[test]
+fn states_of_a_sum(rt: HostRuntime) -> Result<(), AllocError> {
+    let right = states_of(rt.alloc(), &STATES_OF_SUM)?;
+    let expression = Expression::new(&SUM, LITTLE);
+    let Ok(certificate) = certify(rt.alloc(), expression, Kind::Location) else {
+        panic!(rt; "refused")
+    };
+    assert_eq!(rt; certificate.states(), right.as_slice());
+    drop(certificate);
+    Ok(())
+}
+
+const MODES: [Mode; 4] = [Mode::Stack, Mode::Register, Mode::Value, Mode::AfterPiece];
+
+/// An expression, and the states on its paths.
+#[derive(Clone, Copy)]
+struct Certified<'a> {
+    bytes: &'a [u8],
+    kind: Kind,
+    states: &'a [State],
+}
+
+impl Certified<'_> {
+    /// These states are refused so.
+    fn refuses_states(
+        &self,
+        rt: &impl Abort,
+        alloc: Global,
+        given: &[State],
+        fault: FaultKind,
+        at: u32,
+    ) {
+        let found = rechecked(rt, alloc, self.bytes, self.kind, given);
+        assert_eq!(rt; found, refusal(fault, at));
+    }
+
+    /// The state with this number is another, which is refused there.
+    fn refuses(
+        &self,
+        rt: &impl Abort,
+        alloc: Global,
+        i: usize,
+        other: State,
+    ) -> Result<(), AllocError> {
+        let mut given = self.states.to_vec(alloc)?;
+        assert!(rt; i < given.len() && i < self.states.len());
+        given[i] = other;
+        let at = self.states[i].offset;
+        self.refuses_states(rt, alloc, &given, FaultKind::CertState, at);
+        Ok(())
+    }
+
+    /// The state with this number differs in its offset.
+    fn refuses_offsets(&self, rt: &impl Abort, alloc: Global, i: usize) -> Result<(), AllocError> {
+        assert!(rt; i < self.states.len());
+        let state = self.states[i];
+        for offset in 0..=255u32 {
+            if offset != state.offset {
+                self.refuses(rt, alloc, i, State { offset, ..state })?;
+            }
+        }
+        Ok(())
+    }
+
+    /// The state with this number differs in its height.
+    fn refuses_heights(&self, rt: &impl Abort, alloc: Global, i: usize) -> Result<(), AllocError> {
+        assert!(rt; i < self.states.len());
+        let state = self.states[i];
+        for height in 0..=255u8 {
+            if height != state.height {
+                self.refuses(rt, alloc, i, State { height, ..state })?;
+            }
+        }
+        Ok(())
+    }
+
+    /// The state with this number differs in its mode, or in whether a piece came before.
+    fn refuses_modes(&self, rt: &impl Abort, alloc: Global, i: usize) -> Result<(), AllocError> {
+        assert!(rt; i < self.states.len());
+        let state = self.states[i];
+        for mode in MODES {
+            if mode != state.mode {
+                self.refuses(rt, alloc, i, State { mode, ..state })?;
+            }
+        }
+        let pieced = !state.pieced;
+        self.refuses(rt, alloc, i, State { pieced, ..state })
+    }
+
+    /// One state is left out, or comes twice.
+    fn refuses_counts(&self, rt: &impl Abort, alloc: Global) -> Result<(), AllocError> {
+        let mut given = self.states.to_vec(alloc)?;
+        let Some(last) = given.pop() else {
+            return Ok(());
+        };
+        self.refuses_states(rt, alloc, &given, FaultKind::CertLength, 0);
+        given.push(last)?;
+        given.push(last)?;
+        self.refuses_states(rt, alloc, &given, FaultKind::CertLength, 0);
+        Ok(())
+    }
+}
+
+/// The states on the paths of an expression.
+fn own_states(alloc: Global, bytes: &[u8], kind: Kind) -> Option<Vec<State>>
+    requires { length bytes.now < 2 ^ 32 }
+{
+    let certificate = certify(alloc, Expression::new(bytes, LITTLE), kind).ok()?;
+    certificate.states().to_vec(alloc).ok()
+}
+
+/// The certificate's states are taken; none that differs in one place is, nor one with a state more or less.
+fn takes_only_its_own(
+    rt: &impl Abort,
+    alloc: Global,
+    bytes: &[u8],
+    kind: Kind,
+) -> Result<(), AllocError>
+    requires { length bytes.now < 2 ^ 32 }
+{
+    let Some(states) = own_states(alloc, bytes, kind) else {
+        panic!(rt; "{bytes:?} is refused")
+    };
+    assert!(rt; rechecked(rt, alloc, bytes, kind, &states).is_ok());
+    let certified = Certified {
+        bytes,
+        kind,
+        states: &states,
+    };
+    certified.refuses_counts(rt, alloc)?;
+    for i in 0..states.len() {
+        certified.refuses_offsets(rt, alloc, i)?;
+        certified.refuses_heights(rt, alloc, i)?;
+        certified.refuses_modes(rt, alloc, i)?;
+    }
+    Ok(())
+}
+
+#[test]
+fn forged_states(rt: HostRuntime) -> Result<(), AllocError> {
+    let alloc = rt.alloc();
+    takes_only_its_own(&rt, alloc, &[0x32, 0x33, 0x22], Kind::Location)?;
+    takes_only_its_own(&rt, alloc, &[0x31, 0x32, 0x28, 0x00, 0x00], Kind::Location)?;
+    takes_only_its_own(&rt, alloc, &[0x50, 0x93, 0x04, 0x93, 0x04], Kind::Location)?;
+    takes_only_its_own(&rt, alloc, &[0x12, 0x22], Kind::FrameRegister)
+}

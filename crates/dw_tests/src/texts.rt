@@ -1,0 +1,15 @@
+//! Tests of the texts that `dw_check` writes, by `request` and `run` alone.
+
+mod abi_lines;
+mod callers;
+mod cases;
+mod cie_versions;
+mod expressions;
+mod lists;
+mod operations;
+mod reads;
+mod sections;
+mod walks;
+mod whole_checks;
+mod words;
+mod writes;

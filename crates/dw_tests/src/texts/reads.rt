@@ -1,0 +1,76 @@
+//! Readers that give little, and fail in the middle.
+
+use crate::texts::sections::first_row_digits;
+use dw_check::{LoadFault, Reading, Reads, Source, load};
+use std::alloc::{AllocError, Global};
+use std::io;
+use std::io::{Error, ErrorKind, Read};
+use std::process::Abort;
+
+/// A reader that gives at most so many bytes a call, and fails after so many calls.
+#[derive(Drop)]
+struct LittleReader<'a> {
+    bytes: &'a [u8],
+    most: usize,
+    calls: usize,
+}
+
+impl Read for LittleReader<'_> {
+    fn read(&mut self, buf: &mut [u8]) -> io::Result<usize> {
+        if self.calls == 0 {
+            return Err(Error::from(ErrorKind::Other));
+        }
+        self.calls -= 1;
+        let n = self.bytes.len().min(self.most).min(buf.len());
+        buf[..n].copy_from_slice(&self.bytes[..n]);
+        self.bytes = &self.bytes[n..];
+        Ok(n)
+    }
+}
+
+/// A reader that gives all of these bytes is asked once more, and then gives none: with fewer calls it fails.
+fn reads(rt: &impl Abort, alloc: Global, bytes: &[u8], most: usize, calls: usize) -> bool {
+    let mut source = Reads::new(LittleReader { bytes, most, calls });
+    assert_eq!(rt; source.state(), Reading::Open);
+    match load(alloc, &mut source) {
+        Ok(loaded) => {
+            assert_eq!(rt; loaded.as_slice(), bytes);
+            assert_eq!(rt; source.state(), Reading::Ended);
+            true
+        }
+        Err(fault) => {
+            assert_eq!(rt; fault, LoadFault::Read);
+            assert_eq!(rt; source.state(), Reading::Failed);
+            false
+        }
+    }
+}
+
+#[test]
+fn failing_reads(rt: HostRuntime) -> Result<(), AllocError> {
+    let alloc = rt.alloc();
+    let digits = first_row_digits(alloc)?;
+    for calls in 0..=113usize {
+        assert_eq!(rt; reads(&rt, alloc, &digits, 1, calls), calls == 113);
+    }
+    for calls in 0..=18usize {
+        assert_eq!(rt; reads(&rt, alloc, &digits, 7, calls), calls >= 17);
+    }
+    assert!(rt; !reads(&rt, alloc, &[], 1, 0));
+    assert!(rt; reads(&rt, alloc, &[], 1, 1));
+    Ok(())
+}
+
+/// More than one read asks for at once.
+#[test]
+fn long_files(rt: HostRuntime) -> Result<(), AllocError> {
+    let mut bytes = Vec::new(rt.alloc());
+    for i in 0..200_000u32 {
+        let [low, middle, _, _] = i.to_le_bytes();
+        bytes.push(low ^ middle)?;
+    }
+    assert!(rt; reads(&rt, rt.alloc(), &bytes, 1_000_000, 100));
+    assert!(rt; reads(&rt, rt.alloc(), &bytes, 1_000, 1_000));
+    assert!(rt; !reads(&rt, rt.alloc(), &bytes, 1_000, 200));
+    Ok(())
+}
