@@ -1,7 +1,7 @@
 //! State lines that name the registers that calls keep, and the stack pointer.
 
 use crate::texts::cases::{files_come_to, files_of, joined};
-use crate::texts::expressions::{Case, LOCATION, evaluate_to};
+use crate::texts::expressions::{LOCATION, evaluate_to};
 use crate::texts::lists::PAIR_AND_DEFAULT;
 use dw_check::End;
 use std::alloc::{AllocError, Global};
@@ -124,30 +124,14 @@ fn most_are_kept(rt: HostRuntime) -> Result<(), AllocError> {
 }
 
 /// An expression comes to the same whatever an ABI says of its register.
-const UNUSED: [Case; 4] = [
-    (
-        "7600",
-        Some("keep 6\n"),
-        "unreadable at 0x00000000\nsteps 1 depth 1",
-    ),
-    (
-        "7600",
-        Some("sp 6\n"),
-        "unreadable at 0x00000000\nsteps 1 depth 1",
-    ),
-    (
-        "7600",
-        Some("keep 6\nreg 6 0x5\n"),
-        "address 0x0000000000000005\nsteps 1 depth 1",
-    ),
-    (
-        "7600",
-        Some("sp 6\nreg 6 0x5\n"),
-        "address 0x0000000000000005\nsteps 1 depth 1",
-    ),
-];
+const UNUSED: &str = "\
+7600 | keep 6/ | unreadable at 0x00000000/steps 1 depth 1
+7600 | sp 6/ | unreadable at 0x00000000/steps 1 depth 1
+7600 | keep 6/reg 6 0x5/ | address 0x0000000000000005/steps 1 depth 1
+7600 | sp 6/reg 6 0x5/ | address 0x0000000000000005/steps 1 depth 1
+";
 
 #[test]
 fn unused_by_expressions(rt: HostRuntime) -> Result<(), AllocError> {
-    evaluate_to(&rt, LOCATION, &UNUSED)
+    evaluate_to(&rt, LOCATION, UNUSED)
 }

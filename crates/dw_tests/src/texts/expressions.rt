@@ -33,134 +33,76 @@ const CFA: Lines = (
     "dwcheck eval cfa --hex e --state s",
 );
 
-/// An expression, a state file, and what it comes to but for its last LF.
-pub(crate) type Case = (&'static str, Option<&'static str>, &'static str);
+/// A case: an expression, a state file or `-` where there is none, and what it comes to but for its last LF. In a line of
+/// cases a stroke stands for a LF.
+type Case<'a> = (&'a str, &'a str, &'a str);
+
+/// The case that is spelled so.
+fn case_of(case: &str) -> Option<Case<'_>> {
+    let (expression, rest) = case.split_once(" | ")?;
+    let (state, text) = rest.split_once(" | ")?;
+    Some((expression, state, text))
+}
 
 /// The expression comes to this, with the state file where there is one.
 fn evaluates_to(
     rt: &(impl Abort + AllocGlobal),
     (without, with): Lines,
-    expression: &'static str,
-    state: Option<&'static str>,
-    text: &'static str,
+    (expression, state, text): Case<'_>,
 ) -> Result<(), AllocError> {
     match state {
-        None => comes_to(rt, without, &[&[expression]], End::Done, &[text, "\n"]),
-        Some(state) => {
+        "-" => comes_to(rt, without, &[&[expression]], End::Done, &[text, "\n"]),
+        state => {
             let contents: [&[&str]; 2] = [&[expression], &[state]];
             comes_to(rt, with, &contents, End::Done, &[text, "\n"])
         }
     }
 }
 
-/// Each expression comes to its outcome.
+/// The expression of each line comes to its outcome.
 pub(crate) fn evaluate_to(
     rt: &(impl Abort + AllocGlobal),
     lines: Lines,
-    cases: &[Case],
+    cases: &str,
 ) -> Result<(), AllocError> {
-    for (expression, state, text) in cases {
-        evaluates_to(rt, lines, expression, *state, text)?;
+    for line in cases.lines() {
+        let case = line.replace(rt.alloc(), '/', "\n")?;
+        let Some(parts) = case_of(&case) else {
+            panic!(rt; "{line} is no case")
+        };
+        evaluates_to(rt, lines, parts)?;
     }
     Ok(())
 }
 
 /// Locations on a machine of which nothing is known, and their text but for its last LF.
-const LOCATIONS: [Case; 21] = [
-    (
-        "32 33 22",
-        None,
-        "address 0x0000000000000005\nsteps 3 depth 2",
-    ),
-    (
-        "31 32 28 0000",
-        None,
-        "address 0x0000000000000001\nsteps 3 depth 2",
-    ),
-    (
-        "31 30 1b",
-        None,
-        "division by zero at 0x00000002\nsteps 3 depth 2",
-    ),
-    (
-        "31 30 1d",
-        None,
-        "division by zero at 0x00000002\nsteps 3 depth 2",
-    ),
-    (
-        "50 9304 9304",
-        None,
-        "pieces 2\npiece register 0 bytes 4\npiece empty bytes 4\nsteps 3 depth 0",
-    ),
-    ("", None, "empty\nsteps 0 depth 0"),
-    ("9e 02 cafe", None, "bytes cafe\nsteps 1 depth 0"),
-    ("9e 00", None, "bytes \nsteps 1 depth 0"),
-    (
-        "9e 00 9304",
-        None,
-        "pieces 1\npiece bytes  bytes 4\nsteps 2 depth 0",
-    ),
-    ("7700", None, "unreadable at 0x00000000\nsteps 1 depth 1"),
-    (
-        "31 32 33 17",
-        None,
-        "address 0x0000000000000002\nsteps 4 depth 3",
-    ),
-    (
-        "31 32 33 17 1c",
-        None,
-        "address 0xffffffffffffffff\nsteps 5 depth 3",
-    ),
-    (
-        "31 32 1501",
-        None,
-        "address 0x0000000000000001\nsteps 3 depth 3",
-    ),
-    (
-        "0f0000000000000080 19",
-        None,
-        "address 0x8000000000000000\nsteps 2 depth 1",
-    ),
-    (
-        "30 28 0100 96 32",
-        None,
-        "address 0x0000000000000002\nsteps 4 depth 1",
-    ),
-    (
-        "31 28 0100 96 32",
-        None,
-        "address 0x0000000000000002\nsteps 3 depth 1",
-    ),
-    (
-        "31 9f 9304",
-        None,
-        "pieces 1\npiece value 0x0000000000000001 bytes 4\nsteps 3 depth 1",
-    ),
-    (
-        "31 9304",
-        None,
-        "pieces 1\npiece address 0x0000000000000001 bytes 4\nsteps 2 depth 1",
-    ),
-    (
-        "50 9d0804",
-        None,
-        "pieces 1\npiece register 0 bits 8 offset 4\nsteps 2 depth 0",
-    ),
-    (
-        "31 32 9f",
-        None,
-        "value 0x0000000000000002\nsteps 3 depth 2",
-    ),
-    (
-        "93ffffffff0f",
-        None,
-        "pieces 1\npiece empty bytes 4294967295\nsteps 1 depth 0",
-    ),
-];
+const LOCATIONS: &str = "\
+32 33 22 | - | address 0x0000000000000005/steps 3 depth 2
+31 32 28 0000 | - | address 0x0000000000000001/steps 3 depth 2
+31 30 1b | - | division by zero at 0x00000002/steps 3 depth 2
+31 30 1d | - | division by zero at 0x00000002/steps 3 depth 2
+50 9304 9304 | - | pieces 2/piece register 0 bytes 4/piece empty bytes 4/steps 3 depth 0
+ | - | empty/steps 0 depth 0
+9e 02 cafe | - | bytes cafe/steps 1 depth 0
+9e 00 | - | bytes /steps 1 depth 0
+9e 00 9304 | - | pieces 1/piece bytes  bytes 4/steps 2 depth 0
+7700 | - | unreadable at 0x00000000/steps 1 depth 1
+31 32 33 17 | - | address 0x0000000000000002/steps 4 depth 3
+31 32 33 17 1c | - | address 0xffffffffffffffff/steps 5 depth 3
+31 32 1501 | - | address 0x0000000000000001/steps 3 depth 3
+0f0000000000000080 19 | - | address 0x8000000000000000/steps 2 depth 1
+30 28 0100 96 32 | - | address 0x0000000000000002/steps 4 depth 1
+31 28 0100 96 32 | - | address 0x0000000000000002/steps 3 depth 1
+31 9f 9304 | - | pieces 1/piece value 0x0000000000000001 bytes 4/steps 3 depth 1
+31 9304 | - | pieces 1/piece address 0x0000000000000001 bytes 4/steps 2 depth 1
+50 9d0804 | - | pieces 1/piece register 0 bits 8 offset 4/steps 2 depth 0
+31 32 9f | - | value 0x0000000000000002/steps 3 depth 2
+93ffffffff0f | - | pieces 1/piece empty bytes 4294967295/steps 1 depth 0
+";
 
 #[test]
 fn locations(rt: HostRuntime) -> Result<(), AllocError> {
-    evaluate_to(&rt, LOCATION, &LOCATIONS)
+    evaluate_to(&rt, LOCATION, LOCATIONS)
 }
 
 /// The same text so many times.
@@ -201,135 +143,57 @@ fn heights(rt: HostRuntime) -> Result<(), AllocError> {
 }
 
 /// Locations, state files, and what they come to.
-const STATES: [Case; 12] = [
-    (
-        "30",
-        Some(""),
-        "address 0x0000000000000000\nsteps 1 depth 1",
-    ),
-    (
-        "7700",
-        Some("reg 00007 0x1"),
-        "address 0x0000000000000001\nsteps 1 depth 1",
-    ),
-    (
-        "0a0010 06",
-        Some("mem 0x1000 0102030405060708"),
-        "address 0x0807060504030201\nsteps 2 depth 1",
-    ),
-    (
-        "0a0010 06",
-        Some("mem 0x1000 01020304050607"),
-        "unreadable at 0x00000003\nsteps 2 depth 1",
-    ),
-    (
-        "0effffffffffffffff 06",
-        Some("mem 0xffffffffffffffff 05\nmem 0x0 00000000000000\n"),
-        "unreadable at 0x00000009\nsteps 2 depth 1",
-    ),
-    (
-        "7708",
-        Some("reg 7 0x7f00\n"),
-        "address 0x0000000000007f08\nsteps 1 depth 1",
-    ),
-    (
-        "0a0010 9402",
-        Some("mem 0x1000 3412"),
-        "address 0x0000000000001234\nsteps 2 depth 1",
-    ),
-    (
-        "9101",
-        Some("frame 0x100\nframe 0x200"),
-        "address 0x0000000000000101\nsteps 1 depth 1",
-    ),
-    (
-        "97",
-        Some("object 0xAbC"),
-        "address 0x0000000000000abc\nsteps 1 depth 1",
-    ),
-    (
-        "9c",
-        Some("cfa 0x7f10"),
-        "address 0x0000000000007f10\nsteps 1 depth 1",
-    ),
-    (
-        "0a0010 9402",
-        Some("mem 0x1001 12\nmem 0x1000 34ff\n"),
-        "address 0x0000000000001234\nsteps 2 depth 1",
-    ),
-    (
-        "0effffffffffffffff 9401",
-        Some("mem 0xffffffffffffffff 0A\nreg 65535 0x0"),
-        "address 0x000000000000000a\nsteps 2 depth 1",
-    ),
-];
+const STATES: &str = "\
+30 |  | address 0x0000000000000000/steps 1 depth 1
+7700 | reg 00007 0x1 | address 0x0000000000000001/steps 1 depth 1
+0a0010 06 | mem 0x1000 0102030405060708 | address 0x0807060504030201/steps 2 depth 1
+0a0010 06 | mem 0x1000 01020304050607 | unreadable at 0x00000003/steps 2 depth 1
+0effffffffffffffff 06 | mem 0xffffffffffffffff 05/mem 0x0 00000000000000/ | unreadable at 0x00000009/steps 2 depth 1
+7708 | reg 7 0x7f00/ | address 0x0000000000007f08/steps 1 depth 1
+0a0010 9402 | mem 0x1000 3412 | address 0x0000000000001234/steps 2 depth 1
+9101 | frame 0x100/frame 0x200 | address 0x0000000000000101/steps 1 depth 1
+97 | object 0xAbC | address 0x0000000000000abc/steps 1 depth 1
+9c | cfa 0x7f10 | address 0x0000000000007f10/steps 1 depth 1
+0a0010 9402 | mem 0x1001 12/mem 0x1000 34ff/ | address 0x0000000000001234/steps 2 depth 1
+0effffffffffffffff 9401 | mem 0xffffffffffffffff 0A/reg 65535 0x0 | address 0x000000000000000a/steps 2 depth 1
+";
 
 /// The same in big-endian order.
-const BIG_STATES: [Case; 2] = [
-    (
-        "0a1000 06",
-        Some("mem 0x1000 0102030405060708"),
-        "address 0x0102030405060708\nsteps 2 depth 1",
-    ),
-    (
-        "0a1000 9402",
-        Some("mem 0x1000 3412"),
-        "address 0x0000000000003412\nsteps 2 depth 1",
-    ),
-];
+const BIG_STATES: &str = "\
+0a1000 06 | mem 0x1000 0102030405060708 | address 0x0102030405060708/steps 2 depth 1
+0a1000 9402 | mem 0x1000 3412 | address 0x0000000000003412/steps 2 depth 1
+";
 
 /// The same with addresses of four bytes.
-const SHORT_STATES: [Case; 7] = [
-    (
-        "0a0010 06",
-        Some("mem 0x1000 01020304"),
-        "address 0x04030201\nsteps 2 depth 1",
-    ),
-    (
-        "0c00000080 0dffffffff 1b",
-        None,
-        "address 0x80000000\nsteps 3 depth 2",
-    ),
-    ("09f9 32 1b", None, "address 0xfffffffd\nsteps 3 depth 2"),
-    ("09ff 32 1d", None, "address 0x00000001\nsteps 3 depth 2"),
-    ("09ff 30 2d", None, "address 0x00000001\nsteps 3 depth 2"),
-    ("31 0820 24", None, "address 0x00000000\nsteps 3 depth 2"),
-    (
-        "0c00000080 0820 26",
-        None,
-        "address 0xffffffff\nsteps 3 depth 2",
-    ),
-];
+const SHORT_STATES: &str = "\
+0a0010 06 | mem 0x1000 01020304 | address 0x04030201/steps 2 depth 1
+0c00000080 0dffffffff 1b | - | address 0x80000000/steps 3 depth 2
+09f9 32 1b | - | address 0xfffffffd/steps 3 depth 2
+09ff 32 1d | - | address 0x00000001/steps 3 depth 2
+09ff 30 2d | - | address 0x00000001/steps 3 depth 2
+31 0820 24 | - | address 0x00000000/steps 3 depth 2
+0c00000080 0820 26 | - | address 0xffffffff/steps 3 depth 2
+";
 
 /// Expressions of registers' rules.
-const REGISTER_STATES: [Case; 3] = [
-    (
-        "12 22",
-        Some("cfa 0x10"),
-        "value 0x0000000000000020\nsteps 2 depth 2",
-    ),
-    ("12 22", None, "unreadable at 0x00000000\nsteps 0 depth 2"),
-    (
-        "",
-        Some("cfa 0x10\n"),
-        "value 0x0000000000000010\nsteps 0 depth 1",
-    ),
-];
+const REGISTER_STATES: &str = "\
+12 22 | cfa 0x10 | value 0x0000000000000020/steps 2 depth 2
+12 22 | - | unreadable at 0x00000000/steps 0 depth 2
+ | cfa 0x10/ | value 0x0000000000000010/steps 0 depth 1
+";
 
 /// Expressions of a CFA.
-const CFA_STATES: [Case; 1] = [(
-    "7708",
-    Some("\n\nreg 7 0x10\nreg 7 0x20\n"),
-    "value 0x0000000000000018\nsteps 1 depth 1",
-)];
+const CFA_STATES: &str = "\
+7708 | //reg 7 0x10/reg 7 0x20/ | value 0x0000000000000018/steps 1 depth 1
+";
 
 #[test]
 fn states(rt: HostRuntime) -> Result<(), AllocError> {
-    evaluate_to(&rt, LOCATION, &STATES)?;
-    evaluate_to(&rt, BIG_LOCATION, &BIG_STATES)?;
-    evaluate_to(&rt, SHORT_LOCATION, &SHORT_STATES)?;
-    evaluate_to(&rt, REGISTER, &REGISTER_STATES)?;
-    evaluate_to(&rt, CFA, &CFA_STATES)
+    evaluate_to(&rt, LOCATION, STATES)?;
+    evaluate_to(&rt, BIG_LOCATION, BIG_STATES)?;
+    evaluate_to(&rt, SHORT_LOCATION, SHORT_STATES)?;
+    evaluate_to(&rt, REGISTER, REGISTER_STATES)?;
+    evaluate_to(&rt, CFA, CFA_STATES)
 }
 
 /// Expressions and their first faults.
