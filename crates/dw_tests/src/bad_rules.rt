@@ -95,7 +95,7 @@ fn in_frame(kind: FaultKind, at: u32) -> CheckFault {
 
 #[test]
 fn bad_expressions_of_rules(rt: HostRuntime) {
-    for (expression, kind, at) in BAD {
+    for &(expression, kind, at) in &BAD {
         let common = in_frame(kind, at.saturating_add(24));
         let own = in_frame(kind, at.saturating_add(48));
         let found = faults_by(rt.alloc(), expression);
@@ -125,7 +125,7 @@ const BEFORE: [(&[u8], &[u8], FaultKind, u32); 3] = [
 
 #[test]
 fn faults_before_expressions(rt: HostRuntime) {
-    for (common, own, kind, at) in BEFORE {
+    for &(common, own, kind, at) in &BEFORE {
         let found = first_fault(rt.alloc(), common, own);
         assert_eq!(rt; found, Some(in_frame(kind, at)), "{own:?}");
     }
@@ -150,7 +150,7 @@ const ONE_TOO_MANY: [(&[u8], FaultKind, u32); 2] = [
 /// The expression of the rule that is one too many is judged before their number.
 #[test]
 fn too_many_rules_behind_expressions(rt: HostRuntime) -> Result<(), AllocError> {
-    for (rule, kind, at) in ONE_TOO_MANY {
+    for &(rule, kind, at) in &ONE_TOO_MANY {
         let program = behind_most(rt.alloc(), rule)?;
         let found = first_fault(rt.alloc(), &[], &program);
         assert_eq!(rt; found, Some(in_frame(kind, at)), "{rule:?}");

@@ -252,12 +252,12 @@ fn fault_in(section: Section, kind: FaultKind, at: u32) -> Option<CheckFault> {
 #[test]
 fn faults_of_chosen_changes(rt: HostRuntime) -> Result<(), AllocError> {
     let alloc = rt.alloc();
-    for (at, byte, kind, stands) in FUNCTION_CHANGES {
+    for &(at, byte, kind, stands) in &FUNCTION_CHANGES {
         let section = changed(&rt, alloc, &FUNCTION, at, byte)?;
         let found = first_fault(alloc, section.as_slice(), &PAIR_AND_DEFAULT);
         assert_eq!(rt; found, fault_in(Section::Frame, kind, stands), "at {at}");
     }
-    for (at, byte, kind, stands) in LIST_CHANGES {
+    for &(at, byte, kind, stands) in &LIST_CHANGES {
         let section = changed(&rt, alloc, &PAIR_AND_DEFAULT, at, byte)?;
         let found = first_fault(alloc, &FUNCTION, section.as_slice());
         assert_eq!(rt; found, fault_in(Section::Lists, kind, stands), "at {at}");
@@ -290,7 +290,7 @@ fn row_at(alloc: Global, section: &[u8], address: u64) -> Option<String> {
 
 #[test]
 fn rows_of_chosen_changes(rt: HostRuntime) -> Result<(), AllocError> {
-    for (at, byte, address, text) in ROW_CHANGES {
+    for &(at, byte, address, text) in &ROW_CHANGES {
         let section = changed(&rt, rt.alloc(), &FUNCTION, at, byte)?;
         let Some(found) = row_at(rt.alloc(), section.as_slice(), address) else {
             panic!(rt; "no row where {at} is changed")

@@ -368,7 +368,7 @@ fn bodies_cut_short(rt: HostRuntime) {
     for (section, target, start, low, fields) in headers {
         assert_eq!(rt; misjudged(section, target, start, low, fields), None);
     }
-    for (section, target, _, low, fields) in OLDER {
+    for &(section, target, _, low, fields) in &OLDER {
         assert_eq!(rt; misjudged(section, target, 0, low, fields), None);
     }
 }

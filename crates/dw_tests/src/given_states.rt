@@ -199,7 +199,7 @@ impl Certified<'_> {
     fn refuses_modes(&self, rt: &impl Abort, alloc: Global, i: usize) -> Result<(), AllocError> {
         assert!(rt; i < self.states.len());
         let state = self.states[i];
-        for mode in MODES {
+        for &mode in &MODES {
             if mode != state.mode {
                 self.refuses(rt, alloc, i, State { mode, ..state })?;
             }

@@ -108,7 +108,7 @@ pub(crate) const REPORTS: [(&[u8], &[u8], &str); 3] = [
 
 #[test]
 fn reports_on_sections(rt: HostRuntime) {
-    for (frame, lists, text) in REPORTS {
+    for &(frame, lists, text) in &REPORTS {
         let Some(found) = reported(rt.alloc(), frame, lists) else {
             panic!(rt; "no report")
         };
@@ -215,7 +215,7 @@ const AT_TOP: [(u64, u64, Answer); 2] = [
 /// Sums are taken modulo 2^32, and a word that goes past the greatest address isn't read.
 #[test]
 fn unwinds_at_the_greatest_addresses(rt: HostRuntime) {
-    for (content, cfa, saved) in AT_TOP {
+    for &(content, cfa, saved) in &AT_TOP {
         let found = caller_at_top(rt.alloc(), content);
         is_caller(&rt, found, Answer::Value(cfa), &[(14, saved)], saved);
     }
