@@ -1,9 +1,11 @@
-//! Targets, sections and a machine that several tests use.
+//! Targets, sections, a machine and the spelling of cases that several tests use.
 
 ghost use Rattle.std.specs.Prelude.{None};
 
 use dw_bytes::{AddressSize, Order, Target};
 use dw_eval::{Memory, Registers};
+use std::alloc::Global;
+use std::process::Abort;
 
 pub(crate) const LITTLE: Target = Target {
     order: Order::Little,
@@ -13,11 +15,6 @@ pub(crate) const LITTLE: Target = Target {
 pub(crate) const LITTLE_SHORT: Target = Target {
     order: Order::Little,
     address_size: AddressSize::Four,
-};
-
-pub(crate) const BIG: Target = Target {
-    order: Order::Big,
-    address_size: AddressSize::Eight,
 };
 
 pub(crate) const BIG_SHORT: Target = Target {
@@ -84,5 +81,18 @@ impl Memory for Unknown {
     #[tactic(auto, unfolding(dw_eval::specs::World::bytes_from))]
     fn read(&self, _address: u64, _size: u8, _order: Order) -> Option<u64> {
         None
+    }
+}
+
+/// The bytes that hex digits spell.
+pub(crate) fn bytes_of(alloc: Global, digits: &str) -> Option<Vec<u8>> {
+    hex::decode(alloc, digits).ok()
+}
+
+/// What a line of cases says in front of its first colon and behind it.
+pub(crate) fn parts_of<'a>(rt: &impl Abort, case: &'a str) -> (&'a str, &'a str) {
+    match case.split_once(": ") {
+        Some(parts) => parts,
+        None => panic!(rt; "{case} is no case"),
     }
 }

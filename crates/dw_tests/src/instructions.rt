@@ -1,9 +1,10 @@
 //! One case a line of the table of instructions, each alone in the program of an FDE.
 
-use crate::inputs::BIG_SHORT;
-use dw_bytes::{FaultKind, Target};
+use crate::inputs::{BIG_SHORT, bytes_of, parts_of};
+use dw_bytes::Fault;
 use dw_frame::{Entry, Program, entries, instruction};
 use std::alloc::Global;
+use std::process::Abort;
 
 /// A section of one FDE, whose program begins at 16.
 fn section_with(alloc: Global, program: &[u8]) -> Option<Vec<u8>> {
@@ -33,122 +34,125 @@ fn shown(alloc: Global, bytes: &[u8]) -> Option<String> {
     }
 }
 
-/// The fault of the first instruction of a program.
-fn first_fault(alloc: Global, bytes: &[u8]) -> Option<(FaultKind, u32)> {
+/// The fault of the first instruction of a program, and where it stands, as text.
+fn first_fault(alloc: Global, bytes: &[u8]) -> Option<String> {
     let section = section_with(alloc, bytes)?;
     let program = first_program(&section)?;
-    let fault = instruction(&program, program.start()).err()?;
-    Some((fault.kind, fault.at))
+    let Fault { kind, at } = instruction(&program, program.start()).err()?;
+    format!(in alloc; "{kind:?} {at}").ok()
 }
 
-/// The bytes, where the last field begins, and the instruction.
-const INSTRUCTIONS: [(&[u8], u32, &str); 26] = [
-    (&[0x7f], 16, "AdvanceLoc { delta: 63 }"),
-    (
-        &[0x86, 0x82, 1],
-        17,
-        "Offset { register: 6, factored_offset: 130 }",
-    ),
-    (&[0xff], 16, "Restore { register: 63 }"),
-    (&[0], 16, "Nop"),
-    (&[1, 0, 1, 2, 3], 17, "SetLoc { address: 66051 }"),
-    (&[2, 0xff], 17, "AdvanceLoc1 { delta: 255 }"),
-    (&[3, 1, 2], 17, "AdvanceLoc2 { delta: 258 }"),
-    (&[4, 1, 0, 0, 2], 17, "AdvanceLoc4 { delta: 16777218 }"),
-    (
-        &[5, 0xff, 0xff, 3, 9],
-        20,
-        "OffsetExtended { register: 65535, factored_offset: 9 }",
-    ),
-    (&[6, 5], 17, "RestoreExtended { register: 5 }"),
-    (&[7, 5], 17, "Undefined { register: 5 }"),
-    (&[8, 5], 17, "SameValue { register: 5 }"),
-    (&[9, 5, 6], 18, "Register { register: 5, source: 6 }"),
-    (&[0x0a], 16, "RememberState"),
-    (&[0x0b], 16, "RestoreState"),
-    (&[0x0c, 7, 8], 18, "DefCfa { register: 7, offset: 8 }"),
-    (&[0x0d, 7], 17, "DefCfaRegister { register: 7 }"),
-    (&[0x0e, 8], 17, "DefCfaOffset { offset: 8 }"),
-    (
-        &[0x0f, 1, 0x96],
-        18,
-        "DefCfaExpression { expression: UnwindExpression { offset: 18, expression: Expression { bytes: [150], target: Target { order: Big, address_size: Four } } } }",
-    ),
-    (
-        &[0x10, 5, 0],
-        18,
-        "Expression { register: 5, expression: UnwindExpression { offset: 19, expression: Expression { bytes: [], target: Target { order: Big, address_size: Four } } } }",
-    ),
-    (
-        &[0x11, 6, 0x7e],
-        18,
-        "OffsetExtendedSf { register: 6, factored_offset: -2 }",
-    ),
-    (
-        &[0x12, 6, 0x7e],
-        18,
-        "DefCfaSf { register: 6, factored_offset: -2 }",
-    ),
-    (&[0x13, 0x7e], 17, "DefCfaOffsetSf { factored_offset: -2 }"),
-    (
-        &[0x14, 6, 2],
-        18,
-        "ValOffset { register: 6, factored_offset: 2 }",
-    ),
-    (
-        &[0x15, 6, 0x7f],
-        18,
-        "ValOffsetSf { register: 6, factored_offset: -1 }",
-    ),
-    (
-        &[0x16, 6, 2, 0x30, 0x9f],
-        19,
-        "ValExpression { register: 6, expression: UnwindExpression { offset: 19, expression: Expression { bytes: [48, 159], target: Target { order: Big, address_size: Four } } } }",
-    ),
-];
+/// Bytes, where their last field begins, and the instruction that they encode.
+const INSTRUCTIONS: &str = "\
+7f | 16: AdvanceLoc { delta: 63 }
+868201 | 17: Offset { register: 6, factored_offset: 130 }
+bf01 | 17: Offset { register: 63, factored_offset: 1 }
+ff | 16: Restore { register: 63 }
+00 | 16: Nop
+0100010203 | 17: SetLoc { address: 66051 }
+02ff | 17: AdvanceLoc1 { delta: 255 }
+030102 | 17: AdvanceLoc2 { delta: 258 }
+0401000002 | 17: AdvanceLoc4 { delta: 16777218 }
+05ffff0309 | 20: OffsetExtended { register: 65535, factored_offset: 9 }
+0605 | 17: RestoreExtended { register: 5 }
+0705 | 17: Undefined { register: 5 }
+0805 | 17: SameValue { register: 5 }
+090506 | 18: Register { register: 5, source: 6 }
+0a | 16: RememberState
+0b | 16: RestoreState
+0c0708 | 18: DefCfa { register: 7, offset: 8 }
+0d07 | 17: DefCfaRegister { register: 7 }
+0e08 | 17: DefCfaOffset { offset: 8 }
+0f0196 | 18: DefCfaExpression { expression: UnwindExpression { offset: 18, expression: Expression { bytes: [150], target: Target { order: Big, address_size: Four } } } }
+100500 | 18: Expression { register: 5, expression: UnwindExpression { offset: 19, expression: Expression { bytes: [], target: Target { order: Big, address_size: Four } } } }
+11067e | 18: OffsetExtendedSf { register: 6, factored_offset: -2 }
+12067e | 18: DefCfaSf { register: 6, factored_offset: -2 }
+137e | 17: DefCfaOffsetSf { factored_offset: -2 }
+140602 | 18: ValOffset { register: 6, factored_offset: 2 }
+15067f | 18: ValOffsetSf { register: 6, factored_offset: -1 }
+160602309f | 19: ValExpression { register: 6, expression: UnwindExpression { offset: 19, expression: Expression { bytes: [48, 159], target: Target { order: Big, address_size: Four } } } }
+";
+
+/// The bytes encode this instruction, and without the last one its last field is cut short.
+fn is_instruction(rt: &(impl Abort + AllocGlobal), digits: &str, last: &str, wanted: &str) {
+    let Some(bytes) = bytes_of(rt.alloc(), digits) else {
+        panic!(rt; "{digits}")
+    };
+    assert_eq!(rt; shown(rt.alloc(), &bytes).as_deref(), Some(wanted));
+    let cut = &bytes[..bytes.len().saturating_sub(1)];
+    let Some(fault) = first_fault(rt.alloc(), cut) else {
+        panic!(rt; "{digits} without its last byte")
+    };
+    assert_eq!(rt; fault.strip_prefix("Truncated "), Some(last), "{digits}");
+}
 
 #[test]
 fn every_instruction(rt: HostRuntime) {
-    for (bytes, last, wanted) in &INSTRUCTIONS {
-        let found = shown(rt.alloc(), bytes);
-        assert_eq!(rt; found.as_deref(), Some(*wanted));
-        let cut = &bytes[..bytes.len().saturating_sub(1)];
-        let fault = Some((FaultKind::Truncated, *last));
-        assert_eq!(rt; first_fault(rt.alloc(), cut), fault, "{bytes:?}");
+    for case in INSTRUCTIONS.lines() {
+        let (bytes, wanted) = parts_of(&rt, case);
+        let Some((digits, last)) = bytes.split_once(" | ") else {
+            panic!(rt; "{case}")
+        };
+        is_instruction(&rt, digits, last, wanted);
     }
 }
 
-/// The fault that ends the instructions of a program, behind which there are none.
-fn last_fault(alloc: Global, bytes: &[u8]) -> Option<(FaultKind, u32)> {
-    let section = section_with(alloc, bytes)?;
+/// The instructions of a program, each with its offset, as text.
+fn listed(alloc: Global, digits: &str) -> Option<String> {
+    let section = section_with(alloc, &bytes_of(alloc, digits)?)?;
+    let mut text = String::new(alloc);
+    for item in first_program(&section)?.instructions() {
+        let (at, found) = item.ok()?;
+        text.push_str(&format!(in alloc; "{at} {found:?}\n").ok()?)
+            .ok()?;
+    }
+    Some(text)
+}
+
+/// The instructions of one program.
+const LISTED: &str = "\
+16 AdvanceLoc { delta: 1 }
+17 DefCfaOffset { offset: 16 }
+19 Offset { register: 6, factored_offset: 2 }
+21 AdvanceLoc { delta: 3 }
+22 DefCfaRegister { register: 6 }
+24 DefCfaExpression { expression: UnwindExpression { offset: 26, expression: Expression { bytes: [150], target: Target { order: Big, address_size: Four } } } }
+";
+
+#[test]
+fn instructions_come_in_order(rt: HostRuntime) {
+    let found = listed(rt.alloc(), "410e108602430d060f0196");
+    assert_eq!(rt; found.as_deref(), Some(LISTED));
+}
+
+/// The fault that ends the instructions of a program, behind which there are none, as text.
+fn last_fault(alloc: Global, digits: &str) -> Option<String> {
+    let section = section_with(alloc, &bytes_of(alloc, digits)?)?;
     let mut instructions = first_program(&section)?.instructions();
     let mut found = None;
     for item in &mut instructions {
-        found = item.err().map(|fault| (fault.kind, fault.at));
+        found = item.err();
     }
-    match instructions.next() {
-        Some(_) => None,
-        None => found,
+    if instructions.next().is_some() {
+        return None;
     }
+    let Fault { kind, at } = found?;
+    format!(in alloc; "{kind:?} {at}").ok()
 }
 
 /// Programs, and the fault that ends their instructions.
-const ENDING: [(&[u8], FaultKind, u32); 4] = [
-    (&[5, 0x80, 0x80, 4, 1, 0], FaultKind::RegisterNumber, 16),
-    (&[0, 0x17, 0], FaultKind::UnknownInstruction, 17),
-    (&[0, 0x3f], FaultKind::UnknownInstruction, 17),
-    (
-        &[
-            0x0e, 0x80, 0x80, 0x80, 0x80, 0x80, 0x80, 0x80, 0x80, 0x80, 2,
-        ],
-        FaultKind::LebRange,
-        17,
-    ),
-];
+const ENDING: &str = "\
+058080040100: RegisterNumber 16
+001700: UnknownInstruction 17
+003f: UnknownInstruction 17
+0e80808080808080808002: LebRange 17
+";
 
 #[test]
 fn instructions_end_after_a_fault(rt: HostRuntime) {
-    for (bytes, kind, at) in &ENDING {
-        assert_eq!(rt; last_fault(rt.alloc(), bytes), Some((*kind, *at)));
+    for case in ENDING.lines() {
+        let (digits, wanted) = parts_of(&rt, case);
+        let found = last_fault(rt.alloc(), digits);
+        assert_eq!(rt; found.as_deref(), Some(wanted), "{case}");
     }
 }

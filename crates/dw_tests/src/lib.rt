@@ -14,8 +14,6 @@ mod certificates;
 mod changed_input;
 #[cfg(test)]
 mod evaluation;
-#[cfg(test)]
-mod evaluation_rows;
 pub mod examples;
 #[cfg(test)]
 mod expression_bytes;
@@ -39,5 +37,3 @@ mod rows;
 mod texts;
 #[cfg(test)]
 mod walks;
-#[cfg(test)]
-mod whole;

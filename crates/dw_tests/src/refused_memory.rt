@@ -5,7 +5,6 @@
 ghost use Rattle.std.specs.Prelude.{◌≡◌, ◌≤◌, length};
 
 use crate::inputs::{EXPRESSIONS, FUNCTION, LITTLE, PAIR_AND_DEFAULT, ROUND, Unknown};
-use crate::whole::{REPORT, REPORT_OF_EXPRESSIONS};
 use dw_bytes::{Fault, FaultKind};
 use dw_check::{
     Checked, End, LoadFault, Reading, Reads, ReportFault, Request, Source, Stop, Through, Usage,
@@ -39,6 +38,24 @@ fde 0x00000018 cie 0x00000000 0x0000000000001000..0x0000000000001020 ra r16
 row 0x0000000000001000..0x0000000000001001 cfa=r7+8 r16=[c-8]
 row 0x0000000000001001..0x0000000000001004 cfa=r7+16 r6=[c-16] r16=[c-8]
 row 0x0000000000001004..0x0000000000001020 cfa=r6+16 r6=[c-16] r16=[c-8]
+";
+
+/// The report on the function and the lists of `PAIR_AND_DEFAULT`.
+const REPORT: &str = "\
+accepted
+cies 1 fdes 1 rows 3
+tables 1 lists 1 expressions 2
+expr lists 0x00000010 location ops 1 depth 0
+expr lists 0x00000013 location ops 2 depth 1
+";
+
+/// The report on the function with expressions and no lists.
+const REPORT_OF_EXPRESSIONS: &str = "\
+accepted
+cies 1 fdes 1 rows 1
+tables 0 lists 0 expressions 2
+expr frame 0x00000033 register ops 1 depth 1
+expr frame 0x00000038 register ops 0 depth 1
 ";
 
 /// A writer over an array, which takes no memory.

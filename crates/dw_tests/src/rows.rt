@@ -3,25 +3,9 @@ ghost use Rattle.std.specs.Prelude.{◌<◌, ◌^◌, length};
 use crate::inputs::{FUNCTION, LITTLE};
 use dw_bytes::{Fault, FaultKind};
 use dw_frame::{CommonInformationEntry, Entry, FrameDescriptionEntry, entries};
-use dw_rows::{
-    CfaRule, CheckedFrame, RegisterRule, UnwindTableRow, check_cie, check_fde, check_frame,
-};
+use dw_rows::{CheckedFrame, UnwindTableRow, check_cie, check_fde, check_frame};
 use std::alloc::{AllocError, Global};
 use std::process::Abort;
-
-/// The same with another program.
-const fn with(program: [u8; 8]) -> [u8; 56] {
-    let mut section = FUNCTION;
-    section[48] = program[0];
-    section[49] = program[1];
-    section[50] = program[2];
-    section[51] = program[3];
-    section[52] = program[4];
-    section[53] = program[5];
-    section[54] = program[6];
-    section[55] = program[7];
-    section
-}
 
 /// The last CIE and the last FDE of a section.
 fn records(section: &[u8]) -> Option<(CommonInformationEntry<'_>, FrameDescriptionEntry<'_>)>
@@ -44,91 +28,6 @@ fn judged(alloc: Global, section: &[u8]) -> Option<(Result<(), Fault>, Result<()
 {
     let (cie, fde) = records(section)?;
     Some((check_cie(alloc, &cie), check_fde(alloc, &cie, &fde)))
-}
-
-/// The first fault of a program, and where it stands.
-fn first_fault(alloc: Global, program: [u8; 8]) -> Option<Option<(FaultKind, u32)>> {
-    let (_, of_fde) = judged(alloc, &with(program))?;
-    Some(of_fde.err().map(|fault| (fault.kind, fault.at)))
-}
-
-/// The rows of the FDE of 0x1000 as text.
-fn text_in(alloc: Global, frame: &CheckedFrame<'_>) -> Result<String, AllocError> {
-    let mut text = String::new(alloc);
-    let Some(fde) = frame.fde_for_address(0x1000) else {
-        return Ok(text);
-    };
-    for row in frame.rows(&fde) {
-        let start = row.start_address();
-        let end = row.end_address();
-        let cfa = row.cfa();
-        text.push_str(&format!(in alloc; "{start:x}..{end:x} {cfa:?}")?)?;
-        for (register, rule) in row.rules() {
-            text.push_str(&format!(in alloc; " r{register} {rule:?}")?)?;
-        }
-        text.push_str("\n")?;
-    }
-    Ok(text)
-}
-
-/// The rows of a section as text.
-fn shown(alloc: Global, section: &[u8]) -> Option<String>
-    requires { length section.now < 2 ^ 32 }
-{
-    let frame = check_frame(alloc, section, LITTLE).ok()?;
-    text_in(alloc, &frame).ok()
-}
-
-#[test]
-fn gives_the_rows_of_a_function(rt: HostRuntime) {
-    let text = shown(rt.alloc(), &FUNCTION);
-    assert_eq!(rt;
-        text.as_deref(),
-        Some(
-            "1000..1001 RegisterAndOffset { register: 7, offset: 8 } r16 Offset(-8)\n1001..1004 RegisterAndOffset { register: 7, offset: 16 } r6 Offset(-16) r16 Offset(-8)\n1004..1020 RegisterAndOffset { register: 6, offset: 16 } r6 Offset(-16) r16 Offset(-8)\n"
-        )
-    );
-}
-
-#[test]
-fn gives_the_rows_of_a_remembered_state(rt: HostRuntime) {
-    let text = shown(rt.alloc(), &with([0x0a, 0x0e, 0x10, 0x41, 0x0b, 0, 0, 0]));
-    assert_eq!(rt;
-        text.as_deref(),
-        Some(
-            "1000..1001 RegisterAndOffset { register: 7, offset: 16 } r16 Offset(-8)\n1001..1020 RegisterAndOffset { register: 7, offset: 8 } r16 Offset(-8)\n"
-        )
-    );
-}
-
-/// Programs, and their first faults.
-const FAULTS: [([u8; 8], Option<(FaultKind, u32)>); 6] = [
-    ([0x60, 0, 0, 0, 0, 0, 0, 0], None),
-    (
-        [0x61, 0, 0, 0, 0, 0, 0, 0],
-        Some((FaultKind::LocationPastEnd, 48)),
-    ),
-    (
-        [0x0b, 0, 0, 0, 0, 0, 0, 0],
-        Some((FaultKind::RestoreWithoutRemember, 48)),
-    ),
-    (
-        [0x0a, 0, 0, 0, 0, 0, 0, 0],
-        Some((FaultKind::Unrestored, 56)),
-    ),
-    (
-        [0, 0x0f, 1, 0x12, 0, 0, 0, 0],
-        Some((FaultKind::Underflow, 51)),
-    ),
-    ([0, 0x16, 6, 1, 0x12, 0, 0, 0], None),
-];
-
-#[test]
-fn names_the_first_fault(rt: HostRuntime) {
-    for (program, fault) in &FAULTS {
-        let found = first_fault(rt.alloc(), *program);
-        assert_eq!(rt; found, Some(*fault), "{program:?}");
-    }
 }
 
 #[test]
@@ -154,23 +53,6 @@ fn has_ranges(rt: &impl Abort, frame: &CheckedFrame<'_>, ranges: &Ranges) {
     }
 }
 
-const RANGES_OF_REMEMBERED: Ranges = [
-    (0xfff, None),
-    (0x1000, Some((0x1000, 0x1001))),
-    (0x101f, Some((0x1002, 0x1020))),
-    (0x1020, None),
-];
-
-#[test]
-fn finds_the_row_of_an_address(rt: HostRuntime) -> Result<(), Fault> {
-    let section = with([0x41, 0x0a, 0x0e, 0x10, 0x41, 0x0b, 0, 0]);
-    let frame = check_frame(rt.alloc(), &section, LITTLE)?;
-    has_ranges(&rt, &frame, &RANGES_OF_REMEMBERED);
-    assert_eq!(rt; rules_at(&frame, 0x1001), Some((16, Some(-8), None)));
-    assert_eq!(rt; rules_at(&frame, 0x101f), Some((8, Some(-8), None)));
-    Ok(())
-}
-
 /// The CIE of `FUNCTION`, and 1,000 FDEs of eight nops, the highest addresses first. Each covers 16 addresses of 32.
 fn descending(alloc: Global) -> Result<Vec<u8>, AllocError> {
     let mut section = FUNCTION[..24].to_vec(alloc)?;
@@ -193,30 +75,6 @@ fn push_fde(section: &mut Vec<u8>, initial: u64, range: u64) -> Result<(), Alloc
 fn range_at(frame: &CheckedFrame<'_>, address: u64) -> Option<(u64, u64)> {
     let row = frame.row_for_address(address)?;
     Some((row.start_address(), row.end_address()))
-}
-
-/// The offset of a rule that says where a register is saved.
-fn saved_at(rule: RegisterRule<'_>) -> Option<i64> {
-    match rule {
-        RegisterRule::Offset(offset) => Some(offset),
-        _ => None,
-    }
-}
-
-/// Of the row of an address: how far the CFA is from register 7, and where registers 16 and 6 are saved.
-fn rules_at(frame: &CheckedFrame<'_>, address: u64) -> Option<(i64, Option<i64>, Option<i64>)> {
-    let row = frame.row_for_address(address)?;
-    match row.cfa() {
-        CfaRule::RegisterAndOffset {
-            register: 7,
-            offset,
-        } => Some((
-            offset,
-            saved_at(row.register(16)),
-            saved_at(row.register(6)),
-        )),
-        _ => None,
-    }
 }
 
 /// How many rows the FDE of 0x1000 has.

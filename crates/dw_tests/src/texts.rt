@@ -7,6 +7,7 @@ mod cie_versions;
 mod expressions;
 mod lists;
 mod operations;
+mod parts;
 mod reads;
 mod sections;
 mod walks;

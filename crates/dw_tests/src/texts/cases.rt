@@ -1,7 +1,13 @@
 //! Runs of `dwcheck` by `request` and `run`, and what they come to.
+//!
+//! Files are spelled with ` | ` between two. In each a name like `{CIE}` stands for its part, a stroke for a LF, and `-` for an
+//! empty file. An outcome is what is written, a stroke for each LF but the last; or `state line N` or `bad hex N`, over which
+//! nothing is.
 
 ghost use Rattle.std.specs.Prelude.{◌≡◌, length};
 
+use crate::inputs::parts_of;
+use crate::texts::parts::with_parts;
 use dw_check::{End, Request, Through, Usage, request, run};
 use std::alloc::{AllocError, Global};
 use std::process::Abort;
@@ -15,22 +21,47 @@ pub(crate) fn asked(alloc: Global, line: &str) -> Result<Result<Request, Usage>,
     Ok(request(alloc, words))
 }
 
-/// All parts, one behind the other.
-pub(crate) fn joined(alloc: Global, parts: &[&str]) -> Result<String, AllocError> {
-    let mut text = String::new(alloc);
-    for part in parts {
-        text.push_str(part)?;
+/// The file that is spelled so.
+pub(crate) fn file_of(alloc: Global, content: &str) -> Result<Vec<u8>, AllocError> {
+    if content == "-" {
+        return Ok(Vec::new(alloc));
     }
-    Ok(text)
+    let content = with_parts(alloc, content)?;
+    Ok(content.replace(alloc, '/', "\n")?.into_bytes())
 }
 
-/// Files with these contents, each in parts.
-pub(crate) fn files_of(alloc: Global, contents: &[&[&str]]) -> Result<Vec<Vec<u8>>, AllocError> {
+/// The files that are spelled so.
+pub(crate) fn files_of(alloc: Global, contents: &str) -> Result<Vec<Vec<u8>>, AllocError> {
     let mut files: Vec<Vec<u8>> = Vec::new(alloc);
-    for parts in contents {
-        files.push(joined(alloc, parts)?.into_bytes())?;
+    for content in contents.split(" | ") {
+        files.push(file_of(alloc, content)?)?;
     }
     Ok(files)
+}
+
+/// How a run with this outcome ends, and what of the outcome it writes.
+fn end_of<'a>(outcome: &'a str) -> Option<(End, &'a str)> {
+    if let Some(line) = outcome.strip_prefix("state line ") {
+        return Some((End::StateLine(line.parse::<u64>().ok()?), ""));
+    }
+    if let Some(file) = outcome.strip_prefix("bad hex ") {
+        return Some((End::BadHex(file.parse::<usize>().ok()?), ""));
+    }
+    let end = if outcome.starts_with("refused ") {
+        End::Refused
+    } else {
+        End::Done
+    };
+    Some((end, outcome))
+}
+
+/// The text that is spelled so.
+pub(crate) fn text_of(alloc: Global, outcome: &str) -> Result<String, AllocError> {
+    let mut text = outcome.replace(alloc, '/', "\n")?;
+    if !outcome.is_empty() {
+        text.push('\n')?;
+    }
+    Ok(text)
 }
 
 /// How a run over these files ends, and what it writes, if the line asks for something and takes so many files.
@@ -44,15 +75,17 @@ fn ran(alloc: Global, line: &str, files: &[Vec<u8>]) -> Option<(End, Vec<u8>)> {
     Some((end, sink.into_inner()))
 }
 
-/// A run over these files ends so and writes this text, in parts.
+/// A run over these files has this outcome.
 pub(crate) fn files_come_to(
     rt: &(impl Abort + AllocGlobal),
     line: &str,
     files: &[Vec<u8>],
-    end: End,
-    text: &[&str],
+    outcome: &str,
 ) -> Result<(), AllocError> {
-    let wanted = joined(rt.alloc(), text)?;
+    let Some((end, text)) = end_of(outcome) else {
+        panic!(rt; "{outcome} is no outcome")
+    };
+    let wanted = text_of(rt.alloc(), text)?;
     let Some((found, written)) = ran(rt.alloc(), line, files) else {
         panic!(rt; "{line} asks for nothing, or for other files")
     };
@@ -61,24 +94,47 @@ pub(crate) fn files_come_to(
     Ok(())
 }
 
-/// The same over files with these contents.
+/// The same over files that are spelled.
 pub(crate) fn comes_to(
     rt: &(impl Abort + AllocGlobal),
     line: &str,
-    contents: &[&[&str]],
-    end: End,
-    text: &[&str],
+    contents: &str,
+    outcome: &str,
 ) -> Result<(), AllocError> {
     let files = files_of(rt.alloc(), contents)?;
-    files_come_to(rt, line, &files, end, text)
+    files_come_to(rt, line, &files, outcome)
 }
 
-/// A run over files with these contents has this first fault.
-pub(crate) fn is_refused(
+/// With these words the files of each line come to its outcome.
+pub(crate) fn lines_come_to(
     rt: &(impl Abort + AllocGlobal),
-    line: &str,
-    contents: &[&[&str]],
-    fault: &str,
+    words: &str,
+    cases: &str,
 ) -> Result<(), AllocError> {
-    comes_to(rt, line, contents, End::Refused, &["refused ", fault, "\n"])
+    for case in cases.lines() {
+        let (contents, outcome) = parts_of(rt, case);
+        comes_to(rt, words, contents, outcome)?;
+    }
+    Ok(())
+}
+
+/// What a paragraph of cases says: files, words, and the outcome.
+pub(crate) fn case_of<'a>(rt: &impl Abort, case: &'a str) -> (&'a str, &'a str, &'a str) {
+    let Some((contents, rest)) = case.trim_end().split_once('\n') else {
+        panic!(rt; "{case} is no case")
+    };
+    let (words, outcome) = rest.split_once('\n').unwrap_or((rest, ""));
+    (contents, words, outcome)
+}
+
+/// The files and words of each paragraph come to its outcome, here with its LFs.
+pub(crate) fn cases_come_to(
+    rt: &(impl Abort + AllocGlobal),
+    cases: &str,
+) -> Result<(), AllocError> {
+    for case in cases.split("\n\n") {
+        let (contents, words, outcome) = case_of(rt, case);
+        comes_to(rt, words, contents, outcome)?;
+    }
+    Ok(())
 }

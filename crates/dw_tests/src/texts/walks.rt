@@ -1,62 +1,106 @@
 //! Walks up the stack through `request` and `run`.
 
-use crate::texts::cases::comes_to;
-use crate::texts::sections::FIRST_SECTION;
-use dw_check::End;
+use crate::texts::cases::cases_come_to;
 use std::alloc::AllocError;
 
-/// A state that leads from 0x1010 over 0x1020 to 0x2000, but for its last line, which says so.
-pub(crate) const STATE: &str = "\
-reg 6 0x7f00
-mem 0x7f00 407f000000000000
-mem 0x7f08 2010000000000000
-mem 0x7f40 0000000000000000
-";
-
-/// That line.
-pub(crate) const LAST_WORD: &str = "mem 0x7f48 0020000000000000\n";
-
-/// The lines of the frames that it leads to.
-pub(crate) const FRAMES: &str = "\
+/// Walks from 0x1010, and what they write; the last ones lack the word where frame 1 has saved its return address, and that
+/// where frame 0 has saved register 6.
+const WALKS: &str = "\
+{FUNCTION} | {STACK}{LAST_WORD}
+dwcheck backtrace --hex f 0x1010 s 9
 frame 0 0x0000000000001010 cfa value 0x0000000000007f10
 frame 1 0x0000000000001020 cfa value 0x0000000000007f50
 frame 2 0x0000000000002000 none
+stop not covered
+
+{FUNCTION} | {STACK}{LAST_WORD}
+dwcheck backtrace --hex f 0x1010 s 4
+frame 0 0x0000000000001010 cfa value 0x0000000000007f10
+frame 1 0x0000000000001020 cfa value 0x0000000000007f50
+frame 2 0x0000000000002000 none
+stop not covered
+
+{FUNCTION} | {STACK}{LAST_WORD}
+dwcheck backtrace --hex f 0x1010 s 3
+frame 0 0x0000000000001010 cfa value 0x0000000000007f10
+frame 1 0x0000000000001020 cfa value 0x0000000000007f50
+frame 2 0x0000000000002000 none
+stop limit
+
+{FUNCTION} | {STACK}{LAST_WORD}
+dwcheck backtrace --hex f 0x1010 s 0
+stop limit
+
+{FUNCTION} | {STACK}
+dwcheck backtrace --hex f 0x1010 s 9
+frame 0 0x0000000000001010 cfa value 0x0000000000007f10
+frame 1 0x0000000000001020 cfa value 0x0000000000007f50
+stop return unreadable
+
+{FUNCTION} | {STACK}
+dwcheck backtrace --hex f 0x1010 s 3
+frame 0 0x0000000000001010 cfa value 0x0000000000007f10
+frame 1 0x0000000000001020 cfa value 0x0000000000007f50
+stop return unreadable
+
+{FUNCTION} | {STACK}
+dwcheck backtrace --hex f 0x1010 s 2
+frame 0 0x0000000000001010 cfa value 0x0000000000007f10
+frame 1 0x0000000000001020 cfa value 0x0000000000007f50
+stop limit
+
+{FUNCTION} | reg 6 0x7f00/mem 0x7f08 2010000000000000
+dwcheck backtrace --hex f 0x1010 s 9
+frame 0 0x0000000000001010 cfa value 0x0000000000007f10
+frame 1 0x0000000000001020 cfa unreadable
+stop return unreadable
 ";
 
-/// Words with a limit, and what a walk with its whole state writes.
-const WALKS: [(&str, &[&str]); 3] = [
-    (
-        "dwcheck backtrace --hex f 0x1010 s 9",
-        &[FRAMES, "stop not covered\n"],
-    ),
-    (
-        "dwcheck backtrace --hex f 0x1010 s 3",
-        &[FRAMES, "stop limit\n"],
-    ),
-    ("dwcheck backtrace --hex f 0x1010 s 0", &["stop limit\n"]),
-];
+/// Walks from 3 over an FDE of 0 to 0x20: round and round, as the CFA is 15 and the caller goes on at 7; to 0, which is no
+/// address behind a call though an FDE covers it; and to where the return address is undefined, or a division by zero says it.
+const FROM_THREE: &str = "\
+{CIE} {FDE_AT_ZERO} 0f013f 141001 0000 | reg 7 0x10
+dwcheck backtrace --hex f 0x3 s 4
+frame 0 0x0000000000000003 cfa value 0x000000000000000f
+frame 1 0x0000000000000007 cfa value 0x000000000000000f
+frame 2 0x0000000000000007 cfa value 0x000000000000000f
+frame 3 0x0000000000000007 cfa value 0x000000000000000f
+stop limit
+
+{CIE} {FDE_AT_ZERO} 0f013f 16100130 00 | reg 7 0x10
+dwcheck backtrace --hex f 0x3 s 9
+frame 0 0x0000000000000003 cfa value 0x000000000000000f
+frame 1 0x0000000000000000 none
+stop not covered
+
+{CIE} {FDE_AT_ZERO} 0f013f 16100130 00 | reg 7 0x10
+dwcheck backtrace --hex f 0x3 s 2
+frame 0 0x0000000000000003 cfa value 0x000000000000000f
+frame 1 0x0000000000000000 none
+stop limit
+
+{CIE} {FDE_AT_ZERO} 0710 000000000000 | reg 7 0x10
+dwcheck backtrace --hex f 0x3 s 9
+frame 0 0x0000000000000003 cfa value 0x0000000000000018
+stop return undefined
+
+{CIE} {FDE_AT_ZERO} 0710 000000000000 | reg 7 0x10
+dwcheck backtrace --hex f 0x3 s 1
+frame 0 0x0000000000000003 cfa value 0x0000000000000018
+stop limit
+
+{CIE} {FDE_AT_ZERO} 161003 31301b 0000 | reg 7 0x10
+dwcheck backtrace --hex f 0x3 s 9
+frame 0 0x0000000000000003 cfa value 0x0000000000000018
+stop return division by zero
+";
 
 #[test]
 fn texts_of_a_walk(rt: HostRuntime) -> Result<(), AllocError> {
-    for (line, text) in &WALKS {
-        comes_to(
-            &rt,
-            line,
-            &[FIRST_SECTION, &[STATE, LAST_WORD]],
-            End::Done,
-            text,
-        )?;
-    }
-    Ok(())
+    cases_come_to(&rt, WALKS)
 }
 
-/// What it writes without the word where frame 1 has saved its return address.
 #[test]
-fn text_of_a_walk_that_ends_early(rt: HostRuntime) -> Result<(), AllocError> {
-    let line = "dwcheck backtrace --hex f 0x1010 s 9";
-    let text = "frame 0 0x0000000000001010 cfa value 0x0000000000007f10
-frame 1 0x0000000000001020 cfa value 0x0000000000007f50
-stop return unreadable
-";
-    comes_to(&rt, line, &[FIRST_SECTION, &[STATE]], End::Done, &[text])
+fn walks_from_three(rt: HostRuntime) -> Result<(), AllocError> {
+    cases_come_to(&rt, FROM_THREE)
 }

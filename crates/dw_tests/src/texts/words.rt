@@ -1,50 +1,52 @@
 //! Command lines: those that ask for something, and those that are refused.
 
+use crate::inputs::parts_of;
 use crate::texts::cases::asked;
 use dw_check::{End, Usage};
 use std::alloc::AllocError;
+use std::process::Abort;
 
 /// Lines with a word that isn't what its place takes.
-const BAD_WORDS: [&str; 34] = [
-    "dwcheck row --hex f 1000",
-    "dwcheck row --hex f 0x",
-    "dwcheck row --hex f 0X10",
-    "dwcheck row --hex f 0x+1",
-    "dwcheck row --hex f 0x1g",
-    "dwcheck row --hex f 0x00000000000000001",
-    "dwcheck row --addr4 f 0x100000000",
-    "dwcheck eval foo X",
-    "dwcheck row F 0x",
-    "dwcheck eval Location e",
-    "dwcheck eval loc e",
-    "dwcheck eval  e",
-    "dwcheck eval frame e",
-    "dwcheck locs l 0x100000000 0x0 0x0",
-    "dwcheck locs l c 0x0 0x0",
-    "dwcheck locs l 0x 0x0 0x0",
-    "dwcheck locs l 0xc 0x00000000100000000 0x0",
-    "dwcheck locs l 0xc 0x0 0x1000g",
-    "dwcheck locs --addr4 l 0xc 0x100000000 0x0",
-    "dwcheck locs --addr4 l 0xc 0x0 0x100000000",
-    "dwcheck unwind f 1000 s",
-    "dwcheck unwind f 0x1000g s",
-    "dwcheck unwind --addr4 f 0x100000000 s",
-    "dwcheck backtrace f 1000 s 9",
-    "dwcheck backtrace --addr4 f 0x100000000 s 9",
-    "dwcheck backtrace f 0x1000 s 65536",
-    "dwcheck backtrace f 0x1000 s 000001",
-    "dwcheck backtrace f 0x1000 s ",
-    "dwcheck backtrace -- f 0x1000 s -1",
-    "dwcheck backtrace f 0x1000 s +1",
-    "dwcheck backtrace f 0x1000 s 0x1",
-    "dwcheck backtrace f 0x1000 s 1\t",
-    "dwcheck backtrace f 0x1000 s 99999",
-    "dwcheck backtrace f 0x1000 s a",
-];
+const BAD_WORDS: &str = "\
+dwcheck row --hex f 1000
+dwcheck row --hex f 0x
+dwcheck row --hex f 0X10
+dwcheck row --hex f 0x+1
+dwcheck row --hex f 0x1g
+dwcheck row --hex f 0x00000000000000001
+dwcheck row --addr4 f 0x100000000
+dwcheck eval foo X
+dwcheck row F 0x
+dwcheck eval Location e
+dwcheck eval loc e
+dwcheck eval  e
+dwcheck eval frame e
+dwcheck locs l 0x100000000 0x0 0x0
+dwcheck locs l c 0x0 0x0
+dwcheck locs l 0x 0x0 0x0
+dwcheck locs l 0xc 0x00000000100000000 0x0
+dwcheck locs l 0xc 0x0 0x1000g
+dwcheck locs --addr4 l 0xc 0x100000000 0x0
+dwcheck locs --addr4 l 0xc 0x0 0x100000000
+dwcheck unwind f 1000 s
+dwcheck unwind f 0x1000g s
+dwcheck unwind --addr4 f 0x100000000 s
+dwcheck backtrace f 1000 s 9
+dwcheck backtrace --addr4 f 0x100000000 s 9
+dwcheck backtrace f 0x1000 s 65536
+dwcheck backtrace f 0x1000 s 000001
+dwcheck backtrace f 0x1000 s\x20
+dwcheck backtrace -- f 0x1000 s -1
+dwcheck backtrace f 0x1000 s +1
+dwcheck backtrace f 0x1000 s 0x1
+dwcheck backtrace f 0x1000 s 1\t
+dwcheck backtrace f 0x1000 s 99999
+dwcheck backtrace f 0x1000 s a
+";
 
 #[test]
 fn bad_words(rt: HostRuntime) -> Result<(), AllocError> {
-    for line in &BAD_WORDS {
+    for line in BAD_WORDS.lines() {
         let answer = asked(rt.alloc(), line)?;
         assert!(rt; matches!(answer, Err(Usage::BadArgument)), "{line}");
     }
@@ -52,43 +54,43 @@ fn bad_words(rt: HostRuntime) -> Result<(), AllocError> {
 }
 
 /// Lines that are no command, on which clap says how they should be.
-const NO_COMMANDS: [&str; 31] = [
-    "dwcheck",
-    "dwcheck rows",
-    "dwcheck rows a b",
-    "dwcheck rows --what a",
-    "dwcheck rows --hex --hex a",
-    "dwcheck --hex rows a",
-    "dwcheck columns a",
-    "dwcheck row a",
-    "dwcheck row a 0x0 b",
-    "dwcheck rows --help",
-    "dwcheck rows --state s a",
-    "dwcheck row F 0x1 Z",
-    "dwcheck eval",
-    "dwcheck eval foo",
-    "dwcheck eval location",
-    "dwcheck eval location e f",
-    "dwcheck eval location e --state s --state t",
-    "dwcheck locs",
-    "dwcheck locs l 0xc 0x0",
-    "dwcheck locs l 0xc 0x0 0x0 0x0",
-    "dwcheck unwind f 0x1000",
-    "dwcheck unwind f 0x1000 s t",
-    "dwcheck unwind f 0x1000 --state s",
-    "dwcheck check",
-    "dwcheck check f",
-    "dwcheck check f l m",
-    "dwcheck check f l --state s",
-    "dwcheck backtrace f 0x1000 s",
-    "dwcheck backtrace f 0x1000 s 9 t",
-    "dwcheck backtrace f 0x1000 9 --state s",
-    "dwcheck backtrace f 0x1000 s -1",
-];
+const NO_COMMANDS: &str = "\
+dwcheck
+dwcheck rows
+dwcheck rows a b
+dwcheck rows --what a
+dwcheck rows --hex --hex a
+dwcheck --hex rows a
+dwcheck columns a
+dwcheck row a
+dwcheck row a 0x0 b
+dwcheck rows --help
+dwcheck rows --state s a
+dwcheck row F 0x1 Z
+dwcheck eval
+dwcheck eval foo
+dwcheck eval location
+dwcheck eval location e f
+dwcheck eval location e --state s --state t
+dwcheck locs
+dwcheck locs l 0xc 0x0
+dwcheck locs l 0xc 0x0 0x0 0x0
+dwcheck unwind f 0x1000
+dwcheck unwind f 0x1000 s t
+dwcheck unwind f 0x1000 --state s
+dwcheck check
+dwcheck check f
+dwcheck check f l m
+dwcheck check f l --state s
+dwcheck backtrace f 0x1000 s
+dwcheck backtrace f 0x1000 s 9 t
+dwcheck backtrace f 0x1000 9 --state s
+dwcheck backtrace f 0x1000 s -1
+";
 
 #[test]
 fn lines_that_are_no_command(rt: HostRuntime) -> Result<(), AllocError> {
-    for line in &NO_COMMANDS {
+    for line in NO_COMMANDS.lines() {
         let Err(Usage::Line(text)) = asked(rt.alloc(), line)? else {
             panic!(rt; "{line}")
         };
@@ -98,14 +100,14 @@ fn lines_that_are_no_command(rt: HostRuntime) -> Result<(), AllocError> {
 }
 
 /// Lines whose option lacks its value: clap says that and no usage.
-const NO_VALUES: [&str; 2] = [
-    "dwcheck eval location e --state",
-    "dwcheck locs l 0xc 0x0 0x0 --state",
-];
+const NO_VALUES: &str = "\
+dwcheck eval location e --state
+dwcheck locs l 0xc 0x0 0x0 --state
+";
 
 #[test]
 fn options_without_a_value(rt: HostRuntime) -> Result<(), AllocError> {
-    for line in &NO_VALUES {
+    for line in NO_VALUES.lines() {
         let Err(Usage::Line(text)) = asked(rt.alloc(), line)? else {
             panic!(rt; "{line}")
         };
@@ -115,44 +117,42 @@ fn options_without_a_value(rt: HostRuntime) -> Result<(), AllocError> {
     Ok(())
 }
 
-/// Lines that ask for something, and the name of the first file and of the second, if there is one.
-const GOOD: [(&str, &str, Option<&str>); 12] = [
-    ("dwcheck row --big f 0xFFFFffffFFFFffff", "f", None),
-    ("dwcheck row --addr4 f 0x00000000ffffffff", "f", None),
-    ("dwcheck check --hex f l", "f", Some("l")),
-    ("dwcheck eval location e", "e", None),
-    ("dwcheck eval --state s location e", "e", Some("s")),
-    (
-        "dwcheck locs --addr4 l 0xffffffff 0xffffffff 0xFFFFFFFF",
-        "l",
-        None,
-    ),
-    ("dwcheck unwind f 0x1000 s", "f", Some("s")),
-    ("dwcheck backtrace -- f 0x1000 s 0", "f", Some("s")),
-    ("dwcheck backtrace f 0x1000 s 65535", "f", Some("s")),
-    ("dwcheck backtrace f 0x1000 s 00009", "f", Some("s")),
-    ("dwcheck backtrace f 0x1000 s 9 --hex", "f", Some("s")),
-    (
-        "dwcheck backtrace --big --addr4 --hex f 0xffffffff s 9",
-        "f",
-        Some("s"),
-    ),
-];
+/// Lines that ask for something, and the names of their files.
+const GOOD: &str = "\
+dwcheck row --big f 0xFFFFffffFFFFffff: f
+dwcheck row --addr4 f 0x00000000ffffffff: f
+dwcheck check --hex f l: f l
+dwcheck eval location e: e
+dwcheck eval --state s location e: e s
+dwcheck locs --addr4 l 0xffffffff 0xffffffff 0xFFFFFFFF: l
+dwcheck unwind f 0x1000 s: f s
+dwcheck backtrace -- f 0x1000 s 0: f s
+dwcheck backtrace f 0x1000 s 65535: f s
+dwcheck backtrace f 0x1000 s 00009: f s
+dwcheck backtrace f 0x1000 s 9 --hex: f s
+dwcheck backtrace --big --addr4 --hex f 0xffffffff s 9: f s
+";
+
+/// The names of the files that the line asks for, one blank between two.
+fn names_of(rt: &(impl Abort + AllocGlobal), line: &str) -> Result<String, AllocError> {
+    let Ok(request) = asked(rt.alloc(), line)? else {
+        panic!(rt; "{line}")
+    };
+    let mut names = String::new(rt.alloc());
+    for name in request.files() {
+        if !names.is_empty() {
+            names.push(' ')?;
+        }
+        names.push_str(name)?;
+    }
+    Ok(names)
+}
 
 #[test]
 fn names_of_files(rt: HostRuntime) -> Result<(), AllocError> {
-    for (line, first, second) in &GOOD {
-        let Ok(request) = asked(rt.alloc(), line)? else {
-            panic!(rt; "{line}")
-        };
-        let mut names = request.files().iter();
-        assert_eq!(rt;
-            names.next().map(|name| name.as_str()),
-            Some(*first),
-            "{line}"
-        );
-        assert_eq!(rt; names.next().map(|name| name.as_str()), *second, "{line}");
-        assert!(rt; names.next().is_none(), "{line}");
+    for case in GOOD.lines() {
+        let (line, names) = parts_of(&rt, case);
+        assert_eq!(rt; names_of(&rt, line)?.as_str(), names, "{line}");
     }
     Ok(())
 }
