@@ -5,9 +5,9 @@ use Rattle.dw_bytes.specs.declared.target.Target.{Target}
 use Rattle.dw_bytes.specs.declared.fault.Fault.{Fault}
 use Rattle.dw_bytes.specs.declared.fault.FaultKind.{FaultKind}
 use Rattle.dw_bytes.specs.Reading.{ReadPosition, ◌>>=◌, take_at, fixed_at, uleb_at}
-use Rattle.dw_bytes.specs.Operands.{Kind, address, fixed, signed_fixed, unsigned, signed, register_number, read_size, piece_size, block}
-use Rattle.dw_bytes.specs.Operands.{Block, operand_at, fits, range_fault, Operands, values_at, in_range, in_ranges, given_at, Line, line}
-use Rattle.dw_bytes.specs.Operands.{operands_at, coded_at}
+use Rattle.dw_bytes.specs.Operands.{OperandKind, address, fixed, signed_fixed, unsigned, signed, register_number, read_size, piece_size}
+use Rattle.dw_bytes.specs.Operands.{Block, operand_at, fits, range_fault, Operands, values_at, in_range, in_ranges, operands_in_range_at, Line}
+use Rattle.dw_bytes.specs.Operands.{line, block, operands_at, coded_at}
 use Rattle.dw_bytes.proofs.Bounds.{Stays, AlwaysStays, bind-stays, made-stays, fixed-stays, address-stays, uleb-stays, sleb-stays}
 use Rattle.dw_bytes.proofs.Bounds.{take-stays}
 
@@ -21,7 +21,7 @@ block-stays : (from : ℕ) (target : Target) (n : ℕ) → AlwaysStays from (blo
 block-stays from target n s h = bind-stays from s (take_at n s) (λ b t. Ok (block-of s.position target b, t)) h (take-stays from n s h)
     (λ b. made-stays from (block-of s.position target b))
 
-pub operand-stays : (from : ℕ) (kind : Kind) → AlwaysStays from (operand_at kind)
+pub operand-stays : (from : ℕ) (kind : OperandKind) → AlwaysStays from (operand_at kind)
 operand-stays from address = address-stays from
 operand-stays from (fixed n) = fixed-stays from n
 operand-stays from (signed_fixed w) = λ r h. bind-stays from r (fixed_at (byte_len w) r) (λ n s. Ok (cast_signed w n, s)) h
@@ -33,7 +33,7 @@ operand-stays from read_size = fixed-stays from 1
 operand-stays from piece_size = uleb-stays from
 operand-stays from block = λ r h. bind-stays from r (uleb_at r) (block-behind r.target) h (uleb-stays from r h) (block-stays from r.target)
 
-values-stay : (from : ℕ) (kinds : List Kind) → AlwaysStays from (values_at kinds)
+values-stay : (from : ℕ) (kinds : List OperandKind) → AlwaysStays from (values_at kinds)
 values-stay from [] = λ r h. (omega arith, refl)
 values-stay from (kind ∷ kinds) = λ r h.
     bind-stays from r (operand_at kind r) (λ v s. values_at kinds s >>= λ vs. Ok ((v, vs.0), vs.1)) h (operand-stays from kind r h)
@@ -55,7 +55,7 @@ range-at : {A : Type 0} (at : ℕ) (b : Bool) (a : A) (kind : FaultKind)
 range-at at true a kind = tt
 range-at at false a kind = refl
 
-ranges-at : (target : Target) (at : ℕ) (kinds : List Kind) (vs : Operands kinds) → IsAt at (in_ranges target at kinds vs)
+ranges-at : (target : Target) (at : ℕ) (kinds : List OperandKind) (vs : Operands kinds) → IsAt at (in_ranges target at kinds vs)
 ranges-at target at [] vs = tt
 ranges-at target at (kind ∷ kinds) vs =
     bind-at at (in_range target at kind vs.0) (λ v. in_ranges target at kinds vs.1 >>= λ others. Ok (v, others))
@@ -67,14 +67,14 @@ judged-stays : {A : Type 0} (at : ℕ) (r : ReadPosition) (x : Result A Fault) �
 judged-stays at r (Ok a) h k = (omega arith, refl)
 judged-stays at r (Err fault) h k = (omega (arith, k), omega (arith, k))
 
-given-stays : (at : ℕ) (kinds : List Kind) → AlwaysStays at (given_at at kinds)
+given-stays : (at : ℕ) (kinds : List OperandKind) → AlwaysStays at (operands_in_range_at at kinds)
 given-stays at kinds r h =
     bind-stays at r (values_at kinds r) (λ vs s. in_ranges r.target at kinds vs >>= λ given. Ok (given, s)) h (values-stay at kinds r h)
     (λ vs s k. judged-stays at s (in_ranges r.target at kinds vs) k (ranges-at r.target at kinds vs))
 
 operands-stay : {I : Type 0} (unknown : FaultKind) (at : ℕ) (of : Option (Line I)) → AlwaysStays at (operands_at unknown at of)
 operands-stay unknown at None r h = (omega arith, omega arith)
-operands-stay unknown at (Some (line kinds make)) r h = bind-stays at r (given_at at kinds r) (λ vs s. Ok (make vs, s)) h
+operands-stay unknown at (Some (line kinds make)) r h = bind-stays at r (operands_in_range_at at kinds r) (λ vs s. Ok (make vs, s)) h
     (given-stays at kinds r h) (λ vs. made-stays at (make vs))
 
 pub coded-stays : {I : Type 0} (table : ℕ → Option (Line I)) (unknown : FaultKind) (r : ReadPosition)

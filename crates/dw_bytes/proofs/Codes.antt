@@ -9,10 +9,10 @@ use Rattle.dw_bytes.specs.declared.fault.Fault.{Fault}
 use Rattle.dw_bytes.specs.declared.fault.FaultKind.{FaultKind}
 use Rattle.dw_bytes.specs.Encoding.{Uleb}
 use Rattle.dw_bytes.specs.Reading.{ReadPosition, Next, IsExact, ◌>>=◌, take_at, fixed_at, uleb_at}
-use Rattle.dw_bytes.specs.Operands.{Kind, address, fixed, signed_fixed, unsigned, signed, register_number, read_size, piece_size, block}
+use Rattle.dw_bytes.specs.Operands.{OperandKind, address, fixed, signed_fixed, unsigned, signed, register_number, read_size, piece_size}
 use Rattle.dw_bytes.specs.Operands.{Block, Operand, IsOperand, IsBlock, SignedFixed, signed_fixed_at, block_at, operand_at, fits}
-use Rattle.dw_bytes.specs.Operands.{range_fault, Operands, AreEncoded, Fit, values_at, in_range, in_ranges, given_at, Line, line}
-use Rattle.dw_bytes.specs.Operands.{AreOperands, Coded, operands_at, coded_at}
+use Rattle.dw_bytes.specs.Operands.{range_fault, Operands, AreEncoded, Fit, values_at, in_range, in_ranges, operands_in_range_at, Line}
+use Rattle.dw_bytes.specs.Operands.{line, block, AreOperands, Coded, operands_at, coded_at}
 use Rattle.dw_bytes.proofs.Fields.{take_exact, fixed_exact, uleb_exact}
 use Rattle.dw_bytes.proofs.Readers.{ExactAt, bind-ok, ok-is, same-reading, fixed-exact, uleb-exact, sleb-exact, address-exact}
 
@@ -90,7 +90,7 @@ block-own r = record {
       rw (one, two) (ap (λ (b : Block). finish b after) (same-block v (r.position + length s.count) r.target s.offset_is s.target_is));
 }
 
-pub operand-exact : (target : Target) (kind : Kind) → ExactAt target (operand_at kind) (IsOperand target kind)
+pub operand-exact : (target : Target) (kind : OperandKind) → ExactAt target (operand_at kind) (IsOperand target kind)
 operand-exact target address = address-exact target
 operand-exact target (fixed n) = fixed-exact target n
 operand-exact target (signed_fixed w) = λ r same. subst (λ (t : Target). IsExact (signed_fixed_at w) (SignedFixed t w) r) same
@@ -104,7 +104,7 @@ operand-exact target block = λ r same. subst (λ (t : Target). IsExact block_at
 
 -- ---- operands one behind the other
 
-values-exact : (target : Target) (kinds : List Kind) → ExactAt target (values_at kinds) (AreEncoded target kinds)
+values-exact : (target : Target) (kinds : List OperandKind) → ExactAt target (values_at kinds) (AreEncoded target kinds)
 values-exact target [] r same = record {
   found = λ vs after is. given (AreEncoded target [] r.position) r tt vs r after is
       (record { bytes = []; encoded = refl; parts = refl; position = omega arith; target = refl });
@@ -158,10 +158,10 @@ ranged : {A : Type 0} (b : Bool) (fault : Fault) (v w : A) → cond b (fine v) (
 ranged true fault v w is = (refl, cc)
 ranged false fault v w is = absurd cc
 
-abbrev judged : (kinds : List Kind) → Result (Operands kinds) Fault → Operands kinds → Type 0
+abbrev judged : (kinds : List OperandKind) → Result (Operands kinds) Fault → Operands kinds → Type 0
 judged kinds result vs = result ≡ Ok vs
 
-in-ranges : (target : Target) (at : ℕ) (kinds : List Kind) (vs ws : Operands kinds) → judged kinds (in_ranges target at kinds vs) ws
+in-ranges : (target : Target) (at : ℕ) (kinds : List OperandKind) (vs ws : Operands kinds) → judged kinds (in_ranges target at kinds vs) ws
     → Fit target kinds vs × (vs ≡ ws)
 in-ranges target at [] vs ws is = (tt, refl)
 in-ranges target at (kind ∷ kinds) vs ws is =
@@ -172,7 +172,7 @@ in-ranges target at (kind ∷ kinds) vs ws is =
     let all : (v.0, others.0) ≡ ws = let both : fine (v.0, others.0) ≡ fine ws = others.2 in cc in
     ((first.0, rest.0), ap (λ (x : Operand kind). (x, vs.1)) first.1 ∙ (ap (λ (x : Operands kinds). (v.0, x)) rest.1 ∙ all))
 
-ranges-fit : (target : Target) (at : ℕ) (kinds : List Kind) (vs : Operands kinds) → Fit target kinds vs
+ranges-fit : (target : Target) (at : ℕ) (kinds : List OperandKind) (vs : Operands kinds) → Fit target kinds vs
     → judged kinds (in_ranges target at kinds vs) vs
 ranges-fit target at [] vs fit = refl
 ranges-fit target at (kind ∷ kinds) vs fit =
@@ -182,11 +182,11 @@ ranges-fit target at (kind ∷ kinds) vs fit =
 
 -- ---- lines and codes
 
-line-own : {I : Type 0} (unknown : FaultKind) (at : ℕ) (kinds : List Kind) (make : Operands kinds → I) (r : ReadPosition)
+line-own : {I : Type 0} (unknown : FaultKind) (at : ℕ) (kinds : List OperandKind) (make : Operands kinds → I) (r : ReadPosition)
     → IsExact (operands_at unknown at (Some (line kinds make))) (AreOperands r.target (Some (line kinds make)) r.position) r
 line-own {I} unknown at kinds make r = record {
   found = λ i after is.
-      let g = bind-ok (given_at at kinds r) (λ vs. finish (make vs.0) vs.1) (i, after) is in
+      let g = bind-ok (operands_in_range_at at kinds r) (λ vs. finish (make vs.0) vs.1) (i, after) is in
       let v = bind-ok (values_at kinds r) (λ vs. in_ranges r.target at kinds vs.0 >>= λ ws. finish ws vs.1) g.0 g.1 in
       let w = bind-ok (in_ranges r.target at kinds v.0.0) (λ ws. finish ws v.0.1) g.0 v.2 in
       let h = (values-exact r.target kinds r refl).found v.0.0 v.0.1 v.1 in

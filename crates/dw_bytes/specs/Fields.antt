@@ -5,16 +5,16 @@ use Rattle.dw_bytes.specs.declared.target.Target.{Target}
 use Rattle.dw_bytes.specs.declared.fault.Fault.{Fault}
 use Rattle.dw_bytes.specs.declared.fault.FaultKind.{FaultKind}
 use Rattle.dw_bytes.specs.Reading.{ReadPosition, ◌>>=◌}
-use Rattle.dw_bytes.specs.Operands.{Kind, fixed, Operand, IsOperand, operand_at}
+use Rattle.dw_bytes.specs.Operands.{OperandKind, fixed, Operand, IsOperand, operand_at}
 
 -- Nothing more, and a value; or a field of a kind, what is wrong with its value if anything is, and what comes behind it,
 -- which may depend on the value.
 pub data Fields (B : Type 0) : Type 0 where
   made : B → Fields B
-  field : (kind : Kind) → (Operand kind → Option FaultKind) → (Operand kind → Fields B) → Fields B
+  field : (kind : OperandKind) → (Operand kind → Option FaultKind) → (Operand kind → Fields B) → Fields B
 
 -- a field of any value, one that has to pass a test, and a byte that can have one value alone
-abbrev pub any : {B : Type 0} (kind : Kind) → (Operand kind → Fields B) → Fields B
+abbrev pub any : {B : Type 0} (kind : OperandKind) → (Operand kind → Fields B) → Fields B
 any kind next = field kind (λ v. None) next
 
 abbrev pub unless : Bool → FaultKind → Option FaultKind
@@ -36,7 +36,7 @@ abbrev pub judged : {X : Type 0} → Option FaultKind → ℕ → X → Result X
 judged None at x = Ok x
 judged (Some fault) at x = Err (record { kind = fault; at = at })
 
-abbrev pub field_at : (kind : Kind) → (Operand kind → Option FaultKind) → ReadPosition → Result (Operand kind × ReadPosition) Fault
+abbrev pub field_at : (kind : OperandKind) → (Operand kind → Option FaultKind) → ReadPosition → Result (Operand kind × ReadPosition) Fault
 field_at kind fault r = operand_at kind r >>= λ x. judged (fault x.0) r.position x
 
 abbrev pub byte_at : FaultKind → ℕ → ReadPosition → Result (ℕ × ReadPosition) Fault

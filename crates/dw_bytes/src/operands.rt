@@ -1,11 +1,13 @@
-//! Operands that have to be in a range. Where they aren't, the fault stands at the code that they follow, whose offset each
-//! call is given. A refused read leaves the cursor where it was.
+//! Operands that have to be in a range. All operands of a code are read before any is judged: `Truncated` and `LebRange` stand at
+//! the operand. Where one isn't in its range, the fault stands at the code that they follow, whose offset `at` each call is given:
+//! `RegisterNumber` for a register above 65535, `PieceSize` for a size or offset of a piece above 2^32 - 1, `BadSize` for the size of
+//! a read. A refused read leaves the cursor where it was.
 
 ghost use Rattle.std.specs.Prelude.{◌≡◌, ◌≤◌, [], ◌∷◌};
 ghost use Rattle.dw_bytes.specs.Reading.{MovesForward, ReadsBy};
 ghost use Rattle.dw_bytes.specs.Readers.{IsRefusedWithin};
-ghost use Rattle.dw_bytes.specs.Operands.{unsigned, signed, register_number, read_size, piece_size, block, in_range, given_at, one_value};
-ghost use Rattle.dw_bytes.specs.Operands.{two_values, block_of};
+ghost use Rattle.dw_bytes.specs.Operands.{unsigned, signed, register_number, read_size, piece_size, block, in_range, one_value, two_values};
+ghost use Rattle.dw_bytes.specs.Operands.{block_of, operands_in_range_at};
 
 use crate::block::Block;
 use crate::cursor::Cursor;
@@ -61,7 +63,7 @@ fn read_size_in_range(size: u8, at: u32, target: Target) -> Result<u8, Fault>
 pub fn register(cursor: &mut Cursor<'_>, at: u32) -> Result<u16, Fault>
     requires { at ≤ cursor.old.position }
     ensures exact { ReadsBy one_value
-        (given_at at (register_number ∷ [])) cursor.old result cursor.new }
+        (operands_in_range_at at (register_number ∷ [])) cursor.old result cursor.new }
     ensures within { IsRefusedWithin cursor.old result }
     ensures goes_on { MovesForward cursor.old cursor.new }
 {
@@ -75,7 +77,8 @@ pub fn register(cursor: &mut Cursor<'_>, at: u32) -> Result<u16, Fault>
 pub fn two_registers(cursor: &mut Cursor<'_>, at: u32) -> Result<(u16, u16), Fault>
     requires { at ≤ cursor.old.position }
     ensures exact { ReadsBy two_values
-        (given_at at (register_number ∷ register_number ∷ [])) cursor.old result cursor.new }
+        (operands_in_range_at at (register_number ∷ register_number ∷ []))
+        cursor.old result cursor.new }
     ensures within { IsRefusedWithin cursor.old result }
     ensures goes_on { MovesForward cursor.old cursor.new }
 {
@@ -96,7 +99,7 @@ pub fn two_registers(cursor: &mut Cursor<'_>, at: u32) -> Result<(u16, u16), Fau
 pub fn register_and_unsigned(cursor: &mut Cursor<'_>, at: u32) -> Result<(u16, u64), Fault>
     requires { at ≤ cursor.old.position }
     ensures exact { ReadsBy two_values
-        (given_at at (register_number ∷ unsigned ∷ [])) cursor.old result cursor.new }
+        (operands_in_range_at at (register_number ∷ unsigned ∷ [])) cursor.old result cursor.new }
     ensures within { IsRefusedWithin cursor.old result }
     ensures goes_on { MovesForward cursor.old cursor.new }
 {
@@ -112,7 +115,7 @@ pub fn register_and_unsigned(cursor: &mut Cursor<'_>, at: u32) -> Result<(u16, u
 pub fn register_and_signed(cursor: &mut Cursor<'_>, at: u32) -> Result<(u16, i64), Fault>
     requires { at ≤ cursor.old.position }
     ensures exact { ReadsBy two_values
-        (given_at at (register_number ∷ signed ∷ [])) cursor.old result cursor.new }
+        (operands_in_range_at at (register_number ∷ signed ∷ [])) cursor.old result cursor.new }
     ensures within { IsRefusedWithin cursor.old result }
     ensures goes_on { MovesForward cursor.old cursor.new }
 {
@@ -128,7 +131,7 @@ pub fn register_and_signed(cursor: &mut Cursor<'_>, at: u32) -> Result<(u16, i64
 pub fn register_and_block<'a>(cursor: &mut Cursor<'a>, at: u32) -> Result<(u16, Block<'a>), Fault>
     requires { at ≤ cursor.old.position }
     ensures exact { ReadsBy (λ v. two_values (v.0, block_of v.1))
-        (given_at at (register_number ∷ block ∷ [])) cursor.old result cursor.new }
+        (operands_in_range_at at (register_number ∷ block ∷ [])) cursor.old result cursor.new }
     ensures within { IsRefusedWithin cursor.old result }
     ensures goes_on { MovesForward cursor.old cursor.new }
 {
@@ -140,10 +143,10 @@ pub fn register_and_block<'a>(cursor: &mut Cursor<'a>, at: u32) -> Result<(u16, 
     Ok((register, block))
 }
 
-/// A block, which has the count of its bytes as unsigned LEB128 before it.
+/// A block, which has the count of its bytes as unsigned LEB128 before it. It is always in its range, so `at` says nothing.
 pub fn block<'a>(cursor: &mut Cursor<'a>, at: u32) -> Result<Block<'a>, Fault>
     ensures exact { ReadsBy (λ v. one_value (block_of v))
-        (given_at at (block ∷ [])) cursor.old result cursor.new }
+        (operands_in_range_at at (block ∷ [])) cursor.old result cursor.new }
     ensures within { IsRefusedWithin cursor.old result }
     ensures goes_on { MovesForward cursor.old cursor.new }
 {
@@ -163,7 +166,8 @@ pub fn block<'a>(cursor: &mut Cursor<'a>, at: u32) -> Result<Block<'a>, Fault>
 /// The size of a piece: unsigned LEB128, at most 2^32 - 1, else `PieceSize` at the code.
 pub fn piece_size(cursor: &mut Cursor<'_>, at: u32) -> Result<u32, Fault>
     requires { at ≤ cursor.old.position }
-    ensures exact { ReadsBy one_value (given_at at (piece_size ∷ [])) cursor.old result cursor.new }
+    ensures exact { ReadsBy one_value
+        (operands_in_range_at at (piece_size ∷ [])) cursor.old result cursor.new }
     ensures within { IsRefusedWithin cursor.old result }
     ensures goes_on { MovesForward cursor.old cursor.new }
 {
@@ -178,7 +182,7 @@ pub fn piece_size(cursor: &mut Cursor<'_>, at: u32) -> Result<u32, Fault>
 pub fn two_piece_sizes(cursor: &mut Cursor<'_>, at: u32) -> Result<(u32, u32), Fault>
     requires { at ≤ cursor.old.position }
     ensures exact { ReadsBy two_values
-        (given_at at (piece_size ∷ piece_size ∷ [])) cursor.old result cursor.new }
+        (operands_in_range_at at (piece_size ∷ piece_size ∷ [])) cursor.old result cursor.new }
     ensures within { IsRefusedWithin cursor.old result }
     ensures goes_on { MovesForward cursor.old cursor.new }
 {
@@ -197,7 +201,8 @@ pub fn two_piece_sizes(cursor: &mut Cursor<'_>, at: u32) -> Result<(u32, u32), F
 /// The size of a read in one byte: 1, 2, 4 or 8 and at most that of an address, else `BadSize` at the code.
 pub fn read_size(cursor: &mut Cursor<'_>, at: u32) -> Result<u8, Fault>
     requires { at ≤ cursor.old.position }
-    ensures exact { ReadsBy one_value (given_at at (read_size ∷ [])) cursor.old result cursor.new }
+    ensures exact { ReadsBy one_value
+        (operands_in_range_at at (read_size ∷ [])) cursor.old result cursor.new }
     ensures within { IsRefusedWithin cursor.old result }
     ensures goes_on { MovesForward cursor.old cursor.new }
 {

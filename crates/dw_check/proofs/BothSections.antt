@@ -4,12 +4,12 @@ use Rattle.std.specs.Prelude.{Option, Some, None}
 use Rattle.dw_bytes.specs.declared.target.Target.{Target}
 use Rattle.dw_bytes.specs.declared.fault.Fault.{Fault}
 use Rattle.dw_bytes.specs.Answers.{memory}
-use Rattle.dw_rows.specs.Section.{Frame, frame_of}
+use Rattle.dw_rows.specs.Section.{FrameSection, frame_of}
 use Rattle.dw_rows.specs.Section as rows
 use Rattle.dw_loclists.specs.Reading.{ListSection, IsChecked}
 use Rattle.dw_check.specs.Checked.{check_fault, fault_within}
 use Rattle.dw_check.specs.Runs.{Reply, text, refusal, not_hex, bad_line, OfChecked}
-use Rattle.dw_check.specs.Stops.{IsFirstFault, IsRefusal}
+use Rattle.dw_check.specs.Stops.{RefusesBoth, IsRefusal}
 use Rattle.dw_check.specs.declared.stop.Section.{Section}
 use Rattle.dw_check.specs.declared.stop.RunFault.{RunFault}
 use Rattle.dw_check.specs.declared.stop.RunFault.TheVariants.{Refused, BadHex, StateLine, Memory, Output}
@@ -18,7 +18,7 @@ use Rattle.dw_check.proofs.WholeCheck.{each_without_fault}
 
 -- ---- what stops a check
 
-lacked : (first : Option CheckFault) (section : Section) (stop : RunFault) → IsRefusal section None stop → IsFirstFault first stop
+lacked : (first : Option CheckFault) (section : Section) (stop : RunFault) → IsRefusal section None stop → RefusesBoth first stop
 lacked first section (Refused s f) h = let never : None ≡ Some f = h.1 in cc
 lacked first section Memory h = tt
 lacked first section (BadHex n) h = absurd h
@@ -26,7 +26,7 @@ lacked first section (StateLine n) h = absurd h
 lacked first section Output h = absurd h
 
 named : (first : Option CheckFault) (found : CheckFault) (stop : RunFault) → first ≡ Some found
-    → IsRefusal found.section (Some found.fault) stop → IsFirstFault first stop
+    → IsRefusal found.section (Some found.fault) stop → RefusesBoth first stop
 named first found (Refused s f) is h =
     let both : Some found.fault ≡ Some f = h.1 in
     let same : found.fault ≡ f = cc in
@@ -39,13 +39,13 @@ named first found Output is h = absurd h
 -- what stops a run for a section's fault stops it for the first of both
 pub stopped : (first : Option CheckFault) (found : CheckFault) (stop : RunFault)
     → ((own : Option Fault) → (found.fault ≡ memory) ⊎ (own ≡ Some found.fault) → IsRefusal found.section own stop)
-    → (found.fault ≡ memory) ⊎ (first ≡ Some found) → IsFirstFault first stop
+    → (found.fault ≡ memory) ⊎ (first ≡ Some found) → RefusesBoth first stop
 stopped first found stop each (inl lacks) = lacked first found.section stop (each None (inl lacks))
 stopped first found stop each (inr is) = named first found stop is (each (Some found.fault) (inr refl))
 
 -- ---- one reply, and each has one
 
-module _ (target : Target) (frame lists : List ℕ) (Shows : Frame → ListSection → List ℕ → Type 0) where
+module _ (target : Target) (frame lists : List ℕ) (Shows : FrameSection → ListSection → List ℕ → Type 0) where
   abbrev Shown : List ℕ → Type 0
   Shown written = Shows (frame_of target frame) (record { target = target; section = lists }) written
 

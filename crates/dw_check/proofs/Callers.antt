@@ -8,7 +8,7 @@ use Rattle.dw_bytes.specs.declared.target.Target.{Target}
 use Rattle.dw_frame.specs.Records.{Cie, Fde}
 use Rattle.dw_rows.specs.Abi.{Abi, or_rule, rule_under, rules_under}
 use Rattle.dw_rows.specs.Rules.{Rule, Cfa, Row, default, undefined, same_value, offset, val_offset, register, expression, val_expression}
-use Rattle.dw_rows.specs.Section.{Frame, IsCoverOf, cie_in, row_of}
+use Rattle.dw_rows.specs.Section.{FrameSection, IsCoverOf, cie_in, row_of}
 use Rattle.dw_stack.specs.declared.state.Kind.{Kind}
 use Rattle.dw_stack.specs.Located.{LocatedExpression}
 use Rattle.dw_eval.specs.World.{World}
@@ -80,24 +80,25 @@ by_default e cfa r (expression x) answer h = h
 by_default e cfa r (val_expression x) answer h = h
 
 -- It is what is said of the row's rules, under the target of the section.
-pub by_row : (registers memory : ℕ → Option ℕ) (target : Target) (frame given : Frame) (address : ℕ) (fde : Fde) (cie : Cie) (row : Row)
+pub by_row : (registers memory : ℕ → Option ℕ) (target : Target) (frame given : FrameSection) (address : ℕ) (fde : Fde) (cie : Cie)
+    (row : Row)
     (rule : Cfa) (abi : Abi) (rules : List (ℕ × Rule)) (back : Rule) (cfa returned : Answer) (answers : List (ℕ × Answer)) → given ≡ frame
     → target ≡ given.target → IsCoverOf given.fdes address (Some fde) → cie_in given fde ≡ Some cie → row_of given address ≡ Some row
     → row.cfa ≡ Some rule → IsCfa (machine target registers memory) (Some rule) cfa → rules ≡ rules_under abi row.rules
     → AreRegisters (machine target registers memory) cfa rules answers
-    → back ≡ or_rule (rule_under abi row.rules cie.return_register) undefined
-    → IsRegister (machine target registers memory) cfa cie.return_register back returned
+    → back ≡ or_rule (rule_under abi row.rules cie.return_address_register) undefined
+    → IsRegister (machine target registers memory) cfa cie.return_address_register back returned
     → IsCallerAt (machine frame.target registers memory) abi frame address
     (record { cfa = cfa; registers = answers; return_address = returned })
 by_row registers memory target frame given address fde cie row rule abi rules back cfa returned answers same of_target covers points found
     cfa_is has_cfa rules_are has_registers back_is returns =
     let e = machine target registers memory in
     let caller : Caller = record { cfa = cfa; registers = answers; return_address = returned } in
-    let by_rules : IsCaller e abi cie.return_register row caller = record {
+    let by_rules : IsCaller e abi cie.return_address_register row caller = record {
       cfa = subst (λ c. IsCfa e c cfa) (sym cfa_is) has_cfa;
       registers = subst (λ rs. AreRegisters e cfa rs answers) rules_are has_registers;
-      return_address = by_default e cfa cie.return_register (rule_under abi row.rules cie.return_register) returned
-          (subst (λ b. IsRegister e cfa cie.return_register b returned) back_is returns);
+      return_address = by_default e cfa cie.return_address_register (rule_under abi row.rules cie.return_address_register) returned
+          (subst (λ b. IsRegister e cfa cie.return_address_register b returned) back_is returns);
     } in
     let here : IsCallerAt (machine given.target registers memory) abi given address caller = record {
       fde = fde;
@@ -106,6 +107,6 @@ by_row registers memory target frame given address fde cie row rule abi rules ba
       cie_is = points;
       row = row;
       row_is = found;
-      is = subst (λ t. IsCaller (machine t registers memory) abi cie.return_register row caller) of_target by_rules;
+      is = subst (λ t. IsCaller (machine t registers memory) abi cie.return_address_register row caller) of_target by_rules;
     } in
     subst (λ f. IsCallerAt (machine f.target registers memory) abi f address caller) same here

@@ -22,15 +22,15 @@ use Rattle.dw_rows.specs.Expressions.{expression_at}
 use Rattle.dw_rows.specs.GivenRows.{nowhere, or_nowhere, located_at, given_rule, given_cfa, given_rules, given_row}
 use Rattle.dw_rows.specs.Rules.{PlacedRule, PlacedCfa, PlacedRow, Rule, Cfa, Row, RuleOver, register_and_offset, cfa_expression, rule_in}
 use Rattle.dw_rows.specs.Rules.{default, same_value, offset, val_offset, register, expression, val_expression}
-use Rattle.dw_rows.specs.Section.{Frame, IsChecked, cie_in, covers, rows_behind, rows_in, row_of}
+use Rattle.dw_rows.specs.Section.{FrameSection, IsChecked, cie_in, covers, rows_behind, rows_in, row_of}
 use Rattle.dw_rows.specs.UnwindRows.{has_address}
 use Rattle.dw_eval.specs.Fits.{NumbersFit}
 use Rattle.dw_eval.specs.Meaning.{meaning_of}
 use Rattle.dw_eval.specs.Numbers.{reduced, width_of}
-use Rattle.dw_eval.specs.Results.{Outcome, located, no_answer, result_of, first_stack, started, RunsFrom, IsRun}
+use Rattle.dw_eval.specs.Results.{Outcome, outcome_of_location, no_answer, result_of, first_stack, started, RunsFrom, IsRun}
 use Rattle.dw_eval.specs.World.{World, width, number_at}
 use Rattle.dw_check.specs.Caller.{Answer, value, undefined, unreadable, division_by_zero, machine, with_cfa, under, moved, moved_content}
-use Rattle.dw_check.specs.Caller.{word, behind, answer_of, Gives, IsCfa, NeedsCfa, IsRegister, AreRegisters, Caller, IsCaller, Unwinds}
+use Rattle.dw_check.specs.Caller.{word, if_value, answer_of, Gives, IsCfa, NeedsCfa, IsRegister, AreRegisters, Caller, IsCaller, Unwinds}
 use Rattle.dw_check.specs.CallerFits.{AnswerFits, CallerFits}
 
 -- ---- answers without a run
@@ -52,11 +52,11 @@ word_fits e a =
     either_fits (2 ^ width e) (nat_le (a + bytes_of_address e.target.address_size) (2 ^ width e)) _ unreadable
     (content_fits e (pos 0) (number_at e.memory e.target.order a (bytes_of_address e.target.address_size))) tt
 
-behind_fits : (m : ℕ) (a : Answer) (f : ℕ → Answer) → ((n : ℕ) → AnswerFits m (f n)) → AnswerFits m (behind a f)
-behind_fits m (value n) f each = each n
-behind_fits m undefined f each = tt
-behind_fits m unreadable f each = tt
-behind_fits m division_by_zero f each = tt
+if_value_fits : (m : ℕ) (a : Answer) (f : ℕ → Answer) → ((n : ℕ) → AnswerFits m (f n)) → AnswerFits m (if_value a f)
+if_value_fits m (value n) f each = each n
+if_value_fits m undefined f each = tt
+if_value_fits m unreadable f each = tt
+if_value_fits m division_by_zero f each = tt
 
 needs_fit : (m : ℕ) (cfa : Answer) (Is : ℕ → Answer → Type 0) (a : Answer) → ((c : ℕ) → Is c a → AnswerFits m a) → NeedsCfa cfa Is a
     → AnswerFits m a
@@ -158,7 +158,7 @@ found_among es test (x ∷ rows) row is = go (found_among es test rows row) (tes
     go later true e = let same : given_row es x ≡ row = cc in (x, same)
     go later false e = later e
 
-row_is_with : (s : Frame) (a : ℕ) (row : Row) → row_of s a ≡ Some row → (x : PlacedRow) × (given_row s.expressions x ≡ row)
+row_is_with : (s : FrameSection) (a : ℕ) (row : Row) → row_of s a ≡ Some row → (x : PlacedRow) × (given_row s.expressions x ≡ row)
 row_is_with s a row is =
     option_and_then_some (λ f. find (has_address a) (rows_in s f)) (find (covers a) s.fdes) row is
     (λ f found here. found_among s.expressions (has_address a) (rows_behind (cie_in s f) f) row here)
@@ -169,7 +169,7 @@ top_below : (m : ℕ) (s : List ℕ) → 1 ≤ length s → All (λ v. v < m) s 
 top_below m s some all = all (length s - 1 - 0) 0 (omega (arith, some))
 
 located_fits : (m : ℕ) (empty : Bool) (p : Option LocationDescription) (ps : List Piece) (s : List ℕ)
-    → AnswerFits m (answer_of (located empty p ps s))
+    → AnswerFits m (answer_of (outcome_of_location empty p ps s))
 located_fits m true p ps s = tt
 located_fits m false p (q ∷ ps) s = tt
 located_fits m false (Some w) [] s = tt
@@ -233,13 +233,13 @@ module _ (each : (abi : Abi) (rules : List (ℕ × Rule)) → All (λ entry. ent
     register_fits cfa r RuleOver.undefined a within h = subst (AnswerFits m) (sym h) tt
     register_fits cfa r same_value a within h = subst (AnswerFits m) (sym h) (content_fits e (pos 0) (e.registers r))
     register_fits cfa r (offset n) a within h =
-        subst (AnswerFits m) (sym h) (behind_fits m cfa (λ c. word e (moved e n c)) (λ c. word_fits e (moved e n c)))
+        subst (AnswerFits m) (sym h) (if_value_fits m cfa (λ c. word e (moved e n c)) (λ c. word_fits e (moved e n c)))
     register_fits cfa r (val_offset n) a within h =
-        subst (AnswerFits m) (sym h) (behind_fits m cfa (λ c. value (moved e n c)) (λ c. reduced_below (width e) _))
+        subst (AnswerFits m) (sym h) (if_value_fits m cfa (λ c. value (moved e n c)) (λ c. reduced_below (width e) _))
     register_fits cfa r (register other) a within h = subst (AnswerFits m) (sym h) (content_fits e (pos 0) (e.registers other))
     register_fits cfa r (expression x) a within h =
-        needs_fit m cfa (λ c b. (address : Answer) × Gives (with_cfa e c) FrameRegister x address × (b ≡ behind address (word e))) a
-        (λ c k. subst (AnswerFits m) (sym k.2) (behind_fits m k.0 (word e) (word_fits e))) h
+        needs_fit m cfa (λ c b. (address : Answer) × Gives (with_cfa e c) FrameRegister x address × (b ≡ if_value address (word e))) a
+        (λ c k. subst (AnswerFits m) (sym k.2) (if_value_fits m k.0 (word e) (word_fits e))) h
     register_fits cfa r (val_expression x) a within h =
         needs_fit m cfa (λ c b. Gives (with_cfa e c) FrameRegister x b) a
         (λ c k. gives_fit (with_cfa e c) e.target.address_size FrameRegister x a within k) h
@@ -271,13 +271,13 @@ module _ (each : (abi : Abi) (rules : List (ℕ × Rule)) → All (λ entry. ent
 
   -- ---- the caller at an address
 
-  module _ (good : (s : Frame) → IsChecked s → (x : LocatedExpression) → Contains s.expressions x
+  module _ (good : (s : FrameSection) → IsChecked s → (x : LocatedExpression) → Contains s.expressions x
       → IsGoodExpression x.kind x.target x.bytes × (x.target ≡ s.target) × (x.offset + length x.bytes ≤ length s.section)) where
-    each_within : (s : Frame) → IsChecked s → EachWithin s.target.address_size s.expressions
+    each_within : (s : FrameSection) → IsChecked s → EachWithin s.target.address_size s.expressions
     each_within s checked x among n h =
         subst (λ (t : Target). n < 2 ^ width_of t.address_size) (good s checked x among).1 h
 
-    pub unwound_fits : (s : Frame) → IsChecked s → (registers memory : ℕ → Option ℕ) (abi : Abi) (address : ℕ) (c : Option Caller)
+    pub unwound_fits : (s : FrameSection) → IsChecked s → (registers memory : ℕ → Option ℕ) (abi : Abi) (address : ℕ) (c : Option Caller)
         → Unwinds (machine s.target registers memory) abi s address c → IfSome c (CallerFits (2 ^ width_of s.target.address_size))
     unwound_fits s checked registers memory abi address None h = tt
     unwound_fits s checked registers memory abi address (Some c) h =
@@ -289,4 +289,4 @@ module _ (each : (abi : Abi) (rules : List (ℕ × Rule)) → All (λ entry. ent
         subst (λ (row : Row). CfaWithin size row.cfa) placed.1 (cfa_within size s.expressions each placed.0.cfa) in
         let rules : RulesWithin size h.row.rules =
         subst (λ (row : Row). RulesWithin size row.rules) placed.1 (rules_within size s.expressions each placed.0.rules) in
-        caller_fits e abi h.cie.return_register h.row c cfa rules h.is
+        caller_fits e abi h.cie.return_address_register h.row c cfa rules h.is

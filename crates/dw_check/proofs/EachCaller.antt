@@ -6,7 +6,7 @@ use Rattle.std.proofs.lemmas.Bool.Decides.{nat_tests}
 use Rattle.dw_frame.specs.Records.{Cie, Fde}
 use Rattle.dw_rows.specs.Abi.{Abi}
 use Rattle.dw_rows.specs.Rules.{Row}
-use Rattle.dw_rows.specs.Section.{Frame, Covers, IsChecked, cie_at, rows_in}
+use Rattle.dw_rows.specs.Section.{FrameSection, Covers, IsChecked, cie_at, rows_in}
 use Rattle.dw_rows.specs.ExactRows.{HasOneRow}
 use Rattle.dw_eval.specs.World.{World}
 use Rattle.dw_check.specs.Caller.{Caller, IsCaller, Unwinds}
@@ -70,14 +70,14 @@ kept_among test (y ∷ xs) x ys e = kept_or test y xs x ys (test y) refl e (kept
 
 -- ---- what an unwinding comes to
 
-module _ (covered : (s : Frame) (a : ℕ) → IsChecked s → (f : Fde) → Contains s.fdes f → Covers f a → HasOneRow s a)
-    (has : (e : World) (abi : Abi) (back : ℕ) (frame : Frame) (fde : Fde) (row : Row) → IsChecked frame → Contains frame.fdes fde
+module _ (covered : (s : FrameSection) (a : ℕ) → IsChecked s → (f : Fde) → Contains s.fdes f → Covers f a → HasOneRow s a)
+    (has : (e : World) (abi : Abi) (back : ℕ) (frame : FrameSection) (fde : Fde) (row : Row) → IsChecked frame → Contains frame.fdes fde
     → Contains (rows_in frame fde) row → (c : Caller) × IsCaller e abi back row c) where
-  by_cover : (e : World) (abi : Abi) (frame : Frame) (a : ℕ) → IsChecked frame → HasOneRow frame a
+  by_cover : (e : World) (abi : Abi) (frame : FrameSection) (a : ℕ) → IsChecked frame → HasOneRow frame a
       → (c : Option Caller) × Unwinds e abi frame a c
   by_cover e abi frame a checked one =
       let cie = some_cie one.fde.cie_pointer frame.cies one.cie one.among one.pointed in
-      let caller = has e abi cie.0.return_register frame one.fde one.row checked one.covers.0
+      let caller = has e abi cie.0.return_address_register frame one.fde one.row checked one.covers.0
       (kept_among _ (rows_in frame one.fde) one.row [] one.one) in (
         Some caller.0,
         record {
@@ -91,7 +91,8 @@ module _ (covered : (s : Frame) (a : ℕ) → IsChecked s → (f : Fde) → Cont
         },
       )
 
-  pub each_unwinding : (e : World) (abi : Abi) (frame : Frame) (a : ℕ) → IsChecked frame → (c : Option Caller) × Unwinds e abi frame a c
+  pub each_unwinding : (e : World) (abi : Abi) (frame : FrameSection) (a : ℕ) → IsChecked frame
+      → (c : Option Caller) × Unwinds e abi frame a c
   each_unwinding e abi frame a checked = elim (looked a frame.fdes) [
     | inl none ↦ (None, none)
     | inr f ↦ by_cover e abi frame a checked (covered frame a checked f.0 f.1 f.2)

@@ -4,11 +4,11 @@ use Rattle.std.proofs.Common.{arith}
 use Rattle.std.proofs.lemmas.Bool.Decides.{nat_tests}
 use Rattle.dw_bytes.specs.declared.target.Target.{Target}
 use Rattle.dw_bytes.specs.declared.fault.Fault.{Fault}
-use Rattle.dw_bytes.specs.declared.fault.FaultKind.TheVariants.{SectionTooLong}
 use Rattle.dw_stack.specs.declared.state.Kind.{Kind}
 use Rattle.dw_stack.specs.Expressions.{IsGoodExpression}
 use Rattle.dw_stack.specs.FirstFault.{expression_fault}
 use Rattle.dw_stack.proofs.Named.{good_if_none}
+use Rattle.dw_check.specs.Checked.{too_long}
 use Rattle.dw_check.specs.Requests.{Asked}
 use Rattle.dw_check.specs.StateFile.{StateFact, first_that, content_in, byte_in}
 use Rattle.dw_check.specs.Runs.{Reply, text, refusal, not_hex, bad_line, frame_reply, IsOutcome, OfSection, OfState, OfChecked}
@@ -18,7 +18,7 @@ use Rattle.dw_check.specs.Text.{frame_text, lookup_text}
 use Rattle.dw_check.specs.Files.{section_bytes, state_facts}
 use Rattle.dw_check.specs.Report.{IsReport}
 use Rattle.dw_loclists.specs.Reading.{ListSection, IsChecked}
-use Rattle.dw_rows.specs.Section.{Frame, frame_of}
+use Rattle.dw_rows.specs.Section.{FrameSection, frame_of}
 use Rattle.dw_eval.specs.World.{World}
 use Rattle.dw_rows.specs.Abi.{Abi}
 use Rattle.dw_check.specs.Walks.{Surroundings, Place, WalkedFrame, Walks, first_place}
@@ -48,7 +48,7 @@ module _ (kind : Kind) (target : Target) (bytes : List ℕ) (gs : List StateFact
   by_length : (b : Bool) → nat_lt (length bytes) (2 ^ 32) ≡ b → (r : Reply) × IsOutcome kind target bytes gs r
   by_length true e = by_fault (expression_fault kind target bytes) refl (grind (arith, nat_tests, e))
   by_length false e = (
-    refusal Expression (record { kind = SectionTooLong; at = 0 }),
+    refusal Expression too_long,
     refused_long kind target bytes gs (grind (arith, nat_tests, e)),
   )
 
@@ -65,7 +65,7 @@ each_of_state : (given : Result (List StateFact) ℕ) (Is : List StateFact → R
 each_of_state (Err n) Is each = (bad_line n, refl)
 each_of_state (Ok gs) Is each = each gs
 
-each_of_frame : (text_for : Frame → List ℕ) (target : Target) (hex : Bool) (files : List (List ℕ))
+each_of_frame : (text_for : FrameSection → List ℕ) (target : Target) (hex : Bool) (files : List (List ℕ))
     → (r : Reply) × OfFrame text_for target hex files r
 each_of_frame text_for target hex files =
     each_of_section 0 (section_bytes hex (slice_get files 0)) (λ section r. r ≡ frame_reply text_for target section)
@@ -86,11 +86,11 @@ each_locs lookup target hex files =
 
 -- by what is said of reports
 abbrev EachReport : Type 0
-EachReport = (frame : Frame) (lists : ListSection) → rows.IsChecked frame → IsChecked lists → (t : List ℕ) × IsReport frame lists t
+EachReport = (frame : FrameSection) (lists : ListSection) → rows.IsChecked frame → IsChecked lists → (t : List ℕ) × IsReport frame lists t
 
 -- and of unwindings
 abbrev EachUnwinding : Type 0
-EachUnwinding = (e : World) (abi : Abi) (frame : Frame) (address : ℕ) → rows.IsChecked frame
+EachUnwinding = (e : World) (abi : Abi) (frame : FrameSection) (address : ℕ) → rows.IsChecked frame
     → (c : Option Caller) × Unwinds e abi frame address c
 
 -- and of walks
@@ -99,11 +99,11 @@ EachWalk = (s : Surroundings) (first : Place) (limit : ℕ) → rows.IsChecked s
     → (xs : List WalkedFrame) × (stop : Stop) × Walks s first limit xs stop
 
 -- of a section that is checked, and of what a state file gives, there is a text
-abbrev EachShown : (List StateFact → Frame → ListSection → List ℕ → Type 0) → Type 0
-EachShown Shows = (gs : List StateFact) (frame : Frame) (lists : ListSection) → rows.IsChecked frame
+abbrev EachShown : (List StateFact → FrameSection → ListSection → List ℕ → Type 0) → Type 0
+EachShown Shows = (gs : List StateFact) (frame : FrameSection) (lists : ListSection) → rows.IsChecked frame
     → (t : List ℕ) × Shows gs frame lists t
 
-each_of_frame_and_state : (Shows : List StateFact → Frame → ListSection → List ℕ → Type 0) → EachShown Shows
+each_of_frame_and_state : (Shows : List StateFact → FrameSection → ListSection → List ℕ → Type 0) → EachShown Shows
     → (target : Target) (hex : Bool) (files : List (List ℕ)) → (r : Reply) × OfFrameAndState Shows target hex files r
 each_of_frame_and_state Shows each target hex files =
     each_of_section 0 (section_bytes hex (slice_get files 0))

@@ -4,7 +4,7 @@ use Rattle.std.specs.Prelude.{Option, Some, None, Contains}
 use Rattle.std.specs.List.{AllByRecursion}
 use Rattle.dw_bytes.specs.declared.target.Target.{Target}
 use Rattle.dw_bytes.specs.Operands.{Block}
-use Rattle.dw_rows.specs.Section.{Frame}
+use Rattle.dw_rows.specs.Section.{FrameSection}
 use Rattle.dw_rows.specs.Section as rows
 use Rattle.dw_stack.specs.declared.state.Kind.{Kind}
 use Rattle.dw_stack.specs.declared.state.Kind.TheVariants.{Location}
@@ -77,8 +77,8 @@ module _ (deepest : (kind : Kind) (target : Target) (bytes : List ℕ) → IsGoo
 
   pub report_some : ((s : ListSection) (l : Loclist) (e : Entry) (b : Block) → IsChecked s → Contains (lists_in s) l → Contains l.entries e
       → expression_in e ≡ Some b → IsGoodExpression Location b.target b.bytes)
-      → ((s : Frame) (x : LocatedExpression) → rows.IsChecked s → Contains s.expressions x → Good x)
-      → (frame : Frame) (lists : ListSection) → rows.IsChecked frame → IsChecked lists → (t : List ℕ) × IsReport frame lists t
+      → ((s : FrameSection) (x : LocatedExpression) → rows.IsChecked s → Contains s.expressions x → Good x)
+      → (frame : FrameSection) (lists : ListSection) → rows.IsChecked frame → IsChecked lists → (t : List ℕ) × IsReport frame lists t
   report_some good frame_good frame lists frame_checked checked =
       let first = lines_some sections.Frame frame.expressions (all_good frame.expressions (λ x. frame_good frame x frame_checked)) in
       let found = list_lines_some good lists checked in (

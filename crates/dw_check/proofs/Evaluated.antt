@@ -5,7 +5,7 @@ use Rattle.dw_bytes.specs.declared.target.Target.{Target}
 use Rattle.dw_bytes.specs.declared.target.AddressSize.{AddressSize}
 use Rattle.dw_bytes.specs.declared.target.AddressSize.TheVariants.{Four, Eight}
 use Rattle.dw_bytes.specs.declared.fault.Fault.{Fault}
-use Rattle.dw_bytes.specs.declared.fault.FaultKind.TheVariants.{SectionTooLong}
+use Rattle.dw_check.specs.Checked.{too_long}
 use Rattle.dw_check.proofs.Lengths.{short_fault, long_fault}
 use Rattle.dw_stack.specs.declared.state.Kind.{Kind}
 use Rattle.dw_stack.specs.Expressions.{Checked, IsOf, IsGoodExpression, IsDepthOf, operations_in}
@@ -69,11 +69,11 @@ evaluates c known gs outcome steps depth short good given run deepest = record {
 
 pub refused_short : (kind : Kind) (target : Target) (bytes : List ℕ) (gs : List StateFact) (fault : Fault) → length bytes < 2 ^ 32
     → expression_fault kind target bytes ≡ Some fault → IsOutcome kind target bytes gs (refusal Expression fault)
-refused_short kind target bytes gs fault h e = (refl, short_fault bytes _ _ h ∙ e)
+refused_short kind target bytes gs fault h e = (refl, short_fault bytes _ h ∙ e)
 
 pub refused_long : (kind : Kind) (target : Target) (bytes : List ℕ) (gs : List StateFact) → 2 ^ 32 ≤ length bytes
-    → IsOutcome kind target bytes gs (refusal Expression (record { kind = SectionTooLong; at = 0 }))
-refused_long kind target bytes gs h = (refl, long_fault bytes _ _ h)
+    → IsOutcome kind target bytes gs (refusal Expression too_long)
+refused_long kind target bytes gs h = (refl, long_fault bytes _ h)
 
 -- what holds for the checked expression holds for what was handed in
 pub written_same : (kind : Kind) (target : Target) (bytes : List ℕ) (c : Checked) (gs : List StateFact) (W : List ℕ → Type 0)

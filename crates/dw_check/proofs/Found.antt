@@ -7,15 +7,15 @@ use Rattle.std.proofs.lemmas.Bool.Decides.{nat_tests}
 use Rattle.dw_bytes.specs.declared.target.Target.{Target}
 use Rattle.dw_bytes.specs.declared.target.AddressSize.{AddressSize}
 use Rattle.dw_bytes.specs.declared.fault.Fault.{Fault}
-use Rattle.dw_bytes.specs.declared.fault.FaultKind.TheVariants.{SectionTooLong}
 use Rattle.dw_loclists.specs.Lists.{Loclist, starts_of}
 use Rattle.dw_loclists.specs.Locations.{locations_of}
 use Rattle.dw_stack.specs.Located.{LocatedExpression}
 use Rattle.dw_loclists.specs.Reading.{ListSection, IsChecked, lists_in, lists_fault}
 use Rattle.dw_loclists.proofs.Search.{contains-map}
+use Rattle.dw_check.specs.Checked.{too_long}
 use Rattle.dw_check.specs.StateFile.{StateFact}
-use Rattle.dw_check.specs.Text.{expression_line}
-use Rattle.dw_check.specs.Lookups.{IsShowable, AreEvaluated, ShowsLocations, ShowsList, list_at}
+use Rattle.dw_check.specs.Text.{expression_offset_line}
+use Rattle.dw_check.specs.Lookups.{IsShowable, AreEvaluated, ShowsLocations, ShowsList, list_that_begins_at}
 use Rattle.dw_check.specs.Runs.{Reply, text, refusal, not_hex, bad_line, lists_refusal, IsFound}
 use Rattle.dw_check.specs.declared.requests.ListLookup.{ListLookup}
 use Rattle.dw_check.specs.declared.stop.Section.TheVariants.{Lists}
@@ -49,14 +49,14 @@ looked : (n : ℕ) (ls : List Loclist) → Looked n ls
 looked n [] = inl (refl, λ (k, lt, is). omega (arith, lt))
 looked n (l ∷ ls) = first_or n l ls (l.offset == n) refl (looked n ls)
 
-pub no_list_at : (s : ListSection) (n : ℕ) → ¬ Contains (starts_of (lists_in s)) n → list_at s n ≡ None
+pub no_list_at : (s : ListSection) (n : ℕ) → ¬ Contains (starts_of (lists_in s)) n → list_that_begins_at s n ≡ None
 no_list_at s n none = elim (looked n (lists_in s)) [
   | inl h ↦ h.0
   | inr h ↦ absurd (none (subst (Contains (starts_of (lists_in s))) h.3 (contains-map (λ (l : Loclist). l.offset) (lists_in s) h.0 h.2)))
 ]
 
 pub some_list_at : (s : ListSection) (n : ℕ) → Contains (starts_of (lists_in s)) n
-    → (l : Loclist) × (list_at s n ≡ Some l) × Contains (lists_in s) l × (l.offset ≡ n)
+    → (l : Loclist) × (list_that_begins_at s n ≡ Some l) × Contains (lists_in s) l × (l.offset ≡ n)
 some_list_at s n among = elim (looked n (lists_in s)) [ inl h ↦ absurd (h.1 among) | inr h ↦ h ]
 
 -- ---- each look-up has a text
@@ -67,7 +67,7 @@ each_evaluated size gs [] h = ([], refl)
 each_evaluated size gs (x ∷ xs) h =
     let own = each_text x.kind x.target x.bytes gs h.0.short h.0.good in
     let rest = each_evaluated size gs xs h.1 in
-    ((expression_line x.offset ++ own.0) ++ rest.0, (own.0, rest.0, refl, own.1, rest.1))
+    ((expression_offset_line x.offset ++ own.0) ++ rest.0, (own.0, rest.0, refl, own.1, rest.1))
 
 each_shown : (size : AddressSize) (gs : List StateFact) (xs : List LocatedExpression) → AllByRecursion (IsShowable size) xs
     → (t : List ℕ) × ShowsLocations gs xs t
@@ -88,15 +88,14 @@ module _ (lookup : ListLookup) (target : Target) (section : List ℕ) (gs : List
       by : (b : Bool) → nat_lt (length section) (2 ^ 32) ≡ b → (length section < 2 ^ 32) × IsChecked whole
       by true e =
           let short : length section < 2 ^ 32 = grind (arith, nat_tests, e) in
-          (short, sym (short_fault section _ _ short) ∙ none)
+          (short, sym (short_fault section _ short) ∙ none)
       by false e =
-          let some : no_fault ≡ Some (record { kind = SectionTooLong; at = 0 }) =
-          sym none ∙ long_fault section (lists_fault target section) (Some (record { kind = SectionTooLong; at = 0 }))
-          (grind (arith, nat_tests, e)) in
+          let some : no_fault ≡ Some too_long =
+          sym none ∙ long_fault section (lists_fault target section) (grind (arith, nat_tests, e)) in
           absurd cc
 
   by_list : (short : length section < 2 ^ 32) → IsChecked whole
-      → (t : List ℕ) × ShowsList gs (list_at whole lookup.list) lookup.base lookup.address t
+      → (t : List ℕ) × ShowsList gs (list_that_begins_at whole lookup.list) lookup.base lookup.address t
   by_list short checked = elim (looked lookup.list (lists_in whole)) [
     | inl h ↦
         (codes "no list\n", subst (λ o. ShowsList gs o lookup.base lookup.address (codes "no list\n")) (sym h.0) refl)
@@ -123,7 +122,7 @@ pub one_evaluated : (gs : List StateFact) (xs : List LocatedExpression) (a b : L
 one_evaluated gs [] a b h k = h ∙ sym k
 one_evaluated gs (x ∷ xs) a b (own, rest, is, first, others) (own2, rest2, is2, first2, others2) =
     is
-    ∙ ap₂ (λ (t u : List ℕ). (expression_line x.offset ++ t) ++ u) (same_text x.kind x.target x.bytes gs own own2 first first2)
+    ∙ ap₂ (λ (t u : List ℕ). (expression_offset_line x.offset ++ t) ++ u) (same_text x.kind x.target x.bytes gs own own2 first first2)
     (one_evaluated gs xs rest rest2 others others2)
     ∙ sym is2
 
@@ -142,7 +141,7 @@ never f first none some = let both : None ≡ Some f = sym none ∙ some in cc
 pub one_found : (lookup : ListLookup) (target : Target) (section : List ℕ) (gs : List StateFact) (r s : Reply)
     → IsFound lookup target section gs r → IsFound lookup target section gs s → r ≡ s
 one_found lookup target section gs (text a) (text b) h k =
-    ap text (one_of_list gs (list_at (record { target = target; section = section }) lookup.list) lookup.base lookup.address a b h.1 k.1)
+    ap text (one_of_list gs (list_that_begins_at (record { target = target; section = section }) lookup.list) lookup.base lookup.address a b h.1 k.1)
 one_found lookup target section gs (text a) (refusal p f) h k = absurd (never f (lists_refusal target section) h.0 k.1)
 one_found lookup target section gs (refusal p f) (text a) h k = absurd (never f (lists_refusal target section) k.0 h.1)
 one_found lookup target section gs (refusal p f) (refusal q g) h k =

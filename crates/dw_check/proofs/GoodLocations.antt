@@ -5,7 +5,7 @@ use Rattle.std.specs.Prelude.{◌==◌, map}
 use Rattle.std.specs.List.{AllByRecursion, cons_option}
 use Rattle.std.proofs.lemmas.List.{length-append}
 use Rattle.dw_bytes.specs.declared.target.Target.{Target}
-use Rattle.dw_bytes.specs.Operands.{Kind, unsigned, block, Block, Operands, Line, line, none, one, AreOperands}
+use Rattle.dw_bytes.specs.Operands.{OperandKind, unsigned, block, Block, Operands, Line, line, none, one, AreOperands}
 use Rattle.dw_bytes.specs.Operands as operands
 use Rattle.dw_bytes.specs.Sequence.{Sequence}
 use Rattle.dw_loclists.specs.Entries.{Entry, end_of_list, offset_pair, default_location, base_address, start_end, start_length}
@@ -48,7 +48,7 @@ unfolding Under
 default-block target at bytes e (vs, (first, rest, parts, is_block, ended), fit, is) =
     subst (λ x. AllUnder target (expression_in x)) (sym is) is_block.target_is
 
-third-block : (target : Target) (first second : Kind) (make : Operands (first ∷ second ∷ block ∷ []) → Entry)
+third-block : (target : Target) (first second : OperandKind) (make : Operands (first ∷ second ∷ block ∷ []) → Entry)
     → ((vs : Operands (first ∷ second ∷ block ∷ [])) → expression_in (make vs) ≡ Some vs.1.1.0)
     → Under target (Some (line (first ∷ second ∷ block ∷ []) make))
 unfolding Under

@@ -4,7 +4,7 @@ use Rattle.std.proofs.Math.Path.{fun_ext}
 use Rattle.dw_bytes.specs.declared.target.Target.{Target}
 use Rattle.dw_check.specs.Caller.{machine}
 use Rattle.dw_rows.specs.Abi.{Abi, abi_of}
-use Rattle.dw_rows.specs.Section.{Frame}
+use Rattle.dw_rows.specs.Section.{FrameSection}
 use Rattle.dw_check.specs.Walks.{WalkedFrame, Walks, first_place}
 use Rattle.dw_check.specs.declared.frames.Stop.{Stop}
 use Rattle.dw_check.specs.Runs.{machine_of, abi_given}
@@ -21,7 +21,7 @@ pub same_abi : (k : KnownState) (gs : List StateFact) → IsGivenBy k gs → abi
 same_abi k gs is = rw (is.kept, is.stack_pointer) refl
 
 -- so a walk over what is known is one over what was given
-pub same_walk : (frame : Frame) (abi : Abi) (k : KnownState) (gs : List StateFact) (address limit : ℕ) (frames : List WalkedFrame)
+pub same_walk : (frame : FrameSection) (abi : Abi) (k : KnownState) (gs : List StateFact) (address limit : ℕ) (frames : List WalkedFrame)
     (stop : Stop)
     → IsGivenBy k gs → abi ≡ abi_of k.kept k.stack_pointer
     → Walks (record { frame = frame; abi = abi; memory = k.memory }) (first_place address k.registers) limit frames stop

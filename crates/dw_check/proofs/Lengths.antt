@@ -1,18 +1,25 @@
 -- Which refusal the length of a section leaves.
 use Rattle.std.proofs.Common.{◌≡◌, ℕ, ◌^◌, ◌<◌, ◌≤◌, Bool, List, length, ap, arith, nat_lt, if◌then◌else◌}
-use Rattle.std.specs.Prelude.{Option, false}
+use Rattle.std.specs.Prelude.{Option, Some, None, false}
+use Rattle.std.specs.Option.{option_or}
 use Rattle.std.proofs.lemmas.Bool.Decides.{nat_tests}
 use borrow.Author.Tests.{lt-ltb}
 use Rattle.dw_bytes.specs.declared.fault.Fault.{Fault}
+use Rattle.dw_check.specs.Checked.{too_long, length_fault}
+
+pub short_length : (bytes : List ℕ) → length bytes < 2 ^ 32 → length_fault bytes ≡ None
+short_length bytes h = rw (lt-ltb (length bytes) (2 ^ 32) h)
+
+pub long_length : (bytes : List ℕ) → 2 ^ 32 ≤ length bytes → length_fault bytes ≡ Some too_long
+long_length bytes h =
+    let e : nat_lt (length bytes) (2 ^ 32) ≡ false = grind (arith, nat_tests) in
+    let chosen : Bool → Option Fault = λ b. if b then None else Some too_long in
+    ap chosen e
 
 -- of a short one that of its bytes
-pub short_fault : (bytes : List ℕ) (own long : Option Fault) → length bytes < 2 ^ 32
-    → (if nat_lt (length bytes) (2 ^ 32) then own else long) ≡ own
-short_fault bytes own long h = rw (lt-ltb (length bytes) (2 ^ 32) h)
+pub short_fault : (bytes : List ℕ) (own : Option Fault) → length bytes < 2 ^ 32 → option_or (length_fault bytes) own ≡ own
+short_fault bytes own h = ap (λ (l : Option Fault). option_or l own) (short_length bytes h)
 
 -- of a long one that of its length
-pub long_fault : (bytes : List ℕ) (own long : Option Fault) → 2 ^ 32 ≤ length bytes
-    → (if nat_lt (length bytes) (2 ^ 32) then own else long) ≡ long
-long_fault bytes own long h =
-    let e : nat_lt (length bytes) (2 ^ 32) ≡ false = grind (arith, nat_tests) in
-    ap (λ (b : Bool). if b then own else long) e
+pub long_fault : (bytes : List ℕ) (own : Option Fault) → 2 ^ 32 ≤ length bytes → option_or (length_fault bytes) own ≡ Some too_long
+long_fault bytes own h = ap (λ (l : Option Fault). option_or l own) (long_length bytes h)

@@ -3,14 +3,14 @@ use Rattle.std.proofs.Common.{◌≡◌, ◌⊎◌, ℕ, suc, ◌^◌, ◌<◌, 
 use Rattle.std.proofs.Common.{refl, ap, sym, ◌∙◌, subst, arith, take_all, length-take-le}
 use Rattle.std.proofs.lemmas.Bool.{cases_lt}
 use Rattle.std.specs.Prelude.{Option, Some, None, Result, Ok, Err}
+use Rattle.std.specs.Option.{option_or}
 use Rattle.dw_bytes.specs.declared.target.Target.{Target}
 use Rattle.dw_bytes.specs.declared.fault.Fault.{Fault}
-use Rattle.dw_bytes.specs.declared.fault.FaultKind.TheVariants.{SectionTooLong}
-use Rattle.dw_rows.specs.Section.{Frame, section_fault, frame_of}
+use Rattle.dw_rows.specs.Section.{FrameSection, section_fault, frame_of}
 use Rattle.dw_loclists.specs.Reading.{ListSection, lists_fault}
 use Rattle.dw_stack.specs.declared.state.Kind.{Kind}
 use Rattle.dw_stack.specs.FirstFault.{expression_fault}
-use Rattle.dw_check.specs.Checked.{check_fault, fault_within, length_fault, or_next}
+use Rattle.dw_check.specs.Checked.{check_fault, fault_within, length_fault, too_long}
 use Rattle.dw_check.specs.LongFiles.{needed_parts}
 use Rattle.dw_check.specs.Report.{IsReport}
 use Rattle.dw_check.specs.StateFile.{StateFact}
@@ -22,10 +22,7 @@ use Rattle.dw_check.specs.declared.requests.Task.{Task}
 use Rattle.dw_check.specs.declared.requests.Task.TheVariants.{Check, Rows, Row, Locs, Eval, Unwind, Backtrace}
 use Rattle.dw_check.specs.declared.stop.Section.TheVariants as sections
 use Rattle.dw_check.specs.declared.whole_check.CheckFault.{CheckFault}
-use Rattle.dw_check.proofs.Lengths.{short_fault, long_fault}
-
-abbrev too_long : Fault
-too_long = record { kind = SectionTooLong; at = 0 }
+use Rattle.dw_check.proofs.Lengths.{short_length, long_length, long_fault}
 
 -- the same bytes, or both too long
 abbrev Alike : List ℕ → List ℕ → Type 0
@@ -43,14 +40,14 @@ turned xs ys (inr long) = inr (long.1, long.0)
 
 -- ---- each kind of judgement
 
-long_frame : (text_for : Frame → List ℕ) (target : Target) (xs : List ℕ) → 2 ^ 32 ≤ length xs
+long_frame : (text_for : FrameSection → List ℕ) (target : Target) (xs : List ℕ) → 2 ^ 32 ≤ length xs
     → frame_reply text_for target xs ≡ refusal sections.Frame too_long
 unfolding frame_reply
 long_frame text_for target xs long =
     ap (λ (f : Option Fault). text_unless f sections.Frame (text_for (frame_of target xs)))
-    (long_fault xs (section_fault target xs) (Some too_long) long)
+    (long_fault xs (section_fault target xs) long)
 
-frame_alike : (text_for : Frame → List ℕ) (target : Target) (xs ys : List ℕ) → Alike xs ys
+frame_alike : (text_for : FrameSection → List ℕ) (target : Target) (xs ys : List ℕ) → Alike xs ys
     → frame_reply text_for target xs ≡ frame_reply text_for target ys
 frame_alike text_for target xs ys (inl same) = ap (frame_reply text_for target) same
 frame_alike text_for target xs ys (inr long) = long_frame text_for target xs long.0 ∙ sym (long_frame text_for target ys long.1)
@@ -61,8 +58,8 @@ outcome_alike kind target xs ys gs (inl same) r h = subst (λ (b : List ℕ). Is
 outcome_alike kind target xs ys gs (inr long) (text w) h = absurd (omega (arith, h.comes.short, long.0))
 outcome_alike kind target xs ys gs (inr long) (refusal s f) h = (
   h.0,
-  long_fault ys (expression_fault kind target ys) (Some too_long) long.1
-      ∙ sym (long_fault xs (expression_fault kind target xs) (Some too_long) long.0) ∙ h.1,
+  long_fault ys (expression_fault kind target ys) long.1
+      ∙ sym (long_fault xs (expression_fault kind target xs) long.0) ∙ h.1,
 )
 outcome_alike kind target xs ys gs (inr long) (not_hex n) h = absurd h
 outcome_alike kind target xs ys gs (inr long) (bad_line n) h = absurd h
@@ -71,12 +68,12 @@ found_alike : (lookup : ListLookup) (target : Target) (xs ys : List ℕ) (gs : L
     → IsFound lookup target xs gs r → IsFound lookup target ys gs r
 found_alike lookup target xs ys gs (inl same) r h = subst (λ (b : List ℕ). IsFound lookup target b gs r) same h
 found_alike lookup target xs ys gs (inr long) (text w) h =
-    let both : None ≡ Some too_long = sym h.0 ∙ long_fault xs (lists_fault target xs) (Some too_long) long.0 in
+    let both : None ≡ Some too_long = sym h.0 ∙ long_fault xs (lists_fault target xs) long.0 in
     cc
 found_alike lookup target xs ys gs (inr long) (refusal s f) h = (
   h.0,
-  long_fault ys (lists_fault target ys) (Some too_long) long.1
-      ∙ sym (long_fault xs (lists_fault target xs) (Some too_long) long.0) ∙ h.1,
+  long_fault ys (lists_fault target ys) long.1
+      ∙ sym (long_fault xs (lists_fault target xs) long.0) ∙ h.1,
 )
 found_alike lookup target xs ys gs (inr long) (not_hex n) h = absurd h
 found_alike lookup target xs ys gs (inr long) (bad_line n) h = absurd h
@@ -85,23 +82,23 @@ long_first : (target : Target) (frame lists : List ℕ) → 2 ^ 32 ≤ length fr
     → check_fault target frame lists ≡ Some (record { section = sections.Frame; fault = too_long })
 unfolding check_fault
 long_first target frame lists long =
-    ap (λ (f : Option Fault). or_next (fault_within sections.Frame f) (or_next (fault_within sections.Lists (length_fault lists))
-    (or_next (fault_within sections.Frame (section_fault target frame)) (fault_within sections.Lists (lists_fault target lists)))))
-    (long_fault frame None (Some too_long) long)
+    ap (λ (f : Option Fault). option_or (fault_within sections.Frame f) (option_or (fault_within sections.Lists (length_fault lists))
+    (option_or (fault_within sections.Frame (section_fault target frame)) (fault_within sections.Lists (lists_fault target lists)))))
+    (long_length frame long)
 
 long_second : (target : Target) (frame lists : List ℕ) → length frame < 2 ^ 32 → 2 ^ 32 ≤ length lists
     → check_fault target frame lists ≡ Some (record { section = sections.Lists; fault = too_long })
 unfolding check_fault
 long_second target frame lists short long =
-    ap (λ (f : Option Fault). or_next (fault_within sections.Frame f) (or_next (fault_within sections.Lists (length_fault lists))
-    (or_next (fault_within sections.Frame (section_fault target frame)) (fault_within sections.Lists (lists_fault target lists)))))
-    (short_fault frame None (Some too_long) short)
-    ∙ ap (λ (f : Option Fault). or_next (fault_within sections.Lists f)
-    (or_next (fault_within sections.Frame (section_fault target frame)) (fault_within sections.Lists (lists_fault target lists))))
-    (long_fault lists None (Some too_long) long)
+    ap (λ (f : Option Fault). option_or (fault_within sections.Frame f) (option_or (fault_within sections.Lists (length_fault lists))
+    (option_or (fault_within sections.Frame (section_fault target frame)) (fault_within sections.Lists (lists_fault target lists)))))
+    (short_length frame short)
+    ∙ ap (λ (f : Option Fault). option_or (fault_within sections.Lists f)
+    (option_or (fault_within sections.Frame (section_fault target frame)) (fault_within sections.Lists (lists_fault target lists))))
+    (long_length lists long)
 
 -- two pairs of sections with one fault come to one reply
-faulty : (target : Target) (frame lists others more : List ℕ) (fault : CheckFault) (Shows : Frame → ListSection → List ℕ → Type 0)
+faulty : (target : Target) (frame lists others more : List ℕ) (fault : CheckFault) (Shows : FrameSection → ListSection → List ℕ → Type 0)
     → check_fault target frame lists ≡ Some fault → check_fault target others more ≡ Some fault → (r : Reply)
     → OfChecked target frame lists Shows r → OfChecked target others more Shows r
 faulty target frame lists others more fault Shows has too (text w) h = let both : None ≡ Some fault = sym h.0 ∙ has in cc
@@ -109,13 +106,13 @@ faulty target frame lists others more fault Shows has too (refusal s f) h = too 
 faulty target frame lists others more fault Shows has too (not_hex n) h = absurd h
 faulty target frame lists others more fault Shows has too (bad_line n) h = absurd h
 
-first_alike : (target : Target) (frame others lists : List ℕ) (Shows : Frame → ListSection → List ℕ → Type 0) → Alike frame others
+first_alike : (target : Target) (frame others lists : List ℕ) (Shows : FrameSection → ListSection → List ℕ → Type 0) → Alike frame others
     → (r : Reply) → OfChecked target frame lists Shows r → OfChecked target others lists Shows r
 first_alike target frame others lists Shows (inl same) r h = subst (λ (b : List ℕ). OfChecked target b lists Shows r) same h
 first_alike target frame others lists Shows (inr long) r h =
     faulty target frame lists others lists _ Shows (long_first target frame lists long.0) (long_first target others lists long.1) r h
 
-second_alike : (target : Target) (frame lists others : List ℕ) (Shows : Frame → ListSection → List ℕ → Type 0) → Alike lists others
+second_alike : (target : Target) (frame lists others : List ℕ) (Shows : FrameSection → ListSection → List ℕ → Type 0) → Alike lists others
     → (r : Reply) → OfChecked target frame lists Shows r → OfChecked target frame others Shows r
 second_alike target frame lists others Shows (inl same) r h = subst (λ (b : List ℕ). OfChecked target frame b Shows r) same h
 second_alike target frame lists others Shows (inr long) r h = elim (cases_lt (length frame) (2 ^ 32)) [
@@ -143,7 +140,7 @@ abbrev Moves : Task → Target → List (List ℕ) → List (List ℕ) → Type 
 Moves task target files others = (r : Reply) → IsReplyTo task target false files r → IsReplyTo task target false others r
 
 -- a section that is alike, beside a state
-with_state_alike : (Shows : List StateFact → Frame → ListSection → List ℕ → Type 0) (target : Target) (xs ys : List ℕ)
+with_state_alike : (Shows : List StateFact → FrameSection → ListSection → List ℕ → Type 0) (target : Target) (xs ys : List ℕ)
     (more : List (List ℕ)) → Alike xs ys → (r : Reply) → OfFrameAndState Shows target false (xs ∷ more) r
     → OfFrameAndState Shows target false (ys ∷ more) r
 with_state_alike Shows target xs ys more alike r h =

@@ -10,13 +10,13 @@ use Rattle.dw_rows.specs.Rules.{Rule, Cfa, register_and_offset, cfa_expression, 
 use Rattle.dw_rows.specs.Rules.{val_offset, register, expression, val_expression}
 use Rattle.dw_stack.specs.Located.{LocatedExpression}
 use Rattle.dw_rows.specs.GoodRows.{IsGoodAmong, IsGoodRule, IsGoodCfa, IsGoodEntry, HasGoodExpressions}
-use Rattle.dw_rows.specs.Section.{Frame, cie_in, row_of}
+use Rattle.dw_rows.specs.Section.{FrameSection, cie_in, row_of}
 use Rattle.dw_stack.specs.declared.state.Kind.{Kind}
 use Rattle.dw_stack.specs.declared.state.Kind.TheVariants.{FrameCfa, FrameRegister}
 use Rattle.dw_stack.specs.Expressions.{Checked, IsChecked, IsGoodExpression, IsDepthOf}
 use Rattle.dw_eval.specs.World.{World}
 use Rattle.dw_eval.specs.Results.{Outcome, IsEvaluation}
-use Rattle.dw_check.specs.Caller.{Answer, value, undefined, unreadable, division_by_zero, moved_content, content, word, moved, behind}
+use Rattle.dw_check.specs.Caller.{Answer, value, undefined, unreadable, division_by_zero, moved_content, content, word, moved, if_value}
 use Rattle.dw_check.specs.Caller.{answer_of, under, Gives, with_cfa, IsCfa, NeedsCfa, IsRegister, AreRegisters, Caller, IsCaller, Unwinds}
 use Rattle.dw_check.proofs.Sound.{known}
 
@@ -106,8 +106,8 @@ module _ (es : List LocatedExpression)
   register_one e cfa r (val_offset n) a b good g h = g ∙ sym h
   register_one e cfa r (register other) a b good g h = g ∙ sym h
   register_one e cfa r (expression y) a b good g h =
-      needs_one cfa (λ c x. (address : Answer) × Gives (with_cfa e c) FrameRegister y address × (x ≡ behind address (word e))) a b
-      (λ c k l. k.2 ∙ ap (λ x. behind x (word e)) (gives_one (with_cfa e c) y k.0 l.0 FrameRegister good k.1 l.1) ∙ sym l.2) g h
+      needs_one cfa (λ c x. (address : Answer) × Gives (with_cfa e c) FrameRegister y address × (x ≡ if_value address (word e))) a b
+      (λ c k l. k.2 ∙ ap (λ x. if_value x (word e)) (gives_one (with_cfa e c) y k.0 l.0 FrameRegister good k.1 l.1) ∙ sym l.2) g h
   register_one e cfa r (val_expression y) a b good g h =
       needs_one cfa (λ c x. Gives (with_cfa e c) FrameRegister y x) a b (λ c k l. gives_one (with_cfa e c) y a b FrameRegister good k l) g h
 
@@ -143,7 +143,7 @@ module _ (es : List LocatedExpression)
   some_one : {X : Type 0} (o : Option X) (x y : X) → o ≡ Some x → o ≡ Some y → x ≡ y
   some_one o x y g h = cc
 
-  pub unwinds_one : (e : World) (abi : Abi) (frame : Frame) (address : ℕ) (c d : Option Caller)
+  pub unwinds_one : (e : World) (abi : Abi) (frame : FrameSection) (address : ℕ) (c d : Option Caller)
       → ((row : Row) → row_of frame address ≡ Some row → HasGoodExpressions es row)
       → Unwinds e abi frame address c → Unwinds e abi frame address d → c ≡ d
   unwinds_one e abi frame address None None good g h = refl
@@ -154,9 +154,9 @@ module _ (es : List LocatedExpression)
       let here_too = subst (λ f. cie_in frame f ≡ Some g.cie) fde g.cie_is in
       let cie : g.cie ≡ h.cie = some_one (cie_in frame h.fde) g.cie h.cie here_too h.cie_is in
       let row : g.row ≡ h.row = some_one (row_of frame address) g.row h.row g.row_is h.row_is in
-      let moved_row = subst (λ r. IsCaller e abi g.cie.return_register r c) row g.is in
-      let here = subst (λ (x : Cie). IsCaller e abi x.return_register h.row c) cie moved_row in
-      ap (λ x. Some x) (caller_one e abi h.cie.return_register h.row c d (good h.row h.row_is) here h.is)
+      let moved_row = subst (λ r. IsCaller e abi g.cie.return_address_register r c) row g.is in
+      let here = subst (λ (x : Cie). IsCaller e abi x.return_address_register h.row c) cie moved_row in
+      ap (λ x. Some x) (caller_one e abi h.cie.return_address_register h.row c d (good h.row h.row_is) here h.is)
 
 -- ---- some
 
@@ -188,12 +188,12 @@ module _ (es : List LocatedExpression)
   register_some e cfa r default good = (undefined, refl)
   register_some e cfa r RuleOver.undefined good = (undefined, refl)
   register_some e cfa r same_value good = (content e r, refl)
-  register_some e cfa r (offset n) good = (behind cfa (λ c. word e (moved e n c)), refl)
-  register_some e cfa r (val_offset n) good = (behind cfa (λ c. value (moved e n c)), refl)
+  register_some e cfa r (offset n) good = (if_value cfa (λ c. word e (moved e n c)), refl)
+  register_some e cfa r (val_offset n) good = (if_value cfa (λ c. value (moved e n c)), refl)
   register_some e cfa r (register other) good = (content e other, refl)
   register_some e cfa r (expression y) good =
-      needs_some cfa (λ c x. (address : Answer) × Gives (with_cfa e c) FrameRegister y address × (x ≡ behind address (word e)))
-      (λ c. let found = gives_some (with_cfa e c) y FrameRegister good in (behind found.0 (word e), (found.0, found.1, refl)))
+      needs_some cfa (λ c x. (address : Answer) × Gives (with_cfa e c) FrameRegister y address × (x ≡ if_value address (word e)))
+      (λ c. let found = gives_some (with_cfa e c) y FrameRegister good in (if_value found.0 (word e), (found.0, found.1, refl)))
   register_some e cfa r (val_expression y) good =
       needs_some cfa (λ c x. Gives (with_cfa e c) FrameRegister y x) (λ c. gives_some (with_cfa e c) y FrameRegister good)
 

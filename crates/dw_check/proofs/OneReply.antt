@@ -1,6 +1,5 @@
 -- A request has one reply.
-use Rattle.std.proofs.Common.{◌≡◌, ℕ, ◌^◌, List, [], length, Option, Some, None, Result, Ok, Err, ap, sym, ◌∙◌}
-use borrow.Author.Tests.{lt-ltb}
+use Rattle.std.proofs.Common.{◌≡◌, ℕ, List, [], Option, Some, None, Result, Ok, Err, ap, sym, ◌∙◌}
 use Rattle.dw_bytes.specs.declared.target.Target.{Target}
 use Rattle.dw_bytes.specs.declared.fault.Fault.{Fault}
 use Rattle.dw_stack.specs.declared.state.Kind.{Kind}
@@ -16,7 +15,7 @@ use Rattle.dw_check.specs.Text.{frame_text, lookup_text}
 use Rattle.dw_check.specs.Files.{section_bytes, state_facts}
 use Rattle.dw_check.specs.Report.{IsReport}
 use Rattle.dw_loclists.specs.Reading.{ListSection}
-use Rattle.dw_rows.specs.Section.{Frame, frame_of}
+use Rattle.dw_rows.specs.Section.{FrameSection, frame_of}
 use Rattle.dw_rows.specs.Section as rows
 use Rattle.dw_eval.specs.World.{World}
 use Rattle.dw_rows.specs.Abi.{Abi}
@@ -30,6 +29,7 @@ use Rattle.dw_check.specs.declared.requests.ListLookup.{ListLookup}
 use Rattle.dw_check.specs.declared.requests.Task.{Task}
 use Rattle.dw_check.specs.declared.requests.Task.TheVariants.{Check, Rows, Row, Locs, Eval, Unwind, Backtrace}
 use Rattle.dw_check.proofs.Evaluated.{same_text}
+use Rattle.dw_check.proofs.Lengths.{short_fault}
 use Rattle.dw_check.proofs.Found.{one_found}
 use Rattle.dw_check.proofs.BothSections.{one_of_checked}
 use Rattle.dw_check.proofs.Sections.{OneShown}
@@ -38,7 +38,7 @@ not_both : (kind : Kind) (target : Target) (bytes : List ℕ) (gs : List StateFa
     → Evaluates kind target bytes gs a → expression_refusal kind target bytes ≡ Some f → ⊥
 not_both kind target bytes gs a f h e =
     let none : expression_fault kind target bytes ≡ None = none_if_good kind target bytes h.comes.good in
-    let short : expression_refusal kind target bytes ≡ None = rw (lt-ltb (length bytes) (2 ^ 32) h.comes.short) none in
+    let short : expression_refusal kind target bytes ≡ None = short_fault bytes _ h.comes.short ∙ none in
     let both : None ≡ Some f = sym short ∙ e in
     cc
 
@@ -70,7 +70,7 @@ one_of_state : (given : Result (List StateFact) ℕ) (Is : List StateFact → Re
 one_of_state (Err n) Is one r s h k = h ∙ sym k
 one_of_state (Ok gs) Is one r s h k = one gs r s h k
 
-one_of_frame : (text_for : Frame → List ℕ) (target : Target) (hex : Bool) (files : List (List ℕ)) (r s : Reply)
+one_of_frame : (text_for : FrameSection → List ℕ) (target : Target) (hex : Bool) (files : List (List ℕ)) (r s : Reply)
     → OfFrame text_for target hex files r → OfFrame text_for target hex files s → r ≡ s
 one_of_frame text_for target hex files r s h k =
     one_of_section 0 (section_bytes hex (slice_get files 0)) (λ section r. r ≡ frame_reply text_for target section)
@@ -93,11 +93,11 @@ one_locs lookup target hex files r s h k =
 
 -- by what is said of reports
 abbrev OneReport : Type 0
-OneReport = (frame : Frame) (lists : ListSection) (s t : List ℕ) → IsReport frame lists s → IsReport frame lists t → s ≡ t
+OneReport = (frame : FrameSection) (lists : ListSection) (s t : List ℕ) → IsReport frame lists s → IsReport frame lists t → s ≡ t
 
 -- and of callers
 abbrev pub OneCaller : Type 0
-OneCaller = (e : World) (abi : Abi) (frame : Frame) (address : ℕ) (c d : Option Caller) → rows.IsChecked frame
+OneCaller = (e : World) (abi : Abi) (frame : FrameSection) (address : ℕ) (c d : Option Caller) → rows.IsChecked frame
     → Unwinds e abi frame address c → Unwinds e abi frame address d → c ≡ d
 
 -- and of walks
@@ -118,7 +118,7 @@ one_walk_shown walk address limit gs frame lists checked s t (xs, a, h, is) (ys,
     ∙ ap (λ l. walk_text frame.target.address_size l a) one.0 ∙ ap (walk_text frame.target.address_size ys) one.1
     ∙ sym same
 
-one_of_frame_and_state : (Shows : List StateFact → Frame → ListSection → List ℕ → Type 0) → OneShown Shows
+one_of_frame_and_state : (Shows : List StateFact → FrameSection → ListSection → List ℕ → Type 0) → OneShown Shows
     → (target : Target) (hex : Bool) (files : List (List ℕ)) (r s : Reply)
     → OfFrameAndState Shows target hex files r → OfFrameAndState Shows target hex files s → r ≡ s
 one_of_frame_and_state Shows one target hex files r s h k =

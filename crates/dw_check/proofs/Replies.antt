@@ -5,7 +5,7 @@ use Rattle.std.specs.Result.{IsErr, IsErrAnd}
 use Rattle.std.specs.Io.KnownBytes.{Appends}
 use Rattle.dw_bytes.specs.declared.fault.Fault.{Fault}
 use Rattle.dw_check.specs.StateFile.{StateFact}
-use Rattle.dw_check.specs.Stops.{ended_by, IsBadSection, IsBadState, IsFirstFault, IsRefusal}
+use Rattle.dw_check.specs.Stops.{ended_by, IsBadSection, IsBadState, RefusesBoth, IsRefusal}
 use Rattle.dw_check.specs.SinkBytes.{AppendsFront}
 use Rattle.dw_check.specs.WriteResults.{Writes, WritesWhole}
 use Rattle.dw_check.specs.Runs.{Reply, text, refusal, not_hex, bad_line, accepted_text, OfSection, OfState, Goes}
@@ -65,7 +65,7 @@ goes_refusal count section first Is a Output is h = absurd h
 
 -- that of two sections
 pub goes_first_fault : (count : ℕ) (first : Option CheckFault) (Is : Reply → Type 0) (a : Option (List ℕ)) (stop : RunFault)
-    → ((found : CheckFault) → first ≡ Some found → Is (refusal found.section found.fault)) → IsFirstFault first stop
+    → ((found : CheckFault) → first ≡ Some found → Is (refusal found.section found.fault)) → RefusesBoth first stop
     → Goes count Is a a (Err stop)
 goes_first_fault count first Is a (Refused s f) is h = (is (record { section = s; fault = f }) h, appends_nothing a)
 goes_first_fault count first Is a Memory is h = λ reply i. front_none a a (accepted_text reply) (appends_nothing a)

@@ -7,7 +7,7 @@ use Rattle.std.proofs.lemmas.List.{length-map, append_assoc, append-nil}
 use Rattle.std.proofs.lemmas.Grind.{flat_map-append}
 use Rattle.dw_frame.specs.Records.{Cie, Fde}
 use Rattle.dw_rows.specs.Rules.{PlacedRow, Row}
-use Rattle.dw_rows.specs.Section.{Frame, cie_in, rows_in, rows_behind}
+use Rattle.dw_rows.specs.Section.{FrameSection, cie_in, rows_in, rows_behind}
 use Rattle.dw_rows.specs.GivenRows.{given_row}
 use Rattle.dw_rows.specs.UnwindRows.{Cover, rows_of}
 use Rattle.dw_stack.specs.declared.checked.CheckedExpression.{CheckedExpression}
@@ -44,7 +44,8 @@ cover_count from to (row ∷ rows) h =
     omega (arith, later, h.0, h.1)
 
 -- the rows of an FDE are fewer than there are addresses
-pub few_rows : (frame : Frame) (cie : Cie) (fde : Fde) (rows : List Row) → Cover fde.initial (rows_of cie fde) (fde.initial + fde.range)
+pub few_rows : (frame : FrameSection) (cie : Cie) (fde : Fde) (rows : List Row)
+    → Cover fde.initial (rows_of cie fde) (fde.initial + fde.range)
     → cie_in frame fde ≡ Some cie → rows ≡ rows_in frame fde → fde.initial + fde.range < 2 ^ 64 → length rows < 2 ^ 64
 few_rows frame cie fde rows cover is all short =
     let same : rows ≡ map (given_row frame.expressions) (rows_of cie fde) =
@@ -113,7 +114,7 @@ next_here xs i x h e =
     drop-cons xs i x h ∙ ap (λ y. y ∷ drop (suc i) xs) (sym e) ∙ ap (λ n. x ∷ drop n xs) (sym (add-one i))
 
 -- the report of the expressions of two sections
-pub reported : (frame : Frame) (lists : ListSection) (xs : List (ℕ × CheckedExpression)) (lines : List ℕ)
+pub reported : (frame : FrameSection) (lists : ListSection) (xs : List (ℕ × CheckedExpression)) (lines : List ℕ)
     → map located_of xs ≡ frame.expressions → AreLines sections.Lists (located_in lists) lines
     → IsReport frame lists (summary_text frame lists ++ (flat_map (line_of sections.Frame) xs ++ lines))
 reported frame lists xs lines d are = record {
@@ -135,7 +136,7 @@ lines_one depths section (x ∷ xs) s t h k =
     h.4 ∙ ap (λ d. expression_line section x d ++ h.1) depth ∙ ap (λ r. expression_line section x k.0 ++ r) rest ∙ sym k.4
 
 pub report_one : ((kind : Kind) (target : Target) (bytes : List ℕ) (d e : ℕ) → IsDepthOf kind target bytes d → IsDepthOf kind target bytes e
-    → d ≡ e) → (frame : Frame) (lists : ListSection) (s t : List ℕ) → IsReport frame lists s → IsReport frame lists t → s ≡ t
+    → d ≡ e) → (frame : FrameSection) (lists : ListSection) (s t : List ℕ) → IsReport frame lists s → IsReport frame lists t → s ≡ t
 report_one depths frame lists s t h k =
     let first = lines_one depths sections.Frame frame.expressions h.frame_lines k.frame_lines h.of_frame k.of_frame in
     let same = lines_one depths sections.Lists (located_in lists) h.lines k.lines h.of_lists k.of_lists in

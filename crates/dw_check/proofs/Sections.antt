@@ -11,7 +11,7 @@ use Rattle.dw_check.specs.Files.{section_bytes, state_facts}
 use Rattle.dw_check.specs.Runs.{Reply, text, refusal, frame_refusal, frame_reply, text_unless, OfState, OfChecked, OfFrame}
 use Rattle.dw_check.specs.Runs.{OfFrameAndState, Goes}
 use Rattle.dw_check.specs.StateFile.{StateFact}
-use Rattle.dw_check.specs.Stops.{IsBadState, IsFirstFault, IsRefusal, ended_by}
+use Rattle.dw_check.specs.Stops.{IsBadState, RefusesBoth, IsRefusal, ended_by}
 use Rattle.dw_check.specs.WriteResults.{Writes}
 use Rattle.dw_check.specs.declared.stop.ReportFault.{ReportFault}
 use Rattle.dw_check.specs.declared.stop.RunFault.{RunFault}
@@ -21,7 +21,7 @@ use Rattle.dw_check.proofs.Replies.{goes_section, goes_state, goes_bad_state, go
 
 -- ---- alone
 
-module _ (text_for : rows.Frame → List ℕ) (target : Target) (section : List ℕ) where
+module _ (text_for : rows.FrameSection → List ℕ) (target : Target) (section : List ℕ) where
   shown : frame_refusal target section ≡ None → text (text_for (frame_of target section)) ≡ frame_reply text_for target section
   unfolding frame_reply
   shown e = sym (ap (λ f. text_unless f Frame (text_for (frame_of target section))) e)
@@ -51,11 +51,11 @@ module _ (text_for : rows.Frame → List ℕ) (target : Target) (section : List 
 -- ---- with a state
 
 -- of a section that is checked, and of what a state file gives, there is one text
-abbrev pub OneShown : (List StateFact → rows.Frame → ListSection → List ℕ → Type 0) → Type 0
-OneShown Shows = (gs : List StateFact) (frame : rows.Frame) (lists : ListSection) → rows.IsChecked frame → (s t : List ℕ)
+abbrev pub OneShown : (List StateFact → rows.FrameSection → ListSection → List ℕ → Type 0) → Type 0
+OneShown Shows = (gs : List StateFact) (frame : rows.FrameSection) (lists : ListSection) → rows.IsChecked frame → (s t : List ℕ)
     → Shows gs frame lists s → Shows gs frame lists t → s ≡ t
 
-module _ (Shows : List StateFact → rows.Frame → ListSection → List ℕ → Type 0) (target : Target) (section : List ℕ) where
+module _ (Shows : List StateFact → rows.FrameSection → ListSection → List ℕ → Type 0) (target : Target) (section : List ℕ) where
   module _ (count : ℕ) (hex : Bool) (files : List (List ℕ)) where
     abbrev Is : List ℕ → List StateFact → Reply → Type 0
     Is bytes gs = OfChecked target bytes [] (Shows gs)
@@ -70,7 +70,7 @@ module _ (Shows : List StateFact → rows.Frame → ListSection → List ℕ →
         (goes_bad_state count given (Is section) a stop h)
 
     pub goes_faulty : (gs : List StateFact) (a : Option (List ℕ)) (stop : RunFault) → section_bytes hex (slice_get files 0) ≡ Some section
-        → given ≡ Ok gs → IsFirstFault (check_fault target section []) stop
+        → given ≡ Ok gs → RefusesBoth (check_fault target section []) stop
         → Goes count (OfFrameAndState Shows target hex files) a a (Err stop)
     goes_faulty gs a stop bytes is h =
         goes_section count 0 (section_bytes hex (slice_get files 0)) section (λ b. OfState given (Is b)) a a (Err stop) bytes
@@ -78,13 +78,13 @@ module _ (Shows : List StateFact → rows.Frame → ListSection → List ℕ →
         (goes_first_fault count (check_fault target section []) (Is section gs) a stop (λ found k. k) h))
 
     -- where there is one text to be shown
-    pub goes_shown : (gs : List StateFact) (frame : rows.Frame) (lists : ListSection) (old new : Option (List ℕ))
+    pub goes_shown : (gs : List StateFact) (frame : rows.FrameSection) (lists : ListSection) (old new : Option (List ℕ))
         (r : Result (Unit {0}) ReportFault) (written : List ℕ) → OneShown Shows → section_bytes hex (slice_get files 0) ≡ Some section
         → given ≡ Ok gs → check_fault target section [] ≡ None → frame ≡ frame_of target section
         → lists ≡ record { target = target; section = [] } → Shows gs frame lists written → Writes old new r written
         → Goes count (OfFrameAndState Shows target hex files) old new (ended_by r)
     goes_shown gs frame lists old new r written one bytes is none of_frame of_lists shows writes =
-        let by_frame = subst (λ (f : rows.Frame). Shows gs f lists written) of_frame shows in
+        let by_frame = subst (λ (f : rows.FrameSection). Shows gs f lists written) of_frame shows in
         let all = subst (λ (l : ListSection). Shows gs (frame_of target section) l written) of_lists by_frame in
         let only = one gs (frame_of target section) (record { target = target; section = [] }) in
         goes_section count 0 (section_bytes hex (slice_get files 0)) section (λ b. OfState given (Is b)) old new (ended_by r) bytes

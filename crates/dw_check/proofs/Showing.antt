@@ -9,7 +9,7 @@ use Rattle.dw_bytes.specs.declared.target.AddressSize.{AddressSize}
 use Rattle.dw_stack.specs.Located.{LocatedExpression}
 use Rattle.dw_check.specs.SinkBytes.{AppendsFront}
 use Rattle.dw_check.specs.StateFile.{StateFact}
-use Rattle.dw_check.specs.Text.{expression_line}
+use Rattle.dw_check.specs.Text.{expression_offset_line}
 use Rattle.dw_check.specs.Evaluations.{Evaluates}
 use Rattle.dw_check.specs.Lookups.{IsShowable, AreEvaluated}
 use Rattle.dw_check.proofs.Found.{each_evaluated}
@@ -27,18 +27,18 @@ shown_none gs all a = record { came = []; sent = appends_nothing a; whole = λ b
 -- the next one, and then the rest
 next_before : (gs : List StateFact) (left rest : List LocatedExpression) (x : LocatedExpression) (own behind : List ℕ) → left ≡ x ∷ rest
     → Evaluates x.kind x.target x.bytes gs own → AreEvaluated gs rest behind
-    → AreEvaluated gs left ((expression_line x.offset ++ own) ++ behind)
+    → AreEvaluated gs left ((expression_offset_line x.offset ++ own) ++ behind)
 next_before gs left rest x own behind e h k =
-    subst (λ (l : List LocatedExpression). AreEvaluated gs l ((expression_line x.offset ++ own) ++ behind)) (sym e)
+    subst (λ (l : List LocatedExpression). AreEvaluated gs l ((expression_offset_line x.offset ++ own) ++ behind)) (sym e)
     (own, behind, refl, h, k)
 
 -- the next one too
 pub shown_next : (gs : List StateFact) (all left rest : List LocatedExpression) (x : LocatedExpression) (own : List ℕ)
     (a b c : Option (List ℕ))
-    → left ≡ x ∷ rest → Shown gs all left a b → Evaluates x.kind x.target x.bytes gs own → Appends b c (expression_line x.offset ++ own)
+    → left ≡ x ∷ rest → Shown gs all left a b → Evaluates x.kind x.target x.bytes gs own → Appends b c (expression_offset_line x.offset ++ own)
     → Shown gs all rest a c
 shown_next gs all left rest x own a b c e s h more =
-    let line = expression_line x.offset ++ own in
+    let line = expression_offset_line x.offset ++ own in
     record {
       came = s.came ++ line;
       sent = appends_more a b c s.came line s.sent more;
@@ -50,9 +50,9 @@ shown_next gs all left rest x own a b c e s h more =
 pub shown_front : (size : AddressSize) (gs : List StateFact) (all left rest : List LocatedExpression) (x : LocatedExpression) (own : List ℕ)
     (a b c : Option (List ℕ))
     → left ≡ x ∷ rest → All (λ y. IsShowable size y) left → Shown gs all left a b → Evaluates x.kind x.target x.bytes gs own
-    → AppendsFront b c (expression_line x.offset ++ own) → (t : List ℕ) × AreEvaluated gs all t × AppendsFront a c t
+    → AppendsFront b c (expression_offset_line x.offset ++ own) → (t : List ℕ) × AreEvaluated gs all t × AppendsFront a c t
 shown_front size gs all left rest x own a b c e fine s h part =
-    let line = expression_line x.offset ++ own in
+    let line = expression_offset_line x.offset ++ own in
     let others = each_evaluated size gs rest
     (recursion_from_All (λ y. IsShowable size y) rest (All-rest (λ y. IsShowable size y) x rest left e fine)) in (
       s.came ++ (line ++ others.0),

@@ -1,6 +1,7 @@
 -- Two sections have no fault exactly where they are well formed.
 use Rattle.std.proofs.Common.{◌≡◌, ◌⊎◌, ℕ, ◌^◌, ◌<◌, ◌↔◌, List, length, refl, arith, inl, inr}
 use Rattle.std.specs.Prelude.{Option, Some, None, Result, Ok, Err, IfOk, IfErr}
+use Rattle.std.specs.Option.{option_or}
 use Rattle.std.proofs.lemmas.Bool.Decides.{nat_tests}
 use Rattle.dw_bytes.specs.declared.target.Target.{Target}
 use Rattle.dw_bytes.specs.declared.fault.Fault.{Fault}
@@ -9,17 +10,17 @@ use Rattle.dw_rows.specs.Section.{section_fault}
 use Rattle.dw_rows.specs.WellFormed as frames
 use Rattle.dw_loclists.specs.Reading.{lists_fault}
 use Rattle.dw_loclists.specs.Lists as tables
-use Rattle.dw_check.specs.Checked.{AreWellFormed, Checks, check_fault, fault_within, length_fault, or_next}
+use Rattle.dw_check.specs.Checked.{AreWellFormed, Checks, check_fault, fault_within, length_fault}
 use Rattle.dw_check.specs.declared.stop.Section.{Section}
 use Rattle.dw_check.specs.declared.stop.Section.TheVariants.{Frame, Lists}
 use Rattle.dw_check.specs.declared.whole_check.CheckFault.{CheckFault}
-use Rattle.dw_check.proofs.Lengths.{short_fault}
+use Rattle.dw_check.proofs.Lengths.{short_length}
 
 -- ---- the first fault of both
 
-or_next_none : (a b : Option CheckFault) → or_next a b ≡ None → (a ≡ None) × (b ≡ None)
-or_next_none None b h = (refl, h)
-or_next_none (Some fault) b h = absurd (other fault h)
+option_or_none : (a b : Option CheckFault) → option_or a b ≡ None → (a ≡ None) × (b ≡ None)
+option_or_none None b h = (refl, h)
+option_or_none (Some fault) b h = absurd (other fault h)
   where
     other : (fault : CheckFault) → Some fault ≡ None → ⊥
     other fault e = cc
@@ -39,9 +40,9 @@ pub each_without_fault : (target : Target) (frame lists : List ℕ) → check_fa
     → (section_fault target frame ≡ None) × (lists_fault target lists ≡ None)
 unfolding check_fault
 each_without_fault target frame lists h =
-    let a = or_next_none (fault_within Frame (length_fault frame)) _ h in
-    let b = or_next_none (fault_within Lists (length_fault lists)) _ a.1 in
-    let c = or_next_none (fault_within Frame (section_fault target frame)) _ b.1 in
+    let a = option_or_none (fault_within Frame (length_fault frame)) _ h in
+    let b = option_or_none (fault_within Lists (length_fault lists)) _ a.1 in
+    let c = option_or_none (fault_within Frame (section_fault target frame)) _ b.1 in
     (within_none Frame _ c.0, within_none Lists _ c.1)
 
 -- by what is said of each section alone
@@ -53,9 +54,9 @@ without_fault of_frames of_lists target frame lists = (to, from)
   where
     to : check_fault target frame lists ≡ None → AreWellFormed target frame lists
     to h =
-        let a = or_next_none (fault_within Frame (length_fault frame)) _ h in
-        let b = or_next_none (fault_within Lists (length_fault lists)) _ a.1 in
-        let c = or_next_none (fault_within Frame (section_fault target frame)) _ b.1 in
+        let a = option_or_none (fault_within Frame (length_fault frame)) _ h in
+        let b = option_or_none (fault_within Lists (length_fault lists)) _ a.1 in
+        let c = option_or_none (fault_within Frame (section_fault target frame)) _ b.1 in
         record {
           frame_is_short = short frame (within_none Frame _ a.0);
           lists_are_short = short lists (within_none Lists _ b.0);
@@ -66,8 +67,8 @@ without_fault of_frames of_lists target frame lists = (to, from)
     from : AreWellFormed target frame lists → check_fault target frame lists ≡ None
     from right =
         rw (
-          short_fault frame None _ right.frame_is_short,
-          short_fault lists None _ right.lists_are_short,
+          short_length frame right.frame_is_short,
+          short_length lists right.lists_are_short,
           (of_frames target frame).1 right.frame_is_right,
           (of_lists target lists).1 right.lists_are_right,
         ) refl

@@ -7,7 +7,7 @@ use Rattle.std.specs.Io.KnownBytes.{Appends}
 use Rattle.dw_bytes.specs.declared.target.AddressSize.{AddressSize}
 use Rattle.dw_frame.specs.Records.{Cie, Fde}
 use Rattle.dw_rows.specs.Rules.{Row}
-use Rattle.dw_rows.specs.Section.{Frame, cie_in, rows_in, rows_behind, row_of}
+use Rattle.dw_rows.specs.Section.{FrameSection, cie_in, rows_in, rows_behind, row_of}
 use Rattle.dw_rows.specs.GivenRows.{given_row}
 use Rattle.dw_rows.specs.UnwindRows.{rows_of}
 use Rattle.dw_check.specs.SinkBytes.{AppendsFront}
@@ -35,7 +35,7 @@ writes_whole a b (Err Memory) x h = ([], x, refl, h)
 writes_whole a b (Err Write) x h = h
 
 -- the line of an FDE, and then what is written of its rows
-pub fde_then : (frame : Frame) (size : AddressSize) (cie : Cie) (fde : Fde) (rows : List Row) (a b c : Option (List ℕ))
+pub fde_then : (frame : FrameSection) (size : AddressSize) (cie : Cie) (fde : Fde) (rows : List Row) (a b c : Option (List ℕ))
     (r : Result (Unit {0}) ReportFault)
     → size ≡ frame.target.address_size → cie_in frame fde ≡ Some cie
     → rows ≡ map (given_row frame.expressions) (rows_of cie fde)
@@ -50,7 +50,8 @@ fde_then frame size cie fde rows a b c r z e d h k =
     (subst (λ l. Writes a c r (lines_of size (Some cie) fde l)) its both))
 
 -- a beginning of the line of an FDE
-pub fde_front : (frame : Frame) (size : AddressSize) (cie : Cie) (fde : Fde) (a b : Option (List ℕ)) (r : Result (Unit {0}) ReportFault)
+pub fde_front : (frame : FrameSection) (size : AddressSize) (cie : Cie) (fde : Fde) (a b : Option (List ℕ))
+    (r : Result (Unit {0}) ReportFault)
     → size ≡ frame.target.address_size → cie_in frame fde ≡ Some cie → IsErr r → AppendsFront a b (fde_line size cie fde)
     → Writes a b r (fde_text frame fde)
 unfolding fde_text
@@ -64,7 +65,8 @@ fde_front frame size cie fde a b r z e failed h =
 -- ---- the row of an address
 
 -- its line, where it is there
-pub row_written : (frame : Frame) (address : ℕ) (size : AddressSize) (row : Row) (a b : Option (List ℕ)) (r : Result (Unit {0}) ReportFault)
+pub row_written : (frame : FrameSection) (address : ℕ) (size : AddressSize) (row : Row) (a b : Option (List ℕ))
+    (r : Result (Unit {0}) ReportFault)
     → size ≡ frame.target.address_size → Some row ≡ row_of frame address → Writes a b r (row_line size row)
     → Writes a b r (lookup_text frame address)
 unfolding lookup_text
@@ -72,7 +74,7 @@ row_written frame address size row a b r z e h =
     subst (λ s. Writes a b r (found_text s (row_of frame address))) z (subst (λ o. Writes a b r (found_text size o)) e h)
 
 -- that there is none
-pub none_text : (frame : Frame) (address : ℕ) (bytes : List ℕ) → None ≡ row_of frame address → bytes ≡ codes "none\n"
+pub none_text : (frame : FrameSection) (address : ℕ) (bytes : List ℕ) → None ≡ row_of frame address → bytes ≡ codes "none\n"
     → bytes ≡ lookup_text frame address
 unfolding lookup_text
 none_text frame address bytes e d = d ∙ ap (found_text frame.target.address_size) e

@@ -15,8 +15,8 @@ abbrev pub flag_of : Text → List Row → Bool
 flag_of name rows = option_map_or (λ text. bytes_eq text (codes "true")) (first_of name rows) false
 
 -- little-endian with addresses of eight bytes, unless flags say otherwise
-abbrev pub target_of : List Row → Target
-target_of rows = record {
+abbrev pub target_by_flags : List Row → Target
+target_by_flags rows = record {
   order = (if flag_of (codes "big") rows then Big else Little);
   address_size = (if flag_of (codes "addr4") rows then Four else Eight);
 }
@@ -44,7 +44,7 @@ file_at rows (name, file) = first_of name rows
 file_at rows (name, _) = None
 
 abbrev pub address_at : Text → List Row → Option ℕ
-address_at name rows = option_and_then (address_of (target_of rows)) (first_of name rows)
+address_at name rows = option_and_then (address_of (target_by_flags rows)) (first_of name rows)
 
 abbrev pub offset_at : Text → List Row → Option ℕ
 offset_at name rows = option_and_then offset_of (first_of name rows)
@@ -58,7 +58,7 @@ limit_at name rows = option_and_then short_number (first_of name rows)
 -- a word is there, and is none of those that its place takes
 abbrev pub IsBad : List Row → Text × Word → Type 0
 IsBad rows (name, file) = ⊥
-IsBad rows (name, address) = IsSomeAnd (first_of name rows) (λ text. address_of (target_of rows) text ≡ None)
+IsBad rows (name, address) = IsSomeAnd (first_of name rows) (λ text. address_of (target_by_flags rows) text ≡ None)
 IsBad rows (name, offset) = IsSomeAnd (first_of name rows) (λ text. offset_of text ≡ None)
 IsBad rows (name, kind) = IsSomeAnd (first_of name rows) (λ text. kind_of text ≡ None)
 IsBad rows (name, limit) = IsSomeAnd (first_of name rows) (λ text. short_number text ≡ None)

@@ -9,15 +9,15 @@ use Rattle.dw_rows.specs.Abi.{Abi, rule_under, rules_under}
 use Rattle.dw_stack.specs.Located.{LocatedExpression}
 use Rattle.dw_stack.specs.declared.state.Kind.{Kind}
 use Rattle.dw_stack.specs.declared.state.Kind.TheVariants.{FrameCfa, FrameRegister}
-use Rattle.dw_rows.specs.Section.{Frame, Covers, IsCoverOf, cie_in, row_of}
+use Rattle.dw_rows.specs.Section.{FrameSection, Covers, IsCoverOf, cie_in, row_of}
 use Rattle.dw_stack.specs.Expressions.{operations_in}
 use Rattle.dw_eval.specs.Numbers.{reduced}
 use Rattle.dw_eval.specs.World.{World, width, number_at}
 use Rattle.dw_eval.specs.Results as results
 use Rattle.dw_eval.specs.Results.{Outcome, IsRun}
 
--- What is known of a number: it; that it can't be had; that registers or memory lack what it takes, or that a read goes past
--- 2^w - 1; or that its expression divides by zero.
+-- What is known of a number: it; that it can't be had; that registers or memory lack what it, or the CFA that it needs, takes, or that
+-- a read goes past 2^w - 1; or that its expression, or that of the CFA that it needs, divides by zero.
 pub data Answer : Type 0 where
   value : ℕ → Answer
   undefined : Answer
@@ -66,9 +66,9 @@ word e a = if nat_le (a + bytes_of_address e.target.address_size) (2 ^ width e)
     then moved_content e (pos 0) (number_at e.memory e.target.order a (bytes_of_address e.target.address_size)) else unreadable
 
 -- what comes of a value, or that there is none
-abbrev pub behind : Answer → (ℕ → Answer) → Answer
-behind (value n) f = f n
-behind other f = other
+abbrev pub if_value : Answer → (ℕ → Answer) → Answer
+if_value (value n) f = f n
+if_value other f = other
 
 -- What an expression of a frame comes to, run as one of a kind: that of a CFA begins with nothing, that of a register with the CFA.
 abbrev pub answer_of : Outcome → Answer
@@ -98,11 +98,11 @@ abbrev pub IsRegister : World → Answer → ℕ → Rule → Answer → Type 0
 IsRegister e cfa r default answer = answer ≡ undefined
 IsRegister e cfa r RuleOver.undefined answer = answer ≡ undefined
 IsRegister e cfa r same_value answer = answer ≡ content e r
-IsRegister e cfa r (offset n) answer = answer ≡ behind cfa (λ c. word e (moved e n c))
-IsRegister e cfa r (val_offset n) answer = answer ≡ behind cfa (λ c. value (moved e n c))
+IsRegister e cfa r (offset n) answer = answer ≡ if_value cfa (λ c. word e (moved e n c))
+IsRegister e cfa r (val_offset n) answer = answer ≡ if_value cfa (λ c. value (moved e n c))
 IsRegister e cfa r (register other) answer = answer ≡ content e other
 IsRegister e cfa r (expression x) answer =
-    NeedsCfa cfa (λ c a. (address : Answer) × Gives (with_cfa e c) FrameRegister x address × (a ≡ behind address (word e))) answer
+    NeedsCfa cfa (λ c a. (address : Answer) × Gives (with_cfa e c) FrameRegister x address × (a ≡ if_value address (word e))) answer
 IsRegister e cfa r (val_expression x) answer = NeedsCfa cfa (λ c a. Gives (with_cfa e c) FrameRegister x a) answer
 
 -- the registers of these rules, in their order
@@ -121,23 +121,23 @@ pub record Caller : Type 0 where
   pub return_address : Answer
 
 -- The caller by a row, under registers, memory and an ABI, whose rules hold where the row has none. The return address is what the
--- register is that the CIE names for it.
-pub record IsCaller (e : World) (abi : Abi) (return_register : ℕ) (row : Row) (caller : Caller) : Type 0 where
+-- register of its column is, which the CIE names.
+pub record IsCaller (e : World) (abi : Abi) (column : ℕ) (row : Row) (caller : Caller) : Type 0 where
   pub cfa : IsCfa e row.cfa caller.cfa
   pub registers : AreRegisters e caller.cfa (rules_under abi row.rules) caller.registers
-  pub return_address : IsRegister e caller.cfa return_register (rule_under abi row.rules return_register) caller.return_address
+  pub return_address : IsRegister e caller.cfa column (rule_under abi row.rules column) caller.return_address
 
 -- The caller at an address: by the FDE that covers it, that one's CIE, and the row of the address.
-pub record IsCallerAt (e : World) (abi : Abi) (frame : Frame) (address : ℕ) (caller : Caller) : Type 0 where
+pub record IsCallerAt (e : World) (abi : Abi) (frame : FrameSection) (address : ℕ) (caller : Caller) : Type 0 where
   pub fde : Fde
   pub covers : IsCoverOf frame.fdes address (Some fde)
   pub cie : Cie
   pub cie_is : cie_in frame fde ≡ Some cie
   pub row : Row
   pub row_is : row_of frame address ≡ Some row
-  pub is : IsCaller e abi cie.return_register row caller
+  pub is : IsCaller e abi cie.return_address_register row caller
 
 -- The caller at an address, or that no FDE covers it.
-abbrev pub Unwinds : World → Abi → Frame → ℕ → Option Caller → Type 0
+abbrev pub Unwinds : World → Abi → FrameSection → ℕ → Option Caller → Type 0
 Unwinds e abi frame address (Some caller) = IsCallerAt e abi frame address caller
 Unwinds e abi frame address None = (f : Fde) → Contains frame.fdes f → ¬ Covers f address

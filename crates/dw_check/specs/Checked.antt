@@ -1,5 +1,6 @@
 -- Two sections that are right, and the first fault of two (DWARF 5, sections 6.4.1 and 7.29).
 use Rattle.std.specs.Prelude.{◌≡◌, ◌⊎◌, ℕ, ◌<◌, ◌^◌, nat_lt, if◌then◌else◌, List, [], length, Option, Some, None, Result, Ok, Err}
+use Rattle.std.specs.Option.{option_or}
 use Rattle.dw_bytes.specs.declared.target.Target.{Target}
 use Rattle.dw_bytes.specs.declared.fault.Fault.{Fault}
 use Rattle.dw_bytes.specs.declared.fault.FaultKind.TheVariants.{SectionTooLong}
@@ -27,21 +28,19 @@ abbrev pub fault_within : Section → Option Fault → Option CheckFault
 fault_within section None = None
 fault_within section (Some fault) = Some (record { section = section; fault = fault })
 
--- 2^32 bytes or more are too many
-abbrev pub length_fault : List ℕ → Option Fault
-length_fault bytes = if nat_lt (length bytes) (2 ^ 32) then None else Some (record { kind = SectionTooLong; at = 0 })
+-- 2^32 bytes or more are too many, in a section and in an expression
+abbrev pub too_long : Fault
+too_long = record { kind = SectionTooLong; at = 0 }
 
--- the first, or where there is none the other
-abbrev pub or_next : Option CheckFault → Option CheckFault → Option CheckFault
-or_next (Some fault) next = Some fault
-or_next None next = next
+abbrev pub length_fault : List ℕ → Option Fault
+length_fault bytes = if nat_lt (length bytes) (2 ^ 32) then None else Some too_long
 
 -- the lengths, and then what each section has
 unfoldable pub check_fault : Target → List ℕ → List ℕ → Option CheckFault
 check_fault target frame_bytes list_bytes =
-    or_next (fault_within Frame (length_fault frame_bytes))
-    (or_next (fault_within Lists (length_fault list_bytes))
-    (or_next (fault_within Frame (section_fault target frame_bytes))
+    option_or (fault_within Frame (length_fault frame_bytes))
+    (option_or (fault_within Lists (length_fault list_bytes))
+    (option_or (fault_within Frame (section_fault target frame_bytes))
     (fault_within Lists (lists_fault target list_bytes))))
 
 -- A check passes where there is no fault. Otherwise it names the fault, or memory ran out.

@@ -10,27 +10,27 @@ use Rattle.dw_check.specs.Outcomes.{evaluation_text}
 
 -- a machine of which this was given, under a target
 abbrev pub world_of : Target → List StateFact → World
-world_of target gs = record {
+world_of target facts = record {
   target = target;
-  registers = λ n. first_that (content_in n) gs;
-  memory = λ a. first_that (byte_in a) gs;
-  cfa = first_that cfa_in gs;
-  frame_base = first_that frame_base_in gs;
-  object = first_that object_in gs;
+  registers = λ n. first_that (content_in n) facts;
+  memory = λ a. first_that (byte_in a) facts;
+  cfa = first_that cfa_in facts;
+  frame_base = first_that frame_base_in facts;
+  object = first_that object_in facts;
 }
 
 -- The expression is good, its run on what was given comes to this outcome after so many steps, and this is its depth.
-pub record ComesTo (kind : Kind) (target : Target) (bytes : List ℕ) (gs : List StateFact) (outcome : Outcome)
+pub record ComesTo (kind : Kind) (target : Target) (bytes : List ℕ) (facts : List StateFact) (outcome : Outcome)
     (steps depth : ℕ) : Type 0 where
   pub short : length bytes < 2 ^ 32
   pub good : IsGoodExpression kind target bytes
-  pub run : IsRun (world_of target gs) kind (operations_in target bytes) (length bytes) outcome steps
+  pub run : IsRun (world_of target facts) kind (operations_in target bytes) (length bytes) outcome steps
   pub deepest : IsDepthOf kind target bytes depth
 
 -- The text shows what it comes to.
-pub record Evaluates (kind : Kind) (target : Target) (bytes : List ℕ) (gs : List StateFact) (written : List ℕ) : Type 0 where
+pub record Evaluates (kind : Kind) (target : Target) (bytes : List ℕ) (facts : List StateFact) (written : List ℕ) : Type 0 where
   pub outcome : Outcome
   pub steps : ℕ
   pub depth : ℕ
-  pub comes : ComesTo kind target bytes gs outcome steps depth
+  pub comes : ComesTo kind target bytes facts outcome steps depth
   pub text : written ≡ evaluation_text target.address_size outcome steps depth

@@ -18,7 +18,7 @@ abbrev pub section_bytes : Bool → Option (List ℕ) → Option (List ℕ)
 section_bytes hex None = Some []
 section_bytes hex (Some file) = if hex then result_ok (decode_of (without_blanks file)) else Some file
 
--- what a state file gives, or its first line that isn't one; no file gives nothing
+-- what a state file gives, or its first bad line; no file gives nothing
 abbrev pub state_facts : Target → Option (List ℕ) → Result (List StateFact) ℕ
 state_facts target None = Ok []
 state_facts target (Some text) = facts_of_file target text

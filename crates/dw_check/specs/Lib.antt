@@ -7,7 +7,7 @@ pub mod Report
 pub mod Headline
 -- the frame that called (6.4.1)
 pub mod Caller
--- frames, one the caller of the other (6.4.1)
+-- frames, one the caller of the other (6.4.1, 6.4.4)
 pub mod Walks
 -- which callers and frames have numbers below 2^w alone
 pub mod CallerFits

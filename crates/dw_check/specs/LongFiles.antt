@@ -3,7 +3,7 @@ use Rattle.std.specs.Prelude.{ℕ, zero, suc, ◌^◌, ◌||◌, Bool, true, fal
 use Rattle.dw_check.specs.declared.requests.Task.{Task}
 use Rattle.dw_check.specs.declared.requests.Task.TheVariants.{Check}
 
--- the file at this place is a state file
+-- the file at this place, if there is one, is a state file
 abbrev pub is_state : Task → ℕ → Bool
 is_state task zero = false
 is_state Check (suc n) = false

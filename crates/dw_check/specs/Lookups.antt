@@ -8,28 +8,28 @@ use Rattle.dw_loclists.specs.Locations.{locations_of}
 use Rattle.dw_stack.specs.Located.{LocatedExpression}
 use Rattle.dw_loclists.specs.Reading.{ListSection, lists_in}
 use Rattle.dw_check.specs.StateFile.{StateFact}
-use Rattle.dw_check.specs.Text.{expression_line}
+use Rattle.dw_check.specs.Text.{expression_offset_line}
 use Rattle.dw_check.specs.Evaluations.{Evaluates}
 
 -- the list of a section whose first byte is at an offset, if one's is
-abbrev pub list_at : ListSection → ℕ → Option Loclist
-list_at s at = find (λ l. l.offset == at) (lists_in s)
+abbrev pub list_that_begins_at : ListSection → ℕ → Option Loclist
+list_that_begins_at s at = find (λ l. l.offset == at) (lists_in s)
 
 -- The text shows expressions in their order, each with its offset in the section and what it comes to.
 abbrev pub AreEvaluated : List StateFact → List LocatedExpression → List ℕ → Type 0
-AreEvaluated gs [] written = written ≡ []
-AreEvaluated gs (x ∷ xs) written = (own rest : List ℕ) × (written ≡ (expression_line x.offset ++ own) ++ rest)
-    × Evaluates x.kind x.target x.bytes gs own × AreEvaluated gs xs rest
+AreEvaluated facts [] written = written ≡ []
+AreEvaluated facts (x ∷ xs) written = (own rest : List ℕ) × (written ≡ (expression_offset_line x.offset ++ own) ++ rest)
+    × Evaluates x.kind x.target x.bytes facts own × AreEvaluated facts xs rest
 
 -- it shows those that hold, or that none does
 abbrev pub ShowsLocations : List StateFact → List LocatedExpression → List ℕ → Type 0
-ShowsLocations gs [] written = written ≡ codes "none\n"
-ShowsLocations gs (x ∷ xs) written = AreEvaluated gs (x ∷ xs) written
+ShowsLocations facts [] written = written ≡ codes "none\n"
+ShowsLocations facts (x ∷ xs) written = AreEvaluated facts (x ∷ xs) written
 
 -- it shows what a list says of an address, where the base is the unit's, or that there is no list
 abbrev pub ShowsList : List StateFact → Option Loclist → ℕ → ℕ → List ℕ → Type 0
-ShowsList gs None base address written = written ≡ codes "no list\n"
-ShowsList gs (Some l) base address written = ShowsLocations gs (locations_of l base address) written
+ShowsList facts None base address written = written ≡ codes "no list\n"
+ShowsList facts (Some l) base address written = ShowsLocations facts (locations_of l base address) written
 
 -- An expression that can be shown with addresses of this size: it was found good.
 pub record IsShowable (size : AddressSize) (x : LocatedExpression) : Type 0 where

@@ -1,21 +1,20 @@
 -- The text of a report on two sections without a fault.
 use Rattle.std.specs.Prelude.{◌≡◌, ℕ, ◌+◌, List, [], ◌∷◌, ◌++◌, length, codes, decimal}
 use Rattle.std.specs.List.{flat_map}
-use Rattle.dw_rows.specs.Section.{Frame, rows_in}
+use Rattle.dw_rows.specs.Section.{FrameSection, rows_in}
 use Rattle.dw_stack.specs.declared.state.Kind.{Kind}
 use Rattle.dw_stack.specs.declared.state.Kind.TheVariants.{FrameCfa, FrameRegister, Location}
 use Rattle.dw_stack.specs.Expressions.{IsDepthOf, operations_in}
 use Rattle.dw_stack.specs.Located.{LocatedExpression}
 use Rattle.dw_loclists.specs.Reading.{ListSection, tables_in, lists_in, located_in}
-use Rattle.dw_check.specs.Text.{offset_text}
-use Rattle.dw_check.specs.Stops.{section_text}
+use Rattle.dw_check.specs.Text.{offset_text, section_text}
 use Rattle.dw_check.specs.declared.stop.Section.{Section}
 use Rattle.dw_check.specs.declared.stop.Section.TheVariants as sections
 
 -- ---- how many there are
 
 -- how many rows all FDEs have together
-abbrev pub row_count : Frame → ℕ
+abbrev pub row_count : FrameSection → ℕ
 row_count frame = length (flat_map (rows_in frame) frame.fdes)
 
 -- a number behind what it counts
@@ -37,15 +36,15 @@ unfoldable pub lists_counts_line : ℕ → ℕ → ℕ → List ℕ
 lists_counts_line tables lists expressions = count_text (codes "tables ") tables ++ count_text (codes " lists ") lists
     ++ expressions_text expressions
 
-abbrev pub frame_line : Frame → List ℕ
+abbrev pub frame_line : FrameSection → List ℕ
 frame_line frame = frame_counts_line (length frame.cies) (length frame.fdes) (row_count frame)
 
 -- as many expressions as lines follow: those of the frame section and those of lists
-abbrev pub lists_line : Frame → ListSection → List ℕ
+abbrev pub lists_line : FrameSection → ListSection → List ℕ
 lists_line frame lists = lists_counts_line (length (tables_in lists)) (length (lists_in lists))
     (length frame.expressions + length (located_in lists))
 
-unfoldable pub summary_text : Frame → ListSection → List ℕ
+unfoldable pub summary_text : FrameSection → ListSection → List ℕ
 summary_text frame lists = codes "accepted\n" ++ frame_line frame ++ lists_line frame lists
 
 -- ---- an expression
@@ -69,7 +68,7 @@ AreLines section (x ∷ xs) text = (depth : ℕ) × (rest : List ℕ) × IsDepth
 
 -- ---- the report
 
-pub record IsReport (frame : Frame) (lists : ListSection) (text : List ℕ) : Type 0 where
+pub record IsReport (frame : FrameSection) (lists : ListSection) (text : List ℕ) : Type 0 where
   pub frame_lines : List ℕ
   pub of_frame : AreLines sections.Frame frame.expressions frame_lines
   pub lines : List ℕ

@@ -8,7 +8,7 @@ use Rattle.clap.specs.declared.error.ErrorKind.{ErrorKind}
 use Rattle.clap.specs.declared.error.ErrorKind.TheVariants.{OutOfMemory}
 use Rattle.clap.specs.Words.{Kinds, Row, Text, fault_of, first_of, subcommand_of}
 use Rattle.dw_bytes.specs.declared.target.Target.{Target}
-use Rattle.dw_check.specs.Arguments.{Word, flag_of, target_of, file_at, IsBad}
+use Rattle.dw_check.specs.Arguments.{Word, flag_of, target_by_flags, file_at, IsBad}
 use Rattle.dw_check.specs.Commands.{Command, commands, dwcheck}
 use Rattle.dw_check.specs.declared.requests.Task.{Task}
 use Rattle.dw_check.specs.declared.requests.Usage.{Usage}
@@ -33,7 +33,7 @@ files_of c rows = filter_map (file_at rows) c.words ++ option_to_list (state_at 
 -- the request of a command with these arguments
 abbrev pub asked_of : Command → List Row → Option Asked
 asked_of c rows = option_map
-    (λ task. record { task = task; target = target_of rows; hex = flag_of (codes "hex") rows; files = files_of c rows })
+    (λ task. record { task = task; target = target_by_flags rows; hex = flag_of (codes "hex") rows; files = files_of c rows })
     (c.task rows)
 
 -- the command of a name
@@ -57,7 +57,7 @@ HasBadWord name rows = IsSomeAnd (command_of name) (λ c. HasBad rows c.words)
 abbrev pub AsksBy : Kinds → Option (Text × List Row) → Result Asked Usage → Type 0
 AsksBy faults matches (Ok asked) = (faults ≡ []) × IsSomeAnd matches (λ (name, rows). asked_by name rows ≡ Some asked)
 AsksBy faults matches (Err BadArgument) = (faults ≡ []) × IsSomeAnd matches (λ (name, rows). HasBadWord name rows)
-AsksBy faults matches (Err (Line _)) = faults ≡ [] → ⊥
+AsksBy faults matches (Err (Line _)) = ¬ (faults ≡ [])
 AsksBy faults matches (Err Memory) = Unit {0}
 
 -- what an answer to these words has to be, by what clap promises of them
@@ -66,6 +66,6 @@ AsksFor words r = AsksBy (fault_of dwcheck words) (subcommand_of dwcheck words) 
 
 -- want of memory, or the text of an error of another kind
 abbrev pub IsUsageOf : ErrorKind → Usage → Type 0
-IsUsageOf kind (Line _) = kind ≡ OutOfMemory → ⊥
+IsUsageOf kind (Line _) = ¬ (kind ≡ OutOfMemory)
 IsUsageOf kind BadArgument = ⊥
 IsUsageOf kind Memory = Unit {0}

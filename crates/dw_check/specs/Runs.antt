@@ -1,17 +1,17 @@
 -- What a run writes and how it ends, by the request and the contents of its files.
-use Rattle.std.specs.Prelude.{◌≡◌, ℕ, ◌<◌, ◌^◌, nat_lt, Bool, true, false, if◌then◌else◌, List, [], Option, Some, None, Result, Ok, Err}
-use Rattle.std.specs.Prelude.{length, slice_get}
+use Rattle.std.specs.Prelude.{◌≡◌, ℕ, ◌<◌, Bool, true, false, List, [], Option, Some, None, Result, Ok, Err}
+use Rattle.std.specs.Prelude.{slice_get}
+use Rattle.std.specs.Option.{option_or}
 use Rattle.std.specs.Io.KnownBytes.{Appends}
 use Rattle.dw_bytes.specs.declared.target.Target.{Target}
 use Rattle.dw_bytes.specs.declared.fault.Fault.{Fault}
-use Rattle.dw_bytes.specs.declared.fault.FaultKind.TheVariants.{SectionTooLong}
 use Rattle.dw_rows.specs.Abi.{Abi, abi_of}
-use Rattle.dw_rows.specs.Section.{Frame, section_fault, frame_of}
+use Rattle.dw_rows.specs.Section.{FrameSection, section_fault, frame_of}
 use Rattle.dw_loclists.specs.Reading.{ListSection, lists_fault}
 use Rattle.dw_stack.specs.declared.state.Kind.{Kind}
 use Rattle.dw_stack.specs.FirstFault.{expression_fault}
 use Rattle.dw_check.specs.Requests.{Asked}
-use Rattle.dw_check.specs.Checked.{check_fault}
+use Rattle.dw_check.specs.Checked.{check_fault, length_fault}
 use Rattle.dw_check.specs.Report.{IsReport}
 use Rattle.dw_check.specs.Caller.{Caller, Unwinds, machine}
 use Rattle.dw_check.specs.CallerText.{caller_text}
@@ -21,7 +21,7 @@ use Rattle.dw_check.specs.declared.frames.Stop.{Stop}
 use Rattle.dw_eval.specs.World.{World}
 use Rattle.dw_check.specs.Evaluations.{Evaluates}
 use Rattle.dw_check.specs.Files.{section_bytes, state_facts}
-use Rattle.dw_check.specs.Lookups.{ShowsList, list_at}
+use Rattle.dw_check.specs.Lookups.{ShowsList, list_that_begins_at}
 use Rattle.dw_check.specs.StateFile.{StateFact, first_that, content_in, byte_in, kept_in, stack_pointer_in}
 use Rattle.dw_check.specs.SinkBytes.{AppendsFront}
 use Rattle.dw_check.specs.Text.{refused_line, frame_text, lookup_text}
@@ -35,8 +35,8 @@ use Rattle.dw_check.specs.declared.requests.Task.TheVariants.{Check, Rows, Row, 
 use Rattle.dw_check.specs.declared.requests.End.{End}
 use Rattle.dw_check.specs.declared.requests.End.TheVariants.{Done, Refused, BadHex, StateLine, Memory, Output}
 
--- What a run comes to: a text; the line of a refusal; or nothing, where the file at this place is to be hex text and isn't,
--- or where this line of the state file isn't one.
+-- What a run comes to: a text; the line of a refusal; or nothing, where the file at this place is to be hex text and isn't, or where
+-- this line of the state file is none or can't stand with those before it.
 pub data Reply : Type 0 where
   text : List ℕ → Reply
   refusal : Section → Fault → Reply
@@ -67,55 +67,52 @@ OfSection place (Some bytes) Is reply = Is bytes reply
 -- what a state comes to, if each of its lines is one
 abbrev pub OfState : Result (List StateFact) ℕ → (List StateFact → Reply → Type 0) → Reply → Type 0
 OfState (Err n) Is reply = reply ≡ bad_line n
-OfState (Ok gs) Is reply = Is gs reply
+OfState (Ok facts) Is reply = Is facts reply
 
 -- ---- frame sections
 
--- the first fault of a frame section
+-- the first fault of a frame section: its length, and then what it has
 abbrev pub frame_refusal : Target → List ℕ → Option Fault
-frame_refusal target section = if nat_lt (length section) (2 ^ 32) then section_fault target section
-    else Some (record { kind = SectionTooLong; at = 0 })
+frame_refusal target section = option_or (length_fault section) (section_fault target section)
 
 abbrev pub text_unless : Option Fault → Section → List ℕ → Reply
 text_unless (Some fault) section bytes = refusal section fault
 text_unless None section bytes = text bytes
 
 -- a text of a frame section, unless that has a fault
-unfoldable pub frame_reply : (Frame → List ℕ) → Target → List ℕ → Reply
+unfoldable pub frame_reply : (FrameSection → List ℕ) → Target → List ℕ → Reply
 frame_reply text_for target section = text_unless (frame_refusal target section) sections.Frame (text_for (frame_of target section))
 
 -- ---- expressions
 
 -- the first fault of an expression
 abbrev pub expression_refusal : Kind → Target → List ℕ → Option Fault
-expression_refusal kind target bytes = if nat_lt (length bytes) (2 ^ 32) then expression_fault kind target bytes
-    else Some (record { kind = SectionTooLong; at = 0 })
+expression_refusal kind target bytes = option_or (length_fault bytes) (expression_fault kind target bytes)
 
 -- what an expression comes to, on a machine of which this was given
 abbrev pub IsOutcome : Kind → Target → List ℕ → List StateFact → Reply → Type 0
-IsOutcome kind target bytes gs (text written) = Evaluates kind target bytes gs written
-IsOutcome kind target bytes gs (refusal section fault) = (section ≡ sections.Expression)
+IsOutcome kind target bytes facts (text written) = Evaluates kind target bytes facts written
+IsOutcome kind target bytes facts (refusal section fault) = (section ≡ sections.Expression)
     × (expression_refusal kind target bytes ≡ Some fault)
-IsOutcome kind target bytes gs _ = ⊥
+IsOutcome kind target bytes facts _ = ⊥
 
 -- ---- sections of location lists
 
 -- the first fault of a section of lists
 abbrev pub lists_refusal : Target → List ℕ → Option Fault
-lists_refusal target section = if nat_lt (length section) (2 ^ 32) then lists_fault target section
-    else Some (record { kind = SectionTooLong; at = 0 })
+lists_refusal target section = option_or (length_fault section) (lists_fault target section)
 
 -- what a look-up in a section comes to, on a machine of which this was given
 abbrev pub IsFound : ListLookup → Target → List ℕ → List StateFact → Reply → Type 0
-IsFound lookup target section gs (text written) = (lists_refusal target section ≡ None)
-    × ShowsList gs (list_at (record { target = target; section = section }) lookup.list) lookup.base lookup.address written
-IsFound lookup target section gs (refusal refused fault) = (refused ≡ sections.Lists) × (lists_refusal target section ≡ Some fault)
-IsFound lookup target section gs _ = ⊥
+IsFound lookup target section facts (text written) = (lists_refusal target section ≡ None)
+    × ShowsList facts (list_that_begins_at (record { target = target; section = section }) lookup.list) lookup.base lookup.address written
+IsFound lookup target section facts (refusal refused fault) = (refused ≡ sections.Lists) × (lists_refusal target section ≡ Some fault)
+IsFound lookup target section facts _ = ⊥
 
 -- ---- two sections
 
 -- what two sections come to: a text of both, or their first fault
-abbrev pub OfChecked : Target → List ℕ → List ℕ → (Frame → ListSection → List ℕ → Type 0) → Reply → Type 0
+abbrev pub OfChecked : Target → List ℕ → List ℕ → (FrameSection → ListSection → List ℕ → Type 0) → Reply → Type 0
 OfChecked target frame lists Shows (text written) = (check_fault target frame lists ≡ None)
     × Shows (frame_of target frame) (record { target = target; section = lists }) written
 OfChecked target frame lists Shows (refusal section fault) =
@@ -124,37 +121,38 @@ OfChecked target frame lists Shows _ = ⊥
 
 -- registers and memory, of which this was given
 abbrev pub machine_of : Target → List StateFact → World
-machine_of target gs = machine target (λ n. first_that (content_in n) gs) (λ a. first_that (byte_in a) gs)
+machine_of target facts = machine target (λ n. first_that (content_in n) facts) (λ a. first_that (byte_in a) facts)
 
 -- the ABI that this was said of
 abbrev pub abi_given : List StateFact → Abi
-abi_given gs = abi_of (kept_in gs) (first_that stack_pointer_in gs)
+abi_given facts = abi_of (kept_in facts) (first_that stack_pointer_in facts)
 
 -- the text shows the caller at an address, or that no FDE covers it, on a machine of which this was given
-abbrev pub ShowsCaller : ℕ → List StateFact → Frame → ListSection → List ℕ → Type 0
-ShowsCaller address gs frame lists written = (caller : Option Caller)
-    × Unwinds (machine_of frame.target gs) (abi_given gs) frame address caller
+abbrev pub ShowsCaller : ℕ → List StateFact → FrameSection → ListSection → List ℕ → Type 0
+ShowsCaller address facts frame lists written = (caller : Option Caller)
+    × Unwinds (machine_of frame.target facts) (abi_given facts) frame address caller
     × (written ≡ caller_text frame.target.address_size caller)
 
 -- it shows a walk from an address with a limit
-abbrev pub ShowsWalk : ℕ → ℕ → List StateFact → Frame → ListSection → List ℕ → Type 0
-ShowsWalk address limit gs frame lists written = (frames : List WalkedFrame) × (stop : Stop)
-    × Walks (record { frame = frame; abi = abi_given gs; memory = λ a. first_that (byte_in a) gs })
-    (first_place address (λ n. first_that (content_in n) gs)) limit frames stop
+abbrev pub ShowsWalk : ℕ → ℕ → List StateFact → FrameSection → ListSection → List ℕ → Type 0
+ShowsWalk address limit facts frame lists written = (frames : List WalkedFrame) × (stop : Stop)
+    × Walks (record { frame = frame; abi = abi_given facts; memory = λ a. first_that (byte_in a) facts })
+    (first_place address (λ n. first_that (content_in n) facts)) limit frames stop
     × (written ≡ walk_text frame.target.address_size frames stop)
 
 -- ---- what two commands share
 
 -- `rows` and `row`: a text of a frame section
-abbrev pub OfFrame : (Frame → List ℕ) → Target → Bool → List (List ℕ) → Reply → Type 0
+abbrev pub OfFrame : (FrameSection → List ℕ) → Target → Bool → List (List ℕ) → Reply → Type 0
 OfFrame text_for target hex files reply =
     OfSection 0 (section_bytes hex (slice_get files 0)) (λ section r. r ≡ frame_reply text_for target section) reply
 
 -- `unwind` and `backtrace`: a text of a frame section, checked as `check` does with no lists, and of what a state file gives
-abbrev pub OfFrameAndState : (List StateFact → Frame → ListSection → List ℕ → Type 0) → Target → Bool → List (List ℕ) → Reply → Type 0
+abbrev pub OfFrameAndState : (List StateFact → FrameSection → ListSection → List ℕ → Type 0) → Target → Bool → List (List ℕ) → Reply
+    → Type 0
 OfFrameAndState Shows target hex files reply =
     OfSection 0 (section_bytes hex (slice_get files 0))
-    (λ section. OfState (state_facts target (slice_get files 1)) (λ gs. OfChecked target section [] (Shows gs))) reply
+    (λ section. OfState (state_facts target (slice_get files 1)) (λ facts. OfChecked target section [] (Shows facts))) reply
 
 -- ---- requests: a definition for each command
 

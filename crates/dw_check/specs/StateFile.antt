@@ -74,7 +74,7 @@ fact_of_line target line = fact_of_words target (parts_of 32 line)
 
 abbrev pub first_that : {X : Type 0} → (StateFact → Option X) → List StateFact → Option X
 first_that pick [] = None
-first_that pick (g ∷ gs) = option_or (pick g) (first_that pick gs)
+first_that pick (fact ∷ facts) = option_or (pick fact) (first_that pick facts)
 
 abbrev pub content_in : ℕ → StateFact → Option ℕ
 content_in n (register m v) = if m == n then Some v else None
@@ -109,7 +109,7 @@ kept_with ns _ = ns
 
 -- those that lines give, in their order, each once
 abbrev pub kept_in : List StateFact → List ℕ
-kept_in gs = fold kept_with [] gs
+kept_in facts = fold kept_with [] facts
 
 -- ---- the file
 
@@ -123,7 +123,7 @@ is_line target line = length line == 0 || is_some (fact_of_line target line)
 
 -- the ABI that they give has no fault
 abbrev pub go_together : List StateFact → Bool
-go_together gs = is_none (abi_fault (kept_in gs) (first_that stack_pointer_in gs))
+go_together facts = is_none (abi_fault (kept_in facts) (first_that stack_pointer_in facts))
 
 -- each is one, and what they give goes together
 abbrev pub are_good : Target → List (List ℕ) → Bool
@@ -134,8 +134,8 @@ abbrev pub first_bad_line : Target → List (List ℕ) → Option ℕ
 first_bad_line target lines = find (λ n. not (are_good target (take n lines))) (range_with_len 1 (length lines))
 
 abbrev pub unless_bad : List StateFact → Option ℕ → Result (List StateFact) ℕ
-unless_bad gs None = Ok gs
-unless_bad gs (Some n) = Err n
+unless_bad facts None = Ok facts
+unless_bad facts (Some n) = Err n
 
 -- What the file's lines give, or the number of the first that is bad. They end at LFs.
 abbrev pub facts_of_file : Target → List ℕ → Result (List StateFact) ℕ
@@ -152,11 +152,11 @@ pub record KnownState : Type 0 where
   pub stack_pointer : Option ℕ
 
 -- it is what was given, and no more
-pub record IsGivenBy (k : KnownState) (gs : List StateFact) : Type 0 where
-  pub registers : (n : ℕ) → k.registers n ≡ first_that (content_in n) gs
-  pub memory : (a : ℕ) → k.memory a ≡ first_that (byte_in a) gs
-  pub cfa : k.cfa ≡ first_that cfa_in gs
-  pub frame_base : k.frame_base ≡ first_that frame_base_in gs
-  pub object : k.object ≡ first_that object_in gs
-  pub kept : k.kept ≡ kept_in gs
-  pub stack_pointer : k.stack_pointer ≡ first_that stack_pointer_in gs
+pub record IsGivenBy (k : KnownState) (facts : List StateFact) : Type 0 where
+  pub registers : (n : ℕ) → k.registers n ≡ first_that (content_in n) facts
+  pub memory : (a : ℕ) → k.memory a ≡ first_that (byte_in a) facts
+  pub cfa : k.cfa ≡ first_that cfa_in facts
+  pub frame_base : k.frame_base ≡ first_that frame_base_in facts
+  pub object : k.object ≡ first_that object_in facts
+  pub kept : k.kept ≡ kept_in facts
+  pub stack_pointer : k.stack_pointer ≡ first_that stack_pointer_in facts

@@ -29,4 +29,4 @@ known_state_of m = record {
 
 -- the state is what was given
 abbrev pub IsStateOf : Result (List StateFact) ℕ → MachineState → Type 0
-IsStateOf given m = (gs : List StateFact) × (given ≡ Ok gs) × IsGivenBy (known_state_of m) gs
+IsStateOf given m = (facts : List StateFact) × (given ≡ Ok facts) × IsGivenBy (known_state_of m) facts

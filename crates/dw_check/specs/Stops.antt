@@ -1,20 +1,13 @@
 -- Why a run stops before its text is written whole.
-use Rattle.std.specs.Prelude.{◌≡◌, ℕ, ◌<◌, Bool, true, false, List, Option, Some, None, Result, Ok, Err, codes}
+use Rattle.std.specs.Prelude.{◌≡◌, ℕ, ◌<◌, Bool, true, false, List, Option, Some, None, Result, Ok, Err}
 use Rattle.dw_bytes.specs.declared.fault.Fault.{Fault}
 use Rattle.dw_check.specs.StateFile.{StateFact}
 use Rattle.dw_check.specs.declared.stop.Section.{Section}
-use Rattle.dw_check.specs.declared.stop.Section.TheVariants as sections
 use Rattle.dw_check.specs.declared.whole_check.CheckFault.{CheckFault}
 use Rattle.dw_check.specs.declared.stop.ReportFault.{ReportFault}
 use Rattle.dw_check.specs.declared.stop.ReportFault.TheVariants as faults
 use Rattle.dw_check.specs.declared.stop.RunFault.{RunFault}
 use Rattle.dw_check.specs.declared.stop.RunFault.TheVariants.{Refused, BadHex, StateLine, Memory, Output}
-
--- the name that a refusal has it by
-abbrev pub section_text : Section → List ℕ
-section_text sections.Frame = codes "frame"
-section_text sections.Lists = codes "lists"
-section_text sections.Expression = codes "expression"
 
 -- what writing that fails so stops a run with
 abbrev pub stop_of : ReportFault → RunFault
@@ -38,7 +31,7 @@ IsBadSection bytes place count (BadHex n) = (n ≡ place) × (place < count) × 
 IsBadSection bytes place count Memory = Unit {0}
 IsBadSection bytes place count _ = ⊥
 
--- Why there is no state: a line is the first that isn't one, or memory ran out.
+-- Why there is no state: its first bad line, or memory ran out.
 abbrev pub IsBadState : Result (List StateFact) ℕ → RunFault → Type 0
 IsBadState given (StateLine n) = given ≡ Err n
 IsBadState given Memory = Unit {0}
@@ -51,7 +44,7 @@ IsRefusal section first Memory = Unit {0}
 IsRefusal section first _ = ⊥
 
 -- What refuses two sections: their first fault, or memory ran out.
-abbrev pub IsFirstFault : Option CheckFault → RunFault → Type 0
-IsFirstFault first (Refused section fault) = first ≡ Some (record { section = section; fault = fault })
-IsFirstFault first Memory = Unit {0}
-IsFirstFault first _ = ⊥
+abbrev pub RefusesBoth : Option CheckFault → RunFault → Type 0
+RefusesBoth first (Refused section fault) = first ≡ Some (record { section = section; fault = fault })
+RefusesBoth first Memory = Unit {0}
+RefusesBoth first _ = ⊥

@@ -11,10 +11,10 @@ use Rattle.dw_bytes.specs.declared.target.AddressSize.TheVariants.{Four, Eight}
 use Rattle.dw_frame.specs.Records.{Cie, Fde}
 use Rattle.dw_rows.specs.Rules.{Rule, Cfa, Row, default, undefined, same_value, offset, val_offset, register, expression, val_expression}
 use Rattle.dw_rows.specs.Rules.{register_and_offset, cfa_expression}
-use Rattle.dw_rows.specs.Section.{Frame, cie_in, rows_in, row_of}
+use Rattle.dw_rows.specs.Section.{FrameSection, cie_in, rows_in, row_of}
 use Rattle.dw_check.specs.Names.{name_of}
 use Rattle.dw_check.specs.declared.stop.Section.{Section}
-use Rattle.dw_check.specs.Stops.{section_text}
+use Rattle.dw_check.specs.declared.stop.Section.TheVariants as sections
 
 -- ---- numbers
 
@@ -58,6 +58,11 @@ signed_text (negsuc n) = codes "-" ++ decimal (suc n)
 unfoldable pub kind_text : FaultKind → List ℕ
 kind_text kind = decimal (number_of kind) ++ codes " " ++ name_of kind
 
+abbrev pub section_text : Section → List ℕ
+section_text sections.Frame = codes "frame"
+section_text sections.Lists = codes "lists"
+section_text sections.Expression = codes "expression"
+
 unfoldable pub refused_line : Section → Fault → List ℕ
 refused_line section fault = codes "refused " ++ kind_text fault.kind ++ codes " " ++ section_text section
     ++ codes " " ++ offset_text fault.at ++ codes "\n"
@@ -70,7 +75,7 @@ records_text cie fde = codes "fde " ++ offset_text fde.offset ++ codes " cie " +
 
 unfoldable pub fde_line : AddressSize → Cie → Fde → List ℕ
 fde_line size cie fde = records_text cie fde ++ codes " " ++ range_text size fde.initial (fde.initial + fde.range)
-    ++ codes " ra r" ++ decimal cie.return_register ++ codes "\n"
+    ++ codes " ra r" ++ decimal cie.return_address_register ++ codes "\n"
 
 -- an expression is its bytes
 unfoldable pub expression_text : List ℕ → List ℕ
@@ -114,17 +119,17 @@ abbrev pub lines_of : AddressSize → Option Cie → Fde → List Row → List �
 lines_of size (Some cie) fde rows = fde_line size cie fde ++ flat_map (row_line size) rows
 lines_of size None fde rows = []
 
-unfoldable pub fde_text : Frame → Fde → List ℕ
+unfoldable pub fde_text : FrameSection → Fde → List ℕ
 fde_text frame fde = lines_of frame.target.address_size (cie_in frame fde) fde (rows_in frame fde)
 
 -- the FDEs of a section and their rows, in the order of the section
-unfoldable pub frame_text : Frame → List ℕ
+unfoldable pub frame_text : FrameSection → List ℕ
 frame_text frame = flat_map (fde_text frame) frame.fdes
 
 -- ---- an expression of a section, before what it comes to
 
-unfoldable pub expression_line : ℕ → List ℕ
-expression_line at = codes "expr " ++ offset_text at ++ codes "\n"
+unfoldable pub expression_offset_line : ℕ → List ℕ
+expression_offset_line at = codes "expr " ++ offset_text at ++ codes "\n"
 
 -- ---- the row of an address
 
@@ -132,5 +137,5 @@ abbrev pub found_text : AddressSize → Option Row → List ℕ
 found_text size (Some row) = row_line size row
 found_text size None = codes "none\n"
 
-unfoldable pub lookup_text : Frame → ℕ → List ℕ
+unfoldable pub lookup_text : FrameSection → ℕ → List ℕ
 lookup_text frame address = found_text frame.target.address_size (row_of frame address)

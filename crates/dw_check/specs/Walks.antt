@@ -1,15 +1,16 @@
--- A walk up the stack: frame after frame, each the caller of the one before it. DWARF 5, section 6.4.1, says what one caller is; how one
--- goes on from there is the profile's own.
+-- A walk up the stack: frame after frame, each the caller of the one before it. DWARF 5, section 6.4.1, says what one caller is, and
+-- section 6.4.4 that a walk is complete where the return address is undefined, and that the call is looked for at the return address
+-- less 1. Which registers have a content, the limit and the other ends are the profile's own.
 use Rattle.std.specs.Prelude.{◌≡◌, ℕ, zero, suc, ◌≤◌, ◌==◌, if◌then◌else◌, List, [], ◌∷◌, length, Option, Some, None, option_map}
 use Rattle.dw_rows.specs.Abi.{Abi}
-use Rattle.dw_rows.specs.Section.{Frame}
+use Rattle.dw_rows.specs.Section.{FrameSection}
 use Rattle.dw_check.specs.Caller.{Answer, value, undefined, unreadable, division_by_zero, Caller, Unwinds, machine}
 use Rattle.dw_check.specs.declared.frames.Stop.{Stop}
 use Rattle.dw_check.specs.declared.frames.Stop.TheVariants.{Limit, NotCovered, ReturnUndefined, ReturnUnreadable, ReturnDivisionByZero}
 
 -- what stays the same on a walk: the checked section, the ABI and the memory
 pub record Surroundings : Type 0 where
-  pub frame : Frame
+  pub frame : FrameSection
   pub abi : Abi
   pub memory : ℕ → Option ℕ
 

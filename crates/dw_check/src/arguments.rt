@@ -4,7 +4,7 @@ ghost use Rattle.std.specs.Prelude.{◌≡◌, ◌⊎◌, ◌∷◌, [], IfOk, I
 ghost use Rattle.std.specs.Option.{IsSomeAnd, option_to_list};
 ghost use Rattle.std.specs.String.{string_bytes};
 ghost use Rattle.clap.specs.Words.{found_of, rows_of, first_of, kind_of, subcommand_rows_of};
-ghost use Rattle.dw_check.specs.Arguments.{flag_of, target_of, kind_of as kind_named, address_at, offset_at, limit_at};
+ghost use Rattle.dw_check.specs.Arguments.{flag_of, target_by_flags, kind_of as kind_named, address_at, offset_at, limit_at};
 ghost use Rattle.dw_check.specs.Arguments.{IsBad, address, offset, kind, limit};
 ghost use Rattle.dw_check.specs.Commands.{check_command, rows_command, row_command, locs_command, eval_command, unwind_command};
 ghost use Rattle.dw_check.specs.Commands.{backtrace_command, backtrace_in, lookup_in};
@@ -41,8 +41,8 @@ fn has_flag(matches: &ArgMatches<'_>, name: &str) -> bool
 }
 
 /// The target that the flags name.
-fn target_of(matches: &ArgMatches<'_>) -> Target
-    ensures { result ≡ target_of (rows_of (found_of matches.now)) }
+fn target_by_flags(matches: &ArgMatches<'_>) -> Target
+    ensures { result ≡ target_by_flags (rows_of (found_of matches.now)) }
 {
     let order = if has_flag(matches, BIG) {
         Order::Big
@@ -63,13 +63,13 @@ fn target_of(matches: &ArgMatches<'_>) -> Target
 /// A request with the flags of a subcommand, over these files.
 fn request_with(matches: &ArgMatches<'_>, task: Task, files: Vec<String>) -> Request
     ensures task { result.task ≡ task }
-    ensures target { result.target ≡ target_of (rows_of (found_of matches.now)) }
+    ensures target { result.target ≡ target_by_flags (rows_of (found_of matches.now)) }
     ensures hex { result.hex ≡ flag_of (codes "hex") (rows_of (found_of matches.now)) }
     ensures files { result.files ≡ map (λ s. string_bytes s) files.items }
 {
     Request {
         task,
-        target: target_of(matches),
+        target: target_by_flags(matches),
         hex: has_flag(matches, HEX),
         files,
     }
@@ -83,7 +83,8 @@ fn request_over(
     file: &str,
 ) -> Result<Request, Usage>
     ensures task { IfOk result (λ r. r.task ≡ task) }
-    ensures target { IfOk result (λ r. r.target ≡ target_of (rows_of (found_of matches.now))) }
+    ensures target { IfOk result
+        (λ r. r.target ≡ target_by_flags (rows_of (found_of matches.now))) }
     ensures hex { IfOk result (λ r. r.hex ≡ flag_of (codes "hex")
         (rows_of (found_of matches.now))) }
     ensures files { IfOk result (λ r. r.files ≡ file.now ∷ []) }
@@ -115,7 +116,8 @@ fn request_over_both(
     second: &str,
 ) -> Result<Request, Usage>
     ensures task { IfOk result (λ r. r.task ≡ task) }
-    ensures target { IfOk result (λ r. r.target ≡ target_of (rows_of (found_of matches.now))) }
+    ensures target { IfOk result
+        (λ r. r.target ≡ target_by_flags (rows_of (found_of matches.now))) }
     ensures hex { IfOk result (λ r. r.hex ≡ flag_of (codes "hex")
         (rows_of (found_of matches.now))) }
     ensures files { IfOk result (λ r. r.files ≡ first.now ∷ second.now ∷ []) }
@@ -133,7 +135,8 @@ fn request_with_state(
     file: &str,
 ) -> Result<Request, Usage>
     ensures task { IfOk result (λ r. r.task ≡ task) }
-    ensures target { IfOk result (λ r. r.target ≡ target_of (rows_of (found_of matches.now))) }
+    ensures target { IfOk result
+        (λ r. r.target ≡ target_by_flags (rows_of (found_of matches.now))) }
     ensures hex { IfOk result (λ r. r.hex ≡ flag_of (codes "hex")
         (rows_of (found_of matches.now))) }
     ensures files { IfOk result (λ r. r.files ≡ file.now
@@ -177,7 +180,7 @@ fn address_word(matches: &ArgMatches<'_>, name: &str) -> Result<u64, Usage>
     let Some(text) = word_text(matches, name) else {
         return Err(Usage::Memory);
     };
-    match parse_address(text.as_bytes(), target_of(matches)) {
+    match parse_address(text.as_bytes(), target_by_flags(matches)) {
         Some(address) => Ok(address),
         None => Err(Usage::BadArgument),
     }

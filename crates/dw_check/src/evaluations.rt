@@ -58,10 +58,10 @@ pub(crate) fn write_outcome<S: Sink>(
     requires size { out.old.size ≡ (checked_of checked.now).target.address_size }
     requires runs { S.has_stopped out.old.sink.now ≡ false }
     ensures same { IsSame out.old out.new }
-    ensures written { (gs : List StateFact) → IsGivenBy (known_state_of state.now) gs
+    ensures written { (facts : List StateFact) → IsGivenBy (known_state_of state.now) facts
         → (text : List ℕ)
         × Evaluates (checked_of checked.now).kind (checked_of checked.now).target
-        (checked_of checked.now).bytes gs text
+        (checked_of checked.now).bytes facts text
         × WritesWhole (S.taken out.old.sink.now) (S.taken out.new.sink.now) result text }
     ensures stops { S.has_stopped out.new.sink.now ≡ is_write result }
 {

@@ -8,8 +8,8 @@ pub struct Frame {
     /// Where it stands: the first one's is handed in, that of each other is where it goes on behind a call.
     pub address: u64,
     /// Its caller, none exactly where no FDE covers the address that is looked up. That is the first frame's own, and the address
-    /// before that of each other, since a call may be the last instruction that an FDE covers. There is none before 0, and no FDE
-    /// covers it.
+    /// before that of each other, since a call may be the last instruction that an FDE covers (DWARF 5, section 6.4.4). There is none
+    /// before 0, and no FDE covers it.
     pub caller: Option<Caller>,
 }
 
@@ -20,11 +20,12 @@ pub enum Stop {
     Limit,
     /// No FDE covers the address where the last frame is looked up.
     NotCovered,
-    /// The last frame's return address can't be had.
+    /// The last frame's return address is undefined: the walk is complete (DWARF 5, section 6.4.4).
     ReturnUndefined,
-    /// The last frame's return address takes a register or memory that isn't handed in.
+    /// The last frame's return address, or the CFA that it needs, takes a register or memory that isn't handed in, or a read goes
+    /// past the greatest address.
     ReturnUnreadable,
-    /// The expression of the last frame's return address divides by zero.
+    /// The expression of the last frame's return address, or of the CFA that it needs, divides by zero.
     ReturnDivisionByZero,
 }
 

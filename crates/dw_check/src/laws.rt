@@ -9,7 +9,7 @@ ghost use Rattle.dw_loclists.specs.Reading.{IsChecked, ListSection};
 ghost use Rattle.dw_eval.specs.World.{World};
 ghost use Rattle.dw_frame.specs.Records.{Fde};
 ghost use Rattle.dw_rows.specs.Rules.{Row};
-ghost use Rattle.dw_rows.specs.Section.{Frame};
+ghost use Rattle.dw_rows.specs.Section.{FrameSection};
 ghost use Rattle.dw_rows.specs.Section as rows;
 ghost use Rattle.dw_rows.specs.Abi.{Abi};
 ghost use Rattle.dw_check.specs.Caller.{Caller, IsCaller, Unwinds};
@@ -75,7 +75,7 @@ pub fn accepted_sections_are_sound()
 
 /// Over a section that is accepted an unwinding has one answer: none, or one caller.
 pub fn one_caller()
-    ensures { (e : World) (abi : Abi) (frame : Frame) (address : ℕ) (c d : Option Caller)
+    ensures { (e : World) (abi : Abi) (frame : FrameSection) (address : ℕ) (c d : Option Caller)
         → rows.IsChecked frame → Unwinds e abi frame address c
         → Unwinds e abi frame address d → c ≡ d }
 {
@@ -86,10 +86,10 @@ pub fn one_caller()
 
 /// Over each row of a section that is accepted there is a caller.
 pub fn each_row_has_a_caller()
-    ensures { (e : World) (abi : Abi) (return_register : ℕ) (frame : Frame) (fde : Fde) (row : Row)
+    ensures { (e : World) (abi : Abi) (column : ℕ) (frame : FrameSection) (fde : Fde) (row : Row)
         → rows.IsChecked frame → Contains frame.fdes fde
         → Contains (rows.rows_in frame fde) row
-        → (c : Caller) × IsCaller e abi return_register row c }
+        → (c : Caller) × IsCaller e abi column row c }
 {
     dw_rows::laws::rows_have_good_expressions();
     dw_rows::laws::rules_under_abis();
@@ -99,7 +99,7 @@ pub fn each_row_has_a_caller()
 
 /// At each address of a section that is accepted an unwinding has an answer.
 pub fn each_address_has_an_unwinding()
-    ensures { (e : World) (abi : Abi) (frame : Frame) (address : ℕ) → rows.IsChecked frame
+    ensures { (e : World) (abi : Abi) (frame : FrameSection) (address : ℕ) → rows.IsChecked frame
         → (c : Option Caller) × Unwinds e abi frame address c }
 {
     dw_rows::laws::exact_rows();
@@ -134,7 +134,7 @@ pub fn longer_walks_begin_so()
 
 /// There is one report on two sections.
 pub fn one_report()
-    ensures { (frame : Frame) (lists : ListSection) (s t : List ℕ) → IsReport frame lists s
+    ensures { (frame : FrameSection) (lists : ListSection) (s t : List ℕ) → IsReport frame lists s
         → IsReport frame lists t → s ≡ t }
 {
     dw_stack::laws::depths_are_unique();
@@ -142,7 +142,7 @@ pub fn one_report()
 
 /// And there is one on each two sections that are accepted.
 pub fn each_has_a_report()
-    ensures { (frame : Frame) (lists : ListSection) → rows.IsChecked frame → IsChecked lists
+    ensures { (frame : FrameSection) (lists : ListSection) → rows.IsChecked frame → IsChecked lists
         → (t : List ℕ) × IsReport frame lists t }
 {
     dw_loclists::laws::checked_sections();

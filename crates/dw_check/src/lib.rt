@@ -1,4 +1,5 @@
-//! Two sections checked together, the frames that called by them, and the texts of what is asked for.
+//! A frame section and a section of location lists checked together, callers and walks by them, and the texts of what a command line
+//! asks for.
 #![tactic(auto)]
 
 mod abi_registers;

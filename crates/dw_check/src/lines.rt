@@ -6,7 +6,7 @@ ghost use Rattle.std.specs.String.{string_bytes};
 ghost use Rattle.dw_frame.specs.Views.{cie_of, fde_of};
 ghost use Rattle.dw_stack.specs.Certificates.{checked_of};
 ghost use Rattle.dw_rows.specs.Views.{rule_of, cfa_rule_of};
-ghost use Rattle.dw_check.specs.Text.{kind_text, refused_line, expression_text, expression_line, records_text, fde_line, cfa_text};
+ghost use Rattle.dw_check.specs.Text.{kind_text, refused_line, expression_text, expression_offset_line, records_text, fde_line, cfa_text};
 ghost use Rattle.dw_check.specs.Text.{rule_text, register_text, row_line, digits_of, Fits};
 
 use crate::names::name;
@@ -47,10 +47,10 @@ pub(crate) fn push_refused(
 }
 
 /// The line of an expression before what it comes to: its offset in the section.
-#[tactic(auto, unfolding(crate::specs::Text::expression_line))]
-pub(crate) fn push_expression(line: &mut String, offset: u32) -> Result<(), AllocError>
+#[tactic(auto, unfolding(crate::specs::Text::expression_offset_line))]
+pub(crate) fn push_expression_offset(line: &mut String, offset: u32) -> Result<(), AllocError>
     ensures { OnOk result (string_bytes line.new ≡ string_bytes line.old
-        ++ expression_line offset) }
+        ++ expression_offset_line offset) }
 {
     line.push_str("expr ")?;
     push_offset(line, offset)?;

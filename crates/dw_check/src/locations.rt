@@ -5,15 +5,15 @@ ghost use Rattle.std.specs.List.{All};
 ghost use Rattle.dw_stack.specs.Certificates.{checked_of};
 ghost use Rattle.dw_loclists.specs.Reading.{IsChecked};
 ghost use Rattle.dw_stack.specs.Located.{located_of};
-ghost use Rattle.dw_check.specs.Text.{expression_line};
-ghost use Rattle.dw_check.specs.Lookups.{IsShowable, AreEvaluated, ShowsLocations, ShowsList, list_at};
+ghost use Rattle.dw_check.specs.Text.{expression_offset_line};
+ghost use Rattle.dw_check.specs.Lookups.{IsShowable, AreEvaluated, ShowsLocations, ShowsList, list_that_begins_at};
 ghost use Rattle.dw_check.specs.Evaluations.{Evaluates};
 ghost use Rattle.dw_check.specs.StateFile.{StateFact, IsGivenBy};
 ghost use Rattle.dw_check.specs.StateViews.{known_state_of};
 ghost use Rattle.dw_check.specs.WriteResults.{IsSame, Writes, WritesWhole, is_write};
 
 use crate::evaluations::write_outcome;
-use crate::lines::push_expression;
+use crate::lines::push_expression_offset;
 use crate::machine_state::MachineState;
 use crate::requests::ListLookup;
 use crate::sink::Sink;
@@ -23,15 +23,15 @@ use dw_loclists::{CheckedLists, LocationsAt};
 use dw_stack::CheckedExpression;
 
 /// Writes the line of an expression at an offset of its section.
-fn write_expression<S: Sink>(out: &mut Writer<'_, S>, offset: u32) -> Result<(), ReportFault>
+fn write_expression_offset<S: Sink>(out: &mut Writer<'_, S>, offset: u32) -> Result<(), ReportFault>
     requires runs { S.has_stopped out.old.sink.now ≡ false }
     ensures same { IsSame out.old out.new }
     ensures written { Writes (S.taken out.old.sink.now) (S.taken out.new.sink.now) result
-        (expression_line offset) }
+        (expression_offset_line offset) }
     ensures stops { S.has_stopped out.new.sink.now ≡ is_write result }
 {
     out.line.clear();
-    push_expression(out.line, offset)?;
+    push_expression_offset(out.line, offset)?;
     send(out)
 }
 
@@ -57,15 +57,15 @@ fn write_location<S: Sink>(
     requires showable { IsShowable out.old.size (located_of (offset, checked.now)) }
     requires runs { S.has_stopped out.old.sink.now ≡ false }
     ensures same { IsSame out.old out.new }
-    ensures written { (gs : List StateFact) → IsGivenBy (known_state_of state.now) gs
+    ensures written { (facts : List StateFact) → IsGivenBy (known_state_of state.now) facts
         → (text : List ℕ)
         × Evaluates (checked_of checked.now).kind (checked_of checked.now).target
-        (checked_of checked.now).bytes gs text
+        (checked_of checked.now).bytes facts text
         × Writes (S.taken out.old.sink.now) (S.taken out.new.sink.now) result
-        (expression_line offset ++ text) }
+        (expression_offset_line offset ++ text) }
     ensures stops { S.has_stopped out.new.sink.now ≡ is_write result }
 {
-    write_expression(out, offset)?;
+    write_expression_offset(out, offset)?;
     write_outcome(out, checked, state)
 }
 
@@ -78,8 +78,8 @@ fn write_rest<'c, 'a, S: Sink>(
     requires showable { All (λ x. IsShowable out.old.size x) locations }
     requires runs { S.has_stopped out.old.sink.now ≡ false }
     ensures same { IsSame out.old out.new }
-    ensures written { (gs : List StateFact) → IsGivenBy (known_state_of state.now) gs
-        → (text : List ℕ) × AreEvaluated gs locations.entry text
+    ensures written { (facts : List StateFact) → IsGivenBy (known_state_of state.now) facts
+        → (text : List ℕ) × AreEvaluated facts locations.entry text
         × Writes (S.taken out.old.sink.now) (S.taken out.new.sink.now) result text }
     ensures stops { S.has_stopped out.new.sink.now ≡ is_write result }
 {
@@ -98,8 +98,8 @@ fn write_locations<'c, 'a, S: Sink>(
     requires showable { All (λ x. IsShowable out.old.size x) locations }
     requires runs { S.has_stopped out.old.sink.now ≡ false }
     ensures same { IsSame out.old out.new }
-    ensures written { (gs : List StateFact) → IsGivenBy (known_state_of state.now) gs
-        → (text : List ℕ) × ShowsLocations gs locations.entry text
+    ensures written { (facts : List StateFact) → IsGivenBy (known_state_of state.now) facts
+        → (text : List ℕ) × ShowsLocations facts locations.entry text
         × Writes (S.taken out.old.sink.now) (S.taken out.new.sink.now) result text }
     ensures stops { S.has_stopped out.new.sink.now ≡ is_write result }
 {
@@ -126,9 +126,10 @@ pub(crate) fn write_found<S: Sink>(
     requires size { out.old.size ≡ lists.now.target.address_size }
     requires runs { S.has_stopped out.old.sink.now ≡ false }
     ensures same { IsSame out.old out.new }
-    ensures written { (gs : List StateFact) → IsGivenBy (known_state_of state.now) gs
+    ensures written { (facts : List StateFact) → IsGivenBy (known_state_of state.now) facts
         → (text : List ℕ)
-        × ShowsList gs (list_at lists.now lookup.list) lookup.base lookup.address text
+        × ShowsList facts (list_that_begins_at lists.now lookup.list)
+        lookup.base lookup.address text
         × Writes (S.taken out.old.sink.now) (S.taken out.new.sink.now) result text }
     ensures stops { S.has_stopped out.new.sink.now ≡ is_write result }
 {

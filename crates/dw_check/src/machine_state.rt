@@ -94,12 +94,12 @@ impl MachineState {
     /// Adds what a line gives, unless it can't stand beside what was given before, which stays.
     fn add(&mut self, line: StateLine) -> Result<bool, AllocError>
         requires { FitsAddresses (fact_of line) }
-        ensures taken { IfOk result (λ taken. (gs : List StateFact)
-            → IsGivenBy (known_state_of self.old) gs
-            → taken ≡ go_together (gs ++ fact_of line ∷ [])) }
-        ensures given { IfOk result (λ taken. OnTrue taken ((gs : List StateFact)
-            → IsGivenBy (known_state_of self.old) gs
-            → IsGivenBy (known_state_of self.new) (gs ++ fact_of line ∷ []))) }
+        ensures taken { IfOk result (λ taken. (facts : List StateFact)
+            → IsGivenBy (known_state_of self.old) facts
+            → taken ≡ go_together (facts ++ fact_of line ∷ [])) }
+        ensures given { IfOk result (λ taken. OnTrue taken ((facts : List StateFact)
+            → IsGivenBy (known_state_of self.old) facts
+            → IsGivenBy (known_state_of self.new) (facts ++ fact_of line ∷ []))) }
     {
         match line {
             StateLine::Register { number, content } => add_first(
@@ -125,13 +125,14 @@ impl MachineState {
 
     /// Adds what a line says, unless it is none or can't stand beside what was given before.
     fn add_line(&mut self, alloc: Global, target: Target, line: &[u8]) -> Result<bool, AllocError>
-        ensures taken { IfOk result (λ taken. (gs : List StateFact)
-            → IsGivenBy (known_state_of self.old) gs
+        ensures taken { IfOk result (λ taken. (facts : List StateFact)
+            → IsGivenBy (known_state_of self.old) facts
             → taken ≡ (is_line target line.now
-            && go_together (gs ++ facts_of_lines target (line.now ∷ [])))) }
-        ensures given { IfOk result (λ taken. OnTrue taken ((gs : List StateFact)
-            → IsGivenBy (known_state_of self.old) gs
-            → IsGivenBy (known_state_of self.new) (gs ++ facts_of_lines target (line.now ∷ [])))) }
+            && go_together (facts ++ facts_of_lines target (line.now ∷ [])))) }
+        ensures given { IfOk result (λ taken. OnTrue taken ((facts : List StateFact)
+            → IsGivenBy (known_state_of self.old) facts
+            → IsGivenBy (known_state_of self.new)
+            (facts ++ facts_of_lines target (line.now ∷ [])))) }
     {
         if line.is_empty() {
             return Ok(true);

@@ -19,7 +19,7 @@ pub struct ListLookup {
     pub list: u32,
     /// The base address of the unit.
     pub base: u64,
-    /// The address.
+    /// The address that is looked up.
     pub address: u64,
 }
 
@@ -92,7 +92,7 @@ impl Request {
 /// Why a command line asks for nothing.
 #[derive(Debug, Drop)]
 pub enum Usage {
-    /// The words are no command line. This is clap's text.
+    /// The words are no command line, or ask for help. This is clap's text.
     Line(String),
     /// A word is none of those that its place takes.
     BadArgument,
@@ -137,7 +137,7 @@ pub enum End {
     Refused,
     /// The file at this place of `Request::files` is to be hex text and isn't.
     BadHex(usize),
-    /// This line of the state file is none, lines counted from 1.
+    /// This line of the state file is none, or can't stand with those before it; lines are counted from 1.
     StateLine(u64),
     /// Memory ran out.
     Memory,

@@ -10,7 +10,7 @@ ghost use Rattle.dw_check.specs.Runs.{frame_refusal, lists_refusal, expression_r
 ghost use Rattle.dw_check.specs.Checked.{check_fault};
 ghost use Rattle.dw_check.specs.StateFile.{StateFact, IsGivenBy};
 ghost use Rattle.dw_check.specs.StateViews.{known_state_of};
-ghost use Rattle.dw_check.specs.Stops.{IsFirstFault, IsRefusal, ended_by, is_output};
+ghost use Rattle.dw_check.specs.Stops.{RefusesBoth, IsRefusal, ended_by, is_output};
 ghost use Rattle.dw_check.specs.WriteResults.{IsSame, Writes, WritesWhole, is_write};
 ghost use Rattle.dw_check.specs.declared.stop.Section.TheVariants as sections;
 
@@ -28,23 +28,14 @@ use crate::stop::{ReportFault, RunFault, Section};
 use crate::unwinding::unwind_with;
 use crate::walk::backtrace;
 use crate::walk_text::write_walk;
-use crate::whole_check::{Checked, check};
+use crate::whole_check::{Checked, SECTION_LIMIT, TOO_LONG, check};
 use crate::writer::Writer;
-use dw_bytes::{Fault, FaultKind, Target};
+use dw_bytes::Target;
 use dw_loclists::{CheckedLists, check_lists};
 use dw_ops::Expression;
 use dw_rows::{CheckedFrame, check_frame};
 use dw_stack::{CheckedExpression, Kind, check_expression};
 use std::alloc::Global;
-
-/// Sections and expressions of this many bytes or more are refused.
-const SECTION_LIMIT: usize = 1 << 32;
-
-/// What refuses them.
-const TOO_LONG: Fault = Fault {
-    kind: FaultKind::SectionTooLong,
-    at: 0,
-};
 
 /// The frame section of these bytes, if it has no fault.
 fn checked_frame<'a>(
@@ -123,7 +114,7 @@ fn checked_sections<'a>(
         checked.lists ≡ record { target = target; section = lists.entry.now }) }
     ensures whole { IfOk result
         (λ _. check_fault target frame.entry.now lists.entry.now ≡ None) }
-    ensures stop { IfErr result (IsFirstFault
+    ensures stop { IfErr result (RefusesBoth
         (check_fault target frame.entry.now lists.entry.now)) }
 {
     match check(alloc, frame, lists, target) {
@@ -255,8 +246,8 @@ fn write_one_caller<S: Sink>(
     requires size { out.old.size ≡ checked.now.frame.target.address_size }
     requires runs { S.has_stopped out.old.sink.now ≡ false }
     ensures same { IsSame out.old out.new }
-    ensures written { (gs : List StateFact) → IsGivenBy (known_state_of state.now) gs
-        → (text : List ℕ) × ShowsCaller address gs checked.now.frame checked.now.lists text
+    ensures written { (facts : List StateFact) → IsGivenBy (known_state_of state.now) facts
+        → (text : List ℕ) × ShowsCaller address facts checked.now.frame checked.now.lists text
         × Writes (S.taken out.old.sink.now) (S.taken out.new.sink.now) result text }
     ensures stops { S.has_stopped out.new.sink.now ≡ is_write result }
 {
@@ -276,8 +267,8 @@ fn write_backtrace<S: Sink>(
     requires size { out.old.size ≡ checked.now.frame.target.address_size }
     requires runs { S.has_stopped out.old.sink.now ≡ false }
     ensures same { IsSame out.old out.new }
-    ensures written { (gs : List StateFact) → IsGivenBy (known_state_of state.now) gs
-        → (text : List ℕ) × ShowsWalk address limit gs checked.now.frame checked.now.lists text
+    ensures written { (facts : List StateFact) → IsGivenBy (known_state_of state.now) facts
+        → (text : List ℕ) × ShowsWalk address limit facts checked.now.frame checked.now.lists text
         × Writes (S.taken out.old.sink.now) (S.taken out.new.sink.now) result text }
     ensures stops { S.has_stopped out.new.sink.now ≡ is_write result }
 {
@@ -365,6 +356,11 @@ fn show<S: Sink>(
 }
 
 /// Does what the request asks for, with one content for each of `Request::files`, in their order.
+///
+/// The files are judged in that order: BadHex for the first that is to be hex text and isn't; then StateLine for a state file's first
+/// bad line; then the first fault, whose line is written (Refused); else the whole text is written (Done). With BadHex and StateLine
+/// nothing is written. Memory ends it where memory was refused, and Output where the sink stopped: a beginning of the text is
+/// written, and for want of memory nothing of a refusal's line.
 pub fn run<S: Sink>(alloc: Global, request: &Request, files: &[Vec<u8>], sink: &mut S) -> End
     requires files { length files.now ≡ length request.now.files }
     requires runs { S.has_stopped sink.old ≡ false }

@@ -3,7 +3,8 @@
 ghost use Rattle.std.specs.Prelude.{◌≡◌, ◌⊎◌, Option, Some};
 ghost use Rattle.dw_bytes.specs.Answers.{memory};
 ghost use Rattle.dw_bytes.specs.declared.fault.Fault.{Fault as FoundFault};
-ghost use Rattle.dw_check.specs.Stops.{stop_of, section_text, IsRefusal};
+ghost use Rattle.dw_check.specs.Stops.{stop_of, IsRefusal};
+ghost use Rattle.dw_check.specs.Text.{section_text};
 ghost use Rattle.dw_check.specs.declared.stop.ReportFault.TheVariants as faults;
 ghost use Rattle.dw_check.specs.declared.stop.RunFault.TheVariants as stops;
 
@@ -41,7 +42,7 @@ pub(crate) enum RunFault {
     Refused(Section, Fault),
     /// The file at this place is to be hex text and isn't.
     BadHex(usize),
-    /// This line of the state file is none, lines counted from 1.
+    /// This line of the state file is none, or can't stand with those before it; lines are counted from 1.
     StateLine(u64),
     /// Memory ran out.
     Memory,

@@ -21,9 +21,9 @@ pub enum Answer {
     Value(u64),
     /// It can't be had: no instruction has given the register a rule and the ABI doesn't name it, or the rule says so.
     Undefined,
-    /// It takes a register or memory that isn't handed in, or a read goes past the greatest address.
+    /// It, or the CFA that it needs, takes a register or memory that isn't handed in, or a read goes past the greatest address.
     Unreadable,
-    /// Its expression divides by zero.
+    /// Its expression, or that of the CFA that it needs, divides by zero.
     DivisionByZero,
 }
 

@@ -11,15 +11,10 @@ ghost use Rattle.dw_check.specs.WalkViews.{frame_in, frames_in, surroundings_in}
 use crate::frames::{Backtrace, Frame, Stop};
 use crate::unwinding::{Answer, Caller, unwind_with};
 use crate::whole_check::Checked;
-use dw_bytes::{Fault, FaultKind};
+use dw_bytes::{Fault, OUT_OF_MEMORY};
 use dw_eval::{Memory, Registers};
 use dw_rows::Abi;
 use std::alloc::Global;
-
-const OUT_OF_MEMORY: Fault = Fault {
-    kind: FaultKind::Memory,
-    at: 0,
-};
 
 /// The registers of a frame, as far as the one that it called says: those of a caller that are values. A row and an ABI name some ten,
 /// so that going through them costs less than halving; they can't name more than 256.
@@ -105,7 +100,7 @@ fn next_frame<M: Memory>(
 }
 
 /// Walks up the stack from a frame that stands at an address, with its registers, over memory: the frame, its caller, that one's
-/// caller and so on, at most `limit` frames, and why there are no more.
+/// caller and so on, at most `limit` frames, and why there are no more (DWARF 5, sections 6.4.1 and 6.4.4).
 ///
 /// The first frame is looked up at its address, each other at the address before its own. Behind the first frame a register has a
 /// content only where the answer for it was a value. Each frame costs what `unwind_with` costs, and takes some 6 KB, since a caller has

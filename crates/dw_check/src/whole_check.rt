@@ -12,8 +12,14 @@ use dw_loclists::{CheckedLists, check_lists};
 use dw_rows::{CheckedFrame, check_frame};
 use std::alloc::Global;
 
-/// Sections of this many bytes or more are refused.
-const SECTION_LIMIT: usize = 1 << 32;
+/// Sections and expressions of this many bytes or more are refused.
+pub(crate) const SECTION_LIMIT: usize = 1 << 32;
+
+/// What refuses them.
+pub(crate) const TOO_LONG: Fault = Fault {
+    kind: FaultKind::SectionTooLong,
+    at: 0,
+};
 
 /// The first fault of two sections.
 #[derive(Clone, Copy, Debug, PartialEq, Eq)]
@@ -41,10 +47,7 @@ fn check_length(section: Section, bytes: &[u8]) -> Result<(), CheckFault>
     if bytes.len() >= SECTION_LIMIT {
         return Err(CheckFault {
             section,
-            fault: Fault {
-                kind: FaultKind::SectionTooLong,
-                at: 0,
-            },
+            fault: TOO_LONG,
         });
     }
     Ok(())
@@ -103,7 +106,7 @@ pub fn check<'a>(
     // It accepts exactly the sections that are well formed.
     ensures accepts { IfOk result (λ _. AreWellFormed target frame.entry.now lists.entry.now) }
     ensures refuses { IfErr result (λ found. (found.fault ≡ memory)
-        ⊎ (AreWellFormed target frame.entry.now lists.entry.now → ⊥)) }
+        ⊎ ¬ AreWellFormed target frame.entry.now lists.entry.now) }
     ensures section { IfErr result (λ found.
         (found.section ≡ Section.Frame) ⊎ (found.section ≡ Section.Lists)) }
     ensures inside { IfErr result (λ found.

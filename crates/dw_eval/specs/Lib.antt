@@ -17,6 +17,8 @@ pub mod Fits
 -- locations, pieces and outcomes of the code
 pub mod Views
 -- ---- Behind the contracts: no contract of a public call speaks of these.
+-- an operation pushes as much as its line says
+pub mod Fair
 -- what the environment of the code answers
 pub mod Handed
 -- what an operation makes of the stack

@@ -2,7 +2,7 @@
 
 ghost use Rattle.std.specs.Prelude.{◌≡◌, ◌+◌, ◌+ℤ◌, ◌^◌, ◌<◌, ◌∷◌, [], pos, Ok};
 ghost use Rattle.dw_eval.specs.World.{IsSize, width};
-ghost use Rattle.dw_eval.specs.Values.{pushed, present, loaded};
+ghost use Rattle.dw_eval.specs.Values.{pushed, if_present, loaded};
 ghost use Rattle.dw_eval.specs.StackChanges.{one_of};
 ghost use Rattle.dw_bytes.specs.Encoding.{bytes_of_address};
 ghost use Rattle.dw_eval.specs.Handed.{world_in};
@@ -44,7 +44,7 @@ impl<'m, R: Registers, M: Memory> Environment<'m, R, M> {
     /// What is handed in and an offset, modulo 2^w.
     #[inline(always)]
     pub fn sum(&self, value: Option<u64>, offset: i64) -> Result<u64, EvaluationError>
-        ensures { one_of result ≡ present value
+        ensures { one_of result ≡ if_present value
             (λ n. pushed (world_in R.contents M.bytes self.now) (pos n +ℤ offset)) }
     {
         match value {
@@ -56,7 +56,7 @@ impl<'m, R: Registers, M: Memory> Environment<'m, R, M> {
     /// What is handed in, modulo 2^w.
     #[inline(always)]
     pub fn given(&self, value: Option<u64>) -> Result<u64, EvaluationError>
-        ensures { one_of result ≡ present value
+        ensures { one_of result ≡ if_present value
             (λ n. pushed (world_in R.contents M.bytes self.now) (pos n)) }
     {
         match value {

@@ -15,7 +15,8 @@ ghost use Rattle.dw_eval.specs.Fits.{NumbersFit};
 ghost use Rattle.dw_eval.specs.Results.{Outcome, IsOfKind, first_stack, started, IsEvaluation};
 
 /// An operation uses the topmost entries alone, as many as it needs: whatever lies below them, it pushes the same, names and
-/// jumps alike, and leaves what lies there. A piece needs no entry, and where it gives an address, that is the one entry.
+/// jumps alike, and leaves what lies there, which a piece then clears away. A piece needs no entry, and where it gives an address,
+/// that is the one entry.
 pub fn operations_use_the_top_alone()
     ensures top { (e : World) (op : Operation) (below top : List ℕ)
         → length top ≡ (effect_of op).needs → UsesTopAlone e op below top }

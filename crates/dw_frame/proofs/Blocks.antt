@@ -3,7 +3,7 @@ use Rattle.std.proofs.Common.{◌≡◌, ℕ, ◌+◌, ◌<◌, Bool, true, fals
 use Rattle.std.specs.Prelude.{◌==◌, nat_lt}
 use Rattle.std.proofs.lemmas.List.{length-append}
 use Rattle.dw_bytes.specs.declared.target.Target.{Target}
-use Rattle.dw_bytes.specs.Operands.{Kind, address, fixed, unsigned, signed, register_number, block}
+use Rattle.dw_bytes.specs.Operands.{OperandKind, address, fixed, unsigned, signed, register_number, block}
 use Rattle.dw_bytes.specs.Operands.{Block, IsBlock, Operands, Line, line, one, AreOperands}
 use Rattle.dw_frame.specs.Instructions.{Instruction}
 use Rattle.dw_frame.specs.Records.{Record}
@@ -22,7 +22,7 @@ which true P x y h k = h
 which false P x y h k = k
 
 -- a line that makes instructions without a block
-without : (start : ℕ) (target : Target) (kinds : List Kind) (make : Operands kinds → Instruction)
+without : (start : ℕ) (target : Target) (kinds : List OperandKind) (make : Operands kinds → Instruction)
     → ((vs : Operands kinds) (end : ℕ) → EndsWithItsBlock target start end (make vs)) → Holds start target (Some (line kinds make))
 unfolding Holds
 without start target kinds make all at bytes i lt (vs, encoded, fit, is) =
@@ -43,7 +43,7 @@ block-alone start target at bytes i lt (vs, (a, ra, pa, ia, ended), fit, is) =
     (block-ends target start at (at + length bytes) a vs.0 lt (omega (arith, ap length pa, length-append a ra, ap length ended)) ia)
 
 -- a block behind another operand
-block-second : (start : ℕ) (target : Target) (first : Kind) (make : Operands (first ∷ block ∷ []) → Instruction)
+block-second : (start : ℕ) (target : Target) (first : OperandKind) (make : Operands (first ∷ block ∷ []) → Instruction)
     → ((vs : Operands (first ∷ block ∷ [])) (end : ℕ) → EndsWith target start end vs.1.0 → EndsWithItsBlock target start end (make vs))
     → Holds start target (Some (line (first ∷ block ∷ []) make))
 unfolding Holds

@@ -20,8 +20,8 @@ use Rattle.dw_bytes.proofs.Bounds.{Stays, AlwaysStays, end-of, each-along}
 use Rattle.dw_bytes.proofs.FieldsOf.{passed, fields-stay}
 use Rattle.dw_bytes.proofs.Bodies.{bind-err, not-err, framed-found, framed-refused}
 use Rattle.dw_frame.specs.Records.{is_version, Record}
-use Rattle.dw_frame.specs.Sections.{Header, cie_fields, fde_fields, cie_id, top_of, ends_by, is_register, column_fault, factors}
-use Rattle.dw_frame.specs.Sections.{cie_header, fde_header}
+use Rattle.dw_frame.specs.Sections.{Header, cie_header, fde_header, cie_id, top_of, ends_by, is_register, column_fault, factors}
+use Rattle.dw_frame.specs.Sections.{cie_fields, fde_fields}
 use Rattle.dw_frame.specs.Sections.{header_fields, header_at, IsHeader, record_from, IsRecord, AreRecords, record_at, entries_from}
 use Rattle.dw_frame.specs.Sections.{entries_of, cie_among}
 use Rattle.dw_frame.specs.Bounds.{IsSoundRecord, IsSound, offset_of, Ascends}
@@ -63,8 +63,8 @@ record-refused r fault is =
 -- ---- headers
 
 abbrev InRange : Target → Header → Type 0
-InRange target (cie_fields h) = (is_version h.version ≡ true) × (h.return_register ≤ 65535)
-InRange target (fde_fields h) = h.initial + h.range ≤ top_of target
+InRange target (cie_header h) = (is_version h.version ≡ true) × (h.return_address_register ≤ 65535)
+InRange target (fde_header h) = h.initial + h.range ≤ top_of target
 
 column-range : (target : Target) (at : ℕ) (is_byte : Bool) (make : ℕ → Header) (bytes : List ℕ) (h : Header)
     → Encodes target (cond is_byte (field (fixed 1) column_fault (λ n. made (make n)))
@@ -76,8 +76,8 @@ column-range target at false make bytes h s = (s.0, leb-true s.0 65535 (passed (
 factors-range : (target : Target) (version at : ℕ) (bytes : List ℕ) (h : Header) → is_version version ≡ true
     → Encodes target (factors version) at bytes h → InRange target h
 factors-range target version at bytes h known s =
-    let make : ℕ → Header = λ n. cie_fields
-    (record { version = version; code_factor = s.0; data_factor = s.6.0; return_register = n }) in
+    let make : ℕ → Header = λ n. cie_header
+    (record { version = version; code_alignment_factor = s.0; data_alignment_factor = s.6.0; return_address_register = n }) in
     let column = column-range target _ (version == 1) make s.6.2 h s.6.6 in
     subst (InRange target) (sym column.2) (known, column.1)
 
@@ -89,7 +89,7 @@ behind-range target version at true bytes h known s = factors-range target versi
 behind-range target version at false bytes h known s = factors-range target version at bytes h known s
 
 from-id-range : (target : Target) (id at : ℕ) (is_cie : Bool) (bytes : List ℕ) (h : Header)
-    → Encodes target (cond is_cie (cie_header target) (fde_header target id)) at bytes h → InRange target h
+    → Encodes target (cond is_cie (cie_fields target) (fde_fields target id)) at bytes h → InRange target h
 from-id-range target id at true bytes h s =
     behind-range target s.0 _ (s.0 == 4) s.6.2 h (passed (is_version s.0) Version s.5) s.6.6
 from-id-range target id at false bytes h s =
@@ -111,13 +111,13 @@ some-fields target format at bytes h (id, x, y, parts, first, fine, second) =
 sound-from : (target : Target) (size at body : ℕ) (format : Format) (h : Header) (program : ReadPosition) → InRange target h → at < body
     → body < program.position → end-of program ≤ size → program.target ≡ target
     → IsSoundRecord target size (record_from at format body h program)
-sound-from target size at body format (cie_fields h) program range before behind ends same =
+sound-from target size at body format (cie_header h) program range before behind ends same =
     record {
       program = record { begins = omega arith; ends = ends; target_is = same };
       version = range.0;
-      return_register = range.1;
+      return_address_register = range.1;
     }
-sound-from target size at body format (fde_fields h) program range before behind ends same =
+sound-from target size at body format (fde_header h) program range before behind ends same =
     record {
       program = record { begins = omega arith; ends = ends; target_is = same };
       pointer_behind = before;
@@ -170,8 +170,8 @@ pub ruleset cie_laws = (cie-inside)
 -- ---- the order of records
 
 from-offset : (at body : ℕ) (format : Format) (h : Header) (program : ReadPosition) → offset_of (record_from at format body h program) ≡ at
-from-offset at body format (cie_fields h) program = refl
-from-offset at body format (fde_fields h) program = refl
+from-offset at body format (cie_header h) program = refl
+from-offset at body format (fde_header h) program = refl
 
 pub record-offset : (target : Target) (at : ℕ) (bytes : List ℕ) (x : Record) → IsRecord target at bytes x → offset_of x ≡ at
 record-offset target at bytes x s = ap offset_of s.record_is ∙ from-offset at (at + length s.front) s.format s.header

@@ -42,13 +42,13 @@ pub record LiesIn (target : Target) (size offset : ℕ) (program : ReadPosition)
 pub record IsSoundCie (target : Target) (size : ℕ) (c : Cie) : Type 0 where
   pub program : LiesIn target size c.offset c.program
   pub version : is_version c.version ≡ true
-  pub return_register : c.return_register ≤ 65535
+  pub return_address_register : c.return_address_register ≤ 65535
 
 -- The CIE_pointer of an FDE stands between its offset and its program, and its addresses are addresses of the target.
 pub record IsSoundFde (target : Target) (size : ℕ) (f : Fde) : Type 0 where
   pub program : LiesIn target size f.offset f.program
-  pub pointer_behind : f.offset < f.pointer_offset
-  pub pointer_before : f.pointer_offset < f.program.position
+  pub pointer_behind : f.offset < f.cie_pointer_offset
+  pub pointer_before : f.cie_pointer_offset < f.program.position
   pub range : f.initial + f.range ≤ top_of target
 
 abbrev pub IsSoundRecord : Target → ℕ → Record → Type 0

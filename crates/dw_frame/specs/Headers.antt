@@ -3,18 +3,18 @@ use Rattle.dw_frame.specs.declared.header.CieHeader.{CieHeader}
 use Rattle.dw_frame.specs.declared.header.FdeHeader.{FdeHeader}
 use Rattle.dw_frame.specs.declared.header.Header as declared
 use Rattle.dw_frame.specs.declared.header.Header.TheVariants as headers
-use Rattle.dw_frame.specs.Sections.{Header, cie_fields, fde_fields}
+use Rattle.dw_frame.specs.Sections.{Header, cie_header, fde_header}
 
 abbrev pub cie_head : CieHeader → Header
-cie_head h = cie_fields (record {
+cie_head h = cie_header (record {
   version = h.version;
-  code_factor = h.code_alignment_factor;
-  data_factor = h.data_alignment_factor;
-  return_register = h.return_address_register;
+  code_alignment_factor = h.code_alignment_factor;
+  data_alignment_factor = h.data_alignment_factor;
+  return_address_register = h.return_address_register;
 })
 
 abbrev pub fde_head : FdeHeader → Header
-fde_head h = fde_fields (record { cie_pointer = h.cie_pointer; initial = h.initial_location; range = h.address_range })
+fde_head h = fde_header (record { cie_pointer = h.cie_pointer; initial = h.initial_location; range = h.address_range })
 
 abbrev pub head_of : declared.Header → Header
 head_of (headers.Cie h) = cie_head h

@@ -3,7 +3,7 @@ use Rattle.std.specs.Prelude.{◌==◌, ◌||◌, ℕ, ℤ, Bool}
 use Rattle.dw_bytes.specs.declared.target.Format.{Format}
 use Rattle.dw_bytes.specs.Reading.{ReadPosition}
 
--- The versions of a CIE, which count by themselves (Appendix F): that of DWARF 2, of DWARF 3, and of DWARF 4 and 5.
+-- The versions of a CIE, which count by themselves (Appendix G): that of DWARF 2, of DWARF 3, and of DWARF 4 and 5.
 abbrev pub is_version : ℕ → Bool
 is_version number = number == 1 || number == 3 || number == 4
 
@@ -12,9 +12,9 @@ pub record Cie : Type 0 where
   pub offset : ℕ
   pub format : Format
   pub version : ℕ
-  pub code_factor : ℕ
-  pub data_factor : ℤ
-  pub return_register : ℕ
+  pub code_alignment_factor : ℕ
+  pub data_alignment_factor : ℤ
+  pub return_address_register : ℕ
   pub program : ReadPosition
 
 -- An FDE, likewise. Its CIE_pointer stands at an offset of its own.
@@ -22,7 +22,7 @@ pub record Fde : Type 0 where
   pub offset : ℕ
   pub format : Format
   pub cie_pointer : ℕ
-  pub pointer_offset : ℕ
+  pub cie_pointer_offset : ℕ
   pub initial : ℕ
   pub range : ℕ
   pub program : ReadPosition

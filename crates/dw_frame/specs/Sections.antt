@@ -21,9 +21,9 @@ use Rattle.dw_frame.specs.Records.{is_version, Cie, Record, cie_record, fde_reco
 -- What stands between the length of a CIE and its program, the parts that have one value alone left out.
 pub record CieHeader : Type 0 where
   pub version : ℕ
-  pub code_factor : ℕ
-  pub data_factor : ℤ
-  pub return_register : ℕ
+  pub code_alignment_factor : ℕ
+  pub data_alignment_factor : ℤ
+  pub return_address_register : ℕ
 
 -- What stands between the length of an FDE and its program.
 pub record FdeHeader : Type 0 where
@@ -32,8 +32,8 @@ pub record FdeHeader : Type 0 where
   pub range : ℕ
 
 pub data Header : Type 0 where
-  cie_fields : CieHeader → Header
-  fde_fields : FdeHeader → Header
+  cie_header : CieHeader → Header
+  fde_header : FdeHeader → Header
 
 -- the offset of all ones, with which the body of a CIE begins
 abbrev pub cie_id : Format → ℕ
@@ -61,14 +61,14 @@ return_column version next =
 -- In every version the header of a CIE ends with the two factors and that column.
 abbrev pub factors : ℕ → Fields Header
 factors version =
-    any unsigned (λ code.
-    any signed (λ data_factor.
-    return_column version (λ return_register.
-    made (cie_fields (record {
+    any unsigned (λ code_alignment_factor.
+    any signed (λ data_alignment_factor.
+    return_column version (λ return_address_register.
+    made (cie_header (record {
       version = version;
-      code_factor = code;
-      data_factor = data_factor;
-      return_register = return_register;
+      code_alignment_factor = code_alignment_factor;
+      data_alignment_factor = data_alignment_factor;
+      return_address_register = return_address_register;
     })))))
 
 -- Before these, version 4 alone has the sizes: of an address, which is the target's, and of a segment selector, 0.
@@ -78,24 +78,24 @@ behind_augmentation target version =
     then byte AddressSize (bytes_of_address target.address_size) (byte SegmentSize 0 (factors version))
     else factors version
 
--- Behind the id of a CIE: its version, which chooses the fields (6.4.1, Appendix F), and an augmentation that is empty.
-abbrev pub cie_header : Target → Fields Header
-cie_header target =
+-- Behind the id of a CIE: its version, which chooses the fields (6.4.1, Appendix G), and an augmentation that is empty.
+abbrev pub cie_fields : Target → Fields Header
+cie_fields target =
     field (fixed 1) (λ number. unless (is_version number) Version) (λ version.
     byte Augmentation 0 (behind_augmentation target version))
 
 -- Behind the CIE_pointer of an FDE: the first address, and how many there are, which all lie in the address space.
-abbrev pub fde_header : Target → ℕ → Fields Header
-fde_header target cie_pointer =
+abbrev pub fde_fields : Target → ℕ → Fields Header
+fde_fields target cie_pointer =
     any address (λ initial.
     field address (λ range. unless (ends_by (top_of target) initial range) RangePastTop) (λ range.
-    made (fde_fields (record { cie_pointer = cie_pointer; initial = initial; range = range }))))
+    made (fde_header (record { cie_pointer = cie_pointer; initial = initial; range = range }))))
 
 -- a CIE, where it is its id that the body begins with, else an FDE
 abbrev pub header_fields : Target → Format → Fields Header
 header_fields target format =
     any (fixed (bytes_of_offset format)) (λ id.
-    if id == cie_id format then cie_header target else fde_header target id)
+    if id == cie_id format then cie_fields target else fde_fields target id)
 
 abbrev pub IsHeader : Target → Format → ℕ → List ℕ → Header → Type 0
 IsHeader target format = Encodes target (header_fields target format)
@@ -107,22 +107,22 @@ header_at target format r = fields_at (header_fields target format) r
 
 -- the record at an offset, its body's offset, its header and its program
 abbrev pub record_from : ℕ → Format → ℕ → Header → ReadPosition → Record
-record_from at format body (cie_fields h) program =
+record_from at format body (cie_header h) program =
     cie_record (record {
       offset = at;
       format = format;
       version = h.version;
-      code_factor = h.code_factor;
-      data_factor = h.data_factor;
-      return_register = h.return_register;
+      code_alignment_factor = h.code_alignment_factor;
+      data_alignment_factor = h.data_alignment_factor;
+      return_address_register = h.return_address_register;
       program = program;
     })
-record_from at format body (fde_fields h) program =
+record_from at format body (fde_header h) program =
     fde_record (record {
       offset = at;
       format = format;
       cie_pointer = h.cie_pointer;
-      pointer_offset = body;
+      cie_pointer_offset = body;
       initial = h.initial;
       range = h.range;
       program = program;

@@ -28,7 +28,7 @@ pub struct CommonInformationEntry<'a> {
 impl<'a> CommonInformationEntry<'a> {
     ghost use Rattle.dw_frame.specs.Views.{cie_of};
 
-    /// The version of its encoding (DWARF 5, section 6.4.1 and Appendix F): 1, 3 or 4.
+    /// The version of its encoding (DWARF 5, section 6.4.1 and Appendix G): 1, 3 or 4.
     pub fn version(&self) -> u8
         ensures version { result ≡ (cie_of self.now).version }
         ensures known { is_version result ≡ true }

@@ -57,13 +57,13 @@ fn read_version(cursor: &mut Cursor<'_>) -> Result<u8, Fault>
 }
 
 impl CieHeader {
-    ghost use Rattle.dw_frame.specs.Sections.{cie_header, factors};
+    ghost use Rattle.dw_frame.specs.Sections.{cie_fields, factors};
     ghost use Rattle.dw_frame.specs.Headers.{cie_head};
 
     /// What is behind the id of a CIE.
     fn read(cursor: &mut Cursor<'_>, target: Target) -> Result<Self, Fault>
         ensures exact { ParsesBy cie_head
-            (fields_at (cie_header target)) cursor.old result cursor.new }
+            (fields_at (cie_fields target)) cursor.old result cursor.new }
         ensures within { IsRefusedWithin cursor.old result }
         ensures goes_on { MovesForward cursor.old cursor.new }
     {
@@ -108,13 +108,13 @@ impl CieHeader {
 }
 
 impl FdeHeader {
-    ghost use Rattle.dw_frame.specs.Sections.{fde_header};
+    ghost use Rattle.dw_frame.specs.Sections.{fde_fields};
     ghost use Rattle.dw_frame.specs.Headers.{fde_head};
 
     /// What is behind the CIE_pointer of an FDE.
     fn read(cursor: &mut Cursor<'_>, target: Target, cie_pointer: u64) -> Result<Self, Fault>
         ensures exact { ParsesBy fde_head
-            (fields_at (fde_header target cie_pointer)) cursor.old result cursor.new }
+            (fields_at (fde_fields target cie_pointer)) cursor.old result cursor.new }
         ensures within { IsRefusedWithin cursor.old result }
         ensures goes_on { MovesForward cursor.old cursor.new }
     {

@@ -8,7 +8,7 @@ use Rattle.dw_bytes.specs.declared.target.Target.{Target}
 use Rattle.dw_bytes.specs.declared.fault.Fault.{Fault}
 use Rattle.dw_bytes.specs.declared.fault.FaultKind.TheVariants.{UnknownEntry, SecondDefault, BackRange}
 use Rattle.dw_bytes.specs.Reading.{ReadPosition, Next, ◌>>=◌}
-use Rattle.dw_bytes.specs.Operands.{Kind, address, unsigned, block, Block, IsBlock, Operands, Line, line, none, one, AreOperands}
+use Rattle.dw_bytes.specs.Operands.{OperandKind, address, unsigned, block, Block, IsBlock, Operands, Line, line, none, one, AreOperands}
 use Rattle.dw_bytes.proofs.Readers.{ExactAt, bind-ok}
 use Rattle.dw_bytes.proofs.Codes.{coded-exact, coded-some}
 use Rattle.dw_stack.specs.declared.state.Kind.TheVariants.{Location}
@@ -78,7 +78,7 @@ default-block start target at bytes e lt (vs, (first, rest, parts, is_block, end
       of_target = within.of_target;
     })
 
-third-block : (start : ℕ) (target : Target) (first second : Kind) (make : Operands (first ∷ second ∷ block ∷ []) → Entry)
+third-block : (start : ℕ) (target : Target) (first second : OperandKind) (make : Operands (first ∷ second ∷ block ∷ []) → Entry)
     → ((vs : Operands (first ∷ second ∷ block ∷ [])) → expression_in (make vs) ≡ Some vs.1.1.0)
     → Holds start target (Some (line (first ∷ second ∷ block ∷ []) make))
 unfolding Holds

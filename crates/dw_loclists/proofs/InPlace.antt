@@ -7,7 +7,7 @@ use Rattle.std.proofs.Math.Seq.{drop-append_seam, take-append_seam}
 use Rattle.std.proofs.lemmas.List.{length-append}
 use Rattle.std.proofs.lemmas.Grind.{flat_map-append}
 use Rattle.dw_bytes.specs.declared.target.Target.{Target}
-use Rattle.dw_bytes.specs.Operands.{Kind, address, unsigned, block, Block, IsBlock, Operands, Line, line, none, one, AreOperands}
+use Rattle.dw_bytes.specs.Operands.{OperandKind, address, unsigned, block, Block, IsBlock, Operands, Line, line, none, one, AreOperands}
 use Rattle.dw_bytes.specs.Sequence.{Sequence}
 use Rattle.dw_stack.specs.declared.state.Kind as stack_kind
 use Rattle.dw_stack.specs.declared.state.Kind.TheVariants.{Location}
@@ -111,7 +111,7 @@ default-block target at bytes e (vs, (first, rest, parts, is_block, ended), fit,
       tt,
     )
 
-third-block : (target : Target) (first second : Kind) (make : Operands (first ∷ second ∷ block ∷ []) → Entry)
+third-block : (target : Target) (first second : OperandKind) (make : Operands (first ∷ second ∷ block ∷ []) → Entry)
     → ((vs : Operands (first ∷ second ∷ block ∷ [])) → expression_in (make vs) ≡ Some vs.1.1.0)
     → Holds target (Some (line (first ∷ second ∷ block ∷ []) make))
 unfolding Holds

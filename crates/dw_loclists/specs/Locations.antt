@@ -2,14 +2,14 @@
 use Rattle.std.specs.Prelude.{ℕ, ◌+◌, ◌&&◌, nat_le, nat_lt, Bool, false, if◌then◌else◌, List, [], ◌∷◌, ◌++◌, map, filter_map, flat_map}
 use Rattle.dw_bytes.specs.Operands.{Block}
 use Rattle.dw_stack.specs.declared.state.Kind.TheVariants.{Location}
-use Rattle.dw_stack.specs.Located.{LocatedExpression}
+use Rattle.dw_stack.specs.Located.{LocatedExpression, located_as}
 use Rattle.dw_loclists.specs.Entries.{Entry, end_of_list, offset_pair, default_location, base_address, start_end, start_length}
 use Rattle.dw_loclists.specs.Entries.{expression_in, is_default}
 use Rattle.dw_loclists.specs.Lists.{Loclist}
 
 -- every expression of a list is a location
 abbrev pub location_of : Block → LocatedExpression
-location_of e = record { offset = e.offset; kind = Location; target = e.target; bytes = e.bytes }
+location_of e = located_as Location e
 
 -- the expressions of entries, of lists and of tables, in order
 abbrev pub expressions_of : List Entry → List LocatedExpression

@@ -1,7 +1,7 @@
 -- Reading a `.debug_loclists` section from left to right, with the first fault. Each entry is judged as soon as it is read: one
 -- default a list, its range, its expression.
 use Rattle.std.specs.Prelude.{◌≡◌, ℕ, zero, suc, ◌+◌, ◌==◌, ◌&&◌, ◌||◌, nat_lt, Bool, false, if◌then◌else◌, List, [], ◌∷◌, length, Option}
-use Rattle.std.specs.Prelude.{Some, None, Result, Ok, Err}
+use Rattle.std.specs.Prelude.{Some, None, Result, Ok, Err, option_map}
 use Rattle.std.specs.List.{list_any}
 use Rattle.dw_bytes.specs.declared.target.Target.{Target}
 use Rattle.dw_bytes.specs.declared.target.Format.{Format}
@@ -13,13 +13,11 @@ use Rattle.dw_bytes.specs.Fields.{unless, judged, fields_at}
 use Rattle.dw_bytes.specs.Bodies.{framed_at}
 use Rattle.dw_bytes.specs.Sequence.{sequence_of, exactly_of}
 use Rattle.dw_bytes.specs.Answers.{fault_in, values_in}
-use Rattle.dw_stack.specs.declared.state.Kind.TheVariants.{Location}
-use Rattle.dw_stack.specs.FirstFault.{expression_fault}
 use Rattle.dw_loclists.specs.Entries.{Entry, end_of_list, offset_pair, default_location, base_address, start_end, start_length, entry_line}
 use Rattle.dw_loclists.specs.Entries.{is_end, is_default, expression_in}
 use Rattle.dw_loclists.specs.Lists.{Loclist, Table, table_header, starts_of, lists_of}
-use Rattle.dw_loclists.specs.Locations.{expressions_in}
-use Rattle.dw_stack.specs.Located.{LocatedExpression, moved_by}
+use Rattle.dw_loclists.specs.Locations.{location_of, expressions_in}
+use Rattle.dw_stack.specs.Located.{LocatedExpression, located_fault}
 
 -- ---- entries
 
@@ -37,8 +35,7 @@ is_back_range (start_end begin end e) = nat_lt end begin
 is_back_range (start_length begin count e) = false
 
 abbrev pub location_fault : Option Block → Option Fault
-location_fault None = None
-location_fault (Some e) = moved_by e.offset (expression_fault Location e.target e.bytes)
+location_fault e = located_fault (option_map location_of e)
 
 -- The first fault of an entry at an offset, behind a default or not: a second default, a range that ends before it begins, and
 -- then its expression's.

@@ -15,16 +15,10 @@ ghost use Rattle.dw_loclists.specs.Views.{entry_of};
 
 use crate::entry::Entry;
 use crate::kept::KeptExpression;
-use dw_bytes::{Block, Cursor, Fault, FaultKind};
+use dw_bytes::{Block, Cursor, Fault, FaultKind, OUT_OF_MEMORY};
 use dw_ops::Expression;
 use dw_stack::{Kind, check_expression};
 use std::alloc::Global;
-
-/// Want of memory, which stands nowhere in a section.
-pub const MEMORY: Fault = Fault {
-    kind: FaultKind::Memory,
-    at: 0,
-};
 
 /// Judges an expression as a location, and keeps what was learned of it.
 #[inline(always)]
@@ -46,11 +40,11 @@ fn check_location(
                 .push(KeptExpression::new(block, &checked))
                 .is_err()
             {
-                return Err(MEMORY);
+                return Err(OUT_OF_MEMORY);
             }
             Ok(())
         }
-        Err(fault) if fault.kind == FaultKind::Memory => Err(MEMORY),
+        Err(fault) if fault.kind == FaultKind::Memory => Err(OUT_OF_MEMORY),
         Err(fault) => Err(Fault {
             kind: fault.kind,
             at: block.offset + fault.at,

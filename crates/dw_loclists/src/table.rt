@@ -14,8 +14,8 @@ ghost use Rattle.dw_loclists.specs.Views.{start_of};
 
 use crate::contents::{Contents, LocationList};
 use crate::find::find_list;
-use crate::list::{MEMORY, read_list};
-use dw_bytes::{Body, Cursor, Fault, FaultKind, Format, Target};
+use crate::list::read_list;
+use dw_bytes::{Body, Cursor, Fault, FaultKind, Format, OUT_OF_MEMORY, Target};
 use std::alloc::Global;
 
 /// What is behind the length of a table, up to its array: how many offsets that has.
@@ -55,7 +55,7 @@ fn read_lists(
         let offset = cursor.position();
         read_list(alloc, cursor, end, &mut contents.expressions)?;
         if contents.lists.push(LocationList::new(offset)).is_err() {
-            return Err(MEMORY);
+            return Err(OUT_OF_MEMORY);
         }
     }
     Ok(())
@@ -125,7 +125,7 @@ pub fn read_table(
     read_lists(alloc, &mut cursor, body.end, contents)?;
     check_array(&mut array, body.format, count, &contents.lists[first..])?;
     if contents.tables.push(at).is_err() {
-        return Err(MEMORY);
+        return Err(OUT_OF_MEMORY);
     }
     Ok(body.end)
 }

@@ -34,7 +34,7 @@ pub enum Operation<'a> {
     Drop,
     /// Pushes the second entry.
     Over,
-    /// Pushes the entry so many below the top.
+    /// Pushes the entry `index` below the top; 0 is the top.
     Pick { index: u8 },
     /// Exchanges the top and the second entry.
     Swap,
@@ -100,7 +100,7 @@ pub enum Operation<'a> {
     Bregx { register: u16, offset: i64 },
     /// What comes before it is a piece of so many bytes.
     Piece { size: u32 },
-    /// Replaces the top by that many bytes at that address.
+    /// Replaces the top by that many bytes at that address, zero-extended.
     DerefSize { size: u8 },
     /// Nothing.
     Nop,

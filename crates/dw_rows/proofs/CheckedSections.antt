@@ -8,58 +8,60 @@ use Rattle.dw_frame.specs.Bounds.{Ascends, IsSoundCie, IsSoundFde}
 use Rattle.dw_stack.specs.Located.{LocatedExpression}
 use Rattle.dw_rows.specs.Expressions.{cie_expressions, frame_expressions}
 use Rattle.dw_rows.specs.Judgement.{cie_fault}
-use Rattle.dw_rows.specs.Section.{Frame, CoversOnce, IsChecked, section_fault, frame_of, parts_fault}
+use Rattle.dw_rows.specs.Section.{FrameSection, CoversOnce, IsChecked, section_fault, frame_of, parts_fault}
 use Rattle.dw_rows.specs.RuleSet.{KeptRules}
 use Rattle.dw_rows.specs.Initial.{AreLeftBy}
 use Rattle.dw_rows.specs.Overlap.{cie_offset, fde_offset, IsAddressIndex, IsKept}
 use Rattle.dw_rows.specs.declared.index.IndexEntry.{IndexEntry}
-use Rattle.dw_rows.proofs.Faults.{none-each}
-use Rattle.dw_rows.proofs.Parts.{or_else-none, parts-pass, covers-once-in}
+use Rattle.dw_rows.proofs.Faults.{option_or-none, none-each}
+use Rattle.dw_rows.proofs.Parts.{parts-pass, covers-once-in}
 use Rattle.dw_rows.proofs.SectionOrder.{cies-ascend, fdes-ascend, cies-sound, fdes-sound}
 
 -- its records were read, and no part has a fault
-pub checked-read : (s : Frame) → IsChecked s → fault_in (entries_of s.target s.section) ≡ None
+pub checked-read : (s : FrameSection) → IsChecked s → fault_in (entries_of s.target s.section) ≡ None
 unfolding section_fault
 checked-read s k =
     let frame = frame_of s.target s.section in
-    (or_else-none (fault_in (entries_of s.target s.section)) (parts_fault frame.cies frame.fdes) k.faultless).0
+    (option_or-none (fault_in (entries_of s.target s.section)) (parts_fault frame.cies frame.fdes) k.faultless).0
 
-pub checked-parts : (s : Frame) → IsChecked s → parts_fault s.cies s.fdes ≡ None
+pub checked-parts : (s : FrameSection) → IsChecked s → parts_fault s.cies s.fdes ≡ None
 unfolding section_fault
 checked-parts s k =
     let frame = frame_of s.target s.section in
-    let none = (or_else-none (fault_in (entries_of s.target s.section)) (parts_fault frame.cies frame.fdes) k.faultless).1 in
-    subst (λ (t : Frame). parts_fault t.cies t.fdes ≡ None) (sym k.whole) none
+    let none = (option_or-none (fault_in (entries_of s.target s.section)) (parts_fault frame.cies frame.fdes) k.faultless).1 in
+    subst (λ (t : FrameSection). parts_fault t.cies t.fdes ≡ None) (sym k.whole) none
 
-pub checked-cies-ascend : (s : Frame) → IsChecked s → Ascends cie_offset s.cies
-checked-cies-ascend s k = subst (λ (t : Frame). Ascends cie_offset t.cies) (sym k.whole) (cies-ascend s.target s.section (checked-read s k))
+pub checked-cies-ascend : (s : FrameSection) → IsChecked s → Ascends cie_offset s.cies
+checked-cies-ascend s k =
+    subst (λ (t : FrameSection). Ascends cie_offset t.cies) (sym k.whole) (cies-ascend s.target s.section (checked-read s k))
 
-pub checked-fdes-ascend : (s : Frame) → IsChecked s → Ascends fde_offset s.fdes
-checked-fdes-ascend s k = subst (λ (t : Frame). Ascends fde_offset t.fdes) (sym k.whole) (fdes-ascend s.target s.section (checked-read s k))
+pub checked-fdes-ascend : (s : FrameSection) → IsChecked s → Ascends fde_offset s.fdes
+checked-fdes-ascend s k =
+    subst (λ (t : FrameSection). Ascends fde_offset t.fdes) (sym k.whole) (fdes-ascend s.target s.section (checked-read s k))
 
-pub checked-cies-good : (s : Frame) → IsChecked s → (c : Cie) → Contains s.cies c → cie_fault c ≡ None
+pub checked-cies-good : (s : FrameSection) → IsChecked s → (c : Cie) → Contains s.cies c → cie_fault c ≡ None
 checked-cies-good s k = none-each cie_fault s.cies (parts-pass s.cies s.fdes (checked-parts s k)).cie_programs
 
-pub checked-once : (s : Frame) → IsChecked s → CoversOnce s.fdes
+pub checked-once : (s : FrameSection) → IsChecked s → CoversOnce s.fdes
 checked-once s k = covers-once-in s.cies s.fdes (checked-fdes-ascend s k) (checked-parts s k)
 
 -- programs are of its target and lie in it, and so do addresses
-pub checked-cies-sound : (s : Frame) → IsChecked s → (c : Cie) → Contains s.cies c → IsSoundCie s.target (length s.section) c
-checked-cies-sound s k c among = cies-sound s.target s.section c (subst (λ (t : Frame). Contains t.cies c) k.whole among)
+pub checked-cies-sound : (s : FrameSection) → IsChecked s → (c : Cie) → Contains s.cies c → IsSoundCie s.target (length s.section) c
+checked-cies-sound s k c among = cies-sound s.target s.section c (subst (λ (t : FrameSection). Contains t.cies c) k.whole among)
 
-pub checked-fdes-sound : (s : Frame) → IsChecked s → (f : Fde) → Contains s.fdes f → IsSoundFde s.target (length s.section) f
-checked-fdes-sound s k f among = fdes-sound s.target s.section f (subst (λ (t : Frame). Contains t.fdes f) k.whole among)
+pub checked-fdes-sound : (s : FrameSection) → IsChecked s → (f : Fde) → Contains s.fdes f → IsSoundFde s.target (length s.section) f
+checked-fdes-sound s k f among = fdes-sound s.target s.section f (subst (λ (t : FrameSection). Contains t.fdes f) k.whole among)
 
-pub checked-fits : (s : Frame) → IsChecked s → (f : Fde) → Contains s.fdes f → f.initial + f.range ≤ top_of s.target
+pub checked-fits : (s : FrameSection) → IsChecked s → (f : Fde) → Contains s.fdes f → f.initial + f.range ≤ top_of s.target
 checked-fits s k f among = (checked-fdes-sound s k f among).range
 
 -- its expressions are those of its programs
-pub in-programs : (s : Frame) → IsChecked s → (e : LocatedExpression) → Contains s.expressions e
+pub in-programs : (s : FrameSection) → IsChecked s → (e : LocatedExpression) → Contains s.expressions e
     → Contains (frame_expressions s.cies s.fdes) e
 in-programs s k e among =
     let t = frame_of s.target s.section in
-    let there : Contains (frame_expressions t.cies t.fdes) e = subst (λ (u : Frame). Contains u.expressions e) k.whole among in
-    subst (λ (u : Frame). Contains (frame_expressions u.cies u.fdes) e) (sym k.whole) there
+    let there : Contains (frame_expressions t.cies t.fdes) e = subst (λ (u : FrameSection). Contains u.expressions e) k.whole among in
+    subst (λ (u : FrameSection). Contains (frame_expressions u.cies u.fdes) e) (sym k.whole) there
 
 -- what a section without a fault keeps
 pub kept : (target : Target) (section : List ℕ) (cies : List Cie) (left : List KeptRules) (fdes : List Fde) (index : List IndexEntry)

@@ -2,6 +2,7 @@
 use Rattle.std.proofs.Common.{◌≡◌, ℕ, zero, suc, ◌<◌, List, [], ◌∷◌, Option, Some, None, Contains, Bool, true, false, refl, sym, ap, ◌∙◌}
 use Rattle.std.proofs.Common.{subst, arith, if◌then◌else◌, inl, inr}
 use Rattle.std.specs.Prelude.{◌&&◌, ◌||◌, nat_lt}
+use Rattle.std.specs.Option.{option_or}
 use Rattle.std.specs.List.{list_any}
 use Rattle.std.proofs.lemmas.Bool.{cases_lt, ltb-true, lt-ltb}
 use Rattle.std.proofs.lemmas.List.Folds.{list_any_at}
@@ -9,7 +10,6 @@ use Rattle.std.proofs.lemmas.Bool.Decides.{nat_tests}
 use Rattle.dw_bytes.specs.declared.fault.Fault.{Fault}
 use Rattle.dw_bytes.specs.declared.fault.FaultKind.TheVariants.{Overlap}
 use Rattle.dw_frame.specs.Records.{Fde}
-use Rattle.dw_rows.specs.Judgement.{or_else}
 use Rattle.dw_rows.specs.Section.{first_fault, overlap_fault, shares, SharesAddress, CoversOnce}
 use Rattle.dw_rows.specs.Overlap.{fde_offset, AreApart, IsApart, Overlaps, IsFirstOverlap}
 use Rattle.dw_frame.specs.Bounds.{Ascends}
@@ -83,17 +83,17 @@ overlaps-some fdes g (f, (k, lt, is), order, shared) =
 pub first-of : {X : Type 0} (at : X → ℕ) (t : X → Option Fault) (xs : List X) → Ascends at xs → (x : X) (f : Fault) → Contains xs x
     → t x ≡ Some f → ((y : X) → Contains xs y → at y < at x → t y ≡ None) → first_fault t xs ≡ Some f
 first-of at t [] up x f (k, lt, is) here before = absurd (omega arith)
-first-of at t (y ∷ xs) up x f (zero, lt, is) here before = ap (λ o. or_else o (first_fault t xs)) (ap t is ∙ here)
+first-of at t (y ∷ xs) up x f (zero, lt, is) here before = ap (λ o. option_or o (first_fault t xs)) (ap t is ∙ here)
 first-of at t (y ∷ xs) up x f (suc k, lt, is) here before =
     let lower : at y < at x = subst (λ v. at y < at v) is (ascending-at at (y ∷ xs) up zero (suc k) x (omega arith) lt) in
     let none : t y ≡ None = before y (zero, omega arith, refl) lower in
     let rest = first-of at t xs up.1 x f (k, omega arith, is) here (λ z c h. before z (suc c.0, omega (arith, c.1), c.2) h) in
-    ap (λ o. or_else o (first_fault t xs)) none ∙ rest
+    ap (λ o. option_or o (first_fault t xs)) none ∙ rest
 
 -- where each passes, there is no fault
 pub each-none : {X : Type 0} (t : X → Option Fault) (xs : List X) → ((x : X) → Contains xs x → t x ≡ None) → first_fault t xs ≡ None
 each-none t [] all = refl
-each-none t (x ∷ xs) all = ap (λ o. or_else o (first_fault t xs)) (all x (zero, omega arith, refl))
+each-none t (x ∷ xs) all = ap (λ o. option_or o (first_fault t xs)) (all x (zero, omega arith, refl))
     ∙ each-none t xs (λ y c. all y (suc c.0, omega (arith, c.1), c.2))
 
 -- ---- the addresses of a whole section

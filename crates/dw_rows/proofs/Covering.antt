@@ -14,7 +14,8 @@ use Rattle.dw_rows.specs.InForce.{Start, location_of, fde_start}
 use Rattle.dw_rows.specs.Judgement.{refusal_at, item_fault, fde_fault_from, fde_fault}
 use Rattle.dw_rows.specs.UnwindRows.{rows_up_to, rows_after, rows_of, has_address, Cover}
 use Rattle.dw_rows.proofs.Judging.{passed-from}
-use Rattle.dw_rows.proofs.RowCursors.{or_else-none, item-passes, forward}
+use Rattle.dw_rows.proofs.Faults.{option_or-none}
+use Rattle.dw_rows.proofs.RowCursors.{item-passes, forward}
 
 cover-up : (s : Start) (before : List Effect) (to : ℕ) (rows : List PlacedRow) (end : ℕ) → location_of s before ≤ to → Cover to rows end
     → Cover (location_of s before) (rows_up_to s before to ++ rows) end
@@ -37,7 +38,7 @@ cover-after c f before (Err fault ∷ items) le none = let no : Some fault ≡ N
 cover-after c f before (Ok item ∷ items) le none =
     let s = fde_start c f in
     let x = effect_of c item.1 in
-    let both = or_else-none (item_fault (refusal_at s) c before item) (fde_fault_from c f (x ∷ before) items) none in
+    let both = option_or-none (item_fault (refusal_at s) c before item) (fde_fault_from c f (x ∷ before) items) none in
     let fine : refusal_at s before x ≡ None = (item-passes (refusal_at s) c before item both.0).1 in
     let past = (passed-from s before x fine).past in
     let within : location_of s (x ∷ before) ≤ s.end = grind (arith, nat_tests) in

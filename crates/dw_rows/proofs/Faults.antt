@@ -2,15 +2,20 @@
 use Rattle.std.proofs.Common.{◌≡◌, ◌≢◌, ℕ, zero, suc, ◌+◌, ◌<◌, ◌≤◌, ◌==◌, List, [], ◌∷◌, length, get_or, drop, map, Option, Some, None}
 use Rattle.std.proofs.Common.{Contains, true, false, refl, sym, ap, ◌∙◌, subst, arith, drop-cons, if◌then◌else◌}
 use Rattle.std.specs.Prelude.{find}
+use Rattle.std.specs.Option.{option_or}
 use Rattle.std.proofs.lemmas.Bool.Decides.{nat_tests}
 use Rattle.std.proofs.lemmas.Bool.{eqb-true}
 use Rattle.dw_bytes.specs.declared.fault.Fault.{Fault}
 use Rattle.dw_frame.specs.Records.{Cie}
-use Rattle.dw_rows.specs.Judgement.{or_else}
 use Rattle.dw_rows.specs.Section.{first_fault, cie_at}
 use Rattle.dw_rows.specs.Overlap.{cie_offset}
 use Rattle.dw_frame.specs.Bounds.{Ascends}
 use Rattle.dw_rows.proofs.Search.{ascending-same}
+
+-- where the first of two or else the other is none, both are
+pub option_or-none : {A : Type 0} (a b : Option A) → option_or a b ≡ None → (a ≡ None) × (b ≡ None)
+option_or-none None b e = (refl, e)
+option_or-none (Some x) b e = let clash : Some x ≡ None = e in cc
 
 -- what is left of a list begins with the element at the place
 pub drop-at : {X : Type 0} (xs : List X) (i : ℕ) (x : X) → i < length xs → get_or xs i x ≡ x → drop i xs ≡ x ∷ drop (i + 1) xs
@@ -19,19 +24,19 @@ drop-at xs i x lt is =
     drop-cons xs i x lt ∙ (ap (λ y. y ∷ drop (suc i) xs) is ∙ ap (λ k. x ∷ drop k xs) next)
 
 from-here : {X Y : Type 0} (view : X → Y) (t : Y → Option Fault) (xs : List X) (i : ℕ) (x : X) → i < length xs → get_or xs i x ≡ x
-    → first_fault t (map view (drop i xs)) ≡ or_else (t (view x)) (first_fault t (map view (drop (i + 1) xs)))
+    → first_fault t (map view (drop i xs)) ≡ option_or (t (view x)) (first_fault t (map view (drop (i + 1) xs)))
 from-here view t xs i x lt is =
     ap (λ l. first_fault t (map view l)) (drop-at xs i x lt is)
 
 -- an element that passes
 pub passed : {X Y : Type 0} (view : X → Y) (t : Y → Option Fault) (xs : List X) (i : ℕ) (x : X) → i < length xs → get_or xs i x ≡ x
     → t (view x) ≡ None → first_fault t (map view (drop i xs)) ≡ first_fault t (map view (drop (i + 1) xs))
-passed view t xs i x lt is none = from-here view t xs i x lt is ∙ ap (λ o. or_else o (first_fault t (map view (drop (i + 1) xs)))) none
+passed view t xs i x lt is none = from-here view t xs i x lt is ∙ ap (λ o. option_or o (first_fault t (map view (drop (i + 1) xs)))) none
 
 -- an element that has a fault
 pub refused : {X Y : Type 0} (view : X → Y) (t : Y → Option Fault) (xs : List X) (i : ℕ) (x : X) (f : Fault) → i < length xs
     → get_or xs i x ≡ x → t (view x) ≡ Some f → first_fault t (map view (drop i xs)) ≡ Some f
-refused view t xs i x f lt is some = from-here view t xs i x lt is ∙ ap (λ o. or_else o (first_fault t (map view (drop (i + 1) xs)))) some
+refused view t xs i x f lt is some = from-here view t xs i x lt is ∙ ap (λ o. option_or o (first_fault t (map view (drop (i + 1) xs)))) some
 
 -- no element is left
 pub ended : {X Y : Type 0} (view : X → Y) (t : Y → Option Fault) (xs : List X) (i : ℕ) → length xs ≤ i
@@ -83,7 +88,7 @@ none-behind t y xs here x rest (suc k, lt, is) = rest (k, omega arith, is)
 -- where no element has a fault, none does
 pub none-each : {X : Type 0} (t : X → Option Fault) (xs : List X) → first_fault t xs ≡ None → (x : X) → Contains xs x → t x ≡ None
 none-each t [] none x (k, lt, is) = absurd (omega arith)
-none-each t (y ∷ xs) none x among = elim (t y) as (λ o. t y ≡ o → or_else o (first_fault t xs) ≡ None → t x ≡ None) [
+none-each t (y ∷ xs) none x among = elim (t y) as (λ o. t y ≡ o → option_or o (first_fault t xs) ≡ None → t x ≡ None) [
   | Some f ↦ λ here no. cc
   | None ↦ λ here rest. none-behind t y xs here x (λ c. none-each t xs rest x c) among
 ] refl none

@@ -8,7 +8,7 @@ use Rattle.dw_frame.specs.Codes.{instructions_of}
 use Rattle.dw_stack.specs.Expressions.{IsGoodExpression}
 use Rattle.dw_stack.specs.Located.{LocatedExpression}
 use Rattle.dw_rows.specs.Expressions.{expressions_in, expressions_of, cie_expressions, fde_expressions, frame_expressions}
-use Rattle.dw_rows.specs.Section.{Frame, IsChecked, frame_of}
+use Rattle.dw_rows.specs.Section.{FrameSection, IsChecked, frame_of}
 use Rattle.dw_rows.proofs.ExpressionOrder.{expression-inside}
 use Rattle.dw_rows.proofs.Parts.{pointed-in, good-behind}
 use Rattle.dw_rows.proofs.Programs.{good-from-cie, good-from-fde, good-read, good-read-fde}
@@ -37,14 +37,14 @@ from-fdes (f ∷ fdes) e among = elim (Contains-append_cases (expressions_of f.p
   | inr later ↦ let rest = from-fdes fdes e later in (rest.0, (suc rest.1.0, omega (arith, rest.1.1), rest.1.2), rest.2)
 ]
 
-of-cies : (s : Frame) → IsChecked s → (e : LocatedExpression) → Contains (cie_expressions s.cies) e → IsGood e
+of-cies : (s : FrameSection) → IsChecked s → (e : LocatedExpression) → Contains (cie_expressions s.cies) e → IsGood e
 of-cies s k e among =
     let it = from-cies s.cies e among in
     let good = good-from-cie it.0 (checked-cies-good s k it.0 it.1) in
     let items : values_in (instructions_of (it.0).program) ≡ good.items = ap values_in (good-read it.0 good) ∙ values-ok good.items in
     good.expressions e (subst (λ l. Contains (expressions_in l) e) items it.2)
 
-of-fdes : (s : Frame) → IsChecked s → (e : LocatedExpression) → Contains (fde_expressions s.fdes) e → IsGood e
+of-fdes : (s : FrameSection) → IsChecked s → (e : LocatedExpression) → Contains (fde_expressions s.fdes) e → IsGood e
 of-fdes s k e among =
     let it = from-fdes s.fdes e among in
     let parts = checked-parts s k in
@@ -55,11 +55,11 @@ of-fdes s k e among =
     ap values_in (good-read-fde pointed.0 it.0 good) ∙ values-ok good.items in
     good.expressions e (subst (λ l. Contains (expressions_in l) e) items it.2)
 
-pub checked-expressions : (s : Frame) → IsChecked s → (e : LocatedExpression) → Contains s.expressions e
+pub checked-expressions : (s : FrameSection) → IsChecked s → (e : LocatedExpression) → Contains s.expressions e
     → IsGood e × (e.target ≡ s.target) × (e.offset + length e.bytes ≤ length s.section)
 checked-expressions s k e among =
     let t = frame_of s.target s.section in
-    let there : Contains (frame_expressions t.cies t.fdes) e = subst (λ (u : Frame). Contains u.expressions e) k.whole among in
+    let there : Contains (frame_expressions t.cies t.fdes) e = subst (λ (u : FrameSection). Contains u.expressions e) k.whole among in
     let here : Contains (frame_expressions s.cies s.fdes) e = in-programs s k e among in
     let inside = expression-inside s.target s.section (checked-read s k) e there in
     let good : IsGood e = elim (Contains-append_cases (cie_expressions s.cies) (fde_expressions s.fdes) e here) [

@@ -16,7 +16,7 @@ use Rattle.dw_rows.specs.GivenRows.{LendsEntry, LendsEach}
 use Rattle.dw_rows.specs.GoodRows.{IsGoodAmong, IsGoodRule, IsGoodCfa, IsGoodEntry, HasGoodExpressions}
 use Rattle.dw_rows.specs.UnwindRows.{rows_of, has_address}
 use Rattle.dw_rows.specs.Clauses.{IsRow, AreRowsFrom, start_in, program_in}
-use Rattle.dw_rows.specs.Section.{Frame, IsChecked, covers, rows_in, rows_behind, row_of}
+use Rattle.dw_rows.specs.Section.{FrameSection, IsChecked, covers, rows_in, rows_behind, row_of}
 use Rattle.dw_rows.proofs.Elements.{contained-map}
 use Rattle.dw_rows.proofs.Parts.{pointed-in, good-behind}
 use Rattle.dw_rows.proofs.Faults.{at-found}
@@ -37,14 +37,15 @@ found-among p (y ∷ xs) x e = go (λ later. found-among p xs x later) (p y) e
 
 -- ---- what is lent to rules is good
 
-lent-good : (s : Frame) → IsChecked s → (kind : Kind) (at : ℕ) → IsLent s.expressions kind at
+lent-good : (s : FrameSection) → IsChecked s → (kind : Kind) (at : ℕ) → IsLent s.expressions kind at
     → IsGoodAmong s.expressions kind (located_at s.expressions at)
 lent-good s k kind at h =
     let among : Contains s.expressions h.lent = found-among (λ e. e.offset == at) s.expressions h.lent h.found in
     subst (IsGoodAmong s.expressions kind) (sym (ap or_nowhere h.found))
     (record { among = among; of_kind = h.of_kind; good = (checked-expressions s k h.lent among).0 })
 
-rule-good : (s : Frame) → IsChecked s → (x : PlacedRule) → LendsRule s.expressions x → IsGoodRule s.expressions (given_rule s.expressions x)
+rule-good : (s : FrameSection) → IsChecked s → (x : PlacedRule) → LendsRule s.expressions x
+    → IsGoodRule s.expressions (given_rule s.expressions x)
 rule-good s k (expression at) h = lent-good s k FrameRegister at h
 rule-good s k (val_expression at) h = lent-good s k FrameRegister at h
 rule-good s k default h = tt
@@ -54,18 +55,18 @@ rule-good s k (offset n) h = tt
 rule-good s k (val_offset n) h = tt
 rule-good s k (register r) h = tt
 
-cfa-good : (s : Frame) → IsChecked s → (x : Option PlacedCfa) → IfSome x (LendsCfa s.expressions)
+cfa-good : (s : FrameSection) → IsChecked s → (x : Option PlacedCfa) → IfSome x (LendsCfa s.expressions)
     → IfSome (option_map (given_cfa s.expressions) x) (IsGoodCfa s.expressions)
 cfa-good s k None h = tt
 cfa-good s k (Some (cfa_expression at)) h = lent-good s k FrameCfa at h
 cfa-good s k (Some (register_and_offset r n)) h = tt
 
-rules-by : (s : Frame) → IsChecked s → (rules : List (ℕ × PlacedRule)) → AllByRecursion (LendsEntry s.expressions) rules
+rules-by : (s : FrameSection) → IsChecked s → (rules : List (ℕ × PlacedRule)) → AllByRecursion (LendsEntry s.expressions) rules
     → AllByRecursion (IsGoodEntry s.expressions) (given_rules s.expressions rules)
 rules-by s k [] h = tt
 rules-by s k (x ∷ rules) h = (rule-good s k x.1 h.0, rules-by s k rules h.1)
 
-rules-good : (s : Frame) → IsChecked s → (rules : List (ℕ × PlacedRule)) → LendsEach s.expressions rules
+rules-good : (s : FrameSection) → IsChecked s → (rules : List (ℕ × PlacedRule)) → LendsEach s.expressions rules
     → All (IsGoodEntry s.expressions) (given_rules s.expressions rules)
 rules-good s k rules h =
     All-from_recursion (IsGoodEntry s.expressions) (given_rules s.expressions rules)
@@ -80,7 +81,7 @@ one-of s program from to (x ∷ rows) row are (zero, lt, is) = subst (IsRow s pr
 one-of s program from to (x ∷ rows) row are (suc i, lt, is) = one-of s program x.end to rows row are.2 (i, omega arith, is)
 
 -- each row of an FDE
-pub row-good : (s : Frame) → IsChecked s → (f : Fde) → Contains s.fdes f → (row : Row) → Contains (rows_in s f) row
+pub row-good : (s : FrameSection) → IsChecked s → (f : Fde) → Contains s.fdes f → (row : Row) → Contains (rows_in s f) row
     → HasGoodExpressions s.expressions row
 row-good s checked f among row inside =
     let parts = checked-parts s checked in
@@ -99,7 +100,7 @@ row-good s checked f among row inside =
     (record { cfa = cfa-good s checked (placed.0).cfa lent.0; rules = rules-good s checked (placed.0).rules lent.1 })
 
 -- the row of an address
-pub found-good : (s : Frame) (a : ℕ) → IsChecked s → (row : Row) → row_of s a ≡ Some row → HasGoodExpressions s.expressions row
+pub found-good : (s : FrameSection) (a : ℕ) → IsChecked s → (row : Row) → row_of s a ≡ Some row → HasGoodExpressions s.expressions row
 found-good s a checked row is = go (find (covers a) s.fdes) refl is
   where
     go : (o : Option Fde) → find (covers a) s.fdes ≡ o → option_and_then (λ f. find (has_address a) (rows_in s f)) o ≡ Some row

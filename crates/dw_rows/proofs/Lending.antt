@@ -16,12 +16,12 @@ use Rattle.dw_rows.specs.Rules.{PlacedRule, PlacedCfa, PlacedRow, rule_in, rule_
 use Rattle.dw_rows.specs.Effects.{Effect, sets, defines_cfa, effect_of, effects_by, effects_of}
 use Rattle.dw_rows.specs.Expressions.{expression_in, cie_expressions, fde_expressions, expression_at, frame_expressions}
 use Rattle.dw_rows.specs.ExpressionOrder.{expression_offset}
-use Rattle.dw_rows.specs.InForce.{Start, rule_at, cie_start, left_by, fde_start}
+use Rattle.dw_rows.specs.InForce.{Start, rule_at, cie_start, effects_of_cie, fde_start}
 use Rattle.dw_rows.specs.RuleSet.{LendsRules}
 use Rattle.dw_rows.specs.GivenRows.{LendsRule, LendsCfa, LendsEach}
 use Rattle.dw_rows.specs.Good.{beginning, rule_after, IsGoodFdeProgram}
 use Rattle.dw_rows.specs.Clauses.{IsRowAt, start_in, program_in}
-use Rattle.dw_rows.specs.Section.{Frame, IsChecked, frame_of}
+use Rattle.dw_rows.specs.Section.{FrameSection, IsChecked, frame_of}
 use Rattle.dw_rows.specs.RowCursors.{RowCursor, StandsBehind, LendsTo, Lends}
 use Rattle.dw_rows.proofs.NamedExpressions.{rules-have, cfa-has, listed-have}
 use Rattle.dw_rows.proofs.ExpressionsAmong.{of-instruction, of-effect, of-frame-cie, of-frame-fde}
@@ -32,12 +32,12 @@ use Rattle.dw_rows.proofs.CheckedSections.{checked-read, in-programs}
 
 -- ---- what a cursor keeps
 
-start-rules : (es : List LocatedExpression) (c : Cie) (f : Fde) → LendsTo es (left_by c) → (r : ℕ)
+start-rules : (es : List LocatedExpression) (c : Cie) (f : Fde) → LendsTo es (effects_of_cie c) → (r : ℕ)
     → LendsRule es ((fde_start c f).rules r)
-start-rules es c f to r = rules-have (LendsRule es) cie_start (λ q. tt) (left_by c) to.rules 0 r
+start-rules es c f to r = rules-have (LendsRule es) cie_start (λ q. tt) (effects_of_cie c) to.rules 0 r
 
-start-cfa : (es : List LocatedExpression) (c : Cie) (f : Fde) → LendsTo es (left_by c) → IfSome (fde_start c f).cfa (LendsCfa es)
-start-cfa es c f to = cfa-has (LendsCfa es) (λ r n. tt) cie_start tt (left_by c) to.cfas 0
+start-cfa : (es : List LocatedExpression) (c : Cie) (f : Fde) → LendsTo es (effects_of_cie c) → IfSome (fde_start c f).cfa (LendsCfa es)
+start-cfa es c f to = cfa-has (LendsCfa es) (λ r n. tt) cie_start tt (effects_of_cie c) to.cfas 0
 
 -- the rules that a cursor keeps name expressions that are lent
 pub lends-kept : (es : List LocatedExpression) (c : Cie) (f : Fde) (before : List Effect) (w : RowCursor) → Lends es c f
@@ -143,17 +143,17 @@ read-lent es cie items found x among =
 
 -- ---- a checked section lends its expressions
 
-found-in : (s : Frame) → IsChecked s → (e : LocatedExpression) → Contains (frame_expressions s.cies s.fdes) e
+found-in : (s : FrameSection) → IsChecked s → (e : LocatedExpression) → Contains (frame_expressions s.cies s.fdes) e
     → expression_at s.expressions e.offset ≡ Some e
 found-in s k e among =
     let t = frame_of s.target s.section in
     let there : Contains (frame_expressions t.cies t.fdes) e =
-    subst (λ (u : Frame). Contains (frame_expressions u.cies u.fdes) e) k.whole among in
+    subst (λ (u : FrameSection). Contains (frame_expressions u.cies u.fdes) e) k.whole among in
     let found : expression_at t.expressions e.offset ≡ Some e = expression-found s.target s.section (checked-read s k) e there in
-    subst (λ (u : Frame). expression_at u.expressions e.offset ≡ Some e) (sym k.whole) found
+    subst (λ (u : FrameSection). expression_at u.expressions e.offset ≡ Some e) (sym k.whole) found
 
 -- no two begin at one offset
-pub one-at-offset : (s : Frame) → IsChecked s → (d e : LocatedExpression) → Contains s.expressions d → Contains s.expressions e
+pub one-at-offset : (s : FrameSection) → IsChecked s → (d e : LocatedExpression) → Contains s.expressions d → Contains s.expressions e
     → d.offset ≡ e.offset → d ≡ e
 one-at-offset s k d e d_in e_in same =
     let first : expression_at s.expressions d.offset ≡ Some d = found-in s k d (in-programs s k d d_in) in
@@ -161,9 +161,9 @@ one-at-offset s k d e d_in e_in same =
     let both : Some d ≡ Some e = sym first ∙ ap (expression_at s.expressions) same ∙ second in
     cc
 
-pub lends-in : (s : Frame) → IsChecked s → (c : Cie) (f : Fde) → Contains s.cies c → Contains s.fdes f → Lends s.expressions c f
+pub lends-in : (s : FrameSection) → IsChecked s → (c : Cie) (f : Fde) → Contains s.cies c → Contains s.fdes f → Lends s.expressions c f
 lends-in s k c f c_in f_in =
-    let of_cie : (x : Effect) → Contains (left_by c) x → LendsEffect s.expressions x = λ x among. read-lent s.expressions c
+    let of_cie : (x : Effect) → Contains (effects_of_cie c) x → LendsEffect s.expressions x = λ x among. read-lent s.expressions c
     (values_in (instructions_of c.program)) (λ item e at has. found-in s k e (of-frame-cie s.cies s.fdes c e c_in
     (of-instruction (values_in (instructions_of c.program)) item e at has))) x
     (in-reverse (effects_of c (instructions_of c.program)) x among) in
@@ -177,18 +177,18 @@ lends-in s k c f c_in f_in =
 
 -- ---- the two parts of the expressions are in order
 
-pub cies-in-order : (s : Frame) → IsChecked s → Ascends expression_offset (take (length (cie_expressions s.cies)) s.expressions)
+pub cies-in-order : (s : FrameSection) → IsChecked s → Ascends expression_offset (take (length (cie_expressions s.cies)) s.expressions)
 cies-in-order s k =
     let t = frame_of s.target s.section in
     let up : Ascends expression_offset (cie_expressions t.cies) = cie-expressions-ascend s.target s.section (checked-read s k) in
     let there : Ascends expression_offset (take (length (cie_expressions t.cies)) t.expressions) =
     subst (Ascends expression_offset) (sym (take-append_seam (cie_expressions t.cies) (fde_expressions t.fdes))) up in
-    subst (λ (u : Frame). Ascends expression_offset (take (length (cie_expressions u.cies)) u.expressions)) (sym k.whole) there
+    subst (λ (u : FrameSection). Ascends expression_offset (take (length (cie_expressions u.cies)) u.expressions)) (sym k.whole) there
 
-pub fdes-in-order : (s : Frame) → IsChecked s → Ascends expression_offset (drop (length (cie_expressions s.cies)) s.expressions)
+pub fdes-in-order : (s : FrameSection) → IsChecked s → Ascends expression_offset (drop (length (cie_expressions s.cies)) s.expressions)
 fdes-in-order s k =
     let t = frame_of s.target s.section in
     let up : Ascends expression_offset (fde_expressions t.fdes) = fde-expressions-ascend s.target s.section (checked-read s k) in
     let there : Ascends expression_offset (drop (length (cie_expressions t.cies)) t.expressions) =
     subst (Ascends expression_offset) (sym (drop-append_seam (cie_expressions t.cies) (fde_expressions t.fdes))) up in
-    subst (λ (u : Frame). Ascends expression_offset (drop (length (cie_expressions u.cies)) u.expressions)) (sym k.whole) there
+    subst (λ (u : FrameSection). Ascends expression_offset (drop (length (cie_expressions u.cies)) u.expressions)) (sym k.whole) there

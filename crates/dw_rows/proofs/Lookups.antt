@@ -6,7 +6,7 @@ use Rattle.std.proofs.lemmas.Bool.Decides.{nat_tests}
 use Rattle.dw_frame.specs.Records.{Fde}
 use Rattle.dw_rows.specs.Rules.{Row}
 use Rattle.dw_rows.specs.UnwindRows.{has_address}
-use Rattle.dw_rows.specs.Section.{Frame, Covers, IsCoverOf, rows_in, covers, row_of}
+use Rattle.dw_rows.specs.Section.{FrameSection, Covers, IsCoverOf, rows_in, covers, row_of}
 
 -- ---- the first element that passes a test
 
@@ -53,14 +53,15 @@ covers_so : (a : ℕ) (f : Fde) → Covers f a → covers a f ≡ true
 covers_so a f here = grind (arith, nat_tests)
 
 -- the row of the only FDE that covers an address is the row of the address
-pub row-found : (s : Frame) (a : ℕ) (f : Fde) (row : Row) → IsCoverOf s.fdes a (Some f) → find (has_address a) (rows_in s f) ≡ Some row
+pub row-found : (s : FrameSection) (a : ℕ) (f : Fde) (row : Row) → IsCoverOf s.fdes a (Some f)
+    → find (has_address a) (rows_in s f) ≡ Some row
     → row_of s a ≡ Some row
 row-found s a f row only found =
     ap (option_and_then (λ g. find (has_address a) (rows_in s g)))
     (find_only (covers a) s.fdes f only.0 (covers_so a f only.1) (λ g at e. only.2 g at (covers_then a g e)))
     ∙ found
 
-pub row-none : (s : Frame) (a : ℕ) → ((f : Fde) → Contains s.fdes f → ¬ Covers f a) → row_of s a ≡ None
+pub row-none : (s : FrameSection) (a : ℕ) → ((f : Fde) → Contains s.fdes f → ¬ Covers f a) → row_of s a ≡ None
 row-none s a none =
     ap (option_and_then (λ g. find (has_address a) (rows_in s g)))
     (find_nothing (covers a) s.fdes (λ f at. covers_not a f (none f at)))

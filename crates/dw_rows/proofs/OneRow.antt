@@ -10,7 +10,7 @@ use Rattle.dw_rows.specs.InForce.{Start}
 use Rattle.dw_rows.specs.GivenRows.{given_row}
 use Rattle.dw_rows.specs.UnwindRows.{rows_of, has_address}
 use Rattle.dw_rows.specs.Clauses.{IsRowAt, IsRow, AreRowsFrom, start_in, program_in}
-use Rattle.dw_rows.specs.Section.{Frame, Covers, IsCoverOf, IsChecked, rows_in, rows_behind}
+use Rattle.dw_rows.specs.Section.{FrameSection, Covers, IsCoverOf, IsChecked, rows_in, rows_behind}
 use Rattle.dw_rows.specs.ExactRows.{HasOneRow}
 use Rattle.dw_rows.proofs.Tables.{rule_list-table, rule_list-same}
 use Rattle.dw_rows.proofs.Parts.{pointed-in, good-behind}
@@ -86,7 +86,7 @@ row-same s p k x y r t =
 
 -- ---- the law
 
-pub has-one-row : (s : Frame) (a : ℕ) → IsChecked s → (f : Fde) → Contains s.fdes f → Covers f a → HasOneRow s a
+pub has-one-row : (s : FrameSection) (a : ℕ) → IsChecked s → (f : Fde) → Contains s.fdes f → Covers f a → HasOneRow s a
 has-one-row s a checked f among covers =
     let parts = checked-parts s checked in
     let pointed = pointed-in s.cies s.fdes parts f among in

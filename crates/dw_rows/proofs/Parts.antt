@@ -1,19 +1,16 @@
 -- The parts of a section's judgement.
 use Rattle.std.proofs.Common.{◌≡◌, List, Option, Some, None, Contains, refl, sym, ap, ◌∙◌, if◌then◌else◌}
 use Rattle.std.specs.Prelude.{is_some}
+use Rattle.std.specs.Option.{option_or}
 use Rattle.dw_bytes.specs.declared.fault.Fault.{Fault}
 use Rattle.dw_frame.specs.Records.{Cie, Fde}
-use Rattle.dw_rows.specs.Judgement.{or_else, cie_fault, fde_fault}
+use Rattle.dw_rows.specs.Judgement.{cie_fault, fde_fault}
 use Rattle.dw_rows.specs.Section.{first_fault, cie_at, pointer_fault, program_fault, fault_behind, overlap_fault, programs_fault}
 use Rattle.dw_rows.specs.Section.{parts_fault, CoversOnce}
 use Rattle.dw_rows.specs.Overlap.{fde_offset}
 use Rattle.dw_frame.specs.Bounds.{Ascends}
-use Rattle.dw_rows.proofs.Faults.{none-each, at-found}
+use Rattle.dw_rows.proofs.Faults.{option_or-none, none-each, at-found}
 use Rattle.dw_rows.proofs.Clashes.{once-covered}
-
-pub or_else-none : {A : Type 0} (a b : Option A) → or_else a b ≡ None → (a ≡ None) × (b ≡ None)
-or_else-none None b e = (refl, e)
-or_else-none (Some x) b e = let clash : Some x ≡ None = e in cc
 
 -- each part has no fault
 pub record PartsPass (cies : List Cie) (fdes : List Fde) : Type 0 where
@@ -25,10 +22,10 @@ pub record PartsPass (cies : List Cie) (fdes : List Fde) : Type 0 where
 pub parts-pass : (cies : List Cie) (fdes : List Fde) → parts_fault cies fdes ≡ None → PartsPass cies fdes
 unfolding parts_fault
 parts-pass cies fdes none =
-    let last = or_else-none (programs_fault cies fdes) (first_fault (overlap_fault fdes) fdes) none in
-    let pointers = or_else-none (first_fault (pointer_fault cies) fdes)
-    (or_else (first_fault cie_fault cies) (first_fault (program_fault cies) fdes)) last.0 in
-    let programs = or_else-none (first_fault cie_fault cies) (first_fault (program_fault cies) fdes) pointers.1 in
+    let last = option_or-none (programs_fault cies fdes) (first_fault (overlap_fault fdes) fdes) none in
+    let pointers = option_or-none (first_fault (pointer_fault cies) fdes)
+    (option_or (first_fault cie_fault cies) (first_fault (program_fault cies) fdes)) last.0 in
+    let programs = option_or-none (first_fault cie_fault cies) (first_fault (program_fault cies) fdes) pointers.1 in
     record { pointers = pointers.0; cie_programs = programs.0; fde_programs = programs.1; overlap = last.1 }
 
 pub pass-parts : (cies : List Cie) (fdes : List Fde) → PartsPass cies fdes → parts_fault cies fdes ≡ None

@@ -12,9 +12,9 @@ use Rattle.dw_rows.specs.Section.{cies_among, fdes_among}
 use Rattle.dw_rows.specs.WellFormed.{IsWellFormed}
 use Rattle.dw_rows.specs.Overlap.{cie_offset, fde_offset, AreApart}
 use Rattle.dw_frame.specs.Bounds.{Ascends}
-use Rattle.dw_rows.proofs.Faults.{found-at, at-found, none-each}
+use Rattle.dw_rows.proofs.Faults.{option_or-none, found-at, at-found, none-each}
 use Rattle.dw_rows.proofs.Clashes.{each-none, none-overlap}
-use Rattle.dw_rows.proofs.Parts.{or_else-none, PartsPass, parts-pass, pass-parts, pointed-in, good-behind, covers-once-in}
+use Rattle.dw_rows.proofs.Parts.{PartsPass, parts-pass, pass-parts, pointed-in, good-behind, covers-once-in}
 use Rattle.dw_rows.proofs.Programs.{good-from-cie, cie-from-good, good-from-fde, fde-from-good}
 use Rattle.dw_rows.proofs.SectionOrder.{are-records, cies-ascend, fdes-ascend}
 
@@ -26,7 +26,7 @@ record ProgramLaws : Type 0 where
 well-formed : ProgramLaws → (target : Target) (section : List ℕ) → section_fault target section ≡ None → IsWellFormed target section
 unfolding section_fault
 well-formed laws target section none =
-    let split = or_else-none (fault_in (entries_of target section))
+    let split = option_or-none (fault_in (entries_of target section))
     (parts_fault (frame_of target section).cies (frame_of target section).fdes) none in
     let records = values_in (entries_of target section) in
     let cies = cies_among records in

@@ -6,10 +6,10 @@ use Rattle.dw_rows.specs.GivenRows.{given_row, LendsCfa, LendsEach}
 use Rattle.dw_rows.specs.UnwindRows.{has_address}
 use Rattle.dw_rows.specs.Good.{IsLast, IsGoodFdeProgram}
 use Rattle.dw_rows.specs.Clauses.{IsRowAt, start_in, program_in}
-use Rattle.dw_rows.specs.Section.{Frame, IsCoverOf, rows_in, row_of}
+use Rattle.dw_rows.specs.Section.{FrameSection, IsCoverOf, rows_in, row_of}
 
 -- The address has exactly one row, and it is the standard's.
-pub record HasOneRow (s : Frame) (a : ℕ) : Type 0 where
+pub record HasOneRow (s : FrameSection) (a : ℕ) : Type 0 where
   -- one FDE covers it, whose CIE_pointer is the offset of this CIE
   pub fde : Fde
   pub covers : IsCoverOf s.fdes a (Some fde)

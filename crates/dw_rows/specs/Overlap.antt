@@ -6,7 +6,7 @@ use Rattle.dw_bytes.specs.declared.target.AddressSize.TheVariants.{Four}
 use Rattle.dw_rows.specs.declared.index.IndexEntry.{IndexEntry}
 use Rattle.std.specs.List.Sorted.{IsNonDecreasingBy}
 use Rattle.dw_frame.specs.Records.{Cie, Fde}
-use Rattle.dw_rows.specs.Section.{Frame, SharesAddress, IsChecked}
+use Rattle.dw_rows.specs.Section.{FrameSection, SharesAddress, IsChecked}
 use Rattle.dw_rows.specs.RuleSet.{KeptRules}
 use Rattle.dw_rows.specs.Expressions.{cie_expressions}
 use Rattle.dw_rows.specs.Initial.{AreLeftBy}
@@ -73,7 +73,7 @@ no_fde = record {
   offset = 0;
   format = Dwarf32;
   cie_pointer = 0;
-  pointer_offset = 0;
+  cie_pointer_offset = 0;
   initial = 0;
   range = 0;
   program = record { target = record { order = Little; address_size = Four }; position = 0; rest = [] };
@@ -105,7 +105,7 @@ pub record IsCountUpTo (entries : List IndexEntry) (a count : ℕ) : Type 0 wher
   pub above : (k : ℕ) (d : IndexEntry) → count ≤ k → k < length entries → a < (slice_index_or entries k d).start
 
 -- what a checked section keeps: its records, what its CIEs leave, and its FDEs in order of address
-pub record IsKept (s : Frame) (left : List KeptRules) (index : List IndexEntry) (count : ℕ) : Type 0 where
+pub record IsKept (s : FrameSection) (left : List KeptRules) (index : List IndexEntry) (count : ℕ) : Type 0 where
   pub checked : IsChecked s
   pub left_by : AreLeftBy s.cies left
   pub index_of : IsAddressIndex s.fdes index

@@ -1,6 +1,7 @@
 -- A whole `.debug_frame` section: what is right in it, and its first fault (DWARF 5, section 6.4.1).
 use Rattle.std.specs.Prelude.{◌≡◌, ℕ, ◌+◌, ◌<◌, ◌≤◌, ◌==◌, ◌&&◌, nat_lt, nat_le, Bool, if◌then◌else◌, Option, Some, None, is_some, List}
 use Rattle.std.specs.Prelude.{[], ◌∷◌, Contains, find, map, option_and_then}
+use Rattle.std.specs.Option.{option_or}
 use Rattle.std.specs.List.{filter_map, list_any}
 use Rattle.dw_bytes.specs.declared.target.Target.{Target}
 use Rattle.dw_bytes.specs.declared.fault.Fault.{Fault}
@@ -11,13 +12,13 @@ use Rattle.dw_frame.specs.Sections.{entries_of}
 use Rattle.dw_rows.specs.Rules.{PlacedRow, Row}
 use Rattle.dw_stack.specs.Located.{LocatedExpression}
 use Rattle.dw_rows.specs.Expressions.{frame_expressions}
-use Rattle.dw_rows.specs.Judgement.{or_else, cie_fault, fde_fault}
+use Rattle.dw_rows.specs.Judgement.{cie_fault, fde_fault}
 use Rattle.dw_rows.specs.GivenRows.{given_row}
 use Rattle.dw_rows.specs.UnwindRows.{rows_of, has_address}
 
 -- A section under a target, and what is read of it before its first fault: the CIEs and the FDEs apart, each in the order of
 -- the section, and the expressions of their programs.
-pub record Frame : Type 0 where
+pub record FrameSection : Type 0 where
   pub target : Target
   pub section : List ℕ
   pub cies : List Cie
@@ -38,7 +39,7 @@ cies_among records = filter_map cie_in_record records
 abbrev pub fdes_among : List Record → List Fde
 fdes_among records = filter_map fde_in_record records
 
-abbrev pub frame_of : Target → List ℕ → Frame
+abbrev pub frame_of : Target → List ℕ → FrameSection
 frame_of target section =
     let records = values_in (entries_of target section) in
     record {
@@ -71,7 +72,7 @@ IsCoverOf fdes a (Some f) = Contains fdes f × Covers f a × ((g : Fde) → Cont
 -- the fault of the first element that has one
 abbrev pub first_fault : {X : Type 0} → (X → Option Fault) → List X → Option Fault
 first_fault test [] = None
-first_fault test (x ∷ xs) = or_else (test x) (first_fault test xs)
+first_fault test (x ∷ xs) = option_or (test x) (first_fault test xs)
 
 -- the CIE at an offset
 abbrev pub cie_at : List Cie → ℕ → Option Cie
@@ -79,7 +80,7 @@ cie_at cies at = find (λ c. c.offset == at) cies
 
 -- an FDE's CIE_pointer is the offset of a CIE
 abbrev pub pointer_fault : List Cie → Fde → Option Fault
-pointer_fault cies f = if is_some (cie_at cies f.cie_pointer) then None else Some (record { kind = NoSuchCie; at = f.pointer_offset })
+pointer_fault cies f = if is_some (cie_at cies f.cie_pointer) then None else Some (record { kind = NoSuchCie; at = f.cie_pointer_offset })
 
 abbrev pub fault_behind : Option Cie → Fde → Option Fault
 fault_behind None f = None
@@ -100,27 +101,27 @@ overlap_fault fdes g = if list_any (λ f. nat_lt f.offset g.offset && shares f g
 
 -- all CIE_pointers, then the CIEs' programs, then the FDEs' programs
 abbrev pub programs_fault : List Cie → List Fde → Option Fault
-programs_fault cies fdes = or_else (first_fault (pointer_fault cies) fdes)
-    (or_else (first_fault cie_fault cies) (first_fault (program_fault cies) fdes))
+programs_fault cies fdes = option_or (first_fault (pointer_fault cies) fdes)
+    (option_or (first_fault cie_fault cies) (first_fault (program_fault cies) fdes))
 
 -- and then the addresses
 unfoldable pub parts_fault : List Cie → List Fde → Option Fault
-parts_fault cies fdes = or_else (programs_fault cies fdes) (first_fault (overlap_fault fdes) fdes)
+parts_fault cies fdes = option_or (programs_fault cies fdes) (first_fault (overlap_fault fdes) fdes)
 
 -- the first fault of a section: of its records, or else of what was read
 unfoldable pub section_fault : Target → List ℕ → Option Fault
-section_fault target section = or_else (fault_in (entries_of target section))
+section_fault target section = option_or (fault_in (entries_of target section))
     (parts_fault (frame_of target section).cies (frame_of target section).fdes)
 
 -- A section that is accepted: it is its bytes, and these have no fault.
-pub record IsChecked (s : Frame) : Type 0 where
+pub record IsChecked (s : FrameSection) : Type 0 where
   pub whole : s ≡ frame_of s.target s.section
   pub faultless : section_fault s.target s.section ≡ None
 
 -- ---- rows
 
 -- the CIE of an FDE
-abbrev pub cie_in : Frame → Fde → Option Cie
+abbrev pub cie_in : FrameSection → Fde → Option Cie
 cie_in s f = cie_at s.cies f.cie_pointer
 
 abbrev pub rows_behind : Option Cie → Fde → List PlacedRow
@@ -128,7 +129,7 @@ rows_behind None f = []
 rows_behind (Some c) f = rows_of c f
 
 -- the rows of an FDE, with the expressions that their rules name
-abbrev pub rows_in : Frame → Fde → List Row
+abbrev pub rows_in : FrameSection → Fde → List Row
 rows_in s f = map (given_row s.expressions) (rows_behind (cie_in s f) f)
 
 -- ---- the row of an address
@@ -137,5 +138,5 @@ abbrev pub covers : ℕ → Fde → Bool
 covers a f = nat_le f.initial a && nat_lt a (f.initial + f.range)
 
 -- that of the FDE that covers it, if one does
-abbrev pub row_of : Frame → ℕ → Option Row
+abbrev pub row_of : FrameSection → ℕ → Option Row
 row_of s a = option_and_then (λ f. find (has_address a) (rows_in s f)) (find (covers a) s.fdes)

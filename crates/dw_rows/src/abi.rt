@@ -12,7 +12,7 @@ use crate::map::{MAX_RULES, RegisterRuleMap, RuleEntry};
 use dw_bytes::{Fault, FaultKind};
 use std::marker::Model;
 
-/// At most this many registers are kept by calls. With the stack pointer they fit a table of rules.
+/// An `Abi` names at most this many registers that calls keep. With the stack pointer they fit a table of rules.
 pub const MAX_KEPT: usize = MAX_RULES - 1;
 
 /// What an ABI says of registers that no instruction has given a rule: which ones calls keep (they are callee-saved), and which one is
@@ -64,7 +64,7 @@ impl Abi {
         }
     }
 
-    /// An ABI whose calls keep these registers, and with this stack pointer, which the caller had where the CFA is. More than
+    /// An ABI whose calls keep these registers, and with this stack pointer, whose value in the caller is the CFA. More than
     /// `MAX_KEPT` numbers are refused with `AbiTooLarge` at that place; else a number that stands a second time with `AbiTwice` at
     /// its place, which for the stack pointer is behind all that are kept.
     pub fn new(kept: &[u16], stack_pointer: Option<u16>) -> Result<Abi, Fault>

@@ -6,8 +6,7 @@ ghost use Rattle.dw_frame.specs.Views.{instruction_of, expression_of};
 ghost use Rattle.dw_stack.specs.Located.{located_as, located_fault};
 ghost use Rattle.dw_rows.specs.Expressions.{expression_in, listed};
 
-use crate::section::MEMORY;
-use dw_bytes::{Fault, FaultKind};
+use dw_bytes::{Fault, FaultKind, OUT_OF_MEMORY};
 use dw_frame::{CallFrameInstruction, UnwindExpression};
 use dw_stack::{CheckedExpression, Kind, check_expression};
 use std::alloc::Global;
@@ -90,11 +89,11 @@ impl<'a> JudgedExpressions<'a> {
         match check_expression(self.alloc, found.expression, kind) {
             Ok(checked) => {
                 if self.kept.push((found.offset, checked)).is_err() {
-                    return Err(MEMORY);
+                    return Err(OUT_OF_MEMORY);
                 }
                 Ok(())
             }
-            Err(fault) if fault.kind == FaultKind::Memory => Err(MEMORY),
+            Err(fault) if fault.kind == FaultKind::Memory => Err(OUT_OF_MEMORY),
             Err(fault) => Err(Fault {
                 kind: fault.kind,
                 at: found.offset + fault.at,

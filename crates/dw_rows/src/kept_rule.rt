@@ -3,7 +3,8 @@
 /// What a register of the caller is (DWARF 5, section 6.4.1). An offset counts from the CFA.
 #[derive(Clone, Copy)]
 pub enum KeptRule {
-    /// No instruction has set it, or a restore has given back that the CIE's did not.
+    /// No rule is in force: no instruction has set one, or a restore has given back what the CIE's program left, which is none. It
+    /// means undefined, unless an ABI says more.
     Default,
     /// It can't be had.
     Undefined,

@@ -24,7 +24,7 @@ ghost use Rattle.dw_stack.specs.Expressions.{IsGoodExpression};
 ghost use Rattle.dw_stack.specs.Located.{LocatedExpression};
 ghost use Rattle.dw_rows.specs.GoodRows.{HasGoodExpressions};
 ghost use Rattle.dw_rows.specs.ExactRows.{HasOneRow};
-ghost use Rattle.dw_rows.specs.Section.{Frame, Covers, rows_in, row_of, IsChecked, section_fault};
+ghost use Rattle.dw_rows.specs.Section.{FrameSection, Covers, rows_in, row_of, IsChecked, section_fault};
 ghost use Rattle.dw_rows.specs.WellFormed.{IsWellFormed};
 ghost use Rattle.dw_rows.specs.declared.abi.TheConstants.{MAX_KEPT};
 ghost use Rattle.dw_rows.specs.declared.map.TheConstants.{MAX_RULES};
@@ -119,35 +119,35 @@ pub fn sections_without_fault_are_well_formed()
 /// In a section that is accepted each address that an FDE covers has exactly one row, the standard's: one FDE covers it,
 /// one of that FDE's rows has it, and that row is the answer of a look-up. Any other address has none.
 pub fn exact_rows()
-    ensures covered { (s : Frame) (a : ℕ) → IsChecked s → (f : Fde) → Contains s.fdes f → Covers f a
+    ensures covered { (s : FrameSection) (a : ℕ) → IsChecked s → (f : Fde) → Contains s.fdes f → Covers f a
         → HasOneRow s a }
-    ensures others { (s : Frame) (a : ℕ) → ((f : Fde) → Contains s.fdes f → ¬ Covers f a)
+    ensures others { (s : FrameSection) (a : ℕ) → ((f : Fde) → Contains s.fdes f → ¬ Covers f a)
         → row_of s a ≡ None }
 {}
 
 /// What a section that is accepted holds: good programs that lie in it and are of its target, in order of offset, and good
 /// expressions, which lie in it likewise, no two of them beginning at one offset.
 pub fn checked_sections()
-    ensures well_formed { (s : Frame) → IsChecked s → IsWellFormed s.target s.section }
-    ensures cies { (s : Frame) → IsChecked s → (c : Cie) → Contains s.cies c
+    ensures well_formed { (s : FrameSection) → IsChecked s → IsWellFormed s.target s.section }
+    ensures cies { (s : FrameSection) → IsChecked s → (c : Cie) → Contains s.cies c
         → IsSoundCie s.target (length s.section) c }
-    ensures fdes { (s : Frame) → IsChecked s → (f : Fde) → Contains s.fdes f
+    ensures fdes { (s : FrameSection) → IsChecked s → (f : Fde) → Contains s.fdes f
         → IsSoundFde s.target (length s.section) f }
-    ensures cies_ascend { (s : Frame) → IsChecked s → Ascends (λ (c : Cie). c.offset) s.cies }
-    ensures fdes_ascend { (s : Frame) → IsChecked s → Ascends (λ (f : Fde). f.offset) s.fdes }
-    ensures expressions { (s : Frame) → IsChecked s → (e : LocatedExpression)
+    ensures cies_ascend { (s : FrameSection) → IsChecked s → Ascends (λ (c : Cie). c.offset) s.cies }
+    ensures fdes_ascend { (s : FrameSection) → IsChecked s → Ascends (λ (f : Fde). f.offset) s.fdes }
+    ensures expressions { (s : FrameSection) → IsChecked s → (e : LocatedExpression)
         → Contains s.expressions e → IsGoodExpression e.kind e.target e.bytes
         × (e.target ≡ s.target) × (e.offset + length e.bytes ≤ length s.section) }
-    ensures one_at_an_offset { (s : Frame) → IsChecked s → (d e : LocatedExpression)
+    ensures one_at_an_offset { (s : FrameSection) → IsChecked s → (d e : LocatedExpression)
         → Contains s.expressions d → Contains s.expressions e → d.offset ≡ e.offset → d ≡ e }
 {}
 
 /// In a section that is accepted each expression of a row is one of the section's, has the kind of its rule, and is good: in the
 /// rows of each FDE, and so in the row of each address.
 pub fn rows_have_good_expressions()
-    ensures rows { (s : Frame) → IsChecked s → (f : Fde) → Contains s.fdes f → (row : Row)
+    ensures rows { (s : FrameSection) → IsChecked s → (f : Fde) → Contains s.fdes f → (row : Row)
         → Contains (rows_in s f) row → HasGoodExpressions s.expressions row }
-    ensures addresses { (s : Frame) (a : ℕ) → IsChecked s → (row : Row) → row_of s a ≡ Some row
+    ensures addresses { (s : FrameSection) (a : ℕ) → IsChecked s → (row : Row) → row_of s a ≡ Some row
         → HasGoodExpressions s.expressions row }
 {}
 

@@ -18,12 +18,14 @@ use crate::kept_rule::{KeptCfa, KeptRule};
 use crate::map::{MAX_RULES, RegisterRuleMap, RuleEntry, rule_of_entry};
 use dw_stack::CheckedExpression;
 use std::cmp::Ordering;
+use std::iter::FusedIterator;
 use std::marker::Model;
 
 /// What a register of the caller is (DWARF 5, section 6.4.1). An offset counts from the CFA.
 #[derive(Clone, Copy, Debug)]
 pub enum RegisterRule<'a> {
-    /// No instruction has set it, or a restore has given back that the CIE's did not.
+    /// No rule is in force: no instruction has set one, or a restore has given back what the CIE's program left, which is none. It
+    /// means undefined, unless an ABI says more.
     Default,
     /// It can't be had.
     Undefined,
@@ -350,3 +352,5 @@ impl<'f, 'a> Iterator for RegisterRules<'f, 'a> {
         Some((entry.register, rule))
     }
 }
+
+impl<'f, 'a> FusedIterator for RegisterRules<'f, 'a> {}

@@ -16,15 +16,9 @@ use crate::initial_rules::InitialRules;
 use crate::judged::JudgedExpressions;
 use crate::unwind_context::UnwindContext;
 use crate::unwind_state::UnwindState;
-use dw_bytes::{Fault, FaultKind};
+use dw_bytes::{Fault, FaultKind, OUT_OF_MEMORY};
 use dw_frame::{CommonInformationEntry, FrameDescriptionEntry};
 use std::alloc::Global;
-
-/// Want of memory, which stands nowhere in a section.
-pub const MEMORY: Fault = Fault {
-    kind: FaultKind::Memory,
-    at: 0,
-};
 
 /// The place of the CIE that begins at an offset, by halving the CIEs in order of offset.
 fn place_of_cie(cies: &[CommonInformationEntry<'_>], offset: u64) -> Option<usize>
@@ -104,7 +98,7 @@ pub fn check_cies<'a>(
     for cie in cies {
         judge_cie(state, judged, cie)?;
         if left.push(state.first()).is_err() {
-            return Err(MEMORY);
+            return Err(OUT_OF_MEMORY);
         }
     }
     Ok(left)

@@ -1,9 +1,9 @@
 -- Expressions by their bytes.
-use Rattle.std.specs.Prelude.{◌≡◌, ℕ, ◌⊎◌, List, drop, length, Option, Some, None}
+use Rattle.std.specs.Prelude.{◌≡◌, ℕ, ◌⊎◌, List, length, Option, Some, None}
 use Rattle.dw_bytes.specs.declared.target.Target.{Target}
 use Rattle.dw_bytes.specs.declared.fault.Fault.{Fault}
 use Rattle.dw_bytes.specs.declared.fault.FaultKind.TheVariants.{CertLength}
-use Rattle.dw_bytes.specs.Reading.{ReadPosition}
+use Rattle.dw_bytes.specs.Reading.{ReadPosition, section_from}
 use Rattle.dw_bytes.specs.Answers.{values_in, fault_in}
 use Rattle.dw_ops.specs.Opcodes.{AreOperations, operations_of}
 use Rattle.dw_stack.specs.declared.state.State.{State}
@@ -14,7 +14,7 @@ use Rattle.dw_stack.specs.Machine.{RunsWell}
 
 -- bytes from one of their offsets on
 abbrev pub reading_at : Target → List ℕ → ℕ → ReadPosition
-reading_at target bytes at = record { target = target; position = at; rest = drop at bytes }
+reading_at target bytes at = section_from target bytes at
 
 -- the operations that bytes encode, up to the first that can't be read, and that one's fault
 abbrev pub operations_in : Target → List ℕ → List Placed
@@ -43,7 +43,7 @@ RunsWellWithin kind target bytes depth = RunsWell kind (operations_in target byt
 -- the count of the given states, if there are some, is another than that of the operations
 abbrev pub IsOtherCount : Target → List ℕ → Option (List State) → Type 0
 IsOtherCount target bytes None = ⊥
-IsOtherCount target bytes (Some given) = length given ≡ length (operations_in target bytes) → ⊥
+IsOtherCount target bytes (Some given) = ¬ (length given ≡ length (operations_in target bytes))
 
 -- Its first fault. Reading comes before all, then the count of the states where some are given, then each operation and
 -- the end.
@@ -51,7 +51,7 @@ abbrev pub IsFaultOf : Kind → Target → List ℕ → Option (List State) → 
 IsFaultOf kind target bytes given f =
     (reading_fault target bytes ≡ Some f)
     ⊎ ((reading_fault target bytes ≡ None) × IsOtherCount target bytes given × (f ≡ record { kind = CertLength; at = 0 }))
-    ⊎ ((reading_fault target bytes ≡ None) × (IsOtherCount target bytes given → ⊥) × IsFirstFault kind (operations_in target bytes)
+    ⊎ ((reading_fault target bytes ≡ None) × ¬ IsOtherCount target bytes given × IsFirstFault kind (operations_in target bytes)
     (length bytes) given f.kind f.at)
 
 -- what a checked expression is to a caller

@@ -67,14 +67,14 @@ Objection kind ops len k pieces x s f = passes kind ops len k pieces (effect_of 
 -- the judgement of this kind refuses at this offset
 abbrev pub Refuses : Kind → List Placed → ℕ → Option (List State) → FaultKind → ℕ → Type 0
 Refuses kind ops len given fault.Unreachable at =
-    (k : ℕ) × (x : Placed) × (slice_get ops k ≡ Some x) × (x.0 ≡ at) × ((s : StackState) → Reaches kind ops len at s → ⊥)
+    (k : ℕ) × (x : Placed) × (slice_get ops k ≡ Some x) × (x.0 ≡ at) × ((s : StackState) → ¬ Reaches kind ops len at s)
 Refuses kind ops len given fault.Mismatch at =
     (s : StackState) × (t : StackState) × Reaches kind ops len at s × Reaches kind ops len at t × (s ≢ t)
 Refuses kind ops len given fault.CertState at =
     (k : ℕ) × (x : Placed) × (s : StackState) × (slice_get ops k ≡ Some x) × (x.0 ≡ at) × Reaches kind ops len at s
-    × (Given ops len given k s → ⊥)
+    × ¬ Given ops len given k s
 Refuses kind ops len given fault.EndsEmpty at =
-    (at ≡ len) × ((s : StackState) × Reaches kind ops len len s × (HasResult kind (length ops == 0) s → ⊥))
+    (at ≡ len) × ((s : StackState) × Reaches kind ops len len s × ¬ HasResult kind (length ops == 0) s)
 Refuses kind ops len given f at =
     (k : ℕ) × (x : Placed) × (s : StackState) × (slice_get ops k ≡ Some x) × (x.0 ≡ at) × Reaches kind ops len at s
     × Objection kind ops len k (pieces_before ops k) x s f
@@ -100,7 +100,7 @@ Precedes a f b g = (a < b) ⊎ ((a ≡ b) × (rank f < rank g))
 -- of all judgements, this one is the first that refuses
 pub record IsFirstFault (kind : Kind) (ops : List Placed) (len : ℕ) (given : Option (List State)) (f : FaultKind) (at : ℕ) : Type 0 where
   pub refuses : Refuses kind ops len given f at
-  pub first : (g : FaultKind) (a : ℕ) → Precedes a g at f → Refuses kind ops len given g a → ⊥
+  pub first : (g : FaultKind) (a : ℕ) → Precedes a g at f → ¬ Refuses kind ops len given g a
 
 -- the given states, if there are some, are those on paths
 pub record KnowsOnly (kind : Kind) (ops : List Placed) (len : ℕ) (given : Option (List State)) : Type 0 where

@@ -63,6 +63,6 @@ abbrev pub StepObjects : Kind → List Placed → ℕ → Option (List State) �
 StepObjects kind ops len given i pieces old fault.Unreachable = slice_index_or old i Unreached ≡ Unreached
 StepObjects kind ops len given i pieces old fault.Mismatch = slice_index_or old i Unreached ≡ Conflict
 StepObjects kind ops len given i pieces old fault.CertState = (s : StackState) × (slice_index_or old i Unreached ≡ Known s)
-    × (Given ops len given i s → ⊥)
+    × ¬ Given ops len given i s
 StepObjects kind ops len given i pieces old f = (s : StackState) × (slice_index_or old i Unreached ≡ Known s) × Given ops len given i s
     × Objects kind ops len i pieces s f

@@ -9,8 +9,6 @@ pub mod Paths
 pub mod Machine
 -- the same of an expression by its bytes
 pub mod Expressions
--- what certificates and checked expressions are
-pub mod Certificates
 -- an expression where it stands in a section
 pub mod Located
 -- ---- The first fault, as a function of the bytes. Laws tie it to what is to be believed.
@@ -19,6 +17,8 @@ pub mod Faults
 -- the first fault from the bytes
 pub mod FirstFault
 -- ---- What the code's own values stand for, and what its calls answer.
+-- what certificates and checked expressions are
+pub mod Certificates
 -- lists of states
 pub mod Views
 -- ---- Behind the contracts: no contract of a public call speaks of these.

@@ -14,7 +14,7 @@ use Rattle.dw_stack.specs.declared.state.Kind.TheVariants.{Location}
 use Rattle.dw_stack.specs.Effects.{effect_of}
 use Rattle.dw_stack.specs.States.{start_of, StandsAlone, height_after, state_after, HasResult, at_offset}
 
--- an operation with its offset
+-- an operation with its offset; numbers of operations count from 0
 abbrev pub Placed : Type 0
 Placed = ℕ × Operation
 
@@ -110,7 +110,7 @@ pub record IsGood (kind : Kind) (ops : List Placed) (len : ℕ) : Type 0 where
   pub each : (k : ℕ) (x : Placed) → slice_get ops k ≡ Some x → ∥ ((s : StackState) × Reaches kind ops len x.0 s) ∥₁
   -- no branch goes back, and every target is a later operation's offset, or the length
   pub ahead : (k : ℕ) (z : ℤ) (x : Placed) → slice_get ops k ≡ Some x → (effect_of x.1).jump ≡ Some z
-      → branch_target (place ops len (k + 1)) z ≡ None → ⊥
+      → ¬ (branch_target (place ops len (k + 1)) z ≡ None)
   pub targets : (k t : ℕ) (x : Placed) → slice_get ops k ≡ Some x → branch_target_of ops len k (effect_of x.1) ≡ Some t
       → IsTarget ops len k t
   pub pieces : pieces_before ops (length ops) ≤ MAX_PIECES

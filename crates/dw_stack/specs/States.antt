@@ -17,8 +17,8 @@ start_of FrameCfa = record { height = 0; mode = mode.Stack; pieced = false }
 start_of FrameRegister = record { height = 1; mode = mode.Stack; pieced = false }
 start_of Location = record { height = 0; mode = mode.Stack; pieced = false }
 
--- Behind a register or a value only a piece may follow. What names one wants an empty stack, and a piece wants one thing
--- alone: the register or value, an address, or nothing.
+-- Behind a register or a value only a piece may follow. What names a register or bytes wants an empty stack; stack_value takes the
+-- top, whatever lies below. A piece wants one thing alone: the register or value, an address, or nothing.
 abbrev pub stands_alone : Role → Mode → ℕ → Bool
 stands_alone role.Piece mode.AfterPiece h = true
 stands_alone role.Piece mode.Stack h = nat_le h 1

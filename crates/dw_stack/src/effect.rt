@@ -31,7 +31,7 @@ pub struct StackEffect {
     /// How many it puts there.
     pub adds: u16,
     pub role: Role,
-    /// Whether the expressions of a frame have it.
+    /// Whether the expressions of a frame may have it (DWARF 5, section 6.4.2).
     pub allowed_in_cfi: bool,
     /// Whether the next operation may follow.
     pub falls_through: bool,

@@ -65,10 +65,10 @@ pub fn limits()
 /// A good expression has no fault, nor has it one where the given states are its own.
 pub fn good_expressions_have_no_fault()
     ensures alone { (kind : Kind) (target : Target) (bytes : List ℕ) (f : Fault)
-        → IsGoodExpression kind target bytes → IsFaultOf kind target bytes None f → ⊥ }
+        → IsGoodExpression kind target bytes → ¬ IsFaultOf kind target bytes None f }
     ensures given { (kind : Kind) (target : Target) (bytes : List ℕ) (given : Option (List State))
         (f : Fault) → IsGoodExpression kind target bytes → Knows kind target bytes given
-        → IsFaultOf kind target bytes given f → ⊥ }
+        → ¬ IsFaultOf kind target bytes given f }
 {}
 
 /// Every expression is good or has a first fault. Where states are given, it is good and they are its states, or it has a first

@@ -11,7 +11,7 @@ use crate::in_state::{InState, in_state_at};
 use crate::state::{Kind, StackState, State, has_result, start_state};
 use crate::step::step;
 use crate::target::place_of;
-use dw_bytes::{Fault, FaultKind};
+use dw_bytes::{Fault, FaultKind, OUT_OF_MEMORY};
 use dw_ops::Operation;
 use smallvec::SmallVec;
 use std::alloc::Global;
@@ -24,11 +24,6 @@ pub struct Passed {
     /// The greatest height on any path.
     pub depth: u8,
 }
-
-const MEMORY: Fault = Fault {
-    kind: FaultKind::Memory,
-    at: 0,
-};
 
 fn refusal(kind: FaultKind, at: u32) -> Fault
     ensures { result ≡ record { kind = kind; at = at } }
@@ -52,7 +47,7 @@ fn first_arrivals(
             in_states.as_mut_slice()[0] = InState::Known(start);
             Ok(in_states)
         }
-        Err(_) => Err(MEMORY),
+        Err(_) => Err(OUT_OF_MEMORY),
     }
 }
 
@@ -89,7 +84,7 @@ pub fn pass(
                     .push(done.state.at(place_of(operations, end, i)))
                     .is_err()
                 {
-                    return Err(MEMORY);
+                    return Err(OUT_OF_MEMORY);
                 }
                 depth = depth.max(done.state.height).max(done.height);
                 pieces += if done.piece { 1 } else { 0 };

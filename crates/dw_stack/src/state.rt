@@ -36,6 +36,7 @@ pub struct State {
     pub offset: u32,
     /// How many entries the stack has, the CFA of a register's rule included.
     pub height: u8,
+    /// What a piece or the end would find there.
     pub mode: Mode,
     /// Whether a piece came before.
     pub pieced: bool,

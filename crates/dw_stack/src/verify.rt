@@ -70,7 +70,8 @@ fn check<'a>(
 /// in order of offset, each by: no path leads to it (38), paths come with two states (37), the kind doesn't have it (31),
 /// it stands beside a location that has to stand alone (39), the stack is too low (35) or gets too high (36), it is the
 /// 33rd piece (41), it branches back (33) or to where no operation begins (34). Last the end: two states (37), no result
-/// (40). `Memory` stands at 0. For n operations with b branches it takes time n + b log n, and for up to 16 no memory.
+/// (40). Each stands at its operation, those of the end at the expression's length; offsets count from the expression's first
+/// byte. `Memory` stands at 0. For n operations with b branches it takes time n + b log n, and for up to 16 no memory.
 ///
 /// Laws say the rest: no fault is the first exactly where the expression is good (`the_fault_is_the_first`), and every run
 /// of a good one is well (`good_expressions_run_well`).
@@ -91,8 +92,8 @@ pub fn certify<'a>(
     check(alloc, expression, kind, None)
 }
 
-/// Checks an expression: as `certify` and then `Certificate::into_checked`, but no state is kept. Where nothing branches, it
-/// is one pass over the bytes and takes no memory.
+/// Checks an expression: as `certify` and then `Certificate::into_checked`, but no state is kept. Where nothing branches and
+/// nothing is wrong, it is one pass over the bytes and takes no memory; else it takes what `certify` takes.
 pub fn check_expression<'a>(
     alloc: Global,
     expression: Expression<'a>,

@@ -5,7 +5,7 @@
 ghost use Rattle.std.specs.Prelude.{◌≡◌, ◌≤◌, length};
 
 use crate::inputs::{EXPRESSIONS, FUNCTION, LITTLE, PAIR_AND_DEFAULT, ROUND, Unknown};
-use dw_bytes::{Fault, FaultKind};
+use dw_bytes::OUT_OF_MEMORY;
 use dw_check::{
     Checked, End, LoadFault, Reading, Reads, ReportFault, Request, Source, Stop, Through, Usage,
     backtrace, check, load, report, request, run, unwind,
@@ -19,11 +19,6 @@ use std::alloc::{AllocError, Global};
 use std::io;
 use std::io::Write;
 use std::process::Abort;
-
-const MEMORY: Fault = Fault {
-    kind: FaultKind::Memory,
-    at: 0,
-};
 
 /// An expression that pushes forty times.
 const PUSHES: [u8; 40] = [0x30; 40];
@@ -147,7 +142,7 @@ fn reads_operations(rt: &impl Abort, alloc: Global) -> bool {
             true
         }
         Err(fault) => {
-            assert_eq!(rt; fault, MEMORY);
+            assert_eq!(rt; fault, OUT_OF_MEMORY);
             false
         }
     }
@@ -174,7 +169,7 @@ fn certifies(rt: &impl Abort, alloc: Global) -> bool {
             true
         }
         Err(fault) => {
-            assert_eq!(rt; fault, MEMORY);
+            assert_eq!(rt; fault, OUT_OF_MEMORY);
             false
         }
     }
@@ -196,7 +191,7 @@ fn rechecks(rt: &impl Abort, alloc: Global) -> bool {
             true
         }
         Err(fault) => {
-            assert_eq!(rt; fault, MEMORY);
+            assert_eq!(rt; fault, OUT_OF_MEMORY);
             false
         }
     }
@@ -226,7 +221,7 @@ fn checks(
             true
         }
         Err(found) => {
-            assert_eq!(rt; found.fault, MEMORY);
+            assert_eq!(rt; found.fault, OUT_OF_MEMORY);
             false
         }
     }
@@ -342,7 +337,7 @@ fn walks(rt: &impl Abort, alloc: Global) -> bool {
             true
         }
         Err(fault) => {
-            assert_eq!(rt; fault, MEMORY);
+            assert_eq!(rt; fault, OUT_OF_MEMORY);
             false
         }
     }

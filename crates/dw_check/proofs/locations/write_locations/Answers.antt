@@ -2,7 +2,7 @@ use Rattle.std.proofs.Common.{◌++◌, ◌∷◌, List, refl, sym, subst}
 use Rattle.std.specs.List.{All}
 use Rattle.std.proofs.lemmas.List.Elements.{All-head, All-rest}
 use Rattle.dw_stack.specs.Located.{LocatedExpression, located_of}
-use Rattle.dw_check.specs.Text.{expression_line}
+use Rattle.dw_check.specs.Text.{expression_offset_line}
 use Rattle.dw_check.specs.Lookups.{IsShowable, ShowsLocations}
 use Rattle.dw_check.proofs.Showing.{shown_none, shown_front}
 use Rattle.dw_check.proofs.Writing.{writes_front, writes_then}
@@ -37,7 +37,7 @@ pub returns-in_ok-write_location-in-Some-clause-written : goal.returns-in_ok-wri
 returns-in_ok-write_location-in-Some-clause-written g c = λ gs given.
     let own = c.in_ok-write_location-in-Some.ensures.written gs given in
     let others = c.write_rest.ensures.written gs given in
-    let line = expression_line c.in-Some.offset ++ own.0 in (
+    let line = expression_offset_line c.in-Some.offset ++ own.0 in (
       line ++ others.0,
       subst (λ (xs : List LocatedExpression). ShowsLocations gs xs (line ++ others.0)) (sym c.in-Some.ensures.steps)
           (own.0, others.0, refl, own.1, others.1),

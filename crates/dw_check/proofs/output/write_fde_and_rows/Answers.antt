@@ -4,14 +4,14 @@ use Rattle.dw_frame.specs.Records.{Cie, Fde}
 use Rattle.dw_rows.specs.Rules.{Row}
 use Rattle.dw_rows.specs.GivenRows.{given_row}
 use Rattle.dw_rows.specs.UnwindRows.{rows_of}
-use Rattle.dw_rows.specs.Section.{Frame, cie_in, rows_in, rows_behind}
+use Rattle.dw_rows.specs.Section.{FrameSection, cie_in, rows_in, rows_behind}
 use Rattle.dw_check.specs.Text.{Fits}
 use Rattle.dw_check.proofs.Within.{below_top, good_rows_fit}
 use Rattle.dw_check.proofs.Writing.{fde_then, fde_front}
 use Rattle.dw_check.proofs.output.write_fde_and_rows.Goals as goal
 
 -- the rows are those behind the CIE
-behind : (s : Frame) (f : Fde) (c : Cie) (rows : List Row) → cie_in s f ≡ Some c → rows ≡ rows_in s f
+behind : (s : FrameSection) (f : Fde) (c : Cie) (rows : List Row) → cie_in s f ≡ Some c → rows ≡ rows_in s f
     → rows ≡ map (given_row s.expressions) (rows_of c f)
 behind s f c rows is all = all ∙ ap (λ o. map (given_row s.expressions) (rows_behind o f)) is
 

@@ -9,7 +9,7 @@ use Rattle.dw_loclists.proofs.Standing.{good-expressions}
 use Rattle.dw_check.specs.Report.{AreLines, summary_text}
 use Rattle.dw_check.specs.ReportViews.{line_of}
 use Rattle.dw_check.specs.declared.stop.Section.TheVariants as sections
-use Rattle.dw_rows.specs.Section.{Frame}
+use Rattle.dw_rows.specs.Section.{FrameSection}
 use Rattle.dw_check.proofs.Growth.{appends_nothing, front_wider}
 use Rattle.dw_check.proofs.Writing.{writes_front, writes_then, writes_whole}
 use Rattle.dw_check.proofs.EachReport.{list_lines_some}
@@ -28,7 +28,7 @@ returns-in_err-push_summary-clause-written g c =
     let lines = flat_map (line_of sections.Frame) xs ++ found.0 in
     let text = summary_text checked.frame checked.lists ++ lines in
     let is = reported checked.frame checked.lists xs found.0
-    (c.expressions-of_frame.ensures ∙ ap (λ (f : Frame). f.expressions) c.frame.ensures) found.1 in
+    (c.expressions-of_frame.ensures ∙ ap (λ (f : FrameSection). f.expressions) c.frame.ensures) found.1 in
     (text, is, writes_front _ _ _ _ c.from_residual.ensures.0 ([], text, refl, appends_nothing _))
 
 pub returns-in_err-send-clause-written : goal.returns-in_err-send-clause-written
@@ -40,7 +40,7 @@ returns-in_err-send-clause-written g c =
     let text = summary_text checked.frame checked.lists ++ lines in
     let line : string_bytes c.push_summary.new.line ≡ summary_text checked.frame checked.lists = search rules in
     let is = reported checked.frame checked.lists xs found.0
-    (c.expressions-of_frame.ensures ∙ ap (λ (f : Frame). f.expressions) c.frame.ensures) found.1 in (
+    (c.expressions-of_frame.ensures ∙ ap (λ (f : FrameSection). f.expressions) c.frame.ensures) found.1 in (
       text,
       is,
       writes_front _ _ _ _ c.from_residual-in_err-send.ensures.0
@@ -57,7 +57,7 @@ returns-clause-written g c =
     let text = summary_text checked.frame checked.lists ++ lines in
     let line : string_bytes c.push_summary.new.line ≡ summary_text checked.frame checked.lists = search rules in
     let is = reported checked.frame checked.lists xs found.0
-    (c.expressions-of_frame.ensures ∙ ap (λ (f : Frame). f.expressions) c.frame.ensures) found.1 in
+    (c.expressions-of_frame.ensures ∙ ap (λ (f : FrameSection). f.expressions) c.frame.ensures) found.1 in
     let all = c.expressions-of_lists.ensures.expressions ∙ ap located_in c.lists.ensures.lists in
     let of_lists = subst (λ (located : List LocatedExpression). AreLines sections.Lists located found.0) (sym all) found.1 in
     (text, is, writes_then _ _ _ _ _ _ (rw line at c.in_ok-send.ensures.written) (c.write_both.ensures.written found.0 of_lists))

@@ -10,5 +10,5 @@ returns-in-Err-clause-stop c =
     let bytes = c.args.bytes.now in
     let short : length bytes < 2 ^ 32 = omega arith in
     let answer = rw (c.new.ensures.target, c.new.ensures.bytes) at c.in-Err.ensures.answer in
-    let own = subst (λ first. (c.in-Err.fault ≡ memory) ⊎ (first ≡ Some c.in-Err.fault)) (sym (short_fault bytes _ _ short)) answer in
+    let own = subst (λ first. (c.in-Err.fault ≡ memory) ⊎ (first ≡ Some c.in-Err.fault)) (sym (short_fault bytes _ short)) answer in
     c.of_fault.ensures (expression_refusal c.args.kind c.args.target bytes) own

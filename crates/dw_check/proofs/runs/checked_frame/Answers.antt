@@ -10,5 +10,5 @@ returns-in-Err-clause-stop c =
     let section = c.args.section.now in
     let short : length section < 2 ^ 32 = omega arith in
     let own = subst (λ first. (c.in-Err.fault ≡ memory) ⊎ (first ≡ Some c.in-Err.fault))
-    (sym (short_fault section _ _ short)) c.in-Err.ensures.answer in
+    (sym (short_fault section _ short)) c.in-Err.ensures.answer in
     c.of_fault.ensures (frame_refusal c.args.target section) own

@@ -2,7 +2,7 @@ use Rattle.std.proofs.Common.{◌∙◌, ℕ, List, ap, length, map, refl, subst
 use Rattle.std.specs.Prelude.{Err, Some, slice_get}
 use Rattle.dw_loclists.specs.Reading.{ListSection}
 use Rattle.dw_check.specs.Files.{section_bytes, state_facts}
-use Rattle.dw_check.specs.Lookups.{ShowsList, list_at}
+use Rattle.dw_check.specs.Lookups.{ShowsList, list_that_begins_at}
 use Rattle.dw_check.specs.Runs.{text, OfState, Goes, IsLocsReply, IsFound, lists_refusal}
 use Rattle.dw_check.specs.declared.stop.Section.TheVariants.{Lists}
 use Rattle.dw_check.proofs.Found.{one_found}
@@ -43,7 +43,7 @@ returns-clause-goes g c =
     let written = c.write_found.ensures.written gs c.in_ok-state.ensures.state.2 in
     let found : IsFound lookup asked.target section gs (text written.0) = (
       c.in_ok-lists.ensures.whole,
-      subst (λ (s : ListSection). ShowsList gs (list_at s lookup.list) lookup.base lookup.address written.0)
+      subst (λ (s : ListSection). ShowsList gs (list_that_begins_at s lookup.list) lookup.base lookup.address written.0)
           c.in_ok-lists.ensures.lists written.1,
     ) in
     rw c.ended.ensures

@@ -49,7 +49,7 @@ write_outcome-requires-clause-good g c =
     let bytes = c.as_slice.result.now in
     let target = c.args.files.now.target in
     let same = c.in_ok-checked.ensures.checked in
-    let none : expression_fault c.args.kind target bytes ≡ None = sym (short_fault bytes _ _ c.in_ok-checked.ensures.short)
+    let none : expression_fault c.args.kind target bytes ≡ None = sym (short_fault bytes _ c.in_ok-checked.ensures.short)
     ∙ c.in_ok-checked.ensures.whole in
     good_checked c.args.kind target bytes (checked_of c.in_ok-checked.checked) same (good_if_none c.args.kind target bytes none)
 

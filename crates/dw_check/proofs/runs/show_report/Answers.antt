@@ -1,7 +1,7 @@
 use Rattle.std.proofs.Common.{◌∙◌, ℕ, List, ap, length, map, subst, sym}
 use Rattle.std.specs.Prelude.{Err, Some, slice_get}
 use Rattle.std.specs.Cow.{cow_slice_items}
-use Rattle.dw_rows.specs.Section.{Frame, frame_of}
+use Rattle.dw_rows.specs.Section.{FrameSection, frame_of}
 use Rattle.dw_loclists.specs.Reading.{ListSection}
 use Rattle.dw_check.specs.Checked.{check_fault}
 use Rattle.dw_check.specs.Files.{section_bytes}
@@ -59,7 +59,8 @@ returns-clause-goes g c =
     let first_bytes = c.in_ok-frame.ensures.bytes ∙ ap Some (sym c.as_slice.ensures.value) in
     let second_bytes = c.in_ok-lists.ensures.bytes ∙ ap Some (sym c.as_slice-2.ensures.value) in
     let written = c.write_report.ensures.written in
-    let by_frame = subst (λ (f : Frame). IsReport f c.in_ok-checked.checked.lists written.0) c.in_ok-checked.ensures.frame written.1 in
+    let by_frame = subst (λ (f : FrameSection). IsReport f c.in_ok-checked.checked.lists written.0) c.in_ok-checked.ensures.frame
+    written.1 in
     let report = subst (λ (l : ListSection). IsReport (frame_of target frame) l written.0) c.in_ok-checked.ensures.lists by_frame in
     let found : OfChecked target frame lists IsReport (text written.0) = (c.in_ok-checked.ensures.whole, report) in
     rw c.ended.ensures

@@ -1,6 +1,6 @@
 use Rattle.std.proofs.Common.{◌∙◌, ap, length, map, subst, sym}
 use Rattle.std.specs.Prelude.{Some}
-use Rattle.dw_rows.specs.Section.{Frame}
+use Rattle.dw_rows.specs.Section.{FrameSection}
 use Rattle.dw_check.specs.Runs.{Goes, IsRowsReply}
 use Rattle.dw_check.specs.Text.{frame_text}
 use Rattle.dw_check.specs.WriteResults.{Writes}
@@ -27,7 +27,7 @@ returns-clause-goes g c =
     let old = g.S.Sink.taken c.args.out.now.sink.now in
     let new = g.S.Sink.taken c.write_frame.new.out.sink.now in
     let bytes = c.in_ok-section.ensures.bytes ∙ ap Some (sym c.as_slice.ensures.value) in
-    let written = subst (λ (frame : Frame). Writes old new c.write_frame.result (frame_text frame)) c.in_ok-frame.ensures.frame
+    let written = subst (λ (frame : FrameSection). Writes old new c.write_frame.result (frame_text frame)) c.in_ok-frame.ensures.frame
     c.write_frame.ensures.written in
     rw c.ended.ensures
     (goes_frame frame_text asked.target c.as_slice.result.now count asked.hex files old new c.write_frame.result bytes

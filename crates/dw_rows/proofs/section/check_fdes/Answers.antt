@@ -9,7 +9,7 @@ use Rattle.dw_rows.proofs.section.check_fdes.Goals as goal
 
 none-refused : (cies : List Cie) (f : Fde) → cie_at cies f.cie_pointer ≡ None → pointer_fault cies f ≡ None → ⊥
 none-refused cies f nowhere pointed =
-    let refused : Some (record { kind = NoSuchCie; at = f.pointer_offset }) ≡ None = rw nowhere at pointed in
+    let refused : Some (record { kind = NoSuchCie; at = f.cie_pointer_offset }) ≡ None = rw nowhere at pointed in
     cc
 
 pub unreachable-requires : goal.unreachable-requires

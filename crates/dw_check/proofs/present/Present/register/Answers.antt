@@ -3,17 +3,17 @@ use Rattle.dw_check.specs.declared.unwinding.Answer as declared
 use Rattle.dw_check.specs.declared.unwinding.Answer.TheVariants as answers
 use Rattle.dw_stack.specs.declared.state.Kind.TheVariants.{FrameRegister}
 use Rattle.dw_stack.specs.Located.{located_of}
-use Rattle.dw_check.specs.Caller.{Answer, behind, word, with_cfa}
+use Rattle.dw_check.specs.Caller.{Answer, if_value, word, with_cfa}
 use Rattle.dw_check.specs.CallerViews.{answer_in, machine_in}
 use Rattle.dw_check.proofs.Callers.{as_kind}
 use Rattle.dw_check.proofs.present.Present.register.Goals as goal
 
 -- what has no value stays as it is
-behind_other : (a : declared.Answer) (f : ℕ → Answer) → ((n : ℕ) → a ≡ answers.Value n → ⊥) → answer_in a ≡ behind (answer_in a) f
-behind_other (answers.Value n) f other = absurd (other n refl)
-behind_other answers.Undefined f other = refl
-behind_other answers.Unreadable f other = refl
-behind_other answers.DivisionByZero f other = refl
+if_value_other : (a : declared.Answer) (f : ℕ → Answer) → ((n : ℕ) → a ≡ answers.Value n → ⊥) → answer_in a ≡ if_value (answer_in a) f
+if_value_other (answers.Value n) f other = absurd (other n refl)
+if_value_other answers.Undefined f other = refl
+if_value_other answers.Unreadable f other = refl
+if_value_other answers.DivisionByZero f other = refl
 
 pub returns-in-Value-outcome : goal.returns-in-Value-outcome
 returns-in-Value-outcome g c =
@@ -23,7 +23,7 @@ returns-in-Value-outcome g c =
       answer_in c.outcome.result,
       as_kind (with_cfa e c.in-Value-cfa-2.cfa) FrameRegister (located_of (c.in-Expression.offset, c.in-Expression.expression))
           (answer_in c.outcome.result) kind (c.outcome.ensures c.in-Expression.offset),
-      c.word-in-Value-outcome.ensures ∙ ap (λ (a : declared.Answer). behind (answer_in a) (word e)) (sym c.in-Value-outcome.is),
+      c.word-in-Value-outcome.ensures ∙ ap (λ (a : declared.Answer). if_value (answer_in a) (word e)) (sym c.in-Value-outcome.is),
     )
 
 pub returns-in_default-outcome : goal.returns-in_default-outcome
@@ -34,7 +34,7 @@ returns-in_default-outcome g c =
       answer_in c.outcome.result,
       as_kind (with_cfa e c.in-Value-cfa-2.cfa) FrameRegister (located_of (c.in-Expression.offset, c.in-Expression.expression))
           (answer_in c.outcome.result) kind (c.outcome.ensures c.in-Expression.offset),
-      behind_other c.outcome.result (word e) c.in_default-outcome.not-Value,
+      if_value_other c.outcome.result (word e) c.in_default-outcome.not-Value,
     )
 
 pub returns-in-Value-cfa-3 : goal.returns-in-Value-cfa-3

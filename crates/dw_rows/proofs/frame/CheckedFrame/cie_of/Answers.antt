@@ -2,7 +2,7 @@ use Rattle.std.proofs.Common.{◌≡◌, Some, None, Option, List, sym, subst, �
 use Rattle.dw_frame.specs.Records.{Cie}
 use Rattle.dw_frame.specs.Views.{cie_of, fde_of}
 use Rattle.dw_frame.specs.declared.entry.CommonInformationEntry.{CommonInformationEntry}
-use Rattle.dw_rows.specs.Section.{Frame, cie_at}
+use Rattle.dw_rows.specs.Section.{FrameSection, cie_at}
 use Rattle.dw_rows.specs.Judgement.{cie_fault, fde_fault}
 use Rattle.dw_rows.proofs.Parts.{pointed-in, good-behind}
 use Rattle.dw_frame.specs.Bounds.{Ascends}
@@ -20,7 +20,7 @@ unreachable-requires c =
     let fde = fde_of c.args.fde.now in
     let cies = map cie_of c.self.inside.cies.items in
     let fdes = map fde_of c.self.inside.fdes.items in
-    let among : Contains fdes fde = subst (λ (s : Frame). Contains s.fdes fde) (sym c.self.view_is) c.requires in
+    let among : Contains fdes fde = subst (λ (s : FrameSection). Contains s.fdes fde) (sym c.self.view_is) c.requires in
     let pointed = pointed-in cies fdes (checked-parts _ c.self.invariant.checked) fde among in
     let same : cie_at (map cie_of c.deref.result.now) fde.cie_pointer ≡ cie_at cies fde.cie_pointer =
     ap (λ (l : List CommonInformationEntry). cie_at (map cie_of l) fde.cie_pointer) c.deref.ensures.value in
@@ -38,7 +38,7 @@ good c =
     let fde = fde_of c.args.fde.now in
     let cies = map cie_of c.self.inside.cies.items in
     let fdes = map fde_of c.self.inside.fdes.items in
-    let among : Contains fdes fde = subst (λ (s : Frame). Contains s.fdes fde) (sym c.self.view_is) c.requires in
+    let among : Contains fdes fde = subst (λ (s : FrameSection). Contains s.fdes fde) (sym c.self.view_is) c.requires in
     let same : cie_at (map cie_of c.deref.result.now) fde.cie_pointer ≡ cie_at cies fde.cie_pointer =
     ap (λ (l : List CommonInformationEntry). cie_at (map cie_of l) fde.cie_pointer) c.deref.ensures.value in
     good-behind cies fdes (checked-parts _ c.self.invariant.checked) fde among (cie_of c.in-Some.cie) (sym same ∙ sym c.in-Some.ensures)

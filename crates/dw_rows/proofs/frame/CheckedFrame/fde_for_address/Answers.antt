@@ -5,14 +5,14 @@ use Rattle.dw_frame.specs.Records.{Fde}
 use Rattle.dw_frame.specs.Sections.{top_of}
 use Rattle.dw_frame.specs.Views.{fde_of}
 use Rattle.dw_frame.specs.declared.entry.FrameDescriptionEntry.{FrameDescriptionEntry}
-use Rattle.dw_rows.specs.Section.{Frame, CoversOnce, IsCoverOf}
+use Rattle.dw_rows.specs.Section.{FrameSection, CoversOnce, IsCoverOf}
 use Rattle.dw_rows.specs.Overlap.{IsAddressIndex}
 use Rattle.dw_rows.specs.declared.index.IndexEntry.{IndexEntry}
 use Rattle.dw_rows.proofs.CheckedSections.{checked-once, checked-fits}
 use Rattle.dw_rows.proofs.frame.CheckedFrame.fde_for_address.Goals as goal
 
 -- the FDE that covers an address is one of those that fit
-cover-fits : (s : Frame) (a : ℕ) (o : Option FrameDescriptionEntry) → IsCoverOf s.fdes a (option_map fde_of o)
+cover-fits : (s : FrameSection) (a : ℕ) (o : Option FrameDescriptionEntry) → IsCoverOf s.fdes a (option_map fde_of o)
     → ((f : Fde) → Contains s.fdes f → f.initial + f.range ≤ top_of s.target)
     → IfSome o (λ fde. fde.initial_location + fde.address_range ≤ top_of s.target)
 cover-fits s a None covered each = tt
@@ -31,12 +31,12 @@ covering-requires-clause-once c =
 
 pub returns-clause-only : goal.returns-clause-only
 returns-clause-only c =
-    subst (λ (s : Frame). IsCoverOf s.fdes c.args.address (option_map fde_of c.covering.result)) c.self.view_is
+    subst (λ (s : FrameSection). IsCoverOf s.fdes c.args.address (option_map fde_of c.covering.result)) c.self.view_is
     (subst (λ (l : List FrameDescriptionEntry). IsCoverOf (map fde_of l) c.args.address
     (option_map fde_of c.covering.result)) c.deref.ensures.value c.covering.ensures)
 
 pub returns-clause-fit : goal.returns-clause-fit
 returns-clause-fit c =
     cover-fits c.args.self.now c.args.address c.covering.result (returns-clause-only c)
-    (subst (λ (s : Frame). (f : Fde) → Contains s.fdes f → f.initial + f.range ≤ top_of s.target) c.self.view_is
+    (subst (λ (s : FrameSection). (f : Fde) → Contains s.fdes f → f.initial + f.range ≤ top_of s.target) c.self.view_is
     (checked-fits _ c.self.invariant.checked))
