@@ -6,8 +6,8 @@ use Rattle.dw_bytes.specs.declared.fault.Fault.{Fault}
 use Rattle.dw_bytes.specs.declared.fault.FaultKind.{FaultKind}
 use Rattle.dw_bytes.specs.Reading.{ReadPosition, ◌>>=◌, take_at, fixed_at, uleb_at}
 use Rattle.dw_bytes.specs.Operands.{OperandKind, address, fixed, signed_fixed, unsigned, signed, register_number, read_size, piece_size}
-use Rattle.dw_bytes.specs.Operands.{Block, operand_at, fits, range_fault, Operands, values_at, in_range, in_ranges, operands_in_range_at, Line}
-use Rattle.dw_bytes.specs.Operands.{line, block, operands_at, coded_at}
+use Rattle.dw_bytes.specs.Operands.{Block, operand_at, fits, range_fault, Operands, values_at, in_range, in_ranges, operands_in_range_at}
+use Rattle.dw_bytes.specs.Operands.{Line, line, block, operands_at, coded_at}
 use Rattle.dw_bytes.proofs.Bounds.{Stays, AlwaysStays, bind-stays, made-stays, fixed-stays, address-stays, uleb-stays, sleb-stays}
 use Rattle.dw_bytes.proofs.Bounds.{take-stays}
 

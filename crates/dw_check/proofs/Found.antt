@@ -141,7 +141,8 @@ never f first none some = let both : None ≡ Some f = sym none ∙ some in cc
 pub one_found : (lookup : ListLookup) (target : Target) (section : List ℕ) (gs : List StateFact) (r s : Reply)
     → IsFound lookup target section gs r → IsFound lookup target section gs s → r ≡ s
 one_found lookup target section gs (text a) (text b) h k =
-    ap text (one_of_list gs (list_that_begins_at (record { target = target; section = section }) lookup.list) lookup.base lookup.address a b h.1 k.1)
+    ap text (one_of_list gs (list_that_begins_at (record { target = target; section = section }) lookup.list)
+    lookup.base lookup.address a b h.1 k.1)
 one_found lookup target section gs (text a) (refusal p f) h k = absurd (never f (lists_refusal target section) h.0 k.1)
 one_found lookup target section gs (refusal p f) (text a) h k = absurd (never f (lists_refusal target section) k.0 h.1)
 one_found lookup target section gs (refusal p f) (refusal q g) h k =

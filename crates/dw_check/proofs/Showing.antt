@@ -35,8 +35,8 @@ next_before gs left rest x own behind e h k =
 -- the next one too
 pub shown_next : (gs : List StateFact) (all left rest : List LocatedExpression) (x : LocatedExpression) (own : List ℕ)
     (a b c : Option (List ℕ))
-    → left ≡ x ∷ rest → Shown gs all left a b → Evaluates x.kind x.target x.bytes gs own → Appends b c (expression_offset_line x.offset ++ own)
-    → Shown gs all rest a c
+    → left ≡ x ∷ rest → Shown gs all left a b → Evaluates x.kind x.target x.bytes gs own
+    → Appends b c (expression_offset_line x.offset ++ own) → Shown gs all rest a c
 shown_next gs all left rest x own a b c e s h more =
     let line = expression_offset_line x.offset ++ own in
     record {

@@ -52,7 +52,7 @@ fn push_line(
 }
 
 #[tactic(auto, unfolding(crate::specs::CallerText::found_line))]
-fn push_register(
+fn push_register_answer(
     line: &mut String,
     size: AddressSize,
     register: u16,
@@ -77,7 +77,7 @@ fn push_registers(
         ++ flat_map (found_line size) (map found_in registers.now)) }
 {
     for found in registers {
-        push_register(line, size, found.0, found.1)?;
+        push_register_answer(line, size, found.0, found.1)?;
     }
     Ok(())
 }

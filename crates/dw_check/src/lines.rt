@@ -149,7 +149,11 @@ fn push_rule(line: &mut String, rule: RegisterRule<'_>) -> Result<(), AllocError
     }
 }
 
-fn push_register(line: &mut String, register: u16, rule: RegisterRule<'_>) -> Result<(), AllocError>
+fn push_register_rule(
+    line: &mut String,
+    register: u16,
+    rule: RegisterRule<'_>,
+) -> Result<(), AllocError>
     ensures { OnOk result (string_bytes line.new ≡ string_bytes line.old
         ++ register_text (register, rule_of rule.entry)) }
 {
@@ -164,7 +168,7 @@ fn push_rules(line: &mut String, rules: RegisterRules<'_, '_>) -> Result<(), All
         ++ flat_map register_text rules.entry) }
 {
     for (register, rule) in rules {
-        push_register(line, register, rule)?;
+        push_register_rule(line, register, rule)?;
     }
     Ok(())
 }

@@ -152,11 +152,11 @@ impl<'a> Entry<'a> {
     {
         match *self {
             Entry::OffsetPair { begin, end, .. } => {
-                is_reached(base, begin, address) && !is_reached(base, end, address)
+                sum_is_at_most(base, begin, address) && !sum_is_at_most(base, end, address)
             }
             Entry::StartEnd { begin, end, .. } => begin <= address && address < end,
             Entry::StartLength { begin, count, .. } => {
-                begin <= address && !is_reached(begin, count, address)
+                begin <= address && !sum_is_at_most(begin, count, address)
             }
             Entry::EndOfList | Entry::DefaultLocation { .. } | Entry::BaseAddress { .. } => false,
         }
@@ -165,7 +165,7 @@ impl<'a> Entry<'a> {
 
 /// Whether a sum, which doesn't wrap, is at most an address.
 #[inline(always)]
-fn is_reached(base: u64, offset: u64, address: u64) -> bool
+fn sum_is_at_most(base: u64, offset: u64, address: u64) -> bool
     ensures { result ≡ nat_le (base + offset) address }
 {
     match base.checked_add(offset) {

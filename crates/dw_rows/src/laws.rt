@@ -119,8 +119,8 @@ pub fn sections_without_fault_are_well_formed()
 /// In a section that is accepted each address that an FDE covers has exactly one row, the standard's: one FDE covers it,
 /// one of that FDE's rows has it, and that row is the answer of a look-up. Any other address has none.
 pub fn exact_rows()
-    ensures covered { (s : FrameSection) (a : ℕ) → IsChecked s → (f : Fde) → Contains s.fdes f → Covers f a
-        → HasOneRow s a }
+    ensures covered { (s : FrameSection) (a : ℕ) → IsChecked s → (f : Fde) → Contains s.fdes f
+        → Covers f a → HasOneRow s a }
     ensures others { (s : FrameSection) (a : ℕ) → ((f : Fde) → Contains s.fdes f → ¬ Covers f a)
         → row_of s a ≡ None }
 {}
@@ -133,8 +133,10 @@ pub fn checked_sections()
         → IsSoundCie s.target (length s.section) c }
     ensures fdes { (s : FrameSection) → IsChecked s → (f : Fde) → Contains s.fdes f
         → IsSoundFde s.target (length s.section) f }
-    ensures cies_ascend { (s : FrameSection) → IsChecked s → Ascends (λ (c : Cie). c.offset) s.cies }
-    ensures fdes_ascend { (s : FrameSection) → IsChecked s → Ascends (λ (f : Fde). f.offset) s.fdes }
+    ensures cies_ascend { (s : FrameSection) → IsChecked s
+        → Ascends (λ (c : Cie). c.offset) s.cies }
+    ensures fdes_ascend { (s : FrameSection) → IsChecked s
+        → Ascends (λ (f : Fde). f.offset) s.fdes }
     ensures expressions { (s : FrameSection) → IsChecked s → (e : LocatedExpression)
         → Contains s.expressions e → IsGoodExpression e.kind e.target e.bytes
         × (e.target ≡ s.target) × (e.offset + length e.bytes ≤ length s.section) }
@@ -147,8 +149,8 @@ pub fn checked_sections()
 pub fn rows_have_good_expressions()
     ensures rows { (s : FrameSection) → IsChecked s → (f : Fde) → Contains s.fdes f → (row : Row)
         → Contains (rows_in s f) row → HasGoodExpressions s.expressions row }
-    ensures addresses { (s : FrameSection) (a : ℕ) → IsChecked s → (row : Row) → row_of s a ≡ Some row
-        → HasGoodExpressions s.expressions row }
+    ensures addresses { (s : FrameSection) (a : ℕ) → IsChecked s → (row : Row)
+        → row_of s a ≡ Some row → HasGoodExpressions s.expressions row }
 {}
 
 /// Each restore_state has at most one match, and so has each remember_state.

@@ -20,5 +20,6 @@ returns-clause-written g c = λ gs given.
     let own = c.write_outcome.ensures.written gs given in (
       own.0,
       own.1,
-      writes_then _ _ _ _ (expression_offset_line c.args.offset) own.0 c.in_ok-write_expression_offset.ensures.written (writes_whole _ _ _ _ own.2),
+      writes_then _ _ _ _ (expression_offset_line c.args.offset) own.0 c.in_ok-write_expression_offset.ensures.written
+          (writes_whole _ _ _ _ own.2),
     )
