@@ -21,7 +21,8 @@ not_first : (a : ℕ) (f : Fde) (fs : List Fde) → ¬ Covers f a → ((g : Fde)
 not_first a f fs here none g (zero, lt, is) covers = here (subst (λ (x : Fde). Covers x a) (sym is) covers)
 not_first a f fs here none g (suc k, lt, is) covers = none g (k, omega (arith, lt), is) covers
 
-first_or : (a : ℕ) (f : Fde) (fs : List Fde) (low high : Bool) → nat_le f.initial a ≡ low → nat_lt a (f.initial + f.range) ≡ high
+first_or : (a : ℕ) (f : Fde) (fs : List Fde) (low high : Bool) → nat_le f.initial_location a ≡ low
+    → nat_lt a (f.initial_location + f.address_range) ≡ high
     → Looked a fs → Looked a (f ∷ fs)
 first_or a f fs true true e h rest =
     inr (f, (zero, omega arith, refl), (grind (arith, nat_tests, e), grind (arith, nat_tests, h)))
@@ -31,7 +32,7 @@ first_or a f fs true false e h (inl none) = inl (not_first a f fs (λ covers. gr
 
 looked : (a : ℕ) (fs : List Fde) → Looked a fs
 looked a [] = inl (λ f (k, lt, is) covers. omega (arith, lt))
-looked a (f ∷ fs) = first_or a f fs (nat_le f.initial a) (nat_lt a (f.initial + f.range)) refl refl (looked a fs)
+looked a (f ∷ fs) = first_or a f fs (nat_le f.initial_location a) (nat_lt a (f.initial_location + f.address_range)) refl refl (looked a fs)
 
 -- ---- the CIE of an FDE
 

@@ -45,8 +45,8 @@ cover_count from to (row ∷ rows) h =
 
 -- the rows of an FDE are fewer than there are addresses
 pub few_rows : (frame : FrameSection) (cie : Cie) (fde : Fde) (rows : List Row)
-    → Cover fde.initial (rows_of cie fde) (fde.initial + fde.range)
-    → cie_in frame fde ≡ Some cie → rows ≡ rows_in frame fde → fde.initial + fde.range < 2 ^ 64 → length rows < 2 ^ 64
+    → Cover fde.initial_location (rows_of cie fde) (fde.initial_location + fde.address_range)
+    → cie_in frame fde ≡ Some cie → rows ≡ rows_in frame fde → fde.initial_location + fde.address_range < 2 ^ 64 → length rows < 2 ^ 64
 few_rows frame cie fde rows cover is all short =
     let same : rows ≡ map (given_row frame.expressions) (rows_of cie fde) =
     all ∙ ap (λ o. map (given_row frame.expressions) (rows_behind o fde)) is in

@@ -37,9 +37,9 @@ cover_fits size from to (row ∷ rows) h k =
 
 -- the rows of an FDE whose program is good
 pub good_rows_fit : (target : Target) (size : AddressSize) (cie : Cie) (fde : Fde) → size ≡ target.address_size → fde_fault cie fde ≡ None
-    → fde.initial + fde.range ≤ top_of target → (es : List LocatedExpression)
+    → fde.initial_location + fde.address_range ≤ top_of target → (es : List LocatedExpression)
     → All (λ row. Fits size row) (map (given_row es) (rows_of cie fde))
 good_rows_fit target size cie fde z none h es =
-    (cover_fits size fde.initial (fde.initial + fde.range) (map (given_row es) (rows_of cie fde))
-    (cover-with es fde.initial (rows_of cie fde) (fde.initial + fde.range) (cover-rows cie fde none))
-    (below_top target size (fde.initial + fde.range) z h)).1
+    (cover_fits size fde.initial_location (fde.initial_location + fde.address_range) (map (given_row es) (rows_of cie fde))
+    (cover-with es fde.initial_location (rows_of cie fde) (fde.initial_location + fde.address_range) (cover-rows cie fde none))
+    (below_top target size (fde.initial_location + fde.address_range) z h)).1

@@ -74,7 +74,7 @@ unfoldable pub records_text : Cie → Fde → List ℕ
 records_text cie fde = codes "fde " ++ offset_text fde.offset ++ codes " cie " ++ offset_text cie.offset
 
 unfoldable pub fde_line : AddressSize → Cie → Fde → List ℕ
-fde_line size cie fde = records_text cie fde ++ codes " " ++ range_text size fde.initial (fde.initial + fde.range)
+fde_line size cie fde = records_text cie fde ++ codes " " ++ range_text size fde.initial_location (fde.initial_location + fde.address_range)
     ++ codes " ra r" ++ decimal cie.return_address_register ++ codes "\n"
 
 -- an expression is its bytes
@@ -107,7 +107,7 @@ row_line size row = codes "row " ++ range_text size row.start row.end ++ codes "
 
 -- the addresses of an FDE are ones of this size
 abbrev pub FitsFde : AddressSize → Fde → Type 0
-FitsFde size fde = fde.initial + fde.range < 16 ^ digits_of size
+FitsFde size fde = fde.initial_location + fde.address_range < 16 ^ digits_of size
 
 -- the addresses of a row are ones of this size
 pub record Fits (size : AddressSize) (row : Row) : Type 0 where

@@ -215,7 +215,7 @@ fn row_request(alloc: Global, matches: &ArgMatches<'_>) -> Result<Request, Usage
 }
 
 /// What `locs` looks up.
-fn lookup_of(matches: &ArgMatches<'_>) -> Result<ListLookup, Usage>
+fn locs_lookup(matches: &ArgMatches<'_>) -> Result<ListLookup, Usage>
     ensures ok { IfOk result (λ l. lookup_in (rows_of (found_of matches.now)) ≡ Some l) }
     ensures err { IfErr result (λ e. (e ≡ Memory)
         ⊎ ((e ≡ BadArgument) × HasBad (rows_of (found_of matches.now)) locs_command.words)) }
@@ -240,12 +240,12 @@ fn locs_request(alloc: Global, matches: &ArgMatches<'_>) -> Result<Request, Usag
     let Some(file) = word_text(matches, LISTS) else {
         return Err(Usage::Memory);
     };
-    let lookup = lookup_of(matches)?;
+    let lookup = locs_lookup(matches)?;
     request_with_state(alloc, matches, Task::Locs { lookup }, file)
 }
 
 /// The kind of expressions that a word names.
-fn parse_kind(name: &str) -> Option<Kind>
+fn kind_word(name: &str) -> Option<Kind>
     ensures { result ≡ kind_named name.now }
 {
     if name == "cfa" {
@@ -270,7 +270,7 @@ fn eval_request(alloc: Global, matches: &ArgMatches<'_>) -> Result<Request, Usag
     let (Some(file), Some(name)) = (word_text(matches, EXPR), word_text(matches, KIND)) else {
         return Err(Usage::Memory);
     };
-    let Some(kind) = parse_kind(name) else {
+    let Some(kind) = kind_word(name) else {
         return Err(Usage::BadArgument);
     };
     request_with_state(alloc, matches, Task::Eval { kind }, file)
@@ -334,7 +334,7 @@ fn backtrace_request(alloc: Global, matches: &ArgMatches<'_>) -> Result<Request,
 
 /// The request of a subcommand. The arms that answer `Memory` without asking for any are never reached:
 /// clap takes no other subcommand, and none without its words.
-fn request_of(alloc: Global, name: &str, matches: &ArgMatches<'_>) -> Result<Request, Usage>
+fn request_of_command(alloc: Global, name: &str, matches: &ArgMatches<'_>) -> Result<Request, Usage>
     ensures ok { IfOk result (λ r. asked_by name.now (rows_of (found_of matches.now)) ≡ Some r) }
     ensures err { IfErr result (λ e. (e ≡ Memory)
         ⊎ ((e ≡ BadArgument) × HasBadWord name.now (rows_of (found_of matches.now)))) }
@@ -364,7 +364,7 @@ fn request_of(alloc: Global, name: &str, matches: &ArgMatches<'_>) -> Result<Req
 }
 
 /// The request of the subcommand that the matches have.
-fn answer_of(alloc: Global, matches: &ArgMatches<'_>) -> Result<Request, Usage>
+fn request_of_matches(alloc: Global, matches: &ArgMatches<'_>) -> Result<Request, Usage>
     ensures ok { IfOk result (λ r. IsSomeAnd (subcommand_rows_of matches.now)
         (λ (name, rows). asked_by name rows ≡ Some r)) }
     ensures err { IfErr result (λ e. (e ≡ Memory)
@@ -372,13 +372,13 @@ fn answer_of(alloc: Global, matches: &ArgMatches<'_>) -> Result<Request, Usage>
         (λ (name, rows). HasBadWord name rows))) }
 {
     match matches.subcommand() {
-        Some((name, inner)) => request_of(alloc, name, inner),
+        Some((name, inner)) => request_of_command(alloc, name, inner),
         None => Err(Usage::Memory),
     }
 }
 
 /// The answer to what clap refuses.
-fn usage_of(alloc: Global, error: Error) -> Usage
+fn usage_of_clap_error(alloc: Global, error: Error) -> Usage
     ensures { IsUsageOf (kind_of error) result }
 {
     if error.kind() == ErrorKind::OutOfMemory {
@@ -397,7 +397,7 @@ pub fn request(alloc: Global, words: Vec<String>) -> Result<Request, Usage>
 {
     let command = whole_command(alloc)?;
     match command.try_get_matches_from(words.as_slice()) {
-        Ok(matches) => answer_of(alloc, &matches),
-        Err(error) => Err(usage_of(alloc, error)),
+        Ok(matches) => request_of_matches(alloc, &matches),
+        Err(error) => Err(usage_of_clap_error(alloc, error)),
     }
 }

@@ -11,7 +11,7 @@ use crate::numbers::{push_address, push_decimal};
 use crate::sink::Sink;
 use crate::stop::ReportFault;
 use crate::unwinding::{Answer, Caller};
-use crate::writer::{Writer, send};
+use crate::writer::{Writer, send_line};
 use dw_bytes::AddressSize;
 use std::alloc::AllocError;
 
@@ -36,7 +36,7 @@ pub(crate) fn push_answer(
 }
 
 #[tactic(auto, unfolding(crate::specs::CallerText::answer_line))]
-fn push_line(
+fn push_named_answer(
     line: &mut String,
     size: AddressSize,
     what: &str,
@@ -68,7 +68,7 @@ fn push_register_answer(
     line.push_str("\n")
 }
 
-fn push_registers(
+fn push_register_answers(
     line: &mut String,
     size: AddressSize,
     registers: &[(u16, Answer)],
@@ -93,9 +93,9 @@ fn push_caller(
 {
     match caller {
         Some(caller) => {
-            push_line(line, size, "cfa", caller.cfa)?;
-            push_registers(line, size, caller.registers.as_slice())?;
-            push_line(line, size, "return", caller.return_address)
+            push_named_answer(line, size, "cfa", caller.cfa)?;
+            push_register_answers(line, size, caller.registers.as_slice())?;
+            push_named_answer(line, size, "return", caller.return_address)
         }
         None => line.push_str("none\n"),
     }
@@ -114,5 +114,5 @@ pub(crate) fn write_caller<S: Sink>(
 {
     out.line.clear();
     push_caller(out.line, out.size, caller)?;
-    send(out)
+    send_line(out)
 }

@@ -131,7 +131,7 @@ const COMMANDS: [Outline<'static>; 7] = [
     },
 ];
 
-fn flag<'a>(alloc: Global, name: &'a str, help: &'a str) -> Arg<'a>
+fn clap_flag<'a>(alloc: Global, name: &'a str, help: &'a str) -> Arg<'a>
     ensures rule { rule_of result ≡ flag_rule name.entry.now }
     ensures local { result.global ≡ false }
 {
@@ -141,14 +141,14 @@ fn flag<'a>(alloc: Global, name: &'a str, help: &'a str) -> Arg<'a>
         .help(help)
 }
 
-fn word<'a>(alloc: Global, name: &'a str, help: &'a str) -> Arg<'a>
+fn clap_word<'a>(alloc: Global, name: &'a str, help: &'a str) -> Arg<'a>
     ensures rule { rule_of result ≡ word_rule name.entry.now }
     ensures local { result.global ≡ false }
 {
     Arg::new(alloc, name).required(true).help(help)
 }
 
-fn option<'a>(alloc: Global, name: &'a str, help: &'a str) -> Arg<'a>
+fn clap_option<'a>(alloc: Global, name: &'a str, help: &'a str) -> Arg<'a>
     ensures rule { rule_of result ≡ option_rule name.entry.now }
     ensures local { result.global ≡ false }
 {
@@ -164,9 +164,9 @@ fn with_flags<'a>(alloc: Global, command: Command<'a>) -> Result<Command<'a>, Al
     ensures local { IfOk result (λ c. (fields_of c).has_globals ≡ false) }
 {
     command
-        .arg(flag(alloc, BIG, "Numbers are big-endian"))?
-        .arg(flag(alloc, ADDR4, "Addresses have 4 bytes, not 8"))?
-        .arg(flag(alloc, HEX, "Sections and expressions are hex text"))
+        .arg(clap_flag(alloc, BIG, "Numbers are big-endian"))?
+        .arg(clap_flag(alloc, ADDR4, "Addresses have 4 bytes, not 8"))?
+        .arg(clap_flag(alloc, HEX, "Sections and expressions are hex text"))
 }
 
 /// With words that have to be there, each with its help, in this order.
@@ -182,7 +182,7 @@ fn with_words<'a>(
 {
     let mut command = command;
     for (name, help) in words {
-        command = command.arg(word(alloc, name, help))?;
+        command = command.arg(clap_word(alloc, name, help))?;
     }
     Ok(command)
 }
@@ -192,11 +192,11 @@ fn with_state<'a>(alloc: Global, command: Command<'a>) -> Result<Command<'a>, Al
     ensures app { IfOk result (λ c. app_of c ≡ with_state (app_of command.entry) true) }
     ensures local { IfOk result (λ c. (fields_of c).has_globals ≡ false) }
 {
-    command.arg(option(alloc, STATE, STATE_HELP))
+    command.arg(clap_option(alloc, STATE, STATE_HELP))
 }
 
 /// The command of an outline.
-fn command_of<'a>(alloc: Global, outline: &Outline<'a>) -> Result<Command<'a>, AllocError>
+fn clap_command<'a>(alloc: Global, outline: &Outline<'a>) -> Result<Command<'a>, AllocError>
     ensures app { IfOk result (λ c. app_of c ≡ app_of_command (command_in outline.now)) }
     ensures local { IfOk result (λ c. (fields_of c).has_globals ≡ false) }
 {
@@ -223,7 +223,7 @@ fn with_command<'a>(
         (app_of_command (command_in outline.now)).top) }
     ensures local { IfOk result (λ c. (fields_of c).has_globals ≡ false) }
 {
-    command.subcommand(command_of(alloc, outline)?)
+    command.subcommand(clap_command(alloc, outline)?)
 }
 
 /// With the commands of these outlines.

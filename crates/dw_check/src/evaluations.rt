@@ -16,7 +16,7 @@ use crate::machine_state::MachineState;
 use crate::outcomes::push_evaluation;
 use crate::sink::Sink;
 use crate::stop::ReportFault;
-use crate::writer::{Writer, send};
+use crate::writer::{Writer, send_line};
 use dw_eval::{Context, Evaluation, evaluate};
 use dw_stack::CheckedExpression;
 
@@ -43,7 +43,7 @@ fn write_evaluation<S: Sink>(
         evaluation.steps,
         depth,
     )?;
-    send(out)
+    send_line(out)
 }
 
 /// Evaluates a checked expression over what is known, and writes what it comes to.

@@ -24,17 +24,17 @@ pub(crate) struct Files<'a> {
     pub contents: &'a [Vec<u8>],
 }
 
-fn is_kept(byte: u8) -> bool
+fn is_not_blank(byte: u8) -> bool
     ensures { result ≡ not (is_blank byte) }
 {
     !matches!(byte, 9 | 10 | 13 | 32)
 }
 
-fn kept(alloc: Global, text: &[u8]) -> Result<Vec<u8>, AllocError>
+fn drop_blanks(alloc: Global, text: &[u8]) -> Result<Vec<u8>, AllocError>
     ensures { IfOk result (λ v. v.items ≡ without_blanks text.now) }
 {
     let mut bytes = Vec::from_slice(alloc, text)?;
-    bytes.retain(|b| is_kept(*b));
+    bytes.retain(|b| is_not_blank(*b));
     Ok(bytes)
 }
 
@@ -59,7 +59,7 @@ pub(crate) fn section_at<'a>(
     if !hex {
         return Ok(CowSlice::Borrowed(file.as_slice()));
     }
-    match hex::decode(alloc, kept(alloc, file.as_slice())?.as_slice()) {
+    match hex::decode(alloc, drop_blanks(alloc, file.as_slice())?.as_slice()) {
         Ok(bytes) => Ok(CowSlice::Owned(bytes)),
         Err(FromHexError::OutOfMemory) => Err(RunFault::Memory),
         Err(_) => Err(RunFault::BadHex(place)),

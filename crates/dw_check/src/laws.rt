@@ -51,8 +51,8 @@ pub fn sections_without_fault_are_well_formed()
     ensures { (target : Target) (frame lists : List ℕ)
         → (check_fault target frame lists ≡ None) ↔ AreWellFormed target frame lists }
 {
-    dw_rows::laws::sections_without_fault_are_well_formed();
-    dw_loclists::laws::sections_without_fault_are_well_formed();
+    dw_rows::laws::frame_sections_without_fault_are_well_formed();
+    dw_loclists::laws::list_sections_without_fault_are_well_formed();
 }
 
 /// What holds of two sections without a fault, which are those that `check` accepts. What is read of them is what their bytes
@@ -65,8 +65,8 @@ pub fn accepted_sections_are_sound()
 {
     dw_frame::laws::sections_are_records();
     dw_rows::laws::exact_rows();
-    dw_rows::laws::checked_sections();
-    dw_loclists::laws::checked_sections();
+    dw_rows::laws::checked_frame_sections();
+    dw_loclists::laws::checked_list_sections();
     dw_stack::laws::each_has_a_depth();
     dw_stack::laws::good_expressions_run_well();
     dw_eval::laws::each_has_an_evaluation();
@@ -145,12 +145,12 @@ pub fn each_has_a_report()
     ensures { (frame : FrameSection) (lists : ListSection) → rows.IsChecked frame → IsChecked lists
         → (t : List ℕ) × IsReport frame lists t }
 {
-    dw_loclists::laws::checked_sections();
-    dw_rows::laws::checked_sections();
+    dw_loclists::laws::checked_list_sections();
+    dw_rows::laws::checked_frame_sections();
     dw_stack::laws::each_has_a_depth();
 }
 
 /// At most so many registers of a caller are named.
-pub fn limits()
+pub fn walk_limits()
     ensures { MAX_FOUND ≡ 256 }
 {}

@@ -9,7 +9,7 @@ ghost use Rattle.dw_rows.specs.Views.{rule_of, cfa_rule_of};
 ghost use Rattle.dw_check.specs.Text.{kind_text, refused_line, expression_text, expression_offset_line, records_text, fde_line, cfa_text};
 ghost use Rattle.dw_check.specs.Text.{rule_text, register_text, row_line, digits_of, Fits};
 
-use crate::names::name;
+use crate::names::fault_name;
 use crate::numbers::{push_decimal, push_offset, push_range, push_signed};
 use crate::stop::Section;
 use dw_bytes::{AddressSize, Fault, FaultKind};
@@ -19,12 +19,12 @@ use dw_stack::CheckedExpression;
 use std::alloc::AllocError;
 
 #[tactic(auto, unfolding(crate::specs::Text::kind_text))]
-fn push_kind(line: &mut String, kind: FaultKind) -> Result<(), AllocError>
+fn push_fault_kind(line: &mut String, kind: FaultKind) -> Result<(), AllocError>
     ensures { OnOk result (string_bytes line.new ≡ string_bytes line.old ++ kind_text kind) }
 {
     push_decimal(line, kind.number())?;
     line.push_str(" ")?;
-    line.push_str(name(kind))
+    line.push_str(fault_name(kind))
 }
 
 /// The line of a refusal.
@@ -38,7 +38,7 @@ pub(crate) fn push_refused(
         ++ refused_line section fault) }
 {
     line.push_str("refused ")?;
-    push_kind(line, fault.kind)?;
+    push_fault_kind(line, fault.kind)?;
     line.push_str(" ")?;
     line.push_str(section.text())?;
     line.push_str(" ")?;
@@ -58,7 +58,7 @@ pub(crate) fn push_expression_offset(line: &mut String, offset: u32) -> Result<(
 }
 
 #[tactic(auto, unfolding(crate::specs::Text::records_text))]
-fn push_records(
+fn push_fde_and_cie(
     line: &mut String,
     cie: &CommonInformationEntry<'_>,
     fde: &FrameDescriptionEntry<'_>,
@@ -85,7 +85,7 @@ pub(crate) fn push_fde(
         ++ fde_line size (cie_of cie.now) (fde_of fde.now)) }
 {
     let end = fde.initial_location + fde.address_range;
-    push_records(line, cie, fde)?;
+    push_fde_and_cie(line, cie, fde)?;
     line.push_str(" ")?;
     push_range(line, size, fde.initial_location, end)?;
     line.push_str(" ra r")?;
@@ -95,7 +95,10 @@ pub(crate) fn push_fde(
 
 /// An expression of a rule, as its bytes.
 #[tactic(auto, unfolding(crate::specs::Text::expression_text))]
-fn push_bytes_of(line: &mut String, checked: &CheckedExpression<'_>) -> Result<(), AllocError>
+fn push_expression_bytes(
+    line: &mut String,
+    checked: &CheckedExpression<'_>,
+) -> Result<(), AllocError>
     ensures { OnOk result (string_bytes line.new ≡ string_bytes line.old
         ++ expression_text (checked_of checked.now).bytes) }
 {
@@ -105,7 +108,7 @@ fn push_bytes_of(line: &mut String, checked: &CheckedExpression<'_>) -> Result<(
     line.push_str(")")
 }
 
-fn push_cfa(line: &mut String, rule: CfaRule<'_>) -> Result<(), AllocError>
+fn push_cfa_rule(line: &mut String, rule: CfaRule<'_>) -> Result<(), AllocError>
     ensures { OnOk result (string_bytes line.new ≡ string_bytes line.old
         ++ cfa_text (Some (cfa_rule_of rule.entry))) }
 {
@@ -115,7 +118,7 @@ fn push_cfa(line: &mut String, rule: CfaRule<'_>) -> Result<(), AllocError>
             push_decimal(line, register)?;
             push_signed(line, offset)
         }
-        CfaRule::Expression { expression, .. } => push_bytes_of(line, &expression),
+        CfaRule::Expression { expression, .. } => push_expression_bytes(line, &expression),
     }
 }
 
@@ -142,10 +145,10 @@ fn push_rule(line: &mut String, rule: RegisterRule<'_>) -> Result<(), AllocError
         }
         RegisterRule::Expression { expression, .. } => {
             line.push_str("[")?;
-            push_bytes_of(line, &expression)?;
+            push_expression_bytes(line, &expression)?;
             line.push_str("]")
         }
-        RegisterRule::ValExpression { expression, .. } => push_bytes_of(line, &expression),
+        RegisterRule::ValExpression { expression, .. } => push_expression_bytes(line, &expression),
     }
 }
 
@@ -186,7 +189,7 @@ pub(crate) fn push_row(
     line.push_str("row ")?;
     push_range(line, size, row.start_address(), row.end_address())?;
     line.push_str(" cfa=")?;
-    push_cfa(line, row.cfa())?;
+    push_cfa_rule(line, row.cfa())?;
     push_rules(line, row.rules())?;
     line.push_str("\n")
 }

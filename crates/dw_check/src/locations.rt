@@ -18,12 +18,12 @@ use crate::machine_state::MachineState;
 use crate::requests::ListLookup;
 use crate::sink::Sink;
 use crate::stop::ReportFault;
-use crate::writer::{Writer, send};
+use crate::writer::{Writer, send_line};
 use dw_loclists::{CheckedLists, LocationsAt};
 use dw_stack::CheckedExpression;
 
 /// Writes the line of an expression at an offset of its section.
-fn write_expression_offset<S: Sink>(out: &mut Writer<'_, S>, offset: u32) -> Result<(), ReportFault>
+fn write_location_offset<S: Sink>(out: &mut Writer<'_, S>, offset: u32) -> Result<(), ReportFault>
     requires runs { S.has_stopped out.old.sink.now ≡ false }
     ensures same { IsSame out.old out.new }
     ensures written { Writes (S.taken out.old.sink.now) (S.taken out.new.sink.now) result
@@ -32,11 +32,11 @@ fn write_expression_offset<S: Sink>(out: &mut Writer<'_, S>, offset: u32) -> Res
 {
     out.line.clear();
     push_expression_offset(out.line, offset)?;
-    send(out)
+    send_line(out)
 }
 
 /// Writes a line that says that there is nothing to show.
-fn write_nothing<S: Sink>(out: &mut Writer<'_, S>, line: &str) -> Result<(), ReportFault>
+fn write_no_location<S: Sink>(out: &mut Writer<'_, S>, line: &str) -> Result<(), ReportFault>
     requires runs { S.has_stopped out.old.sink.now ≡ false }
     ensures same { IsSame out.old out.new }
     ensures written { Writes (S.taken out.old.sink.now) (S.taken out.new.sink.now) result line.now }
@@ -44,7 +44,7 @@ fn write_nothing<S: Sink>(out: &mut Writer<'_, S>, line: &str) -> Result<(), Rep
 {
     out.line.clear();
     out.line.push_str(line)?;
-    send(out)
+    send_line(out)
 }
 
 /// Writes an expression at an offset of its section, and what it comes to over what is known.
@@ -65,12 +65,12 @@ fn write_location<S: Sink>(
         (expression_offset_line offset ++ text) }
     ensures stops { S.has_stopped out.new.sink.now ≡ is_write result }
 {
-    write_expression_offset(out, offset)?;
+    write_location_offset(out, offset)?;
     write_outcome(out, checked, state)
 }
 
 /// Writes the expressions that are still to come, each with what it comes to.
-fn write_rest<'c, 'a, S: Sink>(
+fn write_other_locations<'c, 'a, S: Sink>(
     out: &mut Writer<'_, S>,
     locations: LocationsAt<'c, 'a>,
     state: &MachineState,
@@ -107,15 +107,15 @@ fn write_locations<'c, 'a, S: Sink>(
     match locations.next() {
         Some((offset, checked)) => {
             write_location(out, offset, &checked, state)?;
-            write_rest(out, locations, state)
+            write_other_locations(out, locations, state)
         }
-        None => write_nothing(out, "none\n"),
+        None => write_no_location(out, "none\n"),
     }
 }
 
 /// Writes what a list says of an address, or that there is no list. One pass over the list; each expression is found
 /// by halving.
-pub(crate) fn write_found<S: Sink>(
+pub(crate) fn write_list_lookup<S: Sink>(
     out: &mut Writer<'_, S>,
     lists: &CheckedLists<'_>,
     lookup: ListLookup,
@@ -138,6 +138,6 @@ pub(crate) fn write_found<S: Sink>(
             let locations = lists.locations_at(&list, lookup.base, lookup.address);
             write_locations(out, locations, state)
         }
-        None => write_nothing(out, "no list\n"),
+        None => write_no_location(out, "no list\n"),
     }
 }

@@ -35,7 +35,7 @@ pub(crate) struct MachineState {
 }
 
 /// Gives a key its value, unless it has one.
-fn add_first<K: Ord + Copy, V: Drop>(
+fn add_first_value<K: Ord + Copy, V: Drop>(
     map: &mut BTreeMap<K, V>,
     key: K,
     value: V,
@@ -50,20 +50,24 @@ fn add_first<K: Ord + Copy, V: Drop>(
 }
 
 /// The value that there is, else another.
-fn or_value(old: Option<u64>, value: u64) -> Option<u64>
+fn first_value(old: Option<u64>, value: u64) -> Option<u64>
     ensures { result ≡ option_or old (Some value) }
 {
     old.or(Some(value))
 }
 
 /// Adds bytes at an address.
-fn add_bytes(memory: &mut BTreeMap<u64, u8>, address: u64, bytes: &[u8]) -> Result<(), AllocError>
+fn add_memory_bytes(
+    memory: &mut BTreeMap<u64, u8>,
+    address: u64,
+    bytes: &[u8],
+) -> Result<(), AllocError>
     requires { address + length bytes.now ≤ 2 ^ 64 }
     ensures { OnOk result ((a : ℕ) → get nat_cmp memory.new a ≡ option_or (get nat_cmp memory.old a)
         (byte_in a (StateFact.bytes address bytes.now))) }
 {
     for (index, byte) in bytes.iter().enumerate() {
-        add_first(memory, address + index as u64, *byte)?;
+        add_first_value(memory, address + index as u64, *byte)?;
     }
     Ok(())
 }
@@ -102,19 +106,19 @@ impl MachineState {
             → IsGivenBy (known_state_of self.new) (facts ++ fact_of line ∷ []))) }
     {
         match line {
-            StateLine::Register { number, content } => add_first(
+            StateLine::Register { number, content } => add_first_value(
                 &mut self.registers,
                 number,
                 content,
             )?,
-            StateLine::Memory { address, bytes } => add_bytes(
+            StateLine::Memory { address, bytes } => add_memory_bytes(
                 &mut self.memory,
                 address,
                 bytes.as_slice(),
             )?,
-            StateLine::Cfa(value) => self.cfa = or_value(self.cfa, value),
-            StateLine::FrameBase(value) => self.frame_base = or_value(self.frame_base, value),
-            StateLine::Object(value) => self.object = or_value(self.object, value),
+            StateLine::Cfa(value) => self.cfa = first_value(self.cfa, value),
+            StateLine::FrameBase(value) => self.frame_base = first_value(self.frame_base, value),
+            StateLine::Object(value) => self.object = first_value(self.object, value),
             StateLine::Keep(number) => return Ok(self.abi_registers.keep(number)),
             StateLine::StackPointer(number) => {
                 return Ok(self.abi_registers.set_stack_pointer(number));

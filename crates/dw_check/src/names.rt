@@ -6,7 +6,7 @@ ghost use Rattle.dw_check.specs.Names.{name_of};
 use dw_bytes::FaultKind;
 
 /// The name that a refusal is shown by.
-pub(crate) fn name(kind: FaultKind) -> &'static str
+pub(crate) fn fault_name(kind: FaultKind) -> &'static str
     ensures { result.now ≡ name_of kind }
 {
     match kind {

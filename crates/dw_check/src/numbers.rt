@@ -15,14 +15,14 @@ pub(crate) fn push_offset(line: &mut String, offset: u32) -> Result<(), AllocErr
     write!(line, "0x{offset:08x}")
 }
 
-fn push_short(line: &mut String, address: u64) -> Result<(), AllocError>
+fn push_short_address(line: &mut String, address: u64) -> Result<(), AllocError>
     requires { address < 2 ^ 32 }
     ensures { OnOk result (string_bytes line.new ≡ string_bytes line.old ++ hex_number 8 address) }
 {
     write!(line, "0x{address:08x}")
 }
 
-fn push_long(line: &mut String, address: u64) -> Result<(), AllocError>
+fn push_long_address(line: &mut String, address: u64) -> Result<(), AllocError>
     ensures { OnOk result (string_bytes line.new ≡ string_bytes line.old ++ hex_number 16 address) }
 {
     write!(line, "0x{address:016x}")
@@ -38,8 +38,8 @@ pub(crate) fn push_address(
         ++ address_text size address) }
 {
     match size {
-        AddressSize::Four => push_short(line, address % (1 << 32)),
-        AddressSize::Eight => push_long(line, address),
+        AddressSize::Four => push_short_address(line, address % (1 << 32)),
+        AddressSize::Eight => push_long_address(line, address),
     }
 }
 

@@ -44,7 +44,7 @@ fn push_location(
     }
 }
 
-fn push_size(line: &mut String, size: PieceSize) -> Result<(), AllocError>
+fn push_piece_size(line: &mut String, size: PieceSize) -> Result<(), AllocError>
     ensures { OnOk result (string_bytes line.new ≡ string_bytes line.old
         ++ size_text (extent_of_size size)) }
 {
@@ -70,7 +70,7 @@ fn push_piece(line: &mut String, size: AddressSize, piece: Piece<'_>) -> Result<
 {
     line.push_str("piece ")?;
     push_location(line, size, piece.location)?;
-    push_size(line, piece.size)?;
+    push_piece_size(line, piece.size)?;
     line.push_str("\n")
 }
 
@@ -86,7 +86,7 @@ fn push_pieces(line: &mut String, size: AddressSize, pieces: &[Piece<'_>]) -> Re
 }
 
 #[tactic(auto, unfolding(crate::specs::Outcomes::stop_line))]
-fn push_stop(line: &mut String, what: &str, at: u32) -> Result<(), AllocError>
+fn push_unanswered(line: &mut String, what: &str, at: u32) -> Result<(), AllocError>
     ensures { OnOk result (string_bytes line.new ≡ string_bytes line.old ++ stop_line what.now at) }
 {
     line.push_str(what)?;
@@ -120,8 +120,8 @@ fn push_outcome(
             line.push_str("\n")?;
             push_pieces(line, size, pieces.as_slice())
         }
-        Outcome::Unreadable { at } => push_stop(line, "unreadable", *at),
-        Outcome::DivisionByZero { at } => push_stop(line, "division by zero", *at),
+        Outcome::Unreadable { at } => push_unanswered(line, "unreadable", *at),
+        Outcome::DivisionByZero { at } => push_unanswered(line, "division by zero", *at),
     }
 }
 

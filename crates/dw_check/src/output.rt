@@ -10,7 +10,7 @@ ghost use Rattle.dw_check.specs.WriteResults.{IsSame, Writes, WritesWhole, is_wr
 use crate::lines::{push_fde, push_refused, push_row};
 use crate::sink::Sink;
 use crate::stop::{ReportFault, Section};
-use crate::writer::{Writer, send};
+use crate::writer::{Writer, send_line};
 use dw_bytes::Fault;
 use dw_frame::{CommonInformationEntry, FrameDescriptionEntry};
 use dw_rows::{CheckedFrame, Rows, UnwindTableRow};
@@ -29,7 +29,7 @@ pub(crate) fn write_refused<S: Sink>(
 {
     out.line.clear();
     push_refused(out.line, section, fault)?;
-    send(out)
+    send_line(out)
 }
 
 /// Writes the line of an FDE.
@@ -47,7 +47,7 @@ fn write_fde<S: Sink>(
 {
     out.line.clear();
     push_fde(out.line, out.size, cie, fde)?;
-    send(out)
+    send_line(out)
 }
 
 /// Writes the line of a row.
@@ -64,7 +64,7 @@ fn write_row<S: Sink>(
 {
     out.line.clear();
     push_row(out.line, out.size, row)?;
-    send(out)
+    send_line(out)
 }
 
 /// Writes the lines of the rows that are to come, each read into the same place.
@@ -95,7 +95,8 @@ fn write_fde_and_rows<'f, 'a, S: Sink>(
     row: &mut UnwindTableRow<'f, 'a>,
 ) -> Result<(), ReportFault>
     requires inside { Contains frame.now.fdes (fde_of fde.now) }
-    requires fits { (fde_of fde.now).initial + (fde_of fde.now).range ≤ top_of frame.now.target }
+    requires fits { (fde_of fde.now).initial_location + (fde_of fde.now).address_range
+        ≤ top_of frame.now.target }
     requires size { out.old.size ≡ frame.now.target.address_size }
     requires runs { S.has_stopped out.old.sink.now ≡ false }
     ensures same { IsSame out.old out.new }
@@ -109,7 +110,7 @@ fn write_fde_and_rows<'f, 'a, S: Sink>(
 }
 
 /// Writes the lines of the FDEs of a section and of their rows, in the order of the section.
-pub(crate) fn write_frame<S: Sink>(
+pub(crate) fn write_frame_section<S: Sink>(
     out: &mut Writer<'_, S>,
     frame: &CheckedFrame<'_>,
 ) -> Result<(), ReportFault>
@@ -133,7 +134,7 @@ pub(crate) fn write_frame<S: Sink>(
 }
 
 /// Writes the line of the row of an address, or that there is none.
-pub(crate) fn write_lookup<S: Sink>(
+pub(crate) fn write_row_lookup<S: Sink>(
     out: &mut Writer<'_, S>,
     frame: &CheckedFrame<'_>,
     address: u64,
@@ -150,7 +151,7 @@ pub(crate) fn write_lookup<S: Sink>(
         None => {
             out.line.clear();
             out.line.push_str("none\n")?;
-            send(out)
+            send_line(out)
         }
     }
 }

@@ -25,7 +25,7 @@ pub(crate) struct Present<'m, R: Registers, M: Memory> {
 }
 
 /// The number modulo 2^w, w being the size of an address in bits.
-fn reduce(size: AddressSize, number: u64) -> u64
+fn reduce_to_size(size: AddressSize, number: u64) -> u64
     ensures { result ≡ reduced (width_of size) (pos number) }
 {
     match size {
@@ -35,10 +35,10 @@ fn reduce(size: AddressSize, number: u64) -> u64
 }
 
 /// The sum of a number and an offset, modulo 2^w.
-fn plus(size: AddressSize, number: u64, offset: i64) -> u64
+fn plus_offset(size: AddressSize, number: u64, offset: i64) -> u64
     ensures { result ≡ reduced (width_of size) (pos number +ℤ offset) }
 {
-    reduce(size, number.wrapping_add(offset.cast_unsigned()))
+    reduce_to_size(size, number.wrapping_add(offset.cast_unsigned()))
 }
 
 impl<'m, R: Registers, M: Memory> Present<'m, R, M> {
@@ -46,7 +46,7 @@ impl<'m, R: Registers, M: Memory> Present<'m, R, M> {
     fn moved(&self, number: u64, offset: i64) -> u64
         ensures { result ≡ moved (machine_in R.contents M.bytes self.now) offset number }
     {
-        plus(self.target.address_size, number, offset)
+        plus_offset(self.target.address_size, number, offset)
     }
 
     /// A content and an offset, modulo 2^w.

@@ -16,7 +16,7 @@ use crate::numbers::{push_decimal, push_offset};
 use crate::sink::Sink;
 use crate::stop::{ReportFault, Section};
 use crate::whole_check::Checked;
-use crate::writer::{Writer, send};
+use crate::writer::{Writer, send_line};
 use dw_loclists::{CheckedLists, Expressions};
 use dw_rows::laws::rows_cover;
 use dw_rows::{CheckedFrame, Rows, UnwindTableRow};
@@ -128,7 +128,7 @@ fn push_last_count(line: &mut String, name: &str, number: u128) -> Result<(), Al
 }
 
 #[tactic(auto, unfolding(crate::specs::Report::expressions_text))]
-fn push_expressions(line: &mut String, expressions: u128) -> Result<(), AllocError>
+fn push_expression_count(line: &mut String, expressions: u128) -> Result<(), AllocError>
     ensures { OnOk result (string_bytes line.new ≡ string_bytes line.old
         ++ expressions_text expressions) }
 {
@@ -147,11 +147,11 @@ fn push_lists_counts(
 {
     push_count(line, "tables ", tables)?;
     push_count(line, " lists ", lists)?;
-    push_expressions(line, expressions)
+    push_expression_count(line, expressions)
 }
 
 /// How many records and rows a frame section has.
-fn push_frame(line: &mut String, frame: &CheckedFrame<'_>) -> Result<(), AllocError>
+fn push_frame_line(line: &mut String, frame: &CheckedFrame<'_>) -> Result<(), AllocError>
     ensures { OnOk result (string_bytes line.new ≡ string_bytes line.old ++ frame_line frame.now) }
 {
     let rows = count_rows(frame);
@@ -159,7 +159,7 @@ fn push_frame(line: &mut String, frame: &CheckedFrame<'_>) -> Result<(), AllocEr
 }
 
 /// How many tables and lists a section of location lists has, and how many expressions both sections have.
-fn push_lists(line: &mut String, checked: &Checked<'_>) -> Result<(), AllocError>
+fn push_lists_line(line: &mut String, checked: &Checked<'_>) -> Result<(), AllocError>
     ensures { OnOk result (string_bytes line.new ≡ string_bytes line.old
         ++ lists_line checked.now.frame checked.now.lists) }
 {
@@ -179,12 +179,12 @@ fn push_summary(line: &mut String, checked: &Checked<'_>) -> Result<(), AllocErr
         ++ summary_text checked.now.frame checked.now.lists) }
 {
     line.push_str("accepted\n")?;
-    push_frame(line, checked.frame())?;
-    push_lists(line, checked)
+    push_frame_line(line, checked.frame())?;
+    push_lists_line(line, checked)
 }
 
 /// The name of a kind.
-fn kind_text(kind: Kind) -> &'static str
+fn reported_kind(kind: Kind) -> &'static str
     ensures { result.now ≡ expression_kind_text kind }
 {
     match kind {
@@ -196,7 +196,7 @@ fn kind_text(kind: Kind) -> &'static str
 
 /// The line of an expression of a section.
 #[tactic(auto, unfolding(crate::specs::Report::expression_line))]
-fn push_expression(
+fn push_expression_line(
     line: &mut String,
     section: Section,
     offset: u32,
@@ -211,7 +211,7 @@ fn push_expression(
     line.push_str(" ")?;
     push_offset(line, offset)?;
     line.push_str(" ")?;
-    line.push_str(kind_text(checked.kind()))?;
+    line.push_str(reported_kind(checked.kind()))?;
     line.push_str(" ops ")?;
     push_decimal(line, checked.operation_count())?;
     line.push_str(" depth ")?;
@@ -220,7 +220,7 @@ fn push_expression(
 }
 
 /// Writes the line of an expression of a section.
-fn write_expression<S: Sink>(
+fn write_expression_line<S: Sink>(
     out: &mut Writer<'_, S>,
     section: Section,
     offset: u32,
@@ -233,8 +233,8 @@ fn write_expression<S: Sink>(
     ensures stops { S.has_stopped out.new.sink.now ≡ is_write result }
 {
     out.line.clear();
-    push_expression(out.line, section, offset, checked)?;
-    send(out)
+    push_expression_line(out.line, section, offset, checked)?;
+    send_line(out)
 }
 
 /// Writes the lines of expressions of a frame section, in order.
@@ -249,7 +249,7 @@ fn write_frame_expressions<S: Sink>(
     ensures stops { S.has_stopped out.new.sink.now ≡ is_write result }
 {
     for located in expressions {
-        write_expression(out, Section::Frame, located.0, &located.1)?;
+        write_expression_line(out, Section::Frame, located.0, &located.1)?;
     }
     Ok(())
 }
@@ -266,13 +266,13 @@ fn write_list_expressions<'c, 'a, S: Sink>(
     ensures stops { S.has_stopped out.new.sink.now ≡ is_write result }
 {
     for (offset, checked) in expressions {
-        write_expression(out, Section::Lists, offset, &checked)?;
+        write_expression_line(out, Section::Lists, offset, &checked)?;
     }
     Ok(())
 }
 
 /// Writes the lines of the expressions of two sections: the frame section's first.
-fn write_both<'c, 'a, S: Sink>(
+fn write_all_expressions<'c, 'a, S: Sink>(
     out: &mut Writer<'_, S>,
     of_frame: &[(u32, CheckedExpression<'_>)],
     of_lists: Expressions<'c, 'a>,
@@ -303,8 +303,8 @@ pub(crate) fn write_report<S: Sink>(
     let of_lists = checked.lists().expressions();
     out.line.clear();
     push_summary(out.line, checked)?;
-    send(out)?;
-    write_both(out, of_frame, of_lists)
+    send_line(out)?;
+    write_all_expressions(out, of_frame, of_lists)
 }
 
 /// Writes the report on two checked sections: that they are accepted, how many records, rows, tables, lists and expressions

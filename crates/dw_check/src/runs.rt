@@ -18,9 +18,9 @@ use crate::caller_text::write_caller;
 use crate::evaluations::write_outcome;
 use crate::files::{Files, section_at, state_at};
 use crate::laws::{each_has_a_walk, one_caller, one_report, one_walk};
-use crate::locations::write_found;
+use crate::locations::write_list_lookup;
 use crate::machine_state::MachineState;
-use crate::output::{write_frame, write_lookup, write_refused};
+use crate::output::{write_frame_section, write_refused, write_row_lookup};
 use crate::reports::write_report;
 use crate::requests::{End, ListLookup, Request, Task};
 use crate::sink::Sink;
@@ -38,7 +38,7 @@ use dw_stack::{CheckedExpression, Kind, check_expression};
 use std::alloc::Global;
 
 /// The frame section of these bytes, if it has no fault.
-fn checked_frame<'a>(
+fn frame_or_refusal<'a>(
     alloc: Global,
     target: Target,
     section: &'a [u8],
@@ -58,7 +58,7 @@ fn checked_frame<'a>(
 }
 
 /// The section of location lists of these bytes, if it has no fault.
-fn checked_lists<'a>(
+fn lists_or_refusal<'a>(
     alloc: Global,
     target: Target,
     section: &'a [u8],
@@ -80,7 +80,7 @@ fn checked_lists<'a>(
 }
 
 /// The expression of these bytes, if it has no fault.
-fn checked_expression<'a>(
+fn expression_or_refusal<'a>(
     alloc: Global,
     kind: Kind,
     target: Target,
@@ -103,7 +103,7 @@ fn checked_expression<'a>(
 }
 
 /// The two sections of these bytes, if they have no fault.
-fn checked_sections<'a>(
+fn sections_or_refusal<'a>(
     alloc: Global,
     target: Target,
     frame: &'a [u8],
@@ -124,7 +124,7 @@ fn checked_sections<'a>(
 }
 
 /// How a run goes whose text was written so.
-fn ended(written: Result<(), ReportFault>) -> Result<(), RunFault>
+fn run_result(written: Result<(), ReportFault>) -> Result<(), RunFault>
     ensures { result ≡ ended_by written }
 {
     Ok(written?)
@@ -147,8 +147,8 @@ fn show_report<S: Sink>(
     one_report();
     let frame = section_at(alloc, files.hex, files.contents, 0)?;
     let lists = section_at(alloc, files.hex, files.contents, 1)?;
-    let checked = checked_sections(alloc, files.target, frame.as_slice(), lists.as_slice())?;
-    ended(write_report(out, &checked))
+    let checked = sections_or_refusal(alloc, files.target, frame.as_slice(), lists.as_slice())?;
+    run_result(write_report(out, &checked))
 }
 
 /// Shows all rows of a frame section.
@@ -167,8 +167,8 @@ fn show_rows<S: Sink>(
     ensures stops { S.has_stopped out.new.sink.now ≡ is_output result }
 {
     let section = section_at(alloc, files.hex, files.contents, 0)?;
-    let frame = checked_frame(alloc, files.target, section.as_slice())?;
-    ended(write_frame(out, &frame))
+    let frame = frame_or_refusal(alloc, files.target, section.as_slice())?;
+    run_result(write_frame_section(out, &frame))
 }
 
 /// Shows the row of an address in a frame section.
@@ -188,8 +188,8 @@ fn show_row<S: Sink>(
     ensures stops { S.has_stopped out.new.sink.now ≡ is_output result }
 {
     let section = section_at(alloc, files.hex, files.contents, 0)?;
-    let frame = checked_frame(alloc, files.target, section.as_slice())?;
-    ended(write_lookup(out, &frame, address))
+    let frame = frame_or_refusal(alloc, files.target, section.as_slice())?;
+    run_result(write_row_lookup(out, &frame, address))
 }
 
 /// Shows what a location list says of an address, on a machine of which a state file says something, if there is one.
@@ -210,8 +210,8 @@ fn show_locations<S: Sink>(
 {
     let section = section_at(alloc, files.hex, files.contents, 0)?;
     let state = state_at(alloc, files.target, files.contents, 1)?;
-    let lists = checked_lists(alloc, files.target, section.as_slice())?;
-    ended(write_found(out, &lists, lookup, &state))
+    let lists = lists_or_refusal(alloc, files.target, section.as_slice())?;
+    run_result(write_list_lookup(out, &lists, lookup, &state))
 }
 
 /// Shows what an expression comes to, on a machine of which a state file says something, if there is one.
@@ -232,12 +232,12 @@ fn show_outcome<S: Sink>(
 {
     let bytes = section_at(alloc, files.hex, files.contents, 0)?;
     let state = state_at(alloc, files.target, files.contents, 1)?;
-    let checked = checked_expression(alloc, kind, files.target, bytes.as_slice())?;
-    ended(write_outcome(out, &checked, &state))
+    let checked = expression_or_refusal(alloc, kind, files.target, bytes.as_slice())?;
+    run_result(write_outcome(out, &checked, &state))
 }
 
 /// Writes the caller of the frame at an address over what is known, or that no FDE covers the address.
-fn write_one_caller<S: Sink>(
+fn unwind_and_write<S: Sink>(
     out: &mut Writer<'_, S>,
     checked: &Checked<'_>,
     address: u64,
@@ -256,7 +256,7 @@ fn write_one_caller<S: Sink>(
 }
 
 /// Writes the walk from a frame at an address over what is known.
-fn write_backtrace<S: Sink>(
+fn backtrace_and_write<S: Sink>(
     alloc: Global,
     out: &mut Writer<'_, S>,
     checked: &Checked<'_>,
@@ -300,8 +300,8 @@ fn show_caller<S: Sink>(
     one_caller();
     let section = section_at(alloc, files.hex, files.contents, 0)?;
     let state = state_at(alloc, files.target, files.contents, 1)?;
-    let checked = checked_sections(alloc, files.target, section.as_slice(), &[])?;
-    ended(write_one_caller(out, &checked, address, &state))
+    let checked = sections_or_refusal(alloc, files.target, section.as_slice(), &[])?;
+    run_result(unwind_and_write(out, &checked, address, &state))
 }
 
 /// Shows the walk from the frame at an address, on a machine of which a state file says something.
@@ -324,12 +324,12 @@ fn show_walk<S: Sink>(
     one_walk();
     let section = section_at(alloc, files.hex, files.contents, 0)?;
     let state = state_at(alloc, files.target, files.contents, 1)?;
-    let checked = checked_sections(alloc, files.target, section.as_slice(), &[])?;
-    ended(write_backtrace(alloc, out, &checked, address, limit, &state))
+    let checked = sections_or_refusal(alloc, files.target, section.as_slice(), &[])?;
+    run_result(backtrace_and_write(alloc, out, &checked, address, limit, &state))
 }
 
 /// Does a task with these files.
-fn show<S: Sink>(
+fn show_reply<S: Sink>(
     alloc: Global,
     task: Task,
     files: &Files<'_>,
@@ -379,7 +379,7 @@ pub fn run<S: Sink>(alloc: Global, request: &Request, files: &[Vec<u8>], sink: &
         size: request.target.address_size,
         sink,
     };
-    match show(alloc, request.task, &files, &mut out) {
+    match show_reply(alloc, request.task, &files, &mut out) {
         Ok(()) => End::Done,
         Err(RunFault::Refused(section, fault)) => match write_refused(&mut out, section, fault) {
             Ok(()) => End::Refused,

@@ -89,7 +89,7 @@ impl<W: Write> Sink for Through<W> {
 }
 
 /// Hands the bytes on until all are taken or the sink has stopped.
-pub(crate) fn put<S: Sink>(sink: &mut S, bytes: &[u8]) -> Result<(), Stopped>
+pub(crate) fn write_all<S: Sink>(sink: &mut S, bytes: &[u8]) -> Result<(), Stopped>
     requires { S.has_stopped sink.old ≡ false }
     ensures all { OnOk result (Appends (S.taken sink.old) (S.taken sink.new) bytes.now) }
     ensures runs { OnOk result (S.has_stopped sink.new ≡ false) }

@@ -24,7 +24,7 @@ pub(crate) enum StateLine {
 }
 
 /// The bytes at an address: one or more, up to the top of the addresses at most.
-fn memory_at(target: Target, address: u64, bytes: Vec<u8>) -> Option<StateLine>
+fn memory_line(target: Target, address: u64, bytes: Vec<u8>) -> Option<StateLine>
     ensures given { option_map fact_of result ≡ bytes_fact target address bytes.items }
     ensures fits { IfSome result (λ line. FitsAddresses (fact_of line)) }
 {
@@ -60,7 +60,7 @@ fn parse_memory_line(
         return Ok(None);
     };
     match hex::decode(alloc, value) {
-        Ok(bytes) => Ok(memory_at(target, address, bytes)),
+        Ok(bytes) => Ok(memory_line(target, address, bytes)),
         Err(FromHexError::OutOfMemory) => Err(AllocError),
         Err(_) => Ok(None),
     }

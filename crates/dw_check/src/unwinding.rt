@@ -62,7 +62,7 @@ fn callers_fit(frame: &CheckedFrame<'_>)
 {
     // A section without a fault has expressions of its own target alone.
     let _ = frame.section();
-    dw_rows::laws::checked_sections();
+    dw_rows::laws::checked_frame_sections();
     dw_rows::laws::rules_under_abis();
     dw_eval::laws::numbers_of_evaluations_fit();
 }

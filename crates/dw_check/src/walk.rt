@@ -24,7 +24,7 @@ struct CallerRegisters<'c> {
 }
 
 /// The content of a register by what was found of a caller.
-fn content_in(found: &[(u16, Answer)], number: u16) -> Option<u64>
+fn content_in_caller(found: &[(u16, Answer)], number: u16) -> Option<u64>
     ensures { result ≡ contents_of (map found_in found.now) number }
 {
     for register in found {
@@ -45,7 +45,7 @@ impl<'c> Registers for CallerRegisters<'c> {
     ghost contents = { λ c. contents_of (map found_in c.found.now) };
 
     fn register(&self, number: u16) -> Option<u64> {
-        content_in(self.found, number)
+        content_in_caller(self.found, number)
     }
 }
 

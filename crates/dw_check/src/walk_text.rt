@@ -13,12 +13,16 @@ use crate::numbers::{push_address, push_decimal};
 use crate::sink::Sink;
 use crate::stop::ReportFault;
 use crate::unwinding::Caller;
-use crate::writer::{Writer, send};
+use crate::writer::{Writer, send_line};
 use dw_bytes::AddressSize;
 use std::alloc::AllocError;
 
 /// The CFA of a caller, or that there is no caller.
-fn push_cfa(line: &mut String, size: AddressSize, caller: Option<&Caller>) -> Result<(), AllocError>
+fn push_walked_cfa(
+    line: &mut String,
+    size: AddressSize,
+    caller: Option<&Caller>,
+) -> Result<(), AllocError>
     ensures { OnOk result (string_bytes line.new ≡ string_bytes line.old
         ++ caller_cfa_text size (option_map caller_in (option_copied caller.entry))) }
 {
@@ -33,7 +37,7 @@ fn push_cfa(line: &mut String, size: AddressSize, caller: Option<&Caller>) -> Re
 
 /// The line of a frame with its number.
 #[tactic(auto, unfolding(crate::specs::WalkText::walked_line))]
-fn push_frame(
+fn push_walked_frame(
     line: &mut String,
     size: AddressSize,
     number: usize,
@@ -47,12 +51,12 @@ fn push_frame(
     line.push_str(" ")?;
     push_address(line, size, frame.address)?;
     line.push_str(" ")?;
-    push_cfa(line, size, frame.caller.as_ref())?;
+    push_walked_cfa(line, size, frame.caller.as_ref())?;
     line.push_str("\n")
 }
 
 /// Why there are no more frames, as it is named.
-fn name_of(stop: Stop) -> &'static str
+fn stop_name(stop: Stop) -> &'static str
     ensures { result.now ≡ stop_text stop }
 {
     match stop {
@@ -70,12 +74,12 @@ fn push_stop(line: &mut String, stop: Stop) -> Result<(), AllocError>
     ensures { OnOk result (string_bytes line.new ≡ string_bytes line.old ++ last_line stop) }
 {
     line.push_str("stop ")?;
-    line.push_str(name_of(stop))?;
+    line.push_str(stop_name(stop))?;
     line.push_str("\n")
 }
 
 /// Writes the line of a frame with its number.
-fn write_frame<S: Sink>(
+fn write_walked_frame<S: Sink>(
     out: &mut Writer<'_, S>,
     number: usize,
     frame: &Frame,
@@ -87,12 +91,15 @@ fn write_frame<S: Sink>(
     ensures stops { S.has_stopped out.new.sink.now ≡ is_write result }
 {
     out.line.clear();
-    push_frame(out.line, out.size, number, frame)?;
-    send(out)
+    push_walked_frame(out.line, out.size, number, frame)?;
+    send_line(out)
 }
 
 /// Writes the lines of frames, counted from 0.
-fn write_frames<S: Sink>(out: &mut Writer<'_, S>, frames: &[Frame]) -> Result<(), ReportFault>
+fn write_walked_frames<S: Sink>(
+    out: &mut Writer<'_, S>,
+    frames: &[Frame],
+) -> Result<(), ReportFault>
     requires { S.has_stopped out.old.sink.now ≡ false }
     ensures same { IsSame out.old out.new }
     ensures written { Writes (S.taken out.old.sink.now) (S.taken out.new.sink.now) result
@@ -100,7 +107,7 @@ fn write_frames<S: Sink>(out: &mut Writer<'_, S>, frames: &[Frame]) -> Result<()
     ensures stops { S.has_stopped out.new.sink.now ≡ is_write result }
 {
     for (number, frame) in frames.iter().enumerate() {
-        write_frame(out, number, frame)?;
+        write_walked_frame(out, number, frame)?;
     }
     Ok(())
 }
@@ -115,7 +122,7 @@ fn write_stop<S: Sink>(out: &mut Writer<'_, S>, stop: Stop) -> Result<(), Report
 {
     out.line.clear();
     push_stop(out.line, stop)?;
-    send(out)
+    send_line(out)
 }
 
 /// Writes the lines of a walk, one after the other: no more than one of them is kept.
@@ -129,6 +136,6 @@ pub(crate) fn write_walk<S: Sink>(
         (walk_text out.old.size (frames_in backtrace.now.frames.items) backtrace.now.stop) }
     ensures stops { S.has_stopped out.new.sink.now ≡ is_write result }
 {
-    write_frames(out, backtrace.frames.as_slice())?;
+    write_walked_frames(out, backtrace.frames.as_slice())?;
     write_stop(out, backtrace.stop)
 }

@@ -4,7 +4,7 @@ ghost use Rattle.std.specs.Prelude.{◌≡◌, false};
 ghost use Rattle.std.specs.String.{string_bytes};
 ghost use Rattle.dw_check.specs.WriteResults.{IsSame, WritesWhole, is_write};
 
-use crate::sink::{Sink, put};
+use crate::sink::{Sink, write_all};
 use crate::stop::ReportFault;
 use dw_bytes::AddressSize;
 
@@ -19,13 +19,13 @@ pub(crate) struct Writer<'a, S: Sink> {
 }
 
 /// Hands the line to the sink.
-pub(crate) fn send<S: Sink>(out: &mut Writer<'_, S>) -> Result<(), ReportFault>
+pub(crate) fn send_line<S: Sink>(out: &mut Writer<'_, S>) -> Result<(), ReportFault>
     requires runs { S.has_stopped out.old.sink.now ≡ false }
     ensures same { IsSame out.old out.new }
     ensures written { WritesWhole (S.taken out.old.sink.now) (S.taken out.new.sink.now) result
         (string_bytes out.old.line.now) }
     ensures stops { S.has_stopped out.new.sink.now ≡ is_write result }
 {
-    put(out.sink, out.line.as_bytes())?;
+    write_all(out.sink, out.line.as_bytes())?;
     Ok(())
 }

@@ -57,7 +57,7 @@ pub fn location_named<'a, const PLACES: usize>(
 
 /// The size of the piece that the operation ends, if it ends one.
 #[inline(always)]
-pub fn piece_size(operation: &Operation<'_>) -> Option<PieceSize>
+pub fn piece_size_named(operation: &Operation<'_>) -> Option<PieceSize>
     ensures { EndsPiece (operation_of operation.now) result }
 {
     match *operation {

@@ -31,7 +31,7 @@ pub enum Change {
 
 /// A value in the place of so many entries.
 #[inline(always)]
-fn put(taken: usize, value: u64) -> Result<Change, EvaluationError>
+fn change_to(taken: usize, value: u64) -> Result<Change, EvaluationError>
     ensures { result ≡ Ok (Change.Put taken value) }
 {
     Ok(Change::Put { taken, value })
@@ -51,7 +51,7 @@ pub fn divisor(b: u64) -> Result<u64, EvaluationError>
 
 /// The change of an operation that needs no entry and pushes one value: a literal, or what is handed in.
 #[inline(always)]
-fn pushed<R: Registers, M: Memory>(
+fn pushing_change<R: Registers, M: Memory>(
     environment: &Environment<'_, R, M>,
     operation: &Operation<'_>,
 ) -> Result<Change, EvaluationError>
@@ -64,32 +64,35 @@ fn pushed<R: Registers, M: Memory>(
 {
     let width = environment.width();
     match *operation {
-        Operation::Addr { address } => put(0, width.reduce(address)),
-        Operation::Const1u { value } => put(0, width.reduce(u64::from(value))),
-        Operation::Const1s { value } => put(0, width.reduce_signed(i64::from(value))),
-        Operation::Const2u { value } => put(0, width.reduce(u64::from(value))),
-        Operation::Const2s { value } => put(0, width.reduce_signed(i64::from(value))),
-        Operation::Const4u { value } => put(0, width.reduce(u64::from(value))),
-        Operation::Const4s { value } => put(0, width.reduce_signed(i64::from(value))),
-        Operation::Const8u { value } => put(0, width.reduce(value)),
-        Operation::Const8s { value } => put(0, width.reduce_signed(value)),
-        Operation::Constu { value } => put(0, width.reduce(value)),
-        Operation::Consts { value } => put(0, width.reduce_signed(value)),
-        Operation::Lit { value } => put(0, width.reduce(u64::from(value))),
-        Operation::Fbreg { offset } => put(
+        Operation::Addr { address } => change_to(0, width.reduce(address)),
+        Operation::Const1u { value } => change_to(0, width.reduce(u64::from(value))),
+        Operation::Const1s { value } => change_to(0, width.reduce_signed(i64::from(value))),
+        Operation::Const2u { value } => change_to(0, width.reduce(u64::from(value))),
+        Operation::Const2s { value } => change_to(0, width.reduce_signed(i64::from(value))),
+        Operation::Const4u { value } => change_to(0, width.reduce(u64::from(value))),
+        Operation::Const4s { value } => change_to(0, width.reduce_signed(i64::from(value))),
+        Operation::Const8u { value } => change_to(0, width.reduce(value)),
+        Operation::Const8s { value } => change_to(0, width.reduce_signed(value)),
+        Operation::Constu { value } => change_to(0, width.reduce(value)),
+        Operation::Consts { value } => change_to(0, width.reduce_signed(value)),
+        Operation::Lit { value } => change_to(0, width.reduce(u64::from(value))),
+        Operation::Fbreg { offset } => change_to(
             0,
             environment.sum(environment.context.frame_base, offset)?,
         ),
-        Operation::Breg { register, offset } => put(
+        Operation::Breg { register, offset } => change_to(
             0,
             environment.sum(environment.registers.register(u16::from(register)), offset)?,
         ),
-        Operation::Bregx { register, offset } => put(
+        Operation::Bregx { register, offset } => change_to(
             0,
             environment.sum(environment.registers.register(register), offset)?,
         ),
-        Operation::PushObjectAddress => put(0, environment.given(environment.context.object)?),
-        Operation::CallFrameCfa => put(0, environment.given(environment.context.cfa)?),
+        Operation::PushObjectAddress => change_to(
+            0,
+            environment.given(environment.context.object)?,
+        ),
+        Operation::CallFrameCfa => change_to(0, environment.given(environment.context.cfa)?),
         _ => unreachable!(),
     }
 }
@@ -97,7 +100,7 @@ fn pushed<R: Registers, M: Memory>(
 /// The change of an operation that puts one value in the place of all that it needs: a read, arithmetic, or nothing needed.
 #[tactic(auto, using(crate::proofs::Entries::entry_below))]
 #[inline(always)]
-fn computed<R: Registers, M: Memory, const PLACES: usize>(
+fn computing_change<R: Registers, M: Memory, const PLACES: usize>(
     environment: &Environment<'_, R, M>,
     operation: &Operation<'_>,
     stack: &Stack<PLACES>,
@@ -117,42 +120,42 @@ fn computed<R: Registers, M: Memory, const PLACES: usize>(
 {
     let width = environment.width();
     match *operation {
-        Operation::Deref => put(1, environment.load(stack.entry(0), environment.word())?),
-        Operation::DerefSize { size } => put(1, environment.load(stack.entry(0), size)?),
-        Operation::Abs => put(1, width.abs(stack.entry(0))),
-        Operation::And => put(2, width.and(stack.entry(1), stack.entry(0))),
-        Operation::Div => put(2, width.div(stack.entry(1), divisor(stack.entry(0))?)),
-        Operation::Minus => put(2, width.minus(stack.entry(1), stack.entry(0))),
-        Operation::Mod => put(2, width.rem(stack.entry(1), divisor(stack.entry(0))?)),
-        Operation::Mul => put(2, width.mul(stack.entry(1), stack.entry(0))),
-        Operation::Neg => put(1, width.neg(stack.entry(0))),
-        Operation::Not => put(1, width.not(stack.entry(0))),
-        Operation::Or => put(2, width.or(stack.entry(1), stack.entry(0))),
-        Operation::Plus => put(2, width.plus(stack.entry(1), stack.entry(0))),
-        Operation::PlusUconst { value } => put(1, width.plus(stack.entry(0), value)),
-        Operation::Shl => put(2, width.shl(stack.entry(1), stack.entry(0))),
-        Operation::Shr => put(2, width.shr(stack.entry(1), stack.entry(0))),
-        Operation::Shra => put(2, width.shra(stack.entry(1), stack.entry(0))),
-        Operation::Xor => put(2, width.xor(stack.entry(1), stack.entry(0))),
-        Operation::Eq => put(2, width.truth(stack.entry(1) == stack.entry(0))),
-        Operation::Ge => put(
+        Operation::Deref => change_to(1, environment.load(stack.entry(0), environment.word())?),
+        Operation::DerefSize { size } => change_to(1, environment.load(stack.entry(0), size)?),
+        Operation::Abs => change_to(1, width.abs(stack.entry(0))),
+        Operation::And => change_to(2, width.and(stack.entry(1), stack.entry(0))),
+        Operation::Div => change_to(2, width.div(stack.entry(1), divisor(stack.entry(0))?)),
+        Operation::Minus => change_to(2, width.minus(stack.entry(1), stack.entry(0))),
+        Operation::Mod => change_to(2, width.rem(stack.entry(1), divisor(stack.entry(0))?)),
+        Operation::Mul => change_to(2, width.mul(stack.entry(1), stack.entry(0))),
+        Operation::Neg => change_to(1, width.neg(stack.entry(0))),
+        Operation::Not => change_to(1, width.not(stack.entry(0))),
+        Operation::Or => change_to(2, width.or(stack.entry(1), stack.entry(0))),
+        Operation::Plus => change_to(2, width.plus(stack.entry(1), stack.entry(0))),
+        Operation::PlusUconst { value } => change_to(1, width.plus(stack.entry(0), value)),
+        Operation::Shl => change_to(2, width.shl(stack.entry(1), stack.entry(0))),
+        Operation::Shr => change_to(2, width.shr(stack.entry(1), stack.entry(0))),
+        Operation::Shra => change_to(2, width.shra(stack.entry(1), stack.entry(0))),
+        Operation::Xor => change_to(2, width.xor(stack.entry(1), stack.entry(0))),
+        Operation::Eq => change_to(2, width.truth(stack.entry(1) == stack.entry(0))),
+        Operation::Ge => change_to(
             2,
             width.truth(width.is_at_most(stack.entry(0), stack.entry(1))),
         ),
-        Operation::Gt => put(
+        Operation::Gt => change_to(
             2,
             width.truth(width.is_below(stack.entry(0), stack.entry(1))),
         ),
-        Operation::Le => put(
+        Operation::Le => change_to(
             2,
             width.truth(width.is_at_most(stack.entry(1), stack.entry(0))),
         ),
-        Operation::Lt => put(
+        Operation::Lt => change_to(
             2,
             width.truth(width.is_below(stack.entry(1), stack.entry(0))),
         ),
-        Operation::Ne => put(2, width.truth(stack.entry(1) != stack.entry(0))),
-        _ => pushed(environment, operation),
+        Operation::Ne => change_to(2, width.truth(stack.entry(1) != stack.entry(0))),
+        _ => pushing_change(environment, operation),
     }
 }
 
@@ -174,10 +177,10 @@ pub fn change_of<R: Registers, M: Memory, const PLACES: usize>(
         (world_in R.contents M.bytes environment.now) (operation_of operation.now) stack.now }
 {
     match *operation {
-        Operation::Dup => put(0, stack.entry(0)),
+        Operation::Dup => change_to(0, stack.entry(0)),
         Operation::Drop => Ok(Change::Pop),
-        Operation::Pick { index } => put(0, stack.entry(usize::from(index))),
-        Operation::Over => put(0, stack.entry(1)),
+        Operation::Pick { index } => change_to(0, stack.entry(usize::from(index))),
+        Operation::Over => change_to(0, stack.entry(1)),
         Operation::Swap => Ok(Change::Swap),
         Operation::Rot => Ok(Change::Rot),
         Operation::Bra { .. } | Operation::StackValue => Ok(Change::Pop),
@@ -188,13 +191,13 @@ pub fn change_of<R: Registers, M: Memory, const PLACES: usize>(
         | Operation::ImplicitValue { .. }
         | Operation::Piece { .. }
         | Operation::BitPiece { .. } => Ok(Change::Stays),
-        _ => computed(environment, operation, stack),
+        _ => computing_change(environment, operation, stack),
     }
 }
 
 /// Makes the change.
 #[inline(always)]
-pub fn make<const PLACES: usize>(change: Change, stack: &mut Stack<PLACES>)
+pub fn make_change<const PLACES: usize>(change: Change, stack: &mut Stack<PLACES>)
     requires enough { taken_by change ≤ length stack.old }
     requires room { length stack.old - taken_by change + added_by change ≤ PLACES }
     ensures { Ok stack.new ≡ changed change stack.old }

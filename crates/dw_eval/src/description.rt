@@ -9,7 +9,7 @@ ghost use Rattle.dw_eval.specs.Handed.{world_in};
 
 use crate::context::{Memory, Registers};
 use crate::environment::Environment;
-use crate::execution::{read, unanswered};
+use crate::execution::{outcome_without_answer, read_operation};
 use crate::location::{Evaluation, Outcome, Piece};
 use crate::run::{Run, Step};
 use arrayvec::ArrayVec;
@@ -17,7 +17,7 @@ use dw_ops::Expression;
 use dw_stack::Kind;
 
 /// Runs a location on behind its first piece, at this offset and after so many steps.
-fn run_on<'a, R: Registers, M: Memory, const PLACES: usize>(
+fn run_location_on<'a, R: Registers, M: Memory, const PLACES: usize>(
     expression: &Expression<'a>,
     environment: &Environment<'_, R, M>,
     run: &mut Run<'a, PLACES>,
@@ -39,7 +39,7 @@ fn run_on<'a, R: Registers, M: Memory, const PLACES: usize>(
     let mut at = from;
     let mut steps = before;
     while at < end {
-        let (operation, next) = read(expression, at);
+        let (operation, next) = read_operation(expression, at);
         steps += 1;
         match run.apply(environment, &operation, next) {
             Ok(step) => match step {
@@ -51,7 +51,7 @@ fn run_on<'a, R: Registers, M: Memory, const PLACES: usize>(
             },
             Err(why) => {
                 return Evaluation {
-                    outcome: unanswered(why, at),
+                    outcome: outcome_without_answer(why, at),
                     steps,
                 };
             }
@@ -86,12 +86,12 @@ pub fn run_location<'a, R: Registers, M: Memory, const PLACES: usize>(
             Ok(step) => match step {
                 Step::To(to) => at = to,
                 Step::Ends(piece, to) => {
-                    return run_on(expression, environment, run, piece, to, steps);
+                    return run_location_on(expression, environment, run, piece, to, steps);
                 }
             },
             Err(why) => {
                 return Evaluation {
-                    outcome: unanswered(why, at),
+                    outcome: outcome_without_answer(why, at),
                     steps,
                 };
             }

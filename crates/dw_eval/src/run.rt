@@ -1,11 +1,11 @@
 //! A run of a location, step by step.
 
 use crate::bare::execute_bare;
-use crate::branch_target::{location_named, piece_size};
+use crate::branch_target::{location_named, piece_size_named};
 use crate::context::{Memory, Registers};
 use crate::environment::Environment;
 use crate::evaluation_error::EvaluationError;
-use crate::execution::{execute, read};
+use crate::execution::{execute, read_operation};
 use crate::location::{Location, Piece, PieceSize};
 use crate::stack::Stack;
 use dw_ops::{Expression, Operation};
@@ -109,7 +109,7 @@ impl<'a, const PLACES: usize> Run<'a, PLACES> {
             (λ why. answer (world_in R.contents M.bytes environment.now)
             (operation_of operation.now) self.old.stack ≡ Err (error_of why)) }
     {
-        match piece_size(operation) {
+        match piece_size_named(operation) {
             Some(size) => Ok(Step::Ends(self.end_piece(size), next)),
             None => {
                 let named = location_named(operation, &self.stack);
@@ -143,7 +143,7 @@ impl<'a, const PLACES: usize> Run<'a, PLACES> {
         if execute_bare(environment, code, &mut self.stack)? {
             return Ok(Step::To(at + 1));
         }
-        let (operation, next) = read(expression, at);
+        let (operation, next) = read_operation(expression, at);
         self.apply(environment, &operation, next)
     }
 

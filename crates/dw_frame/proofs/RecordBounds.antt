@@ -64,7 +64,7 @@ record-refused r fault is =
 
 abbrev InRange : Target → Header → Type 0
 InRange target (cie_header h) = (is_version h.version ≡ true) × (h.return_address_register ≤ 65535)
-InRange target (fde_header h) = h.initial + h.range ≤ top_of target
+InRange target (fde_header h) = h.initial_location + h.address_range ≤ top_of target
 
 column-range : (target : Target) (at : ℕ) (is_byte : Bool) (make : ℕ → Header) (bytes : List ℕ) (h : Header)
     → Encodes target (cond is_byte (field (fixed 1) column_fault (λ n. made (make n)))

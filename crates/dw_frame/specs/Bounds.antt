@@ -49,7 +49,7 @@ pub record IsSoundFde (target : Target) (size : ℕ) (f : Fde) : Type 0 where
   pub program : LiesIn target size f.offset f.program
   pub pointer_behind : f.offset < f.cie_pointer_offset
   pub pointer_before : f.cie_pointer_offset < f.program.position
-  pub range : f.initial + f.range ≤ top_of target
+  pub range : f.initial_location + f.address_range ≤ top_of target
 
 abbrev pub IsSoundRecord : Target → ℕ → Record → Type 0
 IsSoundRecord target size (cie_record c) = IsSoundCie target size c

@@ -14,7 +14,11 @@ cie_head h = cie_header (record {
 })
 
 abbrev pub fde_head : FdeHeader → Header
-fde_head h = fde_header (record { cie_pointer = h.cie_pointer; initial = h.initial_location; range = h.address_range })
+fde_head h = fde_header (record {
+  cie_pointer = h.cie_pointer;
+  initial_location = h.initial_location;
+  address_range = h.address_range;
+})
 
 abbrev pub head_of : declared.Header → Header
 head_of (headers.Cie h) = cie_head h

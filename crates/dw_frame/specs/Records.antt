@@ -23,8 +23,8 @@ pub record Fde : Type 0 where
   pub format : Format
   pub cie_pointer : ℕ
   pub cie_pointer_offset : ℕ
-  pub initial : ℕ
-  pub range : ℕ
+  pub initial_location : ℕ
+  pub address_range : ℕ
   pub program : ReadPosition
 
 pub data Record : Type 0 where

@@ -28,8 +28,8 @@ pub record CieHeader : Type 0 where
 -- What stands between the length of an FDE and its program.
 pub record FdeHeader : Type 0 where
   pub cie_pointer : ℕ
-  pub initial : ℕ
-  pub range : ℕ
+  pub initial_location : ℕ
+  pub address_range : ℕ
 
 pub data Header : Type 0 where
   cie_header : CieHeader → Header
@@ -87,9 +87,9 @@ cie_fields target =
 -- Behind the CIE_pointer of an FDE: the first address, and how many there are, which all lie in the address space.
 abbrev pub fde_fields : Target → ℕ → Fields Header
 fde_fields target cie_pointer =
-    any address (λ initial.
-    field address (λ range. unless (ends_by (top_of target) initial range) RangePastTop) (λ range.
-    made (fde_header (record { cie_pointer = cie_pointer; initial = initial; range = range }))))
+    any address (λ initial_location.
+    field address (λ range. unless (ends_by (top_of target) initial_location range) RangePastTop) (λ address_range.
+    made (fde_header (record { cie_pointer = cie_pointer; initial_location = initial_location; address_range = address_range }))))
 
 -- a CIE, where it is its id that the body begins with, else an FDE
 abbrev pub header_fields : Target → Format → Fields Header
@@ -123,8 +123,8 @@ record_from at format body (fde_header h) program =
       format = format;
       cie_pointer = h.cie_pointer;
       cie_pointer_offset = body;
-      initial = h.initial;
-      range = h.range;
+      initial_location = h.initial_location;
+      address_range = h.address_range;
       program = program;
     })
 

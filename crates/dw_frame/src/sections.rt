@@ -16,7 +16,11 @@ use dw_bytes::{Body, Fault, Format, Target};
 
 /// The format and the body of the record at an offset of a section. The body is kept as a program is,
 /// which is what it has left behind its header.
-fn frame<'a>(section: &'a [u8], target: Target, at: u32) -> Result<(Format, Program<'a>), Fault>
+fn record_body<'a>(
+    section: &'a [u8],
+    target: Target,
+    at: u32,
+) -> Result<(Format, Program<'a>), Fault>
     requires inside { at ≤ length section.now }
     requires short { length section.now < 2 ^ 32 }
     ensures exact { MatchResult result
@@ -77,7 +81,7 @@ pub fn entry<'a>(section: &'a [u8], target: Target, at: u32) -> Result<(Entry<'a
     ensures forward { IfOk result (λ e. at < e.1 × e.1 ≤ length section.now) }
     ensures inside { IfErr result (λ fault. fault.at ≤ length section.now) }
 {
-    let (format, body) = frame(section, target, at)?;
+    let (format, body) = record_body(section, target, at)?;
     let mut cursor = body.cursor(body.start());
     let header = Header::read(&mut cursor, format, target)?;
     let program = body.from_offset(cursor.position());

@@ -24,7 +24,7 @@ pub fn entries_are_unambiguous()
 /// What is read is what is encoded, and what is encoded is read. Of lists and tables this has what is asked of them besides:
 /// one default a list, ranges that don't end before they begin, expressions that are good as locations, and offsets of an
 /// array that are those of lists.
-pub fn reads_are_exact()
+pub fn list_reads_are_exact()
     ensures entries { (r : ReadPosition) → IsExact entry_at (IsEntry r.target r.position) r }
     ensures lists { (r : ReadPosition) → IsExact list_at (IsList r.target r.position) r }
     ensures tables { (r : ReadPosition) → IsExact table_at (IsTable r.target r.position) r }
@@ -38,7 +38,7 @@ pub fn sections_are_tables()
 {}
 
 /// A section has no fault exactly where it is well formed.
-pub fn sections_without_fault_are_well_formed()
+pub fn list_sections_without_fault_are_well_formed()
     ensures { (target : Target) (section : List ℕ) →
         (lists_fault target section ≡ None) ↔ IsWellFormed target section }
 {}
@@ -58,7 +58,7 @@ pub fn tables_come_in_order()
 
 /// What a section that is accepted holds: its tables are what its bytes encode, its lists and its expressions come in order of
 /// their offsets, one list begins at an offset, and each expression is good as a location, and is of the section's target.
-pub fn checked_sections()
+pub fn checked_list_sections()
     ensures tables { (s : ListSection) →
         IsChecked s → AreTables s.target 0 s.section (tables_in s) }
     ensures lists_ascend { (s : ListSection) →

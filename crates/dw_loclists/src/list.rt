@@ -22,7 +22,7 @@ use std::alloc::Global;
 
 /// Judges an expression as a location, and keeps what was learned of it.
 #[inline(always)]
-fn check_location(
+fn check_entry_expression(
     alloc: Global,
     block: Block<'_>,
     expressions: &mut Vec<KeptExpression>,
@@ -79,7 +79,7 @@ fn check_entry(
         });
     }
     match entry.expression() {
-        Some(block) => check_location(alloc, block, expressions),
+        Some(block) => check_entry_expression(alloc, block, expressions),
         None => Ok(()),
     }
 }

@@ -52,7 +52,7 @@ checked-cies-sound s k c among = cies-sound s.target s.section c (subst (λ (t :
 pub checked-fdes-sound : (s : FrameSection) → IsChecked s → (f : Fde) → Contains s.fdes f → IsSoundFde s.target (length s.section) f
 checked-fdes-sound s k f among = fdes-sound s.target s.section f (subst (λ (t : FrameSection). Contains t.fdes f) k.whole among)
 
-pub checked-fits : (s : FrameSection) → IsChecked s → (f : Fde) → Contains s.fdes f → f.initial + f.range ≤ top_of s.target
+pub checked-fits : (s : FrameSection) → IsChecked s → (f : Fde) → Contains s.fdes f → f.initial_location + f.address_range ≤ top_of s.target
 checked-fits s k f among = (checked-fdes-sound s k f among).range
 
 -- its expressions are those of its programs

@@ -19,9 +19,9 @@ use Rattle.dw_rows.proofs.Sweeps.{covers-once}
 
 -- two FDEs share the higher of their first addresses
 pub shares-true : (f g : Fde) → shares f g ≡ true → SharesAddress f g
-shares-true f g e = elim (cases_lt f.initial g.initial) [
-  | inl lt ↦ (g.initial, (omega arith, grind (arith, nat_tests)), (omega arith, grind (arith, nat_tests)))
-  | inr le ↦ (f.initial, (omega arith, grind (arith, nat_tests)), (omega arith, grind (arith, nat_tests)))
+shares-true f g e = elim (cases_lt f.initial_location g.initial_location) [
+  | inl lt ↦ (g.initial_location, (omega arith, grind (arith, nat_tests)), (omega arith, grind (arith, nat_tests)))
+  | inr le ↦ (f.initial_location, (omega arith, grind (arith, nat_tests)), (omega arith, grind (arith, nat_tests)))
 ]
 
 pub shares-address : (f g : Fde) → SharesAddress f g → shares f g ≡ true

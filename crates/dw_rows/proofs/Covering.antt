@@ -26,8 +26,9 @@ cover-up s before to rows end le h = elim (cases_lt (location_of s before) to) [
 ]
 
 pub cover-after : (c : Cie) (f : Fde) (before : List Effect) (items : List (Result (ℕ × Instruction) Fault))
-    → location_of (fde_start c f) before ≤ f.initial + f.range → fde_fault_from c f before items ≡ None →
-    Cover (location_of (fde_start c f) before) (rows_after (fde_start c f) before (effects_of c items)) (f.initial + f.range)
+    → location_of (fde_start c f) before ≤ f.initial_location + f.address_range → fde_fault_from c f before items ≡ None →
+    Cover (location_of (fde_start c f) before) (rows_after (fde_start c f) before (effects_of c items))
+    (f.initial_location + f.address_range)
 cover-after c f before [] le none =
     let s = fde_start c f in
     elim (cases_lt (location_of s before) s.end) [
@@ -42,10 +43,10 @@ cover-after c f before (Ok item ∷ items) le none =
     let fine : refusal_at s before x ≡ None = (item-passes (refusal_at s) c before item both.0).1 in
     let past = (passed-from s before x fine).past in
     let within : location_of s (x ∷ before) ≤ s.end = grind (arith, nat_tests) in
-    cover-up s before (location_of s (x ∷ before)) _ (f.initial + f.range) (forward s before x fine)
+    cover-up s before (location_of s (x ∷ before)) _ (f.initial_location + f.address_range) (forward s before x fine)
     (cover-after c f (x ∷ before) items within both.1)
 
-pub cover-rows : (c : Cie) (f : Fde) → fde_fault c f ≡ None → Cover f.initial (rows_of c f) (f.initial + f.range)
+pub cover-rows : (c : Cie) (f : Fde) → fde_fault c f ≡ None → Cover f.initial_location (rows_of c f) (f.initial_location + f.address_range)
 unfolding fde_fault rows_of
 cover-rows c f none = cover-after c f [] (instructions_of f.program) (omega arith) none
 
@@ -90,10 +91,10 @@ none-some None e h = cc
 none-some (Some x) e h = cc
 
 -- a covered address has a row
-pub not-missed : (c : Cie) (f : Fde) (a : ℕ) → fde_fault c f ≡ None → f.initial ≤ a → a < f.initial + f.range
+pub not-missed : (c : Cie) (f : Fde) (a : ℕ) → fde_fault c f ≡ None → f.initial_location ≤ a → a < f.initial_location + f.address_range
     → find (has_address a) (rows_of c f) ≡ None → ⊥
 not-missed c f a none low high missed = none-some _ missed
-    (find-some a f.initial (f.initial + f.range) (rows_of c f) (cover-rows c f none) low high)
+    (find-some a f.initial_location (f.initial_location + f.address_range) (rows_of c f) (cover-rows c f none) low high)
 
 -- a row that is found among rows up to an address begins and ends by it
 pub found-by : {E : Type 0} (p : RowOver E → Bool) (from to : ℕ) (rows : List (RowOver E)) (row : RowOver E) → Cover from rows to

@@ -92,7 +92,8 @@ row-good s checked f among row inside =
     let es = s.expressions in
     let rows : rows_in s f ≡ map (given_row es) (rows_of c f) = ap (λ o. map (given_row es) (rows_behind o f)) pointed.1 in
     let placed = contained-map (given_row es) (rows_of c f) row (subst (λ l. Contains l row) rows inside) in
-    let is = one-of (start_in c f good) (program_in c f good) f.initial (f.initial + f.range) (rows_of c f) placed.0
+    let is = one-of (start_in c f good) (program_in c f good) f.initial_location (f.initial_location + f.address_range)
+    (rows_of c f) placed.0
     (rows-of-good c f good) placed.1 in
     let lends = lends-in s checked c f (at-found s.cies f.cie_pointer c pointed.1).0 among in
     let lent = row-lends es c f good placed.0 is.0 is.1 lends in

@@ -114,7 +114,7 @@ contains-filter p (x ∷ xs) f (suc k, k_in, k_is) passes =
     ]
 
 abbrev pub is_some_fde : Fde → Bool
-is_some_fde f = nat_lt 0 f.range
+is_some_fde f = nat_lt 0 f.address_range
 
 pub indexed : (fdes index : List Fde) → Ascends fde_offset fdes → IsPermutation (filter is_some_fde fdes) index
     → IsNonDecreasingBy initial_of index → IsIndexOf fdes index
@@ -134,28 +134,33 @@ indexed fdes index up moved sorted =
 
 -- where the last FDE that begins at or below an address ends before it, none covers it
 pub not-covered : (index : List Fde) → IsOrdered index → (place a : ℕ) (x : Fde) → CoversOnce index → 0 < place → place ≤ length index
-    → get_or index (place - 1) x ≡ x → x.initial ≤ a → ((k : ℕ) (d : Fde) → place ≤ k → k < length index → a < (get_or index k d).initial)
-    → x.initial + x.range ≤ a → (f : Fde) → Contains index f → ¬ Covers f a
+    → get_or index (place - 1) x ≡ x → x.initial_location ≤ a
+    → ((k : ℕ) (d : Fde) → place ≤ k → k < length index → a < (get_or index k d).initial_location)
+    → x.initial_location + x.address_range ≤ a → (f : Fde) → Contains index f → ¬ Covers f a
 not-covered index ordered place a x once some in_range x_is low above short f (k, k_in, k_is) covered =
     elim (cases_lt k place) [
-      | inr le ↦ let h : a < f.initial = subst (λ v. a < v.initial) k_is (above k f le k_in) in omega (arith, h, covered.0)
+      | inr le ↦ let h : a < f.initial_location = subst (λ v. a < v.initial_location) k_is (above k f le k_in)
+          in omega (arith, h, covered.0)
       | inl not_above ↦
           let at_x : get_or index (place - 1) f ≡ x = get_or_default index (place - 1) f x (omega arith) ∙ x_is in
-          let f_low : f.initial ≤ x.initial = subst (λ v. f.initial ≤ v.initial) at_x
-          (subst (λ v. v.initial ≤ (get_or index (place - 1) f).initial) k_is
+          let f_low : f.initial_location ≤ x.initial_location = subst (λ v. f.initial_location ≤ v.initial_location) at_x
+          (subst (λ v. v.initial_location ≤ (get_or index (place - 1) f).initial_location) k_is
           (ordered.sorted k (place - 1) f (omega arith) (omega arith))) in
           let x_in : Contains index x = (place - 1, omega arith, x_is) in
-          let x_some : 0 < x.range = ordered.some x x_in in
-          let same : f ≡ x = once x.initial f x (k, k_in, k_is) x_in (f_low, omega (arith, covered.1)) (omega arith, omega arith) in
-          let end : f.initial + f.range ≡ x.initial + x.range = ap (λ v. v.initial + v.range) same in
+          let x_some : 0 < x.address_range = ordered.some x x_in in
+          let same : f ≡ x = once x.initial_location f x (k, k_in, k_is) x_in (f_low, omega (arith, covered.1))
+          (omega arith, omega arith) in
+          let end : f.initial_location + f.address_range ≡ x.initial_location + x.address_range
+          = ap (λ v. v.initial_location + v.address_range) same in
           omega (arith, end, covered.1)
     ]
 
 -- where each FDE begins above an address, none covers it
-pub none-covered : (index : List Fde) → (a : ℕ) → ((k : ℕ) (d : Fde) → k < length index → a < (get_or index k d).initial) → (f : Fde)
+pub none-covered : (index : List Fde) → (a : ℕ) → ((k : ℕ) (d : Fde) → k < length index → a < (get_or index k d).initial_location)
+    → (f : Fde)
     → Contains index f → ¬ Covers f a
 none-covered index a above f (k, k_in, k_is) covered =
-    let h : a < f.initial = subst (λ v. a < v.initial) k_is (above k f k_in) in
+    let h : a < f.initial_location = subst (λ v. a < v.initial_location) k_is (above k f k_in) in
     omega (arith, h, covered.0)
 
 -- what covers an address among those in the index does so among all
@@ -180,7 +185,7 @@ entry-is fdes place x within is =
     let long = length-map fdes fde_of in
     record {
       within = omega arith;
-      start = ap (λ (f : Fde). f.initial)
+      start = ap (λ (f : Fde). f.initial_location)
           (sym (fde_at-is fdes (record { start = x.initial_location; place = place }) x within is));
     }
 
@@ -226,9 +231,9 @@ pub sorted-entries : (fdes : List Fde) (entries : List IndexEntry) → All (IsEn
     → IsNonDecreasingBy initial_of (map (fde_at fdes) entries)
 sorted-entries fdes entries all sorted =
     sorted-map (fde_at fdes) initial_of entries (λ i j d le lt.
-    let a : (get_or entries i d).start ≡ (fde_at fdes (get_or entries i d)).initial =
+    let a : (get_or entries i d).start ≡ (fde_at fdes (get_or entries i d)).initial_location =
     (All-get_or (IsEntry fdes) entries i d (omega arith) all).start in
-    let b : (get_or entries j d).start ≡ (fde_at fdes (get_or entries j d)).initial =
+    let b : (get_or entries j d).start ≡ (fde_at fdes (get_or entries j d)).initial_location =
     (All-get_or (IsEntry fdes) entries j d lt all).start in
     let h = sorted i j d le lt in
     omega arith)
@@ -253,15 +258,15 @@ pub entry-start : (fdes : List FrameDescriptionEntry) (entries : List IndexEntry
     → (get_or entries i d).start ≡ x.initial_location
 entry-start fdes entries i d x all i_in is =
     (All-get_or (IsEntry (map fde_of fdes)) entries i d i_in all).start
-    ∙ ap (λ (f : Fde). f.initial) (fde_at-is fdes (get_or entries i d) x (entry-within fdes entries i d all i_in) (sym is))
+    ∙ ap (λ (f : Fde). f.initial_location) (fde_at-is fdes (get_or entries i d) x (entry-within fdes entries i d all i_in) (sym is))
 
 -- the entries are sorted by where they begin
 pub starts-sorted : (fdes : List Fde) (entries : List IndexEntry) → IsAddressIndex fdes entries
     → IsNonDecreasingBy (λ (e : IndexEntry). e.start) entries
 starts-sorted fdes entries is i j d le lt =
-    let a : (get_or entries i d).start ≡ (fde_at fdes (get_or entries i d)).initial =
+    let a : (get_or entries i d).start ≡ (fde_at fdes (get_or entries i d)).initial_location =
     (All-get_or (IsEntry fdes) entries i d (omega arith) is.each).start in
-    let b : (get_or entries j d).start ≡ (fde_at fdes (get_or entries j d)).initial =
+    let b : (get_or entries j d).start ≡ (fde_at fdes (get_or entries j d)).initial_location =
     (All-get_or (IsEntry fdes) entries j d lt is.each).start in
     let h = sorted-back (fde_at fdes) initial_of entries is.index_of.ordered.sorted i j d le lt in
     omega (arith, h)
@@ -269,16 +274,16 @@ starts-sorted fdes entries is i j d le lt =
 -- where entries begin above an address, their FDEs do
 pub starts-above : (fdes : List Fde) (entries : List IndexEntry) (place a : ℕ) → All (IsEntry fdes) entries
     → ((k : ℕ) (d : IndexEntry) → place ≤ k → k < length entries → a < (get_or entries k d).start)
-    → (k : ℕ) (d : Fde) → place ≤ k → k < length (map (fde_at fdes) entries) → a < (get_or (map (fde_at fdes) entries) k d).initial
+    → (k : ℕ) (d : Fde) → place ≤ k → k < length (map (fde_at fdes) entries) → a < (get_or (map (fde_at fdes) entries) k d).initial_location
 starts-above fdes entries place a all above k d le lt =
     let long = length-map entries (fde_at fdes) in
     let k_in : k < length entries = omega arith in
     let e = some-element entries k k_in in
-    let b : (get_or entries k e).start ≡ (fde_at fdes (get_or entries k e)).initial =
+    let b : (get_or entries k e).start ≡ (fde_at fdes (get_or entries k e)).initial_location =
     (All-get_or (IsEntry fdes) entries k e k_in all).start in
     let h = above k e le k_in in
     let at : get_or (map (fde_at fdes) entries) k d ≡ fde_at fdes (get_or entries k e) = get_or-map (fde_at fdes) entries k e d k_in in
-    subst (λ (f : Fde). a < f.initial) (sym at) (omega (arith, h, b))
+    subst (λ (f : Fde). a < f.initial_location) (sym at) (omega (arith, h, b))
 
 -- ---- going on by quarters
 

@@ -94,9 +94,10 @@ has-one-row s a checked f among covers =
     let cie_found = at-found s.cies f.cie_pointer c pointed.1 in
     let none = good-behind s.cies s.fdes parts f among c pointed.1 in
     let good = good-from-fde c f (good-from-cie c none.0) none.1 in
-    let one = one-row a f.initial (f.initial + f.range) (rows_of c f) (cover-rows c f none.1) covers.0 covers.1 in
+    let one = one-row a f.initial_location (f.initial_location + f.address_range) (rows_of c f) (cover-rows c f none.1) covers.0 covers.1 in
     let row = one.0 in
-    let is = row-alone (start_in c f good) (program_in c f good) (has_address a) f.initial (f.initial + f.range) (rows_of c f) row
+    let is = row-alone (start_in c f good) (program_in c f good) (has_address a) f.initial_location (f.initial_location + f.address_range)
+    (rows_of c f) row
     (rows-of-good c f good) one.1 in
     let es = s.expressions in
     let rows : rows_in s f ≡ map (given_row es) (rows_of c f) = ap (λ o. map (given_row es) (rows_behind o f)) pointed.1 in

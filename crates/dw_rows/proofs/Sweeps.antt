@@ -9,10 +9,12 @@ use Rattle.dw_rows.proofs.Search.{ascending-at, ascending-place, ascending-same,
 
 -- what a sweep over the first i knows: where the last FDE up to an offset ends, and that none shares an address so far
 pub record IsSwept (xs : List Fde) (last i end : ℕ) : Type 0 where
-  pub below : (k : ℕ) (d : Fde) → k < i → (get_or xs k d).offset ≤ last → (get_or xs k d).initial + (get_or xs k d).range ≤ end
-  pub source : (end ≡ 0) ⊎ ((k : ℕ) × (f : Fde) × (k < i) × (get_or xs k f ≡ f) × (f.offset ≤ last) × (end ≡ f.initial + f.range))
+  pub below : (k : ℕ) (d : Fde) → k < i → (get_or xs k d).offset ≤ last
+      → (get_or xs k d).initial_location + (get_or xs k d).address_range ≤ end
+  pub source : (end ≡ 0) ⊎ ((k : ℕ) × (f : Fde) × (k < i) × (get_or xs k f ≡ f) × (f.offset ≤ last)
+      × (end ≡ f.initial_location + f.address_range))
   pub apart : (j k : ℕ) (d : Fde) → j < k → k < i → (get_or xs j d).offset ≤ last → (get_or xs k d).offset ≤ last
-      → (get_or xs j d).initial + (get_or xs j d).range ≤ (get_or xs k d).initial
+      → (get_or xs j d).initial_location + (get_or xs j d).address_range ≤ (get_or xs k d).initial_location
 
 pub swept-none : (xs : List Fde) (last : ℕ) → IsSwept xs last 0 0
 swept-none xs last = record {
@@ -25,17 +27,17 @@ symmetric : (f g : Fde) → SharesAddress f g → SharesAddress g f
 symmetric f g (a, cf, cg) = (a, cg, cf)
 
 pub clash-at : (xs : List Fde) (last i end : ℕ) (x : Fde) → IsOrdered xs → IsSwept xs last i end → i < length xs → get_or xs i x ≡ x
-    → x.offset ≤ last → x.initial < end → ClashWithin xs last
+    → x.offset ≤ last → x.initial_location < end → ClashWithin xs last
 clash-at xs last i end x ordered swept i_in i_is le lt = elim swept.source [
   | inl none ↦ absurd (omega arith)
   | inr (k, f, k_lt, k_is, f_le, f_end) ↦
       let f_is : get_or xs k x ≡ f = get_or_default xs k x f (omega arith) ∙ k_is in
-      let before : f.initial ≤ x.initial = subst (λ v. v.initial ≤ x.initial) f_is
-      (subst (λ v. (get_or xs k x).initial ≤ v.initial) i_is (ordered.sorted k i x (omega arith) i_in)) in
+      let before : f.initial_location ≤ x.initial_location = subst (λ v. v.initial_location ≤ x.initial_location) f_is
+      (subst (λ v. (get_or xs k x).initial_location ≤ v.initial_location) i_is (ordered.sorted k i x (omega arith) i_in)) in
       let f_in : Contains xs f = (k, omega arith, k_is) in
       let x_in : Contains xs x = (i, i_in, i_is) in
-      let some : 0 < x.range = ordered.some x x_in in
-      let shared : SharesAddress f x = (x.initial, (before, omega arith), (omega arith, omega arith)) in
+      let some : 0 < x.address_range = ordered.some x x_in in
+      let shared : SharesAddress f x = (x.initial_location, (before, omega arith), (omega arith, omega arith)) in
       let apart : f.offset ≢ x.offset = λ same.
       let at_both : (get_or xs k x).offset ≡ (get_or xs i x).offset = ap fde_offset f_is ∙ (same ∙ sym (ap fde_offset i_is)) in
       let place : k ≡ i = ordered.distinct k i x (omega arith) i_in at_both in
@@ -75,14 +77,15 @@ swept-skip xs last i end x swept i_in i_is lt =
     }
 
 pub swept-more : (xs : List Fde) (last i end : ℕ) (x : Fde) → IsSwept xs last i end → i < length xs → get_or xs i x ≡ x → x.offset ≤ last
-    → end ≤ x.initial → IsSwept xs last (i + 1) (x.initial + x.range)
+    → end ≤ x.initial_location → IsSwept xs last (i + 1) (x.initial_location + x.address_range)
 swept-more xs last i end x swept i_in i_is x_le le =
     let is : (d : Fde) → get_or xs i d ≡ x = λ d. get_or_default xs i d x i_in ∙ i_is in
     record {
       below = λ k d k_lt k_le.
           elim (before_or_at k i k_lt) [
             | inl earlier ↦ let h = swept.below k d earlier k_le in omega (arith, h)
-            | inr here ↦ subst (λ v. v.initial + v.range ≤ x.initial + x.range) (sym (ap (λ n. get_or xs n d) here ∙ is d)) (omega arith)
+            | inr here ↦ subst (λ v. v.initial_location + v.address_range ≤ x.initial_location + x.address_range)
+                (sym (ap (λ n. get_or xs n d) here ∙ is d)) (omega arith)
           ];
       source = inr (i, x, omega arith, i_is, x_le, refl);
       apart = λ j k d jk k_lt j_le k_le.
@@ -90,7 +93,8 @@ swept-more xs last i end x swept i_in i_is x_le le =
             | inl earlier ↦ swept.apart j k d jk earlier j_le k_le
             | inr here ↦
                 let h = swept.below j d (omega arith) j_le in
-                subst (λ v. (get_or xs j d).initial + (get_or xs j d).range ≤ v.initial) (sym (ap (λ n. get_or xs n d) here ∙ is d))
+                subst (λ v. (get_or xs j d).initial_location + (get_or xs j d).address_range ≤ v.initial_location)
+                (sym (ap (λ n. get_or xs n d) here ∙ is d))
                 (omega (arith, h))
           ];
     }
@@ -100,12 +104,14 @@ swept-all xs last i end swept all f g (j, j_in, j_is) (k, k_in, k_is) lt le (a, 
     let g_is : get_or xs k f ≡ g = get_or_default xs k f g k_in ∙ k_is in
     let f_le : (get_or xs j f).offset ≤ last = subst (λ v. v.offset ≤ last) (sym j_is) (omega arith) in
     let g_le : (get_or xs k f).offset ≤ last = subst (λ v. v.offset ≤ last) (sym g_is) le in
-    let low : j < k → f.initial + f.range ≤ g.initial =
-    λ jk. subst (λ v. f.initial + f.range ≤ v.initial) g_is
-    (subst (λ v. v.initial + v.range ≤ (get_or xs k f).initial) j_is (swept.apart j k f jk (omega arith) f_le g_le)) in
-    let high : k < j → g.initial + g.range ≤ f.initial =
-    λ kj. subst (λ v. v.initial + v.range ≤ f.initial) g_is
-    (subst (λ v. (get_or xs k f).initial + (get_or xs k f).range ≤ v.initial) j_is (swept.apart k j f kj (omega arith) g_le f_le)) in
+    let low : j < k → f.initial_location + f.address_range ≤ g.initial_location =
+    λ jk. subst (λ v. f.initial_location + f.address_range ≤ v.initial_location) g_is
+    (subst (λ v. v.initial_location + v.address_range ≤ (get_or xs k f).initial_location) j_is
+    (swept.apart j k f jk (omega arith) f_le g_le)) in
+    let high : k < j → g.initial_location + g.address_range ≤ f.initial_location =
+    λ kj. subst (λ v. v.initial_location + v.address_range ≤ f.initial_location) g_is
+    (subst (λ v. (get_or xs k f).initial_location + (get_or xs k f).address_range ≤ v.initial_location) j_is
+    (swept.apart k j f kj (omega arith) g_le f_le)) in
     let same : j ≡ k → f.offset ≡ g.offset = λ e. ap fde_offset (sym j_is ∙ (ap (λ n. get_or xs n f) e ∙ g_is)) in
     elim (three_ways j k) [
       | inl jk ↦ let h = low jk in
@@ -118,7 +124,7 @@ swept-all xs last i end swept all f g (j, j_in, j_is) (k, k_in, k_is) lt le (a, 
     ]
 
 -- a range with an address is not empty
-some-of : (f : Fde) (a : ℕ) → Covers f a → 0 < f.range
+some-of : (f : Fde) (a : ℕ) → Covers f a → 0 < f.address_range
 some-of f a c = omega (arith, c.0, c.1)
 
 pub first-clash : (fdes index : List Fde) (i : ℕ) (x : Fde) → Ascends fde_offset fdes → IsIndexOf fdes index → i < length fdes

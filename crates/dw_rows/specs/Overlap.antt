@@ -18,7 +18,7 @@ abbrev pub cie_offset : Cie → ℕ
 cie_offset c = c.offset
 
 abbrev pub initial_of : Fde → ℕ
-initial_of f = f.initial
+initial_of f = f.initial_location
 
 -- x is the first in order of offset that fails
 pub record IsFirst {X : Type 0} (at : X → ℕ) (Passes Fails : X → Type 0) (xs : List X) (x : X) : Type 0 where
@@ -54,7 +54,7 @@ ApartWithin fdes last = (f g : Fde) → Contains fdes f → Contains fdes g → 
 
 -- FDEs that cover an address each, in order of address, none of them twice
 pub record IsOrdered (index : List Fde) : Type 0 where
-  pub some : (f : Fde) → Contains index f → 0 < f.range
+  pub some : (f : Fde) → Contains index f → 0 < f.address_range
   pub distinct : (i j : ℕ) (d : Fde) → i < length index → j < length index
       → (slice_index_or index i d).offset ≡ (slice_index_or index j d).offset → i ≡ j
   pub sorted : IsNonDecreasingBy initial_of index
@@ -62,7 +62,7 @@ pub record IsOrdered (index : List Fde) : Type 0 where
 -- the FDEs that cover an address, in order of address
 pub record IsIndexOf (fdes index : List Fde) : Type 0 where
   pub from : (f : Fde) → Contains index f → Contains fdes f
-  pub to : (f : Fde) → Contains fdes f → 0 < f.range → Contains index f
+  pub to : (f : Fde) → Contains fdes f → 0 < f.address_range → Contains index f
   pub ordered : IsOrdered index
 
 -- ---- the index as it is kept: where each FDE begins, and its place among all
@@ -74,8 +74,8 @@ no_fde = record {
   format = Dwarf32;
   cie_pointer = 0;
   cie_pointer_offset = 0;
-  initial = 0;
-  range = 0;
+  initial_location = 0;
+  address_range = 0;
   program = record { target = record { order = Little; address_size = Four }; position = 0; rest = [] };
 }
 
@@ -85,7 +85,7 @@ fde_at fdes e = slice_index_or fdes e.place no_fde
 
 pub record IsEntry (fdes : List Fde) (e : IndexEntry) : Type 0 where
   pub within : e.place < length fdes
-  pub start : e.start ≡ (fde_at fdes e).initial
+  pub start : e.start ≡ (fde_at fdes e).initial_location
 
 -- the entries are those of the FDEs that cover an address, in order of address
 pub record IsAddressIndex (fdes : List Fde) (entries : List IndexEntry) : Type 0 where

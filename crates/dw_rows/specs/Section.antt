@@ -53,7 +53,7 @@ frame_of target section =
 -- ---- what FDEs cover
 
 abbrev pub Covers : Fde → ℕ → Type 0
-Covers f a = (f.initial ≤ a) × (a < f.initial + f.range)
+Covers f a = (f.initial_location ≤ a) × (a < f.initial_location + f.address_range)
 
 abbrev pub SharesAddress : Fde → Fde → Type 0
 SharesAddress f g = (a : ℕ) × Covers f a × Covers g a
@@ -92,7 +92,9 @@ program_fault cies f = fault_behind (cie_at cies f.cie_pointer) f
 
 -- both cover some address: each begins before the other ends, and neither is empty
 abbrev pub shares : Fde → Fde → Bool
-shares f g = nat_lt 0 f.range && nat_lt 0 g.range && nat_lt f.initial (g.initial + g.range) && nat_lt g.initial (f.initial + f.range)
+shares f g = nat_lt 0 f.address_range && nat_lt 0 g.address_range
+    && nat_lt f.initial_location (g.initial_location + g.address_range)
+    && nat_lt g.initial_location (f.initial_location + f.address_range)
 
 -- no FDE before this one shares an address with it
 abbrev pub overlap_fault : List Fde → Fde → Option Fault
@@ -135,7 +137,7 @@ rows_in s f = map (given_row s.expressions) (rows_behind (cie_in s f) f)
 -- ---- the row of an address
 
 abbrev pub covers : ℕ → Fde → Bool
-covers a f = nat_le f.initial a && nat_lt a (f.initial + f.range)
+covers a f = nat_le f.initial_location a && nat_lt a (f.initial_location + f.address_range)
 
 -- that of the FDE that covers it, if one does
 abbrev pub row_of : FrameSection → ℕ → Option Row

@@ -36,7 +36,7 @@ impl Model for Abi {
 }
 
 /// Gives a register its rule, unless it has one: then it answers `false`.
-fn add(rules: &mut RegisterRuleMap, number: u16, rule: KeptRule) -> bool
+fn add_abi_rule(rules: &mut RegisterRuleMap, number: u16, rule: KeptRule) -> bool
     requires table { IsTable 0 rules.old }
     requires room { length rules.old < MAX_RULES }
     requires rule { kept_rule_of rule ≢ RuleOver.default }
@@ -81,15 +81,15 @@ impl Abi {
         }
         let mut rules = RegisterRuleMap::new();
         for (place, number) in kept.iter().enumerate() {
-            if !add(&mut rules, *number, KeptRule::SameValue) {
-                return Err(twice_at(place));
+            if !add_abi_rule(&mut rules, *number, KeptRule::SameValue) {
+                return Err(abi_twice_at(place));
             }
         }
         let Some(number) = stack_pointer else {
             return Ok(Abi { rules });
         };
-        if !add(&mut rules, number, KeptRule::ValOffset(0)) {
-            return Err(twice_at(kept.len()));
+        if !add_abi_rule(&mut rules, number, KeptRule::ValOffset(0)) {
+            return Err(abi_twice_at(kept.len()));
         }
         Ok(Abi { rules })
     }
@@ -113,7 +113,7 @@ impl Abi {
 }
 
 /// A register that is named a second time at a place.
-fn twice_at(place: usize) -> Fault
+fn abi_twice_at(place: usize) -> Fault
     requires { place ≤ MAX_KEPT }
     ensures { result ≡ record { kind = FaultKind.AbiTwice; at = place } }
 {

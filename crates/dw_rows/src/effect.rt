@@ -30,7 +30,7 @@ pub enum InstructionEffect {
 
 /// An unsigned offset that isn't factored.
 #[inline(always)]
-fn unfactored(offset: u64) -> i128
+fn unfactored_offset(offset: u64) -> i128
     ensures { result ≡ pos offset }
 {
     offset.into()
@@ -38,7 +38,7 @@ fn unfactored(offset: u64) -> i128
 
 /// An unsigned offset times the data alignment factor.
 #[inline(always)]
-fn factored(cie: &CommonInformationEntry<'_>, offset: u64) -> i128
+fn factor_offset(cie: &CommonInformationEntry<'_>, offset: u64) -> i128
     ensures { result ≡ pos offset *ℤ cie.now.data_alignment_factor }
 {
     i128::from(offset) * i128::from(cie.data_alignment_factor)
@@ -46,7 +46,7 @@ fn factored(cie: &CommonInformationEntry<'_>, offset: u64) -> i128
 
 /// A signed offset times the data alignment factor.
 #[inline(always)]
-fn factored_sf(cie: &CommonInformationEntry<'_>, offset: i64) -> i128
+fn factor_signed_offset(cie: &CommonInformationEntry<'_>, offset: i64) -> i128
     ensures { result ≡ offset *ℤ cie.now.data_alignment_factor }
 {
     i128::from(offset) * i128::from(cie.data_alignment_factor)
@@ -54,7 +54,7 @@ fn factored_sf(cie: &CommonInformationEntry<'_>, offset: i64) -> i128
 
 /// An advance by a delta times the code alignment factor.
 #[inline(always)]
-fn advance(cie: &CommonInformationEntry<'_>, delta: u32) -> InstructionEffect
+fn advance_effect(cie: &CommonInformationEntry<'_>, delta: u32) -> InstructionEffect
     ensures { result ≡ InstructionEffect.AdvanceLoc (delta * cie.now.code_alignment_factor) }
 {
     InstructionEffect::AdvanceLoc(u128::from(delta) * u128::from(cie.code_alignment_factor))
@@ -62,7 +62,7 @@ fn advance(cie: &CommonInformationEntry<'_>, delta: u32) -> InstructionEffect
 
 /// What the instruction does, by the factors of the CIE.
 #[inline(always)]
-pub fn action_of(
+pub fn instruction_effect(
     cie: &CommonInformationEntry<'_>,
     instruction: CallFrameInstruction<'_>,
 ) -> InstructionEffect
@@ -70,30 +70,30 @@ pub fn action_of(
 {
     match instruction {
         CallFrameInstruction::Nop => InstructionEffect::Stays,
-        CallFrameInstruction::AdvanceLoc { delta } => advance(cie, u32::from(delta)),
-        CallFrameInstruction::AdvanceLoc1 { delta } => advance(cie, u32::from(delta)),
-        CallFrameInstruction::AdvanceLoc2 { delta } => advance(cie, u32::from(delta)),
-        CallFrameInstruction::AdvanceLoc4 { delta } => advance(cie, delta),
+        CallFrameInstruction::AdvanceLoc { delta } => advance_effect(cie, u32::from(delta)),
+        CallFrameInstruction::AdvanceLoc1 { delta } => advance_effect(cie, u32::from(delta)),
+        CallFrameInstruction::AdvanceLoc2 { delta } => advance_effect(cie, u32::from(delta)),
+        CallFrameInstruction::AdvanceLoc4 { delta } => advance_effect(cie, delta),
         CallFrameInstruction::SetLoc { address } => InstructionEffect::SetLoc(address),
         CallFrameInstruction::DefCfa { register, offset } => InstructionEffect::DefinesCfa {
             register,
-            offset: unfactored(offset),
+            offset: unfactored_offset(offset),
         },
         CallFrameInstruction::DefCfaSf {
             register,
             factored_offset,
         } => InstructionEffect::DefinesCfa {
             register,
-            offset: factored_sf(cie, factored_offset),
+            offset: factor_signed_offset(cie, factored_offset),
         },
         CallFrameInstruction::DefCfaRegister { register } => InstructionEffect::ChangesRegister(
             register,
         ),
         CallFrameInstruction::DefCfaOffset { offset } => InstructionEffect::ChangesOffset(
-            unfactored(offset),
+            unfactored_offset(offset),
         ),
         CallFrameInstruction::DefCfaOffsetSf { factored_offset } => {
-            InstructionEffect::ChangesOffset(factored_sf(cie, factored_offset))
+            InstructionEffect::ChangesOffset(factor_signed_offset(cie, factored_offset))
         }
         CallFrameInstruction::DefCfaExpression { expression } => {
             InstructionEffect::DefinesCfaExpression(expression.offset)
@@ -115,35 +115,35 @@ pub fn action_of(
             factored_offset,
         } => InstructionEffect::SetsOffset {
             register,
-            offset: factored(cie, factored_offset),
+            offset: factor_offset(cie, factored_offset),
         },
         CallFrameInstruction::OffsetExtended {
             register,
             factored_offset,
         } => InstructionEffect::SetsOffset {
             register,
-            offset: factored(cie, factored_offset),
+            offset: factor_offset(cie, factored_offset),
         },
         CallFrameInstruction::OffsetExtendedSf {
             register,
             factored_offset,
         } => InstructionEffect::SetsOffset {
             register,
-            offset: factored_sf(cie, factored_offset),
+            offset: factor_signed_offset(cie, factored_offset),
         },
         CallFrameInstruction::ValOffset {
             register,
             factored_offset,
         } => InstructionEffect::SetsValOffset {
             register,
-            offset: factored(cie, factored_offset),
+            offset: factor_offset(cie, factored_offset),
         },
         CallFrameInstruction::ValOffsetSf {
             register,
             factored_offset,
         } => InstructionEffect::SetsValOffset {
             register,
-            offset: factored_sf(cie, factored_offset),
+            offset: factor_signed_offset(cie, factored_offset),
         },
         CallFrameInstruction::Expression {
             register,

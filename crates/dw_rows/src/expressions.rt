@@ -50,15 +50,15 @@ impl<'f, 'a> LentExpressions<'f, 'a> {
             (λ checked. expression_at (lent_by self.now) offset ≡ Some
             (located_of (offset, checked))) }
     {
-        if let Some(checked) = find(self.cies, offset) {
+        if let Some(checked) = find_lent(self.cies, offset) {
             return Some(checked);
         }
-        find(self.fdes, offset)
+        find_lent(self.fdes, offset)
     }
 }
 
 /// The expression at an offset, by halving.
-fn find<'a>(
+fn find_lent<'a>(
     expressions: &[(u32, CheckedExpression<'a>)],
     offset: u32,
 ) -> Option<CheckedExpression<'a>>

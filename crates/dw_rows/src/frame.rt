@@ -26,7 +26,7 @@ use crate::judged::JudgedExpressions;
 use crate::lookup::write_row_at;
 use crate::row::UnwindTableRow;
 use crate::row_iter::Rows;
-use crate::section::{begin_with_cie, check_cies, check_fdes, check_pointers, find_cie};
+use crate::section::{begin_with_rules_of_cie, check_cies, check_fdes, check_pointers, find_cie};
 use crate::unwind_context::UnwindContext;
 use crate::unwind_state::UnwindState;
 use dw_bytes::{Fault, FaultKind, OUT_OF_MEMORY, Target};
@@ -264,7 +264,7 @@ impl<'a> CheckedFrame<'a> {
     pub fn fdes(&self) -> &[FrameDescriptionEntry<'a>]
         ensures fdes { map fde_of result.now ≡ self.now.fdes }
         ensures fit { (f : Fde) → Contains self.now.fdes f
-            → f.initial + f.range ≤ top_of self.now.target }
+            → f.initial_location + f.address_range ≤ top_of self.now.target }
     {
         self.fdes.as_slice()
     }
@@ -311,7 +311,7 @@ impl<'a> CheckedFrame<'a> {
         ensures left { IsLeftBy (cie_of result) state.new.first }
         ensures lends { Lends self.now.expressions (cie_of result) (fde_of fde.now) }
     {
-        match begin_with_cie(state, &self.cies, &self.initial, fde.cie_pointer) {
+        match begin_with_rules_of_cie(state, &self.cies, &self.initial, fde.cie_pointer) {
             Some(cie) => cie,
             None => unreachable!(),
         }

@@ -26,7 +26,7 @@ fn covering_some(
 ) -> Result<Vec<IndexEntry>, AllocError>
     ensures entries { IfOk result (λ index. All (IsEntry (map fde_of fdes.now)) index.items) }
     ensures fdes { IfOk result (λ index. map (fde_at (map fde_of fdes.now)) index.items ≡ filter
-        (λ f. nat_lt 0 f.range) (map fde_of fdes.now)) }
+        (λ f. nat_lt 0 f.address_range) (map fde_of fdes.now)) }
 {
     let mut index = Vec::with_capacity(alloc, fdes.len())?;
     for (place, fde) in fdes.iter().enumerate() {

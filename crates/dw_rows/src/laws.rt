@@ -73,9 +73,9 @@ pub fn rows_are_those_of_addresses()
 /// covered address has one.
 pub fn rows_cover()
     ensures cover { (cie : Cie) (fde : Fde) → fde_fault cie fde ≡ None
-        → Cover fde.initial (rows_of cie fde) (fde.initial + fde.range) }
+        → Cover fde.initial_location (rows_of cie fde) (fde.initial_location + fde.address_range) }
     ensures one { (cie : Cie) (fde : Fde) (address : ℕ) → fde_fault cie fde ≡ None
-        → fde.initial ≤ address → address < fde.initial + fde.range
+        → fde.initial_location ≤ address → address < fde.initial_location + fde.address_range
         → (row : PlacedRow) × (filter (has_address address) (rows_of cie fde) ≡ row ∷ []) }
 {}
 
@@ -111,7 +111,7 @@ pub fn abis_without_fault_are_distinct()
 
 /// A section has no fault exactly where it is well formed: a concatenation of records whose CIE_pointers point to CIEs,
 /// with good programs, and no address covered by two FDEs.
-pub fn sections_without_fault_are_well_formed()
+pub fn frame_sections_without_fault_are_well_formed()
     ensures { (target : Target) (section : List ℕ)
         → (section_fault target section ≡ None) ↔ IsWellFormed target section }
 {}
@@ -127,7 +127,7 @@ pub fn exact_rows()
 
 /// What a section that is accepted holds: good programs that lie in it and are of its target, in order of offset, and good
 /// expressions, which lie in it likewise, no two of them beginning at one offset.
-pub fn checked_sections()
+pub fn checked_frame_sections()
     ensures well_formed { (s : FrameSection) → IsChecked s → IsWellFormed s.target s.section }
     ensures cies { (s : FrameSection) → IsChecked s → (c : Cie) → Contains s.cies c
         → IsSoundCie s.target (length s.section) c }
@@ -163,14 +163,14 @@ pub fn matches_are_unique()
 
 /// At most so many registers of a row have a rule other than default, an ABI keeps at most so many, and at most so many rows are
 /// remembered at once.
-pub fn limits()
+pub fn row_limits()
     ensures rules { MAX_RULES ≡ 128 }
     ensures kept { MAX_KEPT ≡ 127 }
     ensures remembered { MAX_REMEMBERED ≡ 16 }
 {}
 
 /// Each fault of a program stands in it or at its end, and each of a section or of an ABI's numbers likewise.
-pub fn faults_stand_inside()
+pub fn frame_faults_stand_inside()
     ensures cie { (cie : Cie) (fault : Fault) → cie_fault cie ≡ Some fault
         → StandsIn cie.program (Err fault) }
     ensures fde { (cie : Cie) (fde : Fde) (fault : Fault) → fde_fault cie fde ≡ Some fault

@@ -13,7 +13,7 @@ ghost use Rattle.dw_rows.specs.LentExpressions.{lent_by};
 
 use crate::expressions::LentExpressions;
 use crate::row::UnwindTableRow;
-use crate::row_cursor::{Next, begin_at, next_plain};
+use crate::row_cursor::{Next, begin_rows_at, next_plain};
 use crate::unwind_state::UnwindState;
 use dw_frame::{CommonInformationEntry, FrameDescriptionEntry, Instructions};
 
@@ -37,7 +37,7 @@ pub(crate) fn write_row_at<'f, 'a>(
         ≡ Some row.new }
 {
     let limit = fde.initial_location + fde.address_range;
-    let mut instructions = begin_at(state, fde);
+    let mut instructions = begin_rows_at(state, fde);
     loop {
         match next_plain(state, &mut instructions, cie, limit) {
             Next::Row(start, end) => {

@@ -54,7 +54,7 @@ impl Default for RuleEntry {
 
 /// An entry with this rule.
 #[inline(always)]
-fn entry(register: u16, rule: KeptRule) -> RuleEntry
+fn entry_with_rule(register: u16, rule: KeptRule) -> RuleEntry
     ensures { entry_of result ≡ (register, kept_rule_of rule) }
 {
     let (kind, offset, number) = match rule {
@@ -205,7 +205,7 @@ fn rule_of_register(entries: &[RuleEntry], register: u16) -> KeptRule
 
 /// How many entries are below the register.
 #[inline(always)]
-fn place_of(entries: &[RuleEntry], register: u16) -> usize
+fn place_of_register(entries: &[RuleEntry], register: u16) -> usize
     ensures value { result ≡ place_in register (entries_of entries.now) }
     ensures within { result ≤ length entries.now }
 {
@@ -225,7 +225,7 @@ fn clear_rule(table: &mut ArrayVec<RuleEntry, MAX_RULES>, register: u16)
     ensures rules { entries_of table.new.items ≡ rule_list
         (changed_at (rule_in (entries_of table.old.items)) register RuleOver.default) }
 {
-    let place = place_of(table.as_slice(), register);
+    let place = place_of_register(table.as_slice(), register);
     if place < table.len() && table.as_slice()[place].register == register {
         table.remove(place);
     }
@@ -252,7 +252,7 @@ fn put_rule(table: &mut ArrayVec<RuleEntry, MAX_RULES>, register: u16, rule: Kep
     if full {
         return false;
     }
-    let place = place_of(table.as_slice(), register);
-    table.insert(place, entry(register, rule));
+    let place = place_of_register(table.as_slice(), register);
+    table.insert(place, entry_with_rule(register, rule));
     true
 }

@@ -8,7 +8,7 @@ ghost use Rattle.dw_rows.specs.UnwindRows.{rows_of};
 use crate::expressions::LentExpressions;
 use crate::frame::CheckedFrame;
 use crate::row::UnwindTableRow;
-use crate::row_cursor::{begin, begin_at, next_range};
+use crate::row_cursor::{begin_rows, begin_rows_at, next_range};
 use crate::unwind_context::UnwindContext;
 use crate::unwind_state::UnwindState;
 use dw_frame::{CommonInformationEntry, FrameDescriptionEntry, Instructions};
@@ -67,7 +67,7 @@ impl<'f, 'a> Rows<'f, 'a> {
     {
         let mut state = UnwindState::new();
         let cie = frame.begin_with_cie(&mut state, fde);
-        let instructions = begin_at(&mut state, fde);
+        let instructions = begin_rows_at(&mut state, fde);
         Rows {
             cie,
             fde: *fde,
@@ -90,7 +90,7 @@ impl<'f, 'a> Rows<'f, 'a> {
         ensures fde_program { fde_fault (cie_of result) (fde_of fde.now) ≡ None }
     {
         let cie = frame.begin_with_cie(&mut self.context.state, fde);
-        self.instructions = begin(&mut self.context, fde);
+        self.instructions = begin_rows(&mut self.context, fde);
         self.cie = cie;
         self.fde = *fde;
         self.expressions = frame.lent();

@@ -47,7 +47,7 @@ pub fn find_cie<'a>(
 }
 
 /// The CIE that begins at an offset. What it leaves is kept at the state, as the rules that programs begin with.
-pub fn begin_with_cie<'a>(
+pub fn begin_with_rules_of_cie<'a>(
     state: &mut UnwindState,
     cies: &[CommonInformationEntry<'a>],
     initial: &InitialRules,
@@ -121,7 +121,7 @@ pub fn check_fdes<'a>(
     ensures kept { OnOk result (judged.new ≡ judged.old ++ fde_expressions (map fde_of fdes.now)) }
 {
     for fde in fdes {
-        match begin_with_cie(&mut context.state, cies, initial, fde.cie_pointer) {
+        match begin_with_rules_of_cie(&mut context.state, cies, initial, fde.cie_pointer) {
             Some(cie) => judge_fde(context, judged, &cie, fde)?,
             None => unreachable!(),
         }

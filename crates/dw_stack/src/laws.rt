@@ -57,7 +57,7 @@ pub fn runs_are_determined()
 {}
 
 /// The numbers of this checker's two limits.
-pub fn limits()
+pub fn expression_limits()
     ensures height { MAX_HEIGHT ≡ 128 }
     ensures pieces { MAX_PIECES ≡ 32 }
 {}
@@ -91,7 +91,7 @@ pub fn the_fault_is_the_first()
 {}
 
 /// The first fault of an expression stands inside it, or at its end.
-pub fn faults_stand_inside()
+pub fn expression_faults_stand_inside()
     ensures { (kind : Kind) (target : Target) (bytes : List ℕ) (f : Fault)
         → expression_fault kind target bytes ≡ Some f → f.at ≤ length bytes }
 {}

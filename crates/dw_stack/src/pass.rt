@@ -9,8 +9,8 @@ ghost use Rattle.dw_stack.specs.Views.{listed};
 
 use crate::in_state::{InState, in_state_at};
 use crate::state::{Kind, StackState, State, has_result, start_state};
-use crate::step::step;
-use crate::target::place_of;
+use crate::step::step_of_pass;
+use crate::target::place_of_operation;
 use dw_bytes::{Fault, FaultKind, OUT_OF_MEMORY};
 use dw_ops::Operation;
 use smallvec::SmallVec;
@@ -78,10 +78,10 @@ pub fn pass(
     let mut depth = start.height;
     let mut pieces = 0;
     for i in 0..operations.len() {
-        match step(kind, operations, end, given, i, pieces, &mut in_states) {
+        match step_of_pass(kind, operations, end, given, i, pieces, &mut in_states) {
             Ok(done) => {
                 if states
-                    .push(done.state.at(place_of(operations, end, i)))
+                    .push(done.state.at(place_of_operation(operations, end, i)))
                     .is_err()
                 {
                     return Err(OUT_OF_MEMORY);
@@ -89,7 +89,7 @@ pub fn pass(
                 depth = depth.max(done.state.height).max(done.height);
                 pieces += if done.piece { 1 } else { 0 };
             }
-            Err(kind) => return Err(refusal(kind, place_of(operations, end, i))),
+            Err(kind) => return Err(refusal(kind, place_of_operation(operations, end, i))),
         }
     }
     match in_state_at(in_states.as_slice(), operations.len()) {

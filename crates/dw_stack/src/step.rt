@@ -9,7 +9,7 @@ ghost use Rattle.dw_stack.specs.Views.{listed};
 use crate::in_state::{InState, in_state_at, pass_on};
 use crate::judge::judge;
 use crate::state::{Kind, StackState, State};
-use crate::target::place_of;
+use crate::target::place_of_operation;
 use dw_bytes::FaultKind;
 use dw_ops::Operation;
 
@@ -35,7 +35,7 @@ fn is_given(given: Option<&[State]>, i: usize, state: State) -> bool
 
 /// Judges one operation and passes its state on.
 #[inline(always)]
-pub fn step(
+pub fn step_of_pass(
     kind: Kind,
     operations: &[(u32, Operation<'_>)],
     end: u32,
@@ -54,7 +54,7 @@ pub fn step(
         (given_of given.entry) i pieces in_states.old) }
 {
     let state = in_state_at(in_states, i)?;
-    if !is_given(given, i, state.at(place_of(operations, end, i))) {
+    if !is_given(given, i, state.at(place_of_operation(operations, end, i))) {
         return Err(FaultKind::CertState);
     }
     let out = judge(kind, operations, end, i, pieces, state)?;

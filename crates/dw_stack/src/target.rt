@@ -12,7 +12,7 @@ use dw_ops::Operation;
 /// Where the operation numbered `i` begins, or the end.
 #[tactic(auto, using(crate::proofs::Lists::places))]
 #[inline(always)]
-pub fn place_of(operations: &[(u32, Operation<'_>)], end: u32, i: usize) -> u32
+pub fn place_of_operation(operations: &[(u32, Operation<'_>)], end: u32, i: usize) -> u32
     ensures { result ≡ place (listed operations.now) end i }
 {
     if i < operations.len() {
@@ -24,7 +24,7 @@ pub fn place_of(operations: &[(u32, Operation<'_>)], end: u32, i: usize) -> u32
 
 /// Where a jump leads that is counted from the next operation; nowhere for one backward.
 #[inline(always)]
-fn aim_at(next: u32, jump: i16) -> Option<u64>
+fn jump_target(next: u32, jump: i16) -> Option<u64>
     ensures { result ≡ branch_target next jump }
 {
     if jump < 0 {
@@ -35,7 +35,7 @@ fn aim_at(next: u32, jump: i16) -> Option<u64>
 
 /// The number of the operation behind `from` that begins at the target, or of the end, by halving.
 #[tactic(auto, using(crate::proofs::Lists::places))]
-fn place_at(
+fn place_at_target(
     operations: &[(u32, Operation<'_>)],
     end: u32,
     from: usize,
@@ -59,7 +59,7 @@ fn place_at(
             high = middle;
         }
     }
-    if u64::from(place_of(operations, end, low)) == target {
+    if u64::from(place_of_operation(operations, end, low)) == target {
         Ok(low)
     } else {
         Err(FaultKind::TargetNotStart)
@@ -80,8 +80,8 @@ pub fn place_of_jump(
     ensures ok { IfOk result (TargetPlace (listed operations.now) end from jump) }
     ensures err { IfErr result (TargetObjects (listed operations.now) end from jump) }
 {
-    match aim_at(place_of(operations, end, from + 1), jump) {
+    match jump_target(place_of_operation(operations, end, from + 1), jump) {
         None => Err(FaultKind::Backward),
-        Some(target) => place_at(operations, end, from, target),
+        Some(target) => place_at_target(operations, end, from, target),
     }
 }

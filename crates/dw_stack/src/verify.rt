@@ -31,7 +31,7 @@ fn are_as_many_states(given: Option<&[State]>, count: usize) -> bool
 }
 
 /// Reads the operations and passes over them once, with the given states if there are some.
-fn check<'a>(
+fn check_with_states<'a>(
     alloc: Global,
     expression: Expression<'a>,
     kind: Kind,
@@ -89,7 +89,7 @@ pub fn certify<'a>(
         (bytes_of expression.entry)) result }
     ensures inside { IfErr result (λ f. f.at ≤ length (bytes_of expression.entry)) }
 {
-    check(alloc, expression, kind, None)
+    check_with_states(alloc, expression, kind, None)
 }
 
 /// Checks an expression: as `certify` and then `Certificate::into_checked`, but no state is kept. Where nothing branches and
@@ -135,6 +135,6 @@ pub fn recheck<'a>(
         (bytes_of expression.entry) (Some states.now) f) }
     ensures inside { IfErr result (λ f. f.at ≤ length (bytes_of expression.entry)) }
 {
-    let certificate = check(alloc, expression, kind, Some(states))?;
+    let certificate = check_with_states(alloc, expression, kind, Some(states))?;
     Ok(certificate.into_checked())
 }

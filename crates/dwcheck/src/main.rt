@@ -75,7 +75,7 @@ fn words_of(rt: &(impl Env + AllocGlobal)) -> Result<Vec<String>, Ending> {
 }
 
 /// The bytes of a file, this many at most.
-fn content_of(
+fn file_content(
     rt: &(impl Files + AllocGlobal),
     name: &String,
     most: u64,
@@ -93,19 +93,19 @@ fn content_of(
 }
 
 /// What is needed of the bytes of each file.
-fn contents_of(rt: &(impl Files + AllocGlobal), request: &Request) -> Result<Vec<Vec<u8>>, Ending>
+fn file_contents(rt: &(impl Files + AllocGlobal), request: &Request) -> Result<Vec<Vec<u8>>, Ending>
     ensures { IfOk result (λ contents. vec_len contents ≡ length request.now.files) }
 {
     let mut contents = Vec::new(rt.alloc());
     for name in request.files() {
         let most = request.needed_length(contents.len()).unwrap_or(u64::MAX);
-        contents.push(content_of(rt, name, most)?)?;
+        contents.push(file_content(rt, name, most)?)?;
     }
     Ok(contents)
 }
 
 /// Runs the request over standard output.
-fn run(rt: &(impl Print + AllocGlobal), request: &Request, files: &[Vec<u8>]) -> End
+fn run_to_output(rt: &(impl Print + AllocGlobal), request: &Request, files: &[Vec<u8>]) -> End
     requires { length files.now ≡ length request.now.files }
     ensures { IsPlaceIn (length request.now.files) result }
 {
@@ -122,17 +122,17 @@ fn run(rt: &(impl Print + AllocGlobal), request: &Request, files: &[Vec<u8>]) ->
 }
 
 /// Does what the words ask for.
-fn work(rt: &(impl Env + Files + Print + AllocGlobal)) -> Result<Ending, Ending> {
+fn do_words(rt: &(impl Env + Files + Print + AllocGlobal)) -> Result<Ending, Ending> {
     let request = dw_check::request(rt.alloc(), words_of(rt)?)?;
-    let files = contents_of(rt, &request)?;
-    match run(rt, &request, files.as_slice()) {
+    let files = file_contents(rt, &request)?;
+    match run_to_output(rt, &request, files.as_slice()) {
         End::BadHex(place) => Ok(Ending::NotHex(request.files()[place].clone()?)),
         end => Ok(Ending::Run(end)),
     }
 }
 
 /// The line on standard error.
-fn explain(rt: &impl Eprint, ending: &Ending) -> io::Result<()> {
+fn print_ending(rt: &impl Eprint, ending: &Ending) -> io::Result<()> {
     match ending {
         Ending::Usage(Usage::Line(text)) => eprint!(rt; "{text}"),
         Ending::Usage(Usage::BadArgument) => eprintln!(rt; "dwcheck: bad argument"),
@@ -151,9 +151,9 @@ fn explain(rt: &impl Eprint, ending: &Ending) -> io::Result<()> {
 }
 
 fn main(rt: HostRuntime) -> ExitCode {
-    let ending = match work(&rt) {
+    let ending = match do_words(&rt) {
         Ok(ending) | Err(ending) => ending,
     };
-    let _ = explain(&rt, &ending);
+    let _ = print_ending(&rt, &ending);
     ExitCode::from(ending.status())
 }

@@ -13,8 +13,9 @@ returns-in-Ok c =
     let words : map (λ w. string_bytes w) c.as_slice.result.now ≡ map (λ w. string_bytes w) c.args.words.items = search rules in
     let none = sym (ap₂ fault_of app words) ∙ c.in-Ok.ensures.kinds (ap is_simple_and_free app ∙ is_free_dwcheck) in
     let same = (c.in-Ok.ensures.matches (ap is_simple app ∙ is_simple_dwcheck)).1 ∙ ap₂ subcommand_of app words in
-    subst (λ m. AsksBy (fault_of dwcheck (map (λ w. string_bytes w) c.args.words.items)) m c.answer_of.result) same
-    (answered _ (subcommand_rows_of c.in-Ok.matches) c.answer_of.result none c.answer_of.ensures.ok c.answer_of.ensures.err)
+    subst (λ m. AsksBy (fault_of dwcheck (map (λ w. string_bytes w) c.args.words.items)) m c.request_of_matches.result) same
+    (answered _ (subcommand_rows_of c.in-Ok.matches) c.request_of_matches.result
+    none c.request_of_matches.ensures.ok c.request_of_matches.ensures.err)
 
 pub returns : goal.returns
 returns c =
@@ -23,4 +24,4 @@ returns c =
     let kind = c.in-Err.ensures.kinds (ap is_simple_and_free app ∙ is_free_dwcheck) in
     refused (fault_of dwcheck (map (λ w. string_bytes w) c.args.words.items))
     (subcommand_of dwcheck (map (λ w. string_bytes w) c.args.words.items)) c.in-Err.error _
-    (subst (λ ks. HasKind ks c.in-Err.error) (ap₂ fault_of app words) kind) c.usage_of.ensures
+    (subst (λ ks. HasKind ks c.in-Err.error) (ap₂ fault_of app words) kind) c.usage_of_clap_error.ensures

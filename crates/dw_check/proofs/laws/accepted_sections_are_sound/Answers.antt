@@ -11,27 +11,27 @@ pub returns : goal.returns
 returns c = λ target frame lists none.
     let each = each_without_fault target frame lists none in
     let checked : IsChecked (frame_of target frame) = record { whole = refl; faultless = each.0 } in
-    let formed = c.checked_sections.ensures.well_formed (frame_of target frame) checked in
+    let formed = c.checked_frame_sections.ensures.well_formed (frame_of target frame) checked in
     let read = (c.sections_are_records.ensures target frame formed.records).1 formed.encoded in
     record {
       records = formed.records;
       encoded = formed.encoded;
       cies = made_of cies_among (entries_of target frame) formed.records read;
       fdes = made_of fdes_among (entries_of target frame) formed.records read;
-      tables = c.checked_sections-2.ensures.tables (list_section target lists) each.1;
+      tables = c.checked_list_sections.ensures.tables (list_section target lists) each.1;
       rows = λ a f inside covers. c.exact_rows.ensures.covered (frame_of target frame) a checked f inside covers;
       others = λ a free. c.exact_rows.ensures.others (frame_of target frame) a free;
       frame_expressions = λ x among.
-          let known = c.checked_sections.ensures.expressions (frame_of target frame) checked x among in (
+          let known = c.checked_frame_sections.ensures.expressions (frame_of target frame) checked x among in (
             known.1,
             safe c.each_has_a_depth.ensures c.good_expressions_run_well.ensures c.each_has_an_evaluation.ensures
                 c.evaluations_are_determined.ensures x.kind x.target x.bytes known.0,
           );
       list_expressions = λ l e b listed entered is.
           let s : ListSection = list_section target lists in (
-            c.checked_sections-2.ensures.target s l e b each.1 listed entered is,
+            c.checked_list_sections.ensures.target s l e b each.1 listed entered is,
             safe c.each_has_a_depth.ensures c.good_expressions_run_well.ensures c.each_has_an_evaluation.ensures
                 c.evaluations_are_determined.ensures
-                _ b.target b.bytes (c.checked_sections-2.ensures.good s l e b each.1 listed entered is),
+                _ b.target b.bytes (c.checked_list_sections.ensures.good s l e b each.1 listed entered is),
           );
     }

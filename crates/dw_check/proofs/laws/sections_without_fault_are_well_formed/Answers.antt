@@ -2,4 +2,4 @@ use Rattle.dw_check.proofs.WholeCheck.{without_fault}
 use Rattle.dw_check.proofs.laws.sections_without_fault_are_well_formed.Goals as goal
 
 pub returns : goal.returns
-returns c = without_fault c.sections_without_fault_are_well_formed.ensures c.sections_without_fault_are_well_formed-2.ensures
+returns c = without_fault c.frame_sections_without_fault_are_well_formed.ensures c.list_sections_without_fault_are_well_formed.ensures

@@ -27,8 +27,8 @@ returns-in_err-write_location-in-Some-clause-written g c = λ gs given.
       writes_front _ _ _ _ c.from_residual.ensures.0 all.2,
     )
 
-pub write_rest-requires-clause-showable : goal.write_rest-requires-clause-showable
-write_rest-requires-clause-showable g c =
+pub write_other_locations-requires-clause-showable : goal.write_other_locations-requires-clause-showable
+write_other_locations-requires-clause-showable g c =
     let rest = All-rest (λ (x : LocatedExpression). IsShowable c.args.out.now.size x)
     (located_of (c.in-Some.offset, c.in-Some.checked)) c.next.new.self _ c.in-Some.ensures.steps c.requires.showable in
     rw c.in_ok-write_location-in-Some.ensures.same.1 rest
@@ -36,7 +36,7 @@ write_rest-requires-clause-showable g c =
 pub returns-in_ok-write_location-in-Some-clause-written : goal.returns-in_ok-write_location-in-Some-clause-written
 returns-in_ok-write_location-in-Some-clause-written g c = λ gs given.
     let own = c.in_ok-write_location-in-Some.ensures.written gs given in
-    let others = c.write_rest.ensures.written gs given in
+    let others = c.write_other_locations.ensures.written gs given in
     let line = expression_offset_line c.in-Some.offset ++ own.0 in (
       line ++ others.0,
       subst (λ (xs : List LocatedExpression). ShowsLocations gs xs (line ++ others.0)) (sym c.in-Some.ensures.steps)

@@ -7,4 +7,4 @@ pub returns-in-Four : goal.returns-in-Four
 returns-in-Four c =
     let a = c.args.address in
     let last : hex_digits 8 (a % 2 ^ 32) ≡ hex_digits 8 a = hex_last 8 a (a % 2 ^ 32) refl in
-    rw c.in-Four.is (rw last at c.push_short.ensures)
+    rw c.in-Four.is (rw last at c.push_short_address.ensures)

@@ -10,12 +10,12 @@ loop-located-preserved g c = record {
   runs = search rules;
   sent = sent_next _ _ _ _ _ _ _ _ (next_here c.args.expressions.now c.loop-located.located-index c.located-item.result
       (omega arith) c.located-item.is)
-      c.loop-located.invariant.sent c.in_ok-write_expression.ensures.written;
+      c.loop-located.invariant.sent c.in_ok-write_expression_line.ensures.written;
 }
 
-pub returns-in_err-write_expression-clause-written : goal.returns-in_err-write_expression-clause-written
-returns-in_err-write_expression-clause-written g c =
+pub returns-in_err-write_expression_line-clause-written : goal.returns-in_err-write_expression_line-clause-written
+returns-in_err-write_expression_line-clause-written g c =
     writes_front _ _ _ _ c.from_residual.ensures.0
     (sent_front _ _ _ _ _ _ _ _ (next_here c.args.expressions.now c.loop-located.located-index c.located-item.result (omega arith)
     c.located-item.is)
-    c.loop-located.invariant.sent c.in_err-write_expression.ensures.written)
+    c.loop-located.invariant.sent c.in_err-write_expression_line.ensures.written)

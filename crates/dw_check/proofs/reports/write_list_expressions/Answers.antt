@@ -15,14 +15,14 @@ loop-offset-preserved g c = record {
   same = search rules;
   runs = search rules;
   lined = λ text are. lined_next _ text _ c.next.new.self (c.in-Some.offset, c.in-Some.checked) _ _ _ c.in-Some.ensures.steps
-      (c.loop-offset.invariant.lined text are) c.in_ok-write_expression.ensures.written;
+      (c.loop-offset.invariant.lined text are) c.in_ok-write_expression_line.ensures.written;
 }
 
-pub returns-in_err-write_expression-clause-written : goal.returns-in_err-write_expression-clause-written
-returns-in_err-write_expression-clause-written g c = λ text are.
+pub returns-in_err-write_expression_line-clause-written : goal.returns-in_err-write_expression_line-clause-written
+returns-in_err-write_expression_line-clause-written g c = λ text are.
     writes_front _ _ _ _ c.from_residual.ensures.0
     (lined_front _ text _ c.next.new.self (c.in-Some.offset, c.in-Some.checked) _ _ _ c.in-Some.ensures.steps
-    (c.loop-offset.invariant.lined text are) c.in_err-write_expression.ensures.written)
+    (c.loop-offset.invariant.lined text are) c.in_err-write_expression_line.ensures.written)
 
 pub returns-clause-written : goal.returns-clause-written
 returns-clause-written g c = λ text are.

@@ -31,8 +31,8 @@ returns-in_err-push_summary-clause-written g c =
     (c.expressions-of_frame.ensures ∙ ap (λ (f : FrameSection). f.expressions) c.frame.ensures) found.1 in
     (text, is, writes_front _ _ _ _ c.from_residual.ensures.0 ([], text, refl, appends_nothing _))
 
-pub returns-in_err-send-clause-written : goal.returns-in_err-send-clause-written
-returns-in_err-send-clause-written g c =
+pub returns-in_err-send_line-clause-written : goal.returns-in_err-send_line-clause-written
+returns-in_err-send_line-clause-written g c =
     let checked = c.args.checked.now in
     let xs = c.expressions-of_frame.result.now in
     let found = list_lines checked.lists (subst IsChecked c.lists.ensures.lists c.expressions-of_lists.ensures.checked) in
@@ -43,9 +43,9 @@ returns-in_err-send-clause-written g c =
     (c.expressions-of_frame.ensures ∙ ap (λ (f : FrameSection). f.expressions) c.frame.ensures) found.1 in (
       text,
       is,
-      writes_front _ _ _ _ c.from_residual-in_err-send.ensures.0
+      writes_front _ _ _ _ c.from_residual-in_err-send_line.ensures.0
           (front_wider _ _ (summary_text checked.frame checked.lists) lines
-          (writes_whole _ _ (Err c.in_err-send.field-0.0) _ (rw line at c.in_err-send.ensures.written))),
+          (writes_whole _ _ (Err c.in_err-send_line.field-0.0) _ (rw line at c.in_err-send_line.ensures.written))),
     )
 
 pub returns-clause-written : goal.returns-clause-written
@@ -59,5 +59,9 @@ returns-clause-written g c =
     let is = reported checked.frame checked.lists xs found.0
     (c.expressions-of_frame.ensures ∙ ap (λ (f : FrameSection). f.expressions) c.frame.ensures) found.1 in
     let all = c.expressions-of_lists.ensures.expressions ∙ ap located_in c.lists.ensures.lists in
-    let of_lists = subst (λ (located : List LocatedExpression). AreLines sections.Lists located found.0) (sym all) found.1 in
-    (text, is, writes_then _ _ _ _ _ _ (rw line at c.in_ok-send.ensures.written) (c.write_both.ensures.written found.0 of_lists))
+    let of_lists = subst (λ (located : List LocatedExpression). AreLines sections.Lists located found.0) (sym all) found.1 in (
+      text,
+      is,
+      writes_then _ _ _ _ _ _ (rw line at c.in_ok-send_line.ensures.written)
+          (c.write_all_expressions.ensures.written found.0 of_lists),
+    )

@@ -41,14 +41,14 @@ returns-clause-goes g c =
     let count = length asked.contents.now in
     let files = map (λ file. file.items) asked.contents.now in
     let old = g.S.Sink.taken c.args.out.now.sink.now in
-    let new = g.S.Sink.taken c.write_one_caller.new.out.sink.now in
+    let new = g.S.Sink.taken c.unwind_and_write.new.out.sink.now in
     let given = c.in_ok-state.ensures.state in
     let bytes = c.in_ok-section.ensures.bytes ∙ ap Some (sym c.as_slice.ensures.value) in
     let checked = c.in_ok-checked.ensures in
     let shows = ShowsCaller c.args.address in
     let section = c.as_slice.result.now in
-    let written = c.write_one_caller.ensures.written given.0 given.2 in
-    rw c.ended.ensures
+    let written = c.unwind_and_write.ensures.written given.0 given.2 in
+    rw c.run_result.ensures
     (goes_shown shows asked.target section count asked.hex files given.0 c.in_ok-checked.checked.frame c.in_ok-checked.checked.lists
-    old new c.write_one_caller.result written.0 (one_caller_shown c.one_caller.ensures c.args.address) bytes given.1
+    old new c.unwind_and_write.result written.0 (one_caller_shown c.one_caller.ensures c.args.address) bytes given.1
     checked.whole checked.frame checked.lists written.1 written.2)

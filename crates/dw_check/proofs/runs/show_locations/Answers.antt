@@ -34,20 +34,20 @@ returns-clause-goes g c =
     let asked = c.args.files.now in
     let lookup = c.args.lookup in
     let old = g.S.Sink.taken c.args.out.now.sink.now in
-    let new = g.S.Sink.taken c.write_found.new.out.sink.now in
+    let new = g.S.Sink.taken c.write_list_lookup.new.out.sink.now in
     let given = state_facts asked.target (slice_get files 1) in
     let section = c.as_slice.result.now in
     let is = λ (section : List ℕ). OfState given (IsFound lookup asked.target section) in
     let gs = c.in_ok-state.ensures.state.0 in
     let bytes = c.in_ok-section.ensures.bytes ∙ ap Some (sym c.as_slice.ensures.value) in
-    let written = c.write_found.ensures.written gs c.in_ok-state.ensures.state.2 in
+    let written = c.write_list_lookup.ensures.written gs c.in_ok-state.ensures.state.2 in
     let found : IsFound lookup asked.target section gs (text written.0) = (
       c.in_ok-lists.ensures.whole,
       subst (λ (s : ListSection). ShowsList gs (list_that_begins_at s lookup.list) lookup.base lookup.address written.0)
           c.in_ok-lists.ensures.lists written.1,
     ) in
-    rw c.ended.ensures
+    rw c.run_result.ensures
     (goes_section count 0 (section_bytes asked.hex (slice_get files 0)) section is old new _ bytes
     (goes_state count given gs (IsFound lookup asked.target section) old new _ c.in_ok-state.ensures.state.1
-    (goes_text count (IsFound lookup asked.target section gs) written.0 old new c.write_found.result found
+    (goes_text count (IsFound lookup asked.target section gs) written.0 old new c.write_list_lookup.result found
     (λ reply i. one_found lookup asked.target section gs reply (text written.0) i found) written.2)))

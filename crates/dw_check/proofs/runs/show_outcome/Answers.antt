@@ -68,7 +68,7 @@ returns-clause-goes g c =
     let written = written_same c.args.kind asked.target bytes (checked_of c.in_ok-checked.checked) gs
     (WritesWhole old new c.write_outcome.result) same
     (c.write_outcome.ensures.written gs c.in_ok-state.ensures.state.2) in
-    rw c.ended.ensures
+    rw c.run_result.ensures
     (goes_section count 0 (section_bytes asked.hex (slice_get files 0)) bytes is old new _ c.in_ok-bytes.ensures.bytes
     (goes_state count given gs (IsOutcome c.args.kind asked.target bytes) old new _ c.in_ok-state.ensures.state.1
     (goes_whole count (IsOutcome c.args.kind asked.target bytes gs) written.0 old new c.write_outcome.result written.1 written.2)))

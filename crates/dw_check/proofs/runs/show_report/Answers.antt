@@ -63,7 +63,7 @@ returns-clause-goes g c =
     written.1 in
     let report = subst (λ (l : ListSection). IsReport (frame_of target frame) l written.0) c.in_ok-checked.ensures.lists by_frame in
     let found : OfChecked target frame lists IsReport (text written.0) = (c.in_ok-checked.ensures.whole, report) in
-    rw c.ended.ensures
+    rw c.run_result.ensures
     (goes_section count 0 (section_bytes asked.hex (slice_get files 0)) frame is old new _ first_bytes
     (goes_section count 1 second lists (λ lists. OfChecked target frame lists IsReport) old new _ second_bytes
     (goes_text count (OfChecked target frame lists IsReport) written.0 old new c.write_report.result found

@@ -27,12 +27,12 @@ returns-clause-goes g c =
     let count = length asked.contents.now in
     let files = map (λ file. file.items) asked.contents.now in
     let old = g.S.Sink.taken c.args.out.now.sink.now in
-    let new = g.S.Sink.taken c.write_lookup.new.out.sink.now in
+    let new = g.S.Sink.taken c.write_row_lookup.new.out.sink.now in
     let bytes = c.in_ok-section.ensures.bytes ∙ ap Some (sym c.as_slice.ensures.value) in
     let section = c.as_slice.result.now in
     let text_for = λ (frame : FrameSection). lookup_text frame c.args.address in
-    let written = subst (λ (frame : FrameSection). Writes old new c.write_lookup.result (text_for frame)) c.in_ok-frame.ensures.frame
-    c.write_lookup.ensures.written in
-    rw c.ended.ensures
-    (goes_frame text_for asked.target section count asked.hex files old new c.write_lookup.result bytes
+    let written = subst (λ (frame : FrameSection). Writes old new c.write_row_lookup.result (text_for frame)) c.in_ok-frame.ensures.frame
+    c.write_row_lookup.ensures.written in
+    rw c.run_result.ensures
+    (goes_frame text_for asked.target section count asked.hex files old new c.write_row_lookup.result bytes
     c.in_ok-frame.ensures.whole written)

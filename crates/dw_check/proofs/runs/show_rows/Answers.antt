@@ -25,10 +25,10 @@ returns-clause-goes g c =
     let count = length asked.contents.now in
     let files = map (λ file. file.items) asked.contents.now in
     let old = g.S.Sink.taken c.args.out.now.sink.now in
-    let new = g.S.Sink.taken c.write_frame.new.out.sink.now in
+    let new = g.S.Sink.taken c.write_frame_section.new.out.sink.now in
     let bytes = c.in_ok-section.ensures.bytes ∙ ap Some (sym c.as_slice.ensures.value) in
-    let written = subst (λ (frame : FrameSection). Writes old new c.write_frame.result (frame_text frame)) c.in_ok-frame.ensures.frame
-    c.write_frame.ensures.written in
-    rw c.ended.ensures
-    (goes_frame frame_text asked.target c.as_slice.result.now count asked.hex files old new c.write_frame.result bytes
+    let written = subst (λ (frame : FrameSection). Writes old new c.write_frame_section.result (frame_text frame))
+    c.in_ok-frame.ensures.frame c.write_frame_section.ensures.written in
+    rw c.run_result.ensures
+    (goes_frame frame_text asked.target c.as_slice.result.now count asked.hex files old new c.write_frame_section.result bytes
     c.in_ok-frame.ensures.whole written)

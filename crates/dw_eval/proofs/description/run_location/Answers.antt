@@ -59,8 +59,8 @@ loop-at-smaller g c =
       c.loop-at-test.true,
     )
 
-pub run_on-requires : goal.run_on-requires
-run_on-requires g c =
+pub run_location_on-requires : goal.run_location_on-requires
+run_location_on-requires g c =
     let e = world_in g.R.Registers.contents g.M.Memory.bytes c.args.environment.now in
     let test = before c.loop-at.at (bytes_of c.args.expression.now) c.bytes.result.now c.bytes.ensures c.loop-at-test.true in
     let way = (goes_behind e c.args.expression.now c.requires.can.depth c.requires.can.good c.requires.can.runs c.requires.can.target
@@ -82,7 +82,7 @@ returns-in-Err g c =
           (bytes_of c.args.expression.now) c.requires.can.depth c.requires.can.good c.requires.can.runs c.args.expression.now.short [] refl
           c.loop-at.steps (configured c.loop-at.at c.loop-at.run []) c.in-Err.ensures.operation c.in-Err.ensures.next
           (error_of c.in-Err.why)
-          (outcome_of c.unanswered.result) c.loop-at.invariant ahead c.in-Err.ensures.answered c.unanswered.ensures;
+          (outcome_of c.outcome_without_answer.result) c.loop-at.invariant ahead c.in-Err.ensures.answered c.outcome_without_answer.ensures;
       steps = one_more e Location
           (bytes_of c.args.expression.now) c.requires.can.depth c.requires.can.good c.requires.can.runs c.args.expression.now.short [] refl
           c.loop-at.steps (configured c.loop-at.at c.loop-at.run []) c.loop-at.invariant test;

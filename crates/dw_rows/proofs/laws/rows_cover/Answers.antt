@@ -7,5 +7,6 @@ use Rattle.dw_rows.proofs.laws.rows_cover.Goals as goal
 pub returns : goal.returns
 returns c = record {
   cover = cover-rows;
-  one = λ cie fde a none low high. one-row a fde.initial (fde.initial + fde.range) (rows_of cie fde) (cover-rows cie fde none) low high;
+  one = λ cie fde a none low high. one-row a fde.initial_location (fde.initial_location + fde.address_range)
+      (rows_of cie fde) (cover-rows cie fde none) low high;
 }

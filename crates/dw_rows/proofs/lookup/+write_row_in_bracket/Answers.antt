@@ -22,13 +22,13 @@ write_row-requires-clause-cfa t c =
     let fde = fde_of c.args.fde.now in
     let w : RowCursor = record {
       cie = cie;
-      end = fde.initial + fde.range;
+      end = fde.initial_location + fde.address_range;
       context = c.loop-start.state;
       instructions = c.loop-start.instructions;
     } in
     let new : RowCursor = record {
       cie = cie;
-      end = fde.initial + fde.range;
+      end = fde.initial_location + fde.address_range;
       context = c.next_plain.new.state;
       instructions = c.next_plain.new.instructions;
     } in
@@ -44,13 +44,13 @@ write_row-requires-clause-lent t c =
     let fde = fde_of c.args.fde.now in
     let w : RowCursor = record {
       cie = cie;
-      end = fde.initial + fde.range;
+      end = fde.initial_location + fde.address_range;
       context = c.loop-start.state;
       instructions = c.loop-start.instructions;
     } in
     let new : RowCursor = record {
       cie = cie;
-      end = fde.initial + fde.range;
+      end = fde.initial_location + fde.address_range;
       context = c.next_plain.new.state;
       instructions = c.next_plain.new.instructions;
     } in
@@ -67,13 +67,13 @@ returns-then-address-end-clause-found t c =
     let fde = fde_of c.args.fde.now in
     let w : RowCursor = record {
       cie = cie;
-      end = fde.initial + fde.range;
+      end = fde.initial_location + fde.address_range;
       context = c.loop-start.state;
       instructions = c.loop-start.instructions;
     } in
     let new : RowCursor = record {
       cie = cie;
-      end = fde.initial + fde.range;
+      end = fde.initial_location + fde.address_range;
       context = c.next_plain.new.state;
       instructions = c.next_plain.new.instructions;
     } in
@@ -91,13 +91,13 @@ loop-start-smaller-else-address-end t c =
     let fde = fde_of c.args.fde.now in
     let w : RowCursor = record {
       cie = cie;
-      end = fde.initial + fde.range;
+      end = fde.initial_location + fde.address_range;
       context = c.loop-start.state;
       instructions = c.loop-start.instructions;
     } in
     let new : RowCursor = record {
       cie = cie;
-      end = fde.initial + fde.range;
+      end = fde.initial_location + fde.address_range;
       context = c.next_plain.new.state;
       instructions = c.next_plain.new.instructions;
     } in
@@ -117,13 +117,13 @@ loop-start-preserved-else-address-end t c =
     let fde = fde_of c.args.fde.now in
     let w : RowCursor = record {
       cie = cie;
-      end = fde.initial + fde.range;
+      end = fde.initial_location + fde.address_range;
       context = c.loop-start.state;
       instructions = c.loop-start.instructions;
     } in
     let new : RowCursor = record {
       cie = cie;
-      end = fde.initial + fde.range;
+      end = fde.initial_location + fde.address_range;
       context = c.next_plain.new.state;
       instructions = c.next_plain.new.instructions;
     } in
@@ -148,13 +148,13 @@ write_row_in_bracket-requires t c =
     let fde = fde_of c.args.fde.now in
     let w : RowCursor = record {
       cie = cie;
-      end = fde.initial + fde.range;
+      end = fde.initial_location + fde.address_range;
       context = c.loop-start.state;
       instructions = c.loop-start.instructions;
     } in
     let new : RowCursor = record {
       cie = cie;
-      end = fde.initial + fde.range;
+      end = fde.initial_location + fde.address_range;
       context = c.next_plain.new.state;
       instructions = c.next_plain.new.instructions;
     } in
@@ -173,13 +173,13 @@ loop-start-smaller t c =
     let fde = fde_of c.args.fde.now in
     let w : RowCursor = record {
       cie = cie;
-      end = fde.initial + fde.range;
+      end = fde.initial_location + fde.address_range;
       context = c.loop-start.state;
       instructions = c.loop-start.instructions;
     } in
     let new : RowCursor = record {
       cie = cie;
-      end = fde.initial + fde.range;
+      end = fde.initial_location + fde.address_range;
       context = c.next_plain.new.state;
       instructions = c.next_plain.new.instructions;
     } in
@@ -196,13 +196,13 @@ loop-start-preserved t c =
     let fde = fde_of c.args.fde.now in
     let w : RowCursor = record {
       cie = cie;
-      end = fde.initial + fde.range;
+      end = fde.initial_location + fde.address_range;
       context = c.loop-start.state;
       instructions = c.loop-start.instructions;
     } in
     let new : RowCursor = record {
       cie = cie;
-      end = fde.initial + fde.range;
+      end = fde.initial_location + fde.address_range;
       context = c.next_plain.new.state;
       instructions = c.next_plain.new.instructions;
     } in
@@ -225,13 +225,13 @@ returns-in-Restores-clause-behind t c =
     let fde = fde_of c.args.fde.now in
     let w : RowCursor = record {
       cie = cie;
-      end = fde.initial + fde.range;
+      end = fde.initial_location + fde.address_range;
       context = c.loop-start.state;
       instructions = c.loop-start.instructions;
     } in
     let new : RowCursor = record {
       cie = cie;
-      end = fde.initial + fde.range;
+      end = fde.initial_location + fde.address_range;
       context = c.next_plain.new.state;
       instructions = c.next_plain.new.instructions;
     } in
@@ -253,13 +253,13 @@ unreachable-requires t c =
     let fde = fde_of c.args.fde.now in
     let w : RowCursor = record {
       cie = cie;
-      end = fde.initial + fde.range;
+      end = fde.initial_location + fde.address_range;
       context = c.loop-start.state;
       instructions = c.loop-start.instructions;
     } in
     let new : RowCursor = record {
       cie = cie;
-      end = fde.initial + fde.range;
+      end = fde.initial_location + fde.address_range;
       context = c.next_plain.new.state;
       instructions = c.next_plain.new.instructions;
     } in

@@ -19,13 +19,13 @@ write_row-requires c =
     let fde = fde_of c.args.fde.now in
     let w : RowCursor = record {
       cie = cie;
-      end = fde.initial + fde.range;
+      end = fde.initial_location + fde.address_range;
       context = c.loop-start.state;
       instructions = c.loop-start.instructions;
     } in
     let new : RowCursor = record {
       cie = cie;
-      end = fde.initial + fde.range;
+      end = fde.initial_location + fde.address_range;
       context = c.next_plain.new.state;
       instructions = c.next_plain.new.instructions;
     } in
@@ -42,13 +42,13 @@ returns-then-address-end c =
     let fde = fde_of c.args.fde.now in
     let w : RowCursor = record {
       cie = cie;
-      end = fde.initial + fde.range;
+      end = fde.initial_location + fde.address_range;
       context = c.loop-start.state;
       instructions = c.loop-start.instructions;
     } in
     let new : RowCursor = record {
       cie = cie;
-      end = fde.initial + fde.range;
+      end = fde.initial_location + fde.address_range;
       context = c.next_plain.new.state;
       instructions = c.next_plain.new.instructions;
     } in
@@ -64,13 +64,13 @@ loop-start-smaller-else-address-end c =
     let fde = fde_of c.args.fde.now in
     let w : RowCursor = record {
       cie = cie;
-      end = fde.initial + fde.range;
+      end = fde.initial_location + fde.address_range;
       context = c.loop-start.state;
       instructions = c.loop-start.instructions;
     } in
     let new : RowCursor = record {
       cie = cie;
-      end = fde.initial + fde.range;
+      end = fde.initial_location + fde.address_range;
       context = c.next_plain.new.state;
       instructions = c.next_plain.new.instructions;
     } in
@@ -87,13 +87,13 @@ loop-start-preserved-else-address-end c =
     let fde = fde_of c.args.fde.now in
     let w : RowCursor = record {
       cie = cie;
-      end = fde.initial + fde.range;
+      end = fde.initial_location + fde.address_range;
       context = c.loop-start.state;
       instructions = c.loop-start.instructions;
     } in
     let new : RowCursor = record {
       cie = cie;
-      end = fde.initial + fde.range;
+      end = fde.initial_location + fde.address_range;
       context = c.next_plain.new.state;
       instructions = c.next_plain.new.instructions;
     } in
@@ -107,13 +107,13 @@ write_row_in_bracket-requires-clause-seeks c =
     let fde = fde_of c.args.fde.now in
     let w : RowCursor = record {
       cie = cie;
-      end = fde.initial + fde.range;
+      end = fde.initial_location + fde.address_range;
       context = c.loop-start.state;
       instructions = c.loop-start.instructions;
     } in
     let new : RowCursor = record {
       cie = cie;
-      end = fde.initial + fde.range;
+      end = fde.initial_location + fde.address_range;
       context = c.next_plain.new.state;
       instructions = c.next_plain.new.instructions;
     } in
@@ -125,13 +125,13 @@ loop-start-smaller c =
     let fde = fde_of c.args.fde.now in
     let w : RowCursor = record {
       cie = cie;
-      end = fde.initial + fde.range;
+      end = fde.initial_location + fde.address_range;
       context = c.loop-start.state;
       instructions = c.loop-start.instructions;
     } in
     let new : RowCursor = record {
       cie = cie;
-      end = fde.initial + fde.range;
+      end = fde.initial_location + fde.address_range;
       context = c.next_plain.new.state;
       instructions = c.next_plain.new.instructions;
     } in
@@ -146,13 +146,13 @@ loop-start-preserved c =
     let fde = fde_of c.args.fde.now in
     let w : RowCursor = record {
       cie = cie;
-      end = fde.initial + fde.range;
+      end = fde.initial_location + fde.address_range;
       context = c.loop-start.state;
       instructions = c.loop-start.instructions;
     } in
     let new : RowCursor = record {
       cie = cie;
-      end = fde.initial + fde.range;
+      end = fde.initial_location + fde.address_range;
       context = c.next_plain.new.state;
       instructions = c.next_plain.new.instructions;
     } in
@@ -165,13 +165,13 @@ unreachable-requires c =
     let fde = fde_of c.args.fde.now in
     let w : RowCursor = record {
       cie = cie;
-      end = fde.initial + fde.range;
+      end = fde.initial_location + fde.address_range;
       context = c.loop-start.state;
       instructions = c.loop-start.instructions;
     } in
     let new : RowCursor = record {
       cie = cie;
-      end = fde.initial + fde.range;
+      end = fde.initial_location + fde.address_range;
       context = c.next_plain.new.state;
       instructions = c.next_plain.new.instructions;
     } in

@@ -27,11 +27,11 @@ pub returns : goal.returns
 returns c =
     let old = entries_of c.args.table.now.items in
     let mid = entries_of c.clear_rule.new.table.items in
-    let place : c.place_of-place.result ≡ place_in c.args.register mid = cc in
+    let place : c.place_of_register-place.result ≡ place_in c.args.register mid = cc in
     let clears : Clears old c.args.register mid = record { table = c.clear_rule.ensures.table; rules = c.clear_rule.ensures.rules } in
     let new : entries_of c.insert.new.self.items ≡ inserted c.args.register (kept_rule_of c.args.rule) mid =
     rw (c.insert.ensures.items, place) (insert-place c.clear_rule.new.table.items c.args.register
-    (kept_rule_of c.args.rule) c.entry.result c.entry.ensures) in
+    (kept_rule_of c.args.rule) c.entry_with_rule.result c.entry_with_rule.ensures) in
     let k = puts-inserted old mid (entries_of c.insert.new.self.items) c.args.register (kept_rule_of c.args.rule) (omega arith)
     (kept_rule_of-some c.args.rule c.in_default.not-Default) clears new in
     record {

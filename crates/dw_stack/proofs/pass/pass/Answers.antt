@@ -81,14 +81,15 @@ loop-i-preserved c =
     let pushed : c.push.new.self.items ≡ c.loop-i.states.items ++ at_offset (place ops c.args.end c.loop-i.i) c.in-Ok.done.state ∷ [] =
     search rules in
     let stepped = subst (λ (xs : List InState). Stepped c.args.kind ops c.args.end
-    (given_of c.args.given) c.loop-i.i c.loop-i.pieces xs c.in-Ok.done c.step.new.in_states) c.deref_mut.ensures.value c.in-Ok.ensures.ok in
+    (given_of c.args.given) c.loop-i.i c.loop-i.pieces xs c.in-Ok.done c.step_of_pass.new.in_states)
+    c.deref_mut.ensures.value c.in-Ok.ensures.ok in
     step_of c.args.kind ops c.args.end c.requires.laid
-    (given_of c.args.given) c.loop-i.i c.loop-i.states.items c.push.new.self.items c.loop-i.in_states.items c.step.new.in_states _
+    (given_of c.args.given) c.loop-i.i c.loop-i.states.items c.push.new.self.items c.loop-i.in_states.items c.step_of_pass.new.in_states _
     c.loop-i.depth c.max-depth.result c.loop-i.pieces _ c.in-Ok.done (omega (arith, long, c.loop-i-test.true)) c.loop-i.invariant
     stepped
     pushed
-    (written c.step.new.in_states c.loop-i.in_states.items (length c.loop-i.in_states.items) refl
-    (length-passed c.loop-i.in_states.items c.step.new.in_states c.loop-i.i stepped.out stepped.passes))
+    (written c.step_of_pass.new.in_states c.loop-i.in_states.items (length c.loop-i.in_states.items) refl
+    (length-passed c.loop-i.in_states.items c.step_of_pass.new.in_states c.loop-i.i stepped.out stepped.passes))
     (c.max-depth.ensures ∙ ap (λ (n : ℕ). max n c.in-Ok.done.height) c.max.ensures)
     (ap (λ (n : ℕ). c.loop-i.pieces + n) (elim c.if-done.branch [
       | then-done w ↦ w.pieces-is
@@ -106,7 +107,7 @@ returns-in-Err-clause-first c =
     (subst (λ (xs : List InState). StepObjects c.args.kind ops c.args.end
     (given_of c.args.given) c.loop-i.i c.loop-i.pieces xs c.in-Err.kind) c.deref_mut.ensures.value c.in-Err.ensures.err) in
     refusal_of c.args.kind ops c.args.end
-    (given_of c.args.given) c.refusal.result c.in-Err.kind _ _ c.refusal.ensures c.place_of-in-Err.ensures f
+    (given_of c.args.given) c.refusal.result c.in-Err.kind _ _ c.refusal.ensures c.place_of_operation-in-Err.ensures f
 
 module _ (kind : Kind) (ops : List Placed) (len : ℕ) (laid : IsLaidOut ops len) (given : Option (List State)) (i : ℕ) (all : i ≡ length ops)
     (states : List State) (in_states : List InState) (depth pieces : ℕ)
@@ -203,4 +204,4 @@ pub returns-in-Err-clause-inside : goal.returns-in-Err-clause-inside
 returns-in-Err-clause-inside c =
     let le = place_le (listed c.args.operations.now) c.args.end c.requires.laid c.loop-i.i in
     let at = ap (λ (f : Fault). f.at) c.refusal.ensures in
-    omega (arith, le, at, c.place_of-in-Err.ensures)
+    omega (arith, le, at, c.place_of_operation-in-Err.ensures)

@@ -20,6 +20,7 @@ good_of kind target bytes (Ok c) checked is =
 good_of kind target bytes (Err f) checked is = tt
 
 pub returns-clause-answer : goal.returns-clause-answer
-returns-clause-answer c = answers_for c.args.kind (target_of c.args.expression) (bytes_of c.args.expression) c.check.result
+returns-clause-answer c = answers_for c.args.kind (target_of c.args.expression) (bytes_of c.args.expression) c.check_with_states.result
     (good_of c.args.kind (target_of c.args.expression)
-    (bytes_of c.args.expression) c.check.result c.check.ensures.checked c.check.ensures.same) c.check.ensures.fault
+    (bytes_of c.args.expression) c.check_with_states.result
+    c.check_with_states.ensures.checked c.check_with_states.ensures.same) c.check_with_states.ensures.fault

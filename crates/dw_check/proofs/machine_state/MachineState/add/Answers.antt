@@ -8,15 +8,15 @@ use Rattle.dw_check.specs.StateViews.{known_state_of}
 use Rattle.dw_check.proofs.KnownState.{added, given_more, plain_goes, together_more, or_none, where_true}
 use Rattle.dw_check.proofs.machine_state.MachineState.add.Goals as goal
 
-pub returns-in_ok-add_first-in-Register : goal.returns-in_ok-add_first-in-Register
-returns-in_ok-add_first-in-Register c =
+pub returns-in_ok-add_first_value-in-Register : goal.returns-in_ok-add_first_value-in-Register
+returns-in_ok-add_first_value-in-Register c =
     let old = known_state_of c.args.self.now in
     let g = register c.in-Register.number c.in-Register.content in
     rw c.in-Register.is (record {
       taken = plain_goes old g refl refl c.args.self.now.abi_registers.fit;
-      given = given_more old (record old { registers = get nat_cmp c.add_first.new.map }) g (record {
-        registers = added c.args.self.now.registers c.add_first.new.map c.in-Register.number c.in-Register.content
-            c.in_ok-add_first-in-Register.ensures;
+      given = given_more old (record old { registers = get nat_cmp c.add_first_value.new.map }) g (record {
+        registers = added c.args.self.now.registers c.add_first_value.new.map c.in-Register.number c.in-Register.content
+            c.in_ok-add_first_value-in-Register.ensures;
         memory = λ a. sym (or_none (old.memory a));
         cfa = sym (or_none old.cfa);
         frame_base = sym (or_none old.frame_base);
@@ -26,15 +26,15 @@ returns-in_ok-add_first-in-Register c =
       });
     })
 
-pub returns-in_ok-add_bytes-in-Memory : goal.returns-in_ok-add_bytes-in-Memory
-returns-in_ok-add_bytes-in-Memory c =
+pub returns-in_ok-add_memory_bytes-in-Memory : goal.returns-in_ok-add_memory_bytes-in-Memory
+returns-in_ok-add_memory_bytes-in-Memory c =
     let old = known_state_of c.args.self.now in
     let g = bytes c.in-Memory.address c.in-Memory.bytes.items in
     rw c.in-Memory.is (record {
       taken = plain_goes old g refl refl c.args.self.now.abi_registers.fit;
-      given = given_more old (record old { memory = get nat_cmp c.add_bytes.new.memory }) g (record {
+      given = given_more old (record old { memory = get nat_cmp c.add_memory_bytes.new.memory }) g (record {
         registers = λ n. sym (or_none (old.registers n));
-        memory = search (rules, c.in_ok-add_bytes-in-Memory.ensures);
+        memory = search (rules, c.in_ok-add_memory_bytes-in-Memory.ensures);
         cfa = sym (or_none old.cfa);
         frame_base = sym (or_none old.frame_base);
         object = sym (or_none old.object);
@@ -49,10 +49,10 @@ returns-in-Cfa c =
     let g = cfa c.in-Cfa.value in
     rw c.in-Cfa.is (record {
       taken = plain_goes old g refl refl c.args.self.now.abi_registers.fit;
-      given = given_more old (record old { cfa = c.or_value-self.result }) g (record {
+      given = given_more old (record old { cfa = c.first_value-self.result }) g (record {
         registers = λ n. sym (or_none (old.registers n));
         memory = λ a. sym (or_none (old.memory a));
-        cfa = c.or_value-self.ensures;
+        cfa = c.first_value-self.ensures;
         frame_base = sym (or_none old.frame_base);
         object = sym (or_none old.object);
         kept = refl;
@@ -66,11 +66,11 @@ returns-in-FrameBase c =
     let g = frame_base c.in-FrameBase.value in
     rw c.in-FrameBase.is (record {
       taken = plain_goes old g refl refl c.args.self.now.abi_registers.fit;
-      given = given_more old (record old { frame_base = c.or_value-self-in-FrameBase.result }) g (record {
+      given = given_more old (record old { frame_base = c.first_value-self-in-FrameBase.result }) g (record {
         registers = λ n. sym (or_none (old.registers n));
         memory = λ a. sym (or_none (old.memory a));
         cfa = sym (or_none old.cfa);
-        frame_base = c.or_value-self-in-FrameBase.ensures;
+        frame_base = c.first_value-self-in-FrameBase.ensures;
         object = sym (or_none old.object);
         kept = refl;
         stack_pointer = sym (or_none old.stack_pointer);
@@ -83,12 +83,12 @@ returns-in-Object c =
     let g = object c.in-Object.value in
     rw c.in-Object.is (record {
       taken = plain_goes old g refl refl c.args.self.now.abi_registers.fit;
-      given = given_more old (record old { object = c.or_value-self-in-Object.result }) g (record {
+      given = given_more old (record old { object = c.first_value-self-in-Object.result }) g (record {
         registers = λ n. sym (or_none (old.registers n));
         memory = λ a. sym (or_none (old.memory a));
         cfa = sym (or_none old.cfa);
         frame_base = sym (or_none old.frame_base);
-        object = c.or_value-self-in-Object.ensures;
+        object = c.first_value-self-in-Object.ensures;
         kept = refl;
         stack_pointer = sym (or_none old.stack_pointer);
       });

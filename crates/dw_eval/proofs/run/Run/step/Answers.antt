@@ -41,13 +41,14 @@ pub apply-requires : goal.apply-requires
 apply-requires g c =
     let same = if_not _ _ _ c.if-branch.false c.in_ok-execute_bare.ensures in
     let can = can_read c.args.expression.now g.row.PLACES c.args.at c.args.self.now.stack c.execute_bare.new.stack
-    (operation_of c.read-next.result.0) c.read-next.result.1 c.requires.can.executes same c.read-next.ensures in
+    (operation_of c.read_operation-next.result.0) c.read_operation-next.result.1 c.requires.can.executes
+    same c.read_operation-next.ensures in
     let here = c.requires.can.executes in
-    let one = same_read (reading_from c.args.expression.now c.args.at) here.operation (operation_of c.read-next.result.0)
-    (reading_from c.args.expression.now here.next) (reading_from c.args.expression.now c.read-next.result.1) here.read
-    c.read-next.ensures in
+    let one = same_read (reading_from c.args.expression.now c.args.at) here.operation (operation_of c.read_operation-next.result.0)
+    (reading_from c.args.expression.now here.next) (reading_from c.args.expression.now c.read_operation-next.result.1) here.read
+    c.read_operation-next.ensures in
     let pending = option_map location_description_of c.args.self.now.pending in
-    let alone : CanDo (effect_of (operation_of c.read-next.result.0)).role (length c.args.self.now.stack) pending =
+    let alone : CanDo (effect_of (operation_of c.read_operation-next.result.0)).role (length c.args.self.now.stack) pending =
     subst (λ (o : Operation). CanDo (effect_of o).role (length c.args.self.now.stack) pending) one.0 c.requires.can.can in
     (search rules, (can, (rw same alone, rw same c.requires.below)))
 
@@ -55,5 +56,5 @@ pub returns : goal.returns
 returns g c =
     let e = world_in g.R.Registers.contents g.M.Memory.bytes c.args.environment.now in
     applied_at e c.args.expression.now c.args.at c.args.self.now c.execute_bare.new.stack c.apply.new.self
-    (operation_of c.read-next.result.0) c.read-next.result.1 c.apply.result
-    (if_not _ _ _ c.if-branch.false c.in_ok-execute_bare.ensures) c.read-next.ensures c.apply.ensures
+    (operation_of c.read_operation-next.result.0) c.read_operation-next.result.1 c.apply.result
+    (if_not _ _ _ c.if-branch.false c.in_ok-execute_bare.ensures) c.read_operation-next.ensures c.apply.ensures

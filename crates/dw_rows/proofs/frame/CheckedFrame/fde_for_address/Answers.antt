@@ -13,7 +13,7 @@ use Rattle.dw_rows.proofs.frame.CheckedFrame.fde_for_address.Goals as goal
 
 -- the FDE that covers an address is one of those that fit
 cover-fits : (s : FrameSection) (a : ℕ) (o : Option FrameDescriptionEntry) → IsCoverOf s.fdes a (option_map fde_of o)
-    → ((f : Fde) → Contains s.fdes f → f.initial + f.range ≤ top_of s.target)
+    → ((f : Fde) → Contains s.fdes f → f.initial_location + f.address_range ≤ top_of s.target)
     → IfSome o (λ fde. fde.initial_location + fde.address_range ≤ top_of s.target)
 cover-fits s a None covered each = tt
 cover-fits s a (Some fde) covered each = each (fde_of fde) covered.0
@@ -38,5 +38,5 @@ returns-clause-only c =
 pub returns-clause-fit : goal.returns-clause-fit
 returns-clause-fit c =
     cover-fits c.args.self.now c.args.address c.covering.result (returns-clause-only c)
-    (subst (λ (s : FrameSection). (f : Fde) → Contains s.fdes f → f.initial + f.range ≤ top_of s.target) c.self.view_is
+    (subst (λ (s : FrameSection). (f : Fde) → Contains s.fdes f → f.initial_location + f.address_range ≤ top_of s.target) c.self.view_is
     (checked-fits _ c.self.invariant.checked))

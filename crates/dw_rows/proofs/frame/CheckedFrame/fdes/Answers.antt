@@ -6,5 +6,6 @@ use Rattle.dw_rows.proofs.CheckedSections.{checked-fits}
 use Rattle.dw_rows.proofs.frame.CheckedFrame.fdes.Goals as goal
 
 pub returns-clause-fit : goal.returns-clause-fit
-returns-clause-fit c = subst (λ (s : FrameSection). (f : Fde) → Contains s.fdes f → f.initial + f.range ≤ top_of s.target) c.self.view_is
+returns-clause-fit c = subst (λ (s : FrameSection). (f : Fde) → Contains s.fdes f → f.initial_location + f.address_range ≤ top_of s.target)
+    c.self.view_is
     (checked-fits _ c.self.invariant.checked)

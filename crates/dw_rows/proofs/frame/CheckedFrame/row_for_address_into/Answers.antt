@@ -29,8 +29,9 @@ returns-clause-fit c =
     let found : find (has_address c.args.address) rows ≡ Some c.write_row_of-cie.new.row =
     ap (λ o. find (has_address c.args.address) (map (given_row es) (rows_behind o fde))) (sym c.write_row_of-cie.ensures.cie)
     ∙ c.write_row_of-cie.ensures.row in
-    let by = found-by (has_address c.args.address) fde.initial (fde.initial + fde.range) rows c.write_row_of-cie.new.row
-    (cover-with es fde.initial (rows_of cie fde) (fde.initial + fde.range)
+    let by = found-by (has_address c.args.address) fde.initial_location (fde.initial_location + fde.address_range)
+    rows c.write_row_of-cie.new.row
+    (cover-with es fde.initial_location (rows_of cie fde) (fde.initial_location + fde.address_range)
     (cover-rows cie fde c.write_row_of-cie.ensures.fde_program)) found in
     (omega (arith, by.0, c.in_ok-fde.ensures.fit), omega (arith, by.1, c.in_ok-fde.ensures.fit))
 

@@ -1,0 +1,16 @@
+use Rattle.dw_rows.proofs.WellFormedSections.{faultless-well-formed}
+use Rattle.dw_rows.proofs.CheckedSections.{checked-cies-sound, checked-fdes-sound, checked-cies-ascend, checked-fdes-ascend}
+use Rattle.dw_rows.proofs.GoodExpressions.{checked-expressions}
+use Rattle.dw_rows.proofs.Lending.{one-at-offset}
+use Rattle.dw_rows.proofs.laws.checked_frame_sections.Goals as goal
+
+pub returns : goal.returns
+returns c = record {
+  well_formed = λ s checked. (faultless-well-formed s.target s.section).0 checked.faultless;
+  cies = checked-cies-sound;
+  fdes = checked-fdes-sound;
+  cies_ascend = checked-cies-ascend;
+  fdes_ascend = checked-fdes-ascend;
+  expressions = checked-expressions;
+  one_at_an_offset = one-at-offset;
+}

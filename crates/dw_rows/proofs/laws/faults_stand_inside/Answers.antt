@@ -1,6 +1,0 @@
-use Rattle.dw_rows.proofs.AbiRules.{abi-stands}
-use Rattle.dw_rows.proofs.Standing.{cie-stands, fde-stands, section-stands}
-use Rattle.dw_rows.proofs.laws.faults_stand_inside.Goals as goal
-
-pub returns : goal.returns
-returns c = record { cie = cie-stands; fde = fde-stands; section = section-stands; abi = abi-stands }
