@@ -8,7 +8,7 @@ use Rattle.std.proofs.lemmas.List.Elements.{All-from_recursion}
 use Rattle.dw_bytes.specs.declared.fault.Fault.{Fault}
 use Rattle.dw_bytes.specs.declared.fault.FaultKind.TheVariants.{Truncated}
 use Rattle.dw_bytes.specs.Encoding.{Bytes, Fixed, Length, Uleb, Sleb, bytes_of_address}
-use Rattle.dw_bytes.specs.Reading.{ReadPosition, IsExact, IsRefusedAt, ◌>>=◌, placed, take_at, fixed_at, address_at}
+use Rattle.dw_bytes.specs.Reading.{ReadPosition, IsExact, IsRefusedAt, ◌>>=◌, past_field, take_at, fixed_at, address_at}
 use Rattle.dw_bytes.specs.Reading.{initial_length_at, uleb_at, sleb_at}
 use Rattle.dw_bytes.specs.Sequence.{located_read, and_then, at_most_of, sequence_of}
 use Rattle.dw_bytes.proofs.Fields.{take_exact, fixed_exact, initial_length_exact, uleb_exact, sleb_exact}
@@ -77,7 +77,7 @@ uleb-stays from r h = field-stays from uleb_at Uleb r (uleb_exact r) (uleb_at r)
 pub sleb-stays : (from : ℕ) → AlwaysStays from sleb_at
 sleb-stays from r h = field-stays from sleb_at Sleb r (sleb_exact r) (sleb_at r) refl (sleb_refused r) h
 
-front-refused : (b : Bool) (n : ℕ) (r : ReadPosition) → IsRefusedAt r (placed (cond b (Err Truncated) (Ok (take n r.rest, n))) r)
+front-refused : (b : Bool) (n : ℕ) (r : ReadPosition) → IsRefusedAt r (past_field (cond b (Err Truncated) (Ok (take n r.rest, n))) r)
 front-refused true n r = refl
 front-refused false n r = tt
 

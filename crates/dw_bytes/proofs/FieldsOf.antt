@@ -7,7 +7,7 @@ use Rattle.dw_bytes.specs.declared.fault.Fault.{Fault}
 use Rattle.dw_bytes.specs.declared.fault.FaultKind.{FaultKind}
 use Rattle.dw_bytes.specs.Reading.{ReadPosition, ◌>>=◌}
 use Rattle.dw_bytes.specs.Operands.{Operand, operand_at}
-use Rattle.dw_bytes.specs.Fields.{Fields, made, field, unless, Encodes, judged, field_at, fields_at}
+use Rattle.dw_bytes.specs.Fields.{Fields, made, field, unless, Encodes, ok_unless, field_at, fields_at}
 use Rattle.dw_bytes.proofs.Readers.{ExactAt, bind-ok, same-reading}
 use Rattle.dw_bytes.proofs.Codes.{finish, given, operand-exact}
 use Rattle.dw_bytes.proofs.Bounds.{Stays, AlwaysStays, bind-stays, made-stays}
@@ -21,7 +21,7 @@ passed false fault is = absurd cc
 abbrev fine : {A : Type 0} → A → Result A Fault
 fine a = Ok a
 
-unjudged : {X : Type 0} (fault : Option FaultKind) (at : ℕ) (x y : X) → judged fault at x ≡ fine y → (fault ≡ None) × (x ≡ y)
+unjudged : {X : Type 0} (fault : Option FaultKind) (at : ℕ) (x y : X) → ok_unless fault at x ≡ fine y → (fault ≡ None) × (x ≡ y)
 unjudged None at x y is = (refl, cc)
 unjudged (Some kind) at x y is = absurd cc
 
@@ -38,7 +38,7 @@ fields-exact {B} target (made b) r same = record {
 fields-exact {B} target (field kind fault next) r same = record {
   found = λ v after is.
       let a = bind-ok (field_at kind fault r) (λ x. fields_at (next x.0) x.1) (v, after) is in
-      let x = bind-ok (operand_at kind r) (λ x. judged (fault x.0) r.position x) a.0 a.1 in
+      let x = bind-ok (operand_at kind r) (λ x. ok_unless (fault x.0) r.position x) a.0 a.1 in
       let ok = unjudged (fault x.0.0) r.position x.0 a.0 x.2 in
       let behind : fields_at (next x.0.0) x.0.1 ≡ finish v after =
       subst (λ (p : Operand kind × ReadPosition). fields_at (next p.0) p.1 ≡ finish v after) (sym ok.1) a.2 in
@@ -79,20 +79,20 @@ fields-exact {B} target (field kind fault next) r same = record {
         position = omega (arith, h.position, ap length s.3, length-append s.1 s.2);
         target = h.target;
       }) in
-      let none : judged (fault s.0) r.position (s.0, mid) ≡ fine (s.0, mid) =
-      ap (λ (f : Option FaultKind). judged f r.position (s.0, mid)) s.5 in
+      let none : ok_unless (fault s.0) r.position (s.0, mid) ≡ fine (s.0, mid) =
+      ap (λ (f : Option FaultKind). ok_unless f r.position (s.0, mid)) s.5 in
       let first : field_at kind fault r ≡ fine (s.0, mid) =
-      ap (λ (x : Result (Operand kind × ReadPosition) Fault). x >>= λ y. judged (fault y.0) r.position y) one ∙ none in
+      ap (λ (x : Result (Operand kind × ReadPosition) Fault). x >>= λ y. ok_unless (fault y.0) r.position y) one ∙ none in
       ap (λ (x : Result (Operand kind × ReadPosition) Fault). x >>= λ y. fields_at (next y.0) y.1) first ∙ others;
 }
 
 judged-stays : {A : Type 0} (from : ℕ) (r : ReadPosition) (fault : Option FaultKind) (x : A × ReadPosition) → from ≤ r.position
-    → Stays {X = A} from r (Ok x) → Stays {X = A} from r (judged fault r.position x)
+    → Stays {X = A} from r (Ok x) → Stays {X = A} from r (ok_unless fault r.position x)
 judged-stays from r None x h k = k
 judged-stays from r (Some kind) x h k = (h, omega arith)
 
 field-stays : {A : Type 0} (from : ℕ) (r : ReadPosition) (fault : A → Option FaultKind) (x : Result (A × ReadPosition) Fault)
-    → from ≤ r.position → Stays from r x → Stays from r (x >>= λ v. judged (fault v.0) r.position v)
+    → from ≤ r.position → Stays from r x → Stays from r (x >>= λ v. ok_unless (fault v.0) r.position v)
 field-stays from r fault (Ok x) h k = judged-stays from r (fault x.0) x h k
 field-stays from r fault (Err e) h k = k
 

@@ -32,12 +32,12 @@ Encodes target (field kind fault next) at bytes v = (x : Operand kind) × (first
 
 -- ---- reading them: each field is judged as soon as it is read, and refused at its first byte
 
-abbrev pub judged : {X : Type 0} → Option FaultKind → ℕ → X → Result X Fault
-judged None at x = Ok x
-judged (Some fault) at x = Err (record { kind = fault; at = at })
+abbrev pub ok_unless : {X : Type 0} → Option FaultKind → ℕ → X → Result X Fault
+ok_unless None at x = Ok x
+ok_unless (Some fault) at x = Err (record { kind = fault; at = at })
 
 abbrev pub field_at : (kind : OperandKind) → (Operand kind → Option FaultKind) → ReadPosition → Result (Operand kind × ReadPosition) Fault
-field_at kind fault r = operand_at kind r >>= λ x. judged (fault x.0) r.position x
+field_at kind fault r = operand_at kind r >>= λ x. ok_unless (fault x.0) r.position x
 
 abbrev pub byte_at : FaultKind → ℕ → ReadPosition → Result (ℕ × ReadPosition) Fault
 byte_at fault value = field_at (fixed 1) (λ v. unless (v == value) fault)

@@ -26,21 +26,22 @@ use Rattle.dw_rows.specs.Section.{FrameSection, IsChecked, cie_in, covers, rows_
 use Rattle.dw_rows.specs.UnwindRows.{has_address}
 use Rattle.dw_eval.specs.Fits.{NumbersFit}
 use Rattle.dw_eval.specs.Meaning.{meaning_of}
-use Rattle.dw_eval.specs.Numbers.{reduced, width_of}
-use Rattle.dw_eval.specs.Results.{Outcome, outcome_of_location, no_answer, result_of, first_stack, started, RunsFrom, IsRun}
+use Rattle.dw_eval.specs.Numbers.{wrap, width_of}
+use Rattle.dw_eval.specs.Results.{Outcome, outcome_of_location, no_answer, result_of, first_stack, start_configuration, RunsFrom, IsRun}
 use Rattle.dw_eval.specs.World.{World, width, number_at}
-use Rattle.dw_check.specs.Caller.{Answer, value, undefined, unreadable, division_by_zero, machine, with_cfa, under, moved, moved_content}
+use Rattle.dw_check.specs.Caller.{Answer, value, undefined, unreadable, division_by_zero}
+use Rattle.dw_check.specs.Caller.{machine, with_cfa, under, number_plus, content_plus}
 use Rattle.dw_check.specs.Caller.{word, if_value, answer_of, Gives, IsCfa, NeedsCfa, IsRegister, AreRegisters, Caller, IsCaller, Unwinds}
 use Rattle.dw_check.specs.CallerFits.{AnswerFits, CallerFits}
 
 -- ---- answers without a run
 
-reduced_below : (w : ℕ) (z : ℤ) → reduced w z < 2 ^ w
-reduced_below w (pos n) = mod_below n (2 ^ w) (pow_pos w)
-reduced_below w (negsuc n) = omega (arith, pow_pos w)
+wrap_below : (w : ℕ) (z : ℤ) → wrap w z < 2 ^ w
+wrap_below w (pos n) = mod_below n (2 ^ w) (pow_pos w)
+wrap_below w (negsuc n) = omega (arith, pow_pos w)
 
-content_fits : (e : World) (by : ℤ) (o : Option ℕ) → AnswerFits (2 ^ width e) (moved_content e by o)
-content_fits e by (Some n) = reduced_below (width e) _
+content_fits : (e : World) (by : ℤ) (o : Option ℕ) → AnswerFits (2 ^ width e) (content_plus e by o)
+content_fits e by (Some n) = wrap_below (width e) _
 content_fits e by None = tt
 
 either_fits : (m : ℕ) (b : Bool) (x y : Answer) → AnswerFits m x → AnswerFits m y → AnswerFits m (if b then x else y)
@@ -193,7 +194,7 @@ more_fits m k division_by_zero more h = tt
 
 module _ (each : (abi : Abi) (rules : List (ℕ × Rule)) → All (λ entry. entry.1 ≡ rule_under abi rules entry.0) (rules_under abi rules))
     (numbers : (e : World) (kind : Kind) (ops : List Placed) (len n : ℕ) (s : List ℕ) (c : Configuration)
-    → first_stack e kind ≡ Some s → Run (meaning_of e) ops len n (started s) c → NumbersFit (2 ^ width e) c) where
+    → first_stack e kind ≡ Some s → Run (meaning_of e) ops len n (start_configuration s) c → NumbersFit (2 ^ width e) c) where
   run_fits : (e : World) (kind : Kind) (ops : List Placed) (len : ℕ) (o : Outcome) (n : ℕ) → IsRun e kind ops len o n
       → AnswerFits (2 ^ width e) (answer_of o)
   run_fits e kind ops len o n run = by (first_stack e kind) refl run
@@ -233,9 +234,9 @@ module _ (each : (abi : Abi) (rules : List (ℕ × Rule)) → All (λ entry. ent
     register_fits cfa r RuleOver.undefined a within h = subst (AnswerFits m) (sym h) tt
     register_fits cfa r same_value a within h = subst (AnswerFits m) (sym h) (content_fits e (pos 0) (e.registers r))
     register_fits cfa r (offset n) a within h =
-        subst (AnswerFits m) (sym h) (if_value_fits m cfa (λ c. word e (moved e n c)) (λ c. word_fits e (moved e n c)))
+        subst (AnswerFits m) (sym h) (if_value_fits m cfa (λ c. word e (number_plus e n c)) (λ c. word_fits e (number_plus e n c)))
     register_fits cfa r (val_offset n) a within h =
-        subst (AnswerFits m) (sym h) (if_value_fits m cfa (λ c. value (moved e n c)) (λ c. reduced_below (width e) _))
+        subst (AnswerFits m) (sym h) (if_value_fits m cfa (λ c. value (number_plus e n c)) (λ c. wrap_below (width e) _))
     register_fits cfa r (register other) a within h = subst (AnswerFits m) (sym h) (content_fits e (pos 0) (e.registers other))
     register_fits cfa r (expression x) a within h =
         needs_fit m cfa (λ c b. (address : Answer) × Gives (with_cfa e c) FrameRegister x address × (b ≡ if_value address (word e))) a

@@ -16,7 +16,8 @@ use Rattle.dw_stack.specs.declared.state.Kind.TheVariants.{FrameCfa, FrameRegist
 use Rattle.dw_stack.specs.Expressions.{Checked, IsChecked, IsGoodExpression, IsDepthOf}
 use Rattle.dw_eval.specs.World.{World}
 use Rattle.dw_eval.specs.Results.{Outcome, IsEvaluation}
-use Rattle.dw_check.specs.Caller.{Answer, value, undefined, unreadable, division_by_zero, moved_content, content, word, moved, if_value}
+use Rattle.dw_check.specs.Caller.{Answer, value, undefined, unreadable, division_by_zero}
+use Rattle.dw_check.specs.Caller.{content_plus, content, word, number_plus, if_value}
 use Rattle.dw_check.specs.Caller.{answer_of, under, Gives, with_cfa, IsCfa, NeedsCfa, IsRegister, AreRegisters, Caller, IsCaller, Unwinds}
 use Rattle.dw_check.proofs.Sound.{known}
 
@@ -174,7 +175,7 @@ module _ (es : List LocatedExpression)
       (answer_of found.0, (found.0, found.1, found.2, refl))
 
   cfa_some : (e : World) (rule : Option Cfa) → IfSome rule (IsGoodCfa es) → (a : Answer) × IsCfa e rule a
-  cfa_some e (Some (register_and_offset r n)) good = (moved_content e n (e.registers r), refl)
+  cfa_some e (Some (register_and_offset r n)) good = (content_plus e n (e.registers r), refl)
   cfa_some e (Some (cfa_expression x)) good = gives_some e x FrameCfa good
   cfa_some e None good = (unreadable, refl)
 
@@ -188,8 +189,8 @@ module _ (es : List LocatedExpression)
   register_some e cfa r default good = (undefined, refl)
   register_some e cfa r RuleOver.undefined good = (undefined, refl)
   register_some e cfa r same_value good = (content e r, refl)
-  register_some e cfa r (offset n) good = (if_value cfa (λ c. word e (moved e n c)), refl)
-  register_some e cfa r (val_offset n) good = (if_value cfa (λ c. value (moved e n c)), refl)
+  register_some e cfa r (offset n) good = (if_value cfa (λ c. word e (number_plus e n c)), refl)
+  register_some e cfa r (val_offset n) good = (if_value cfa (λ c. value (number_plus e n c)), refl)
   register_some e cfa r (register other) good = (content e other, refl)
   register_some e cfa r (expression y) good =
       needs_some cfa (λ c x. (address : Answer) × Gives (with_cfa e c) FrameRegister y address × (x ≡ if_value address (word e)))

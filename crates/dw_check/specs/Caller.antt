@@ -11,7 +11,7 @@ use Rattle.dw_stack.specs.declared.state.Kind.{Kind}
 use Rattle.dw_stack.specs.declared.state.Kind.TheVariants.{FrameCfa, FrameRegister}
 use Rattle.dw_rows.specs.Section.{FrameSection, Covers, IsCoverOf, cie_in, row_of}
 use Rattle.dw_stack.specs.Expressions.{operations_in}
-use Rattle.dw_eval.specs.Numbers.{reduced}
+use Rattle.dw_eval.specs.Numbers.{wrap}
 use Rattle.dw_eval.specs.World.{World, width, number_at}
 use Rattle.dw_eval.specs.Results as results
 use Rattle.dw_eval.specs.Results.{Outcome, IsRun}
@@ -48,22 +48,22 @@ under target e = record {
 }
 
 -- a number and an offset, modulo 2^w
-abbrev pub moved : World → ℤ → ℕ → ℕ
-moved e by n = reduced (width e) (pos n +ℤ by)
+abbrev pub number_plus : World → ℤ → ℕ → ℕ
+number_plus e by n = wrap (width e) (pos n +ℤ by)
 
 -- a content and an offset, modulo 2^w
-abbrev pub moved_content : World → ℤ → Option ℕ → Answer
-moved_content e by (Some n) = value (moved e by n)
-moved_content e by None = unreadable
+abbrev pub content_plus : World → ℤ → Option ℕ → Answer
+content_plus e by (Some n) = value (number_plus e by n)
+content_plus e by None = unreadable
 
 -- what a register has now
 abbrev pub content : World → ℕ → Answer
-content e r = moved_content e (pos 0) (e.registers r)
+content e r = content_plus e (pos 0) (e.registers r)
 
 -- the address-sized word at an address, of which the last byte is at most at 2^w - 1
 abbrev pub word : World → ℕ → Answer
 word e a = if nat_le (a + bytes_of_address e.target.address_size) (2 ^ width e)
-    then moved_content e (pos 0) (number_at e.memory e.target.order a (bytes_of_address e.target.address_size)) else unreadable
+    then content_plus e (pos 0) (number_at e.memory e.target.order a (bytes_of_address e.target.address_size)) else unreadable
 
 -- what comes of a value, or that there is none
 abbrev pub if_value : Answer → (ℕ → Answer) → Answer
@@ -84,7 +84,7 @@ Gives e kind x answer = (outcome : Outcome) × (steps : ℕ)
 
 -- A row that covers an address has a rule for the CFA. A CFA expression runs with nothing pushed.
 abbrev pub IsCfa : World → Option Cfa → Answer → Type 0
-IsCfa e (Some (register_and_offset r n)) answer = answer ≡ moved_content e n (e.registers r)
+IsCfa e (Some (register_and_offset r n)) answer = answer ≡ content_plus e n (e.registers r)
 IsCfa e (Some (cfa_expression x)) answer = Gives e FrameCfa x answer
 IsCfa e None answer = answer ≡ unreadable
 
@@ -98,8 +98,8 @@ abbrev pub IsRegister : World → Answer → ℕ → Rule → Answer → Type 0
 IsRegister e cfa r default answer = answer ≡ undefined
 IsRegister e cfa r RuleOver.undefined answer = answer ≡ undefined
 IsRegister e cfa r same_value answer = answer ≡ content e r
-IsRegister e cfa r (offset n) answer = answer ≡ if_value cfa (λ c. word e (moved e n c))
-IsRegister e cfa r (val_offset n) answer = answer ≡ if_value cfa (λ c. value (moved e n c))
+IsRegister e cfa r (offset n) answer = answer ≡ if_value cfa (λ c. word e (number_plus e n c))
+IsRegister e cfa r (val_offset n) answer = answer ≡ if_value cfa (λ c. value (number_plus e n c))
 IsRegister e cfa r (register other) answer = answer ≡ content e other
 IsRegister e cfa r (expression x) answer =
     NeedsCfa cfa (λ c a. (address : Answer) × Gives (with_cfa e c) FrameRegister x address × (a ≡ if_value address (word e))) answer

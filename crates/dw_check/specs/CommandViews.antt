@@ -7,14 +7,14 @@ use Rattle.dw_check.specs.Commands.{Command}
 use Rattle.dw_check.specs.declared.command_line.Outline.{Outline}
 
 -- words by their names
-abbrev pub named : List (Bor (List ℕ) × Bor (List ℕ)) → List (Text × Word)
-named words = map (λ word. (word.0.now, file)) words
+abbrev pub file_words : List (Bor (List ℕ) × Bor (List ℕ)) → List (Text × Word)
+file_words words = map (λ word. (word.0.now, file)) words
 
 -- a command by its outline
 abbrev pub command_in : Outline → Command
 command_in outline = record {
   name = outline.name.now;
-  words = named outline.words.now;
+  words = file_words outline.words.now;
   has_state = outline.has_state;
   task = λ rows. None;
 }

@@ -14,12 +14,12 @@ is_state other (suc n) = true
 abbrev pub needed_length : Task → Bool → ℕ → Option ℕ
 needed_length task hex place = if hex || is_state task place then None else Some (2 ^ 32)
 
--- the beginning of a file that has this length, or all of it
-abbrev pub beginning : Option ℕ → List ℕ → List ℕ
-beginning None file = file
-beginning (Some n) file = take n file
+-- a file up to this length, or all of it
+abbrev pub part_up_to : Option ℕ → List ℕ → List ℕ
+part_up_to None file = file
+part_up_to (Some n) file = take n file
 
 -- what is needed of each file, from the one at this place on
 unfoldable pub needed_parts : Task → Bool → ℕ → List (List ℕ) → List (List ℕ)
 needed_parts task hex place [] = []
-needed_parts task hex place (file ∷ files) = beginning (needed_length task hex place) file ∷ needed_parts task hex (suc place) files
+needed_parts task hex place (file ∷ files) = part_up_to (needed_length task hex place) file ∷ needed_parts task hex (suc place) files

@@ -5,7 +5,7 @@ ghost use Rattle.clap.specs.Words.{with_subcommand, app_of, rule_of};
 ghost use Rattle.clap.specs.declared.builder.Command.TheViews.{out-Command as fields_of};
 ghost use Rattle.dw_check.specs.Commands.{flag_rule, option_rule, word_rule, with_flags, with_words, with_state};
 ghost use Rattle.dw_check.specs.Commands.{with_commands, app_of_command, dwcheck};
-ghost use Rattle.dw_check.specs.CommandViews.{named, command_in};
+ghost use Rattle.dw_check.specs.CommandViews.{file_words, command_in};
 
 use clap::{Arg, ArgAction, Command};
 use std::alloc::{AllocError, Global};
@@ -177,7 +177,7 @@ fn with_words<'a>(
 ) -> Result<Command<'a>, AllocError>
     requires { (fields_of command).has_globals ≡ false }
     ensures app { IfOk result (λ c. app_of c ≡ with_words (app_of command.entry)
-        (named words.now)) }
+        (file_words words.now)) }
     ensures local { IfOk result (λ c. (fields_of c).has_globals ≡ false) }
 {
     let mut command = command;

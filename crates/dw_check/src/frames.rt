@@ -30,6 +30,16 @@ pub enum Stop {
 }
 
 /// The frames of a walk up the stack, the innermost first, and why they end.
+///
+/// ```rust
+/// let walk = backtrace(alloc, &checked, &abi, 0x1010, &registers, &memory, 64)?;
+/// for frame in walk.frames.as_slice() {
+///     println!(rt; "{:#x}", frame.address)?;
+/// }
+/// if walk.stop == Stop::ReturnUndefined {
+///     println!(rt; "that is all of them")?;
+/// }
+/// ```
 #[derive(Clone, Debug, Drop, PartialEq, Eq)]
 pub struct Backtrace {
     /// The frames, at most as many as were asked for.

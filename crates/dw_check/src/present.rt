@@ -1,12 +1,12 @@
 //! What registers and memory have, and what rules make of it.
 
 ghost use Rattle.std.specs.Prelude.{◌≡◌, ◌≤◌, ◌+ℤ◌, ℕ, All, Some, length, map, pos};
-ghost use Rattle.dw_eval.specs.Numbers.{reduced, width_of};
+ghost use Rattle.dw_eval.specs.Numbers.{wrap, width_of};
 ghost use Rattle.dw_rows.specs.Views.{cfa_rule_of, rule_of};
 ghost use Rattle.dw_rows.specs.GivenRows.{IsCfaOfKind, IsEntryOfKind, IsRuleOfKind};
 ghost use Rattle.dw_stack.specs.Certificates.{checked_of};
 ghost use Rattle.dw_stack.specs.Located.{located_of};
-ghost use Rattle.dw_check.specs.Caller.{Gives, IsCfa, IsRegister, AreRegisters, moved, moved_content, content, word};
+ghost use Rattle.dw_check.specs.Caller.{Gives, IsCfa, IsRegister, AreRegisters, number_plus, content_plus, content, word};
 ghost use Rattle.dw_check.specs.CallerViews.{answer_in, found_in, machine_in, with_optional_cfa};
 
 use crate::unwinding::{Answer, FoundRegisters, MAX_FOUND};
@@ -26,7 +26,7 @@ pub(crate) struct Present<'m, R: Registers, M: Memory> {
 
 /// The number modulo 2^w, w being the size of an address in bits.
 fn reduce_to_size(size: AddressSize, number: u64) -> u64
-    ensures { result ≡ reduced (width_of size) (pos number) }
+    ensures { result ≡ wrap (width_of size) (pos number) }
 {
     match size {
         AddressSize::Four => number % 0x1_0000_0000,
@@ -36,26 +36,26 @@ fn reduce_to_size(size: AddressSize, number: u64) -> u64
 
 /// The sum of a number and an offset, modulo 2^w.
 fn plus_offset(size: AddressSize, number: u64, offset: i64) -> u64
-    ensures { result ≡ reduced (width_of size) (pos number +ℤ offset) }
+    ensures { result ≡ wrap (width_of size) (pos number +ℤ offset) }
 {
     reduce_to_size(size, number.wrapping_add(offset.cast_unsigned()))
 }
 
 impl<'m, R: Registers, M: Memory> Present<'m, R, M> {
     /// A number and an offset, modulo 2^w.
-    fn moved(&self, number: u64, offset: i64) -> u64
-        ensures { result ≡ moved (machine_in R.contents M.bytes self.now) offset number }
+    fn number_plus(&self, number: u64, offset: i64) -> u64
+        ensures { result ≡ number_plus (machine_in R.contents M.bytes self.now) offset number }
     {
         plus_offset(self.target.address_size, number, offset)
     }
 
     /// A content and an offset, modulo 2^w.
-    fn moved_content(&self, content: Option<u64>, offset: i64) -> Answer
+    fn content_plus(&self, content: Option<u64>, offset: i64) -> Answer
         ensures { answer_in result
-            ≡ moved_content (machine_in R.contents M.bytes self.now) offset content }
+            ≡ content_plus (machine_in R.contents M.bytes self.now) offset content }
     {
         match content {
-            Some(number) => Answer::Value(self.moved(number, offset)),
+            Some(number) => Answer::Value(self.number_plus(number, offset)),
             None => Answer::Unreadable,
         }
     }
@@ -64,7 +64,7 @@ impl<'m, R: Registers, M: Memory> Present<'m, R, M> {
     fn content(&self, number: u16) -> Answer
         ensures { answer_in result ≡ content (machine_in R.contents M.bytes self.now) number }
     {
-        self.moved_content(self.registers.register(number), 0)
+        self.content_plus(self.registers.register(number), 0)
     }
 
     /// The address-sized word at an address.
@@ -75,7 +75,7 @@ impl<'m, R: Registers, M: Memory> Present<'m, R, M> {
         if address > self.target.address_size.max_address() - u64::from(size - 1) {
             return Answer::Unreadable;
         }
-        self.moved_content(self.memory.read(address, size, self.target.order), 0)
+        self.content_plus(self.memory.read(address, size, self.target.order), 0)
     }
 
     /// What an expression of a row gives, which begins with the CFA where that is handed in.
@@ -104,7 +104,7 @@ impl<'m, R: Registers, M: Memory> Present<'m, R, M> {
     {
         match rule {
             CfaRule::RegisterAndOffset { register, offset } => {
-                self.moved_content(self.registers.register(register), offset)
+                self.content_plus(self.registers.register(register), offset)
             }
             CfaRule::Expression { expression, .. } => self.outcome(&expression, None),
         }
@@ -121,11 +121,11 @@ impl<'m, R: Registers, M: Memory> Present<'m, R, M> {
             RegisterRule::Undefined => Answer::Undefined,
             RegisterRule::SameValue => self.content(number),
             RegisterRule::Offset(offset) => match cfa {
-                Answer::Value(cfa) => self.word(self.moved(cfa, offset)),
+                Answer::Value(cfa) => self.word(self.number_plus(cfa, offset)),
                 other => other,
             },
             RegisterRule::ValOffset(offset) => match cfa {
-                Answer::Value(cfa) => Answer::Value(self.moved(cfa, offset)),
+                Answer::Value(cfa) => Answer::Value(self.number_plus(cfa, offset)),
                 other => other,
             },
             RegisterRule::Register(other) => self.content(other),

@@ -31,6 +31,13 @@ pub struct CheckFault {
 }
 
 /// A `.debug_frame` and a `.debug_loclists` section that were checked, under one target.
+///
+/// ```rust
+/// match check(alloc, frame, lists, target) {
+///     Ok(checked) => println!(rt; "{} FDEs", checked.frame().fdes().len())?,
+///     Err(found) => println!(rt; "fault {} at {:#x}", found.fault.kind.number(), found.fault.at)?,
+/// }
+/// ```
 #[derive(Drop)]
 pub struct Checked<'a> {
     frame: CheckedFrame<'a>,

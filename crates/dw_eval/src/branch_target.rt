@@ -4,7 +4,7 @@ ghost use Rattle.std.specs.Prelude.{◌≡◌, ◌≤◌, length};
 ghost use Rattle.std.specs.Option.{option_map};
 ghost use Rattle.dw_ops.specs.Views.{operation_of};
 ghost use Rattle.dw_stack.specs.Effects.{effect_of};
-ghost use Rattle.dw_stack.specs.Machine.{named, LeadsTo};
+ghost use Rattle.dw_stack.specs.Machine.{location_named, LeadsTo};
 ghost use Rattle.dw_eval.specs.Views.{location_description_of};
 ghost use Rattle.dw_eval.specs.Steps.{GoesForward, EndsPiece};
 
@@ -43,7 +43,7 @@ pub fn location_named<'a, const PLACES: usize>(
     stack: &Stack<PLACES>,
 ) -> Option<Location<'a>>
     requires { (effect_of (operation_of operation.now)).needs ≤ length stack.now }
-    ensures { option_map location_description_of result ≡ named
+    ensures { option_map location_description_of result ≡ location_named
         (operation_of operation.now) stack.now }
 {
     match *operation {

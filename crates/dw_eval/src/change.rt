@@ -4,7 +4,7 @@ ghost use Rattle.std.specs.Prelude.{◌≡◌, ◌+◌, ◌-◌, ◌<◌, ◌≤
 ghost use Rattle.dw_ops.specs.Views.{operation_of};
 ghost use Rattle.dw_stack.specs.Effects.{effect_of};
 ghost use Rattle.dw_eval.specs.Fits.{AllFit};
-ghost use Rattle.dw_eval.specs.StackChanges.{stack_after_operation, changed, changed_by, IsSized, taken_by, added_by};
+ghost use Rattle.dw_eval.specs.StackChanges.{stack_after_operation, stack_after_change, changed_by, IsSized, taken_by, added_by};
 ghost use Rattle.dw_eval.specs.Handed.{world_in};
 
 use crate::context::{Memory, Registers};
@@ -200,7 +200,7 @@ pub fn change_of<R: Registers, M: Memory, const PLACES: usize>(
 pub fn make_change<const PLACES: usize>(change: Change, stack: &mut Stack<PLACES>)
     requires enough { taken_by change ≤ length stack.old }
     requires room { length stack.old - taken_by change + added_by change ≤ PLACES }
-    ensures { Ok stack.new ≡ changed change stack.old }
+    ensures { Ok stack.new ≡ stack_after_change change stack.old }
 {
     match change {
         Change::Stays => {}

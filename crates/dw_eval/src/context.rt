@@ -6,6 +6,20 @@ ghost use Rattle.dw_eval.specs.World.{IsSize, number_at};
 use dw_bytes::Order;
 
 /// A register file: a partial function from register numbers to contents.
+///
+/// ```rust
+/// /// The stack pointer alone is known.
+/// #[derive(Clone, Copy)]
+/// struct StackPointer(u64);
+///
+/// impl Registers for StackPointer {
+///     ghost contents = { λ s n. if n == 7 then Some s.0 else None };
+///
+///     fn register(&self, number: u16) -> Option<u64> {
+///         if number == 7 { Some(self.0) } else { None }
+///     }
+/// }
+/// ```
 pub trait Registers {
     /// What the registers have.
     ghost contents: { Self → ℕ → Option ℕ };

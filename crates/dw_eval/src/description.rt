@@ -3,7 +3,7 @@
 ghost use Rattle.std.specs.Prelude.{◌≡◌, ◌<◌, ◌∷◌, [], length, None};
 ghost use Rattle.dw_ops.specs.Views.{bytes_of};
 ghost use Rattle.dw_eval.specs.UnderWay.{CanRun, IsUnderWay, RunsTo};
-ghost use Rattle.dw_eval.specs.Steps.{configured};
+ghost use Rattle.dw_eval.specs.Steps.{configuration_of};
 ghost use Rattle.dw_eval.specs.Views.{piece_in};
 ghost use Rattle.dw_eval.specs.Handed.{world_in};
 
@@ -29,7 +29,7 @@ fn run_location_on<'a, R: Registers, M: Memory, const PLACES: usize>(
         (world_in R.contents M.bytes environment.now) expression.now }
     requires some { 0 < length (bytes_of expression.now) }
     requires under_way { IsUnderWay (world_in R.contents M.bytes environment.now)
-        (bytes_of expression.now) [] (configured from run.old (piece_in first ∷ [])) before }
+        (bytes_of expression.now) [] (configuration_of from run.old (piece_in first ∷ [])) before }
     ensures { RunsTo Kind.Location
         (world_in R.contents M.bytes environment.now) expression.now result }
 {

@@ -2,7 +2,7 @@
 
 ghost use Rattle.std.specs.Prelude.{◌≡◌, ◌+◌, ◌+ℤ◌, ◌^◌, ◌<◌, ◌∷◌, [], pos, Ok};
 ghost use Rattle.dw_eval.specs.World.{IsSize, width};
-ghost use Rattle.dw_eval.specs.Values.{pushed, if_present, loaded};
+ghost use Rattle.dw_eval.specs.Values.{push, if_present, load_bytes};
 ghost use Rattle.dw_eval.specs.StackChanges.{one_of};
 ghost use Rattle.dw_bytes.specs.Encoding.{bytes_of_address};
 ghost use Rattle.dw_eval.specs.Handed.{world_in};
@@ -45,7 +45,7 @@ impl<'m, R: Registers, M: Memory> Environment<'m, R, M> {
     #[inline(always)]
     pub fn sum(&self, value: Option<u64>, offset: i64) -> Result<u64, EvaluationError>
         ensures { one_of result ≡ if_present value
-            (λ n. pushed (world_in R.contents M.bytes self.now) (pos n +ℤ offset)) }
+            (λ n. push (world_in R.contents M.bytes self.now) (pos n +ℤ offset)) }
     {
         match value {
             Some(number) => Ok(self.width().offset(number, offset)),
@@ -57,7 +57,7 @@ impl<'m, R: Registers, M: Memory> Environment<'m, R, M> {
     #[inline(always)]
     pub fn given(&self, value: Option<u64>) -> Result<u64, EvaluationError>
         ensures { one_of result ≡ if_present value
-            (λ n. pushed (world_in R.contents M.bytes self.now) (pos n)) }
+            (λ n. push (world_in R.contents M.bytes self.now) (pos n)) }
     {
         match value {
             Some(number) => Ok(self.width().reduce(number)),
@@ -70,7 +70,7 @@ impl<'m, R: Registers, M: Memory> Environment<'m, R, M> {
     pub fn load(&self, address: u64, size: u8) -> Result<u64, EvaluationError>
         requires address { address < 2 ^ width (world_in R.contents M.bytes self.now) }
         requires size { IsSize size }
-        ensures { one_of result ≡ loaded (world_in R.contents M.bytes self.now) address size }
+        ensures { one_of result ≡ load_bytes (world_in R.contents M.bytes self.now) address size }
     {
         let width = self.width();
         if address > width.max() - u64::from(size - 1) {

@@ -12,7 +12,7 @@ ghost use Rattle.dw_eval.specs.World.{World, width};
 ghost use Rattle.dw_eval.specs.Meaning.{meaning_of};
 ghost use Rattle.dw_eval.specs.Needs.{UsesTopAlone};
 ghost use Rattle.dw_eval.specs.Fits.{NumbersFit};
-ghost use Rattle.dw_eval.specs.Results.{Outcome, IsOfKind, first_stack, started, IsEvaluation};
+ghost use Rattle.dw_eval.specs.Results.{Outcome, IsOfKind, first_stack, start_configuration, IsEvaluation};
 
 /// An operation uses the topmost entries alone, as many as it needs: whatever lies below them, it pushes the same, names and
 /// jumps alike, and leaves what lies there, which a piece then clears away. A piece needs no entry, and where it gives an address,
@@ -42,7 +42,7 @@ pub fn each_has_an_evaluation()
 pub fn numbers_of_evaluations_fit()
     ensures { (e : World) (kind : Kind) (ops : List Placed) (len n : ℕ) (s : List ℕ)
         (c : Configuration) → first_stack e kind ≡ Some s
-        → Run (meaning_of e) ops len n (started s) c → NumbersFit (2 ^ width e) c }
+        → Run (meaning_of e) ops len n (start_configuration s) c → NumbersFit (2 ^ width e) c }
 {}
 
 /// Expressions of a frame come to a value or to no answer, and locations to a location, to pieces or to no answer.

@@ -40,7 +40,7 @@ impl<'a, const PLACES: usize> Run<'a, PLACES> {
     ghost use Rattle.dw_eval.specs.Handed.{world_in};
     ghost use Rattle.dw_eval.specs.Views.{location_description_of, extent_of_size, piece_in};
     ghost use Rattle.dw_eval.specs.Results.{result_of, single};
-    ghost use Rattle.dw_eval.specs.Steps.{configured, Applies, CanExecute, CanStepAt, FailsAt, MovesAt};
+    ghost use Rattle.dw_eval.specs.Steps.{configuration_of, Applies, CanExecute, CanStepAt, FailsAt, MovesAt};
 
     /// A run with an empty stack.
     pub fn new() -> Self
@@ -149,9 +149,9 @@ impl<'a, const PLACES: usize> Run<'a, PLACES> {
 
     /// Where the object is at the end of a location without pieces, with or without operations.
     pub fn result(&self, is_empty: bool) -> Location<'a>
-        requires { GivesResult Kind.Location is_empty (configured 0 self.now []) }
+        requires { GivesResult Kind.Location is_empty (configuration_of 0 self.now []) }
         ensures { single (location_description_of result) ≡ result_of Kind.Location is_empty
-            (configured 0 self.now []) }
+            (configuration_of 0 self.now []) }
     {
         match self.pending {
             _ if is_empty => Location::Empty,

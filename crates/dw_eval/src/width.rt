@@ -3,7 +3,7 @@
 ghost use Rattle.std.specs.Prelude.{◌≡◌, ◌<◌, ◌+◌, ◌-◌, ◌*◌, ◌/◌, ◌%◌, ◌^◌, ◌==◌, pos, ◌+ℤ◌, ◌-ℤ◌, unsigned_abs, int_div, int_lt, int_le};
 ghost use Rattle.std.specs.Prelude.{bit_and, bit_or, bit_xor};
 ghost use Rattle.std.specs.Int.{int_shr};
-ghost use Rattle.dw_eval.specs.Numbers.{width_of, reduced, signed, truth};
+ghost use Rattle.dw_eval.specs.Numbers.{width_of, wrap, twos_complement, truth};
 
 use dw_bytes::AddressSize;
 
@@ -25,7 +25,7 @@ impl Width {
     /// The number modulo 2^w.
     #[inline(always)]
     pub fn reduce(self, n: u64) -> u64
-        ensures { result ≡ reduced (width_of self.size) (pos n) }
+        ensures { result ≡ wrap (width_of self.size) (pos n) }
     {
         match self.size {
             AddressSize::Four => n % 0x1_0000_0000,
@@ -36,7 +36,7 @@ impl Width {
     /// A number of one byte, which is below 2^w.
     #[inline(always)]
     pub fn byte(self, n: u8) -> u64
-        ensures { result ≡ reduced (width_of self.size) (pos n) }
+        ensures { result ≡ wrap (width_of self.size) (pos n) }
     {
         u64::from(n)
     }
@@ -44,7 +44,7 @@ impl Width {
     /// The signed number modulo 2^w.
     #[inline(always)]
     pub fn reduce_signed(self, z: i64) -> u64
-        ensures { result ≡ reduced (width_of self.size) z }
+        ensures { result ≡ wrap (width_of self.size) z }
     {
         self.reduce(z.cast_unsigned())
     }
@@ -53,7 +53,7 @@ impl Width {
     #[inline(always)]
     fn sign(self, n: u64) -> i64
         requires { n < 2 ^ width_of self.size }
-        ensures { result ≡ signed (width_of self.size) n }
+        ensures { result ≡ twos_complement (width_of self.size) n }
     {
         match self.size {
             AddressSize::Four => {
@@ -70,28 +70,28 @@ impl Width {
     /// The sum of a number and an offset.
     #[inline(always)]
     pub fn offset(self, n: u64, offset: i64) -> u64
-        ensures { result ≡ reduced (width_of self.size) (pos n +ℤ offset) }
+        ensures { result ≡ wrap (width_of self.size) (pos n +ℤ offset) }
     {
         self.reduce(n.wrapping_add(offset.cast_unsigned()))
     }
 
     #[inline(always)]
     pub fn plus(self, a: u64, b: u64) -> u64
-        ensures { result ≡ reduced (width_of self.size) (pos (a + b)) }
+        ensures { result ≡ wrap (width_of self.size) (pos (a + b)) }
     {
         self.reduce(a.wrapping_add(b))
     }
 
     #[inline(always)]
     pub fn minus(self, a: u64, b: u64) -> u64
-        ensures { result ≡ reduced (width_of self.size) (pos a -ℤ pos b) }
+        ensures { result ≡ wrap (width_of self.size) (pos a -ℤ pos b) }
     {
         self.reduce(a.wrapping_sub(b))
     }
 
     #[inline(always)]
     pub fn mul(self, a: u64, b: u64) -> u64
-        ensures { result ≡ reduced (width_of self.size) (pos (a * b)) }
+        ensures { result ≡ wrap (width_of self.size) (pos (a * b)) }
     {
         self.reduce(a.wrapping_mul(b))
     }
@@ -102,8 +102,9 @@ impl Width {
         requires a { a < 2 ^ width_of self.size }
         requires b { b < 2 ^ width_of self.size }
         requires nonzero { 0 < b }
-        ensures { result ≡ reduced (width_of self.size)
-            (int_div (signed (width_of self.size) a) (signed (width_of self.size) b)) }
+        ensures { result ≡ wrap (width_of self.size)
+            (int_div (twos_complement (width_of self.size) a)
+            (twos_complement (width_of self.size) b)) }
     {
         self.reduce_signed(self.sign(a).wrapping_div(self.sign(b)))
     }
@@ -112,15 +113,15 @@ impl Width {
     #[inline(always)]
     pub fn abs(self, b: u64) -> u64
         requires { b < 2 ^ width_of self.size }
-        ensures { result ≡ reduced (width_of self.size)
-            (pos (unsigned_abs (signed (width_of self.size) b))) }
+        ensures { result ≡ wrap (width_of self.size)
+            (pos (unsigned_abs (twos_complement (width_of self.size) b))) }
     {
         self.reduce(self.sign(b).unsigned_abs())
     }
 
     #[inline(always)]
     pub fn neg(self, b: u64) -> u64
-        ensures { result ≡ reduced (width_of self.size) (pos 0 -ℤ pos b) }
+        ensures { result ≡ wrap (width_of self.size) (pos 0 -ℤ pos b) }
     {
         self.minus(0, b)
     }
@@ -129,7 +130,7 @@ impl Width {
     #[inline(always)]
     pub fn not(self, b: u64) -> u64
         requires { b < 2 ^ width_of self.size }
-        ensures { result ≡ reduced (width_of self.size) (pos (2 ^ width_of self.size - 1 - b)) }
+        ensures { result ≡ wrap (width_of self.size) (pos (2 ^ width_of self.size - 1 - b)) }
     {
         self.reduce(!b)
     }
@@ -138,7 +139,7 @@ impl Width {
     pub fn and(self, a: u64, b: u64) -> u64
         requires a { a < 2 ^ width_of self.size }
         requires b { b < 2 ^ width_of self.size }
-        ensures { result ≡ reduced (width_of self.size) (pos (bit_and a b)) }
+        ensures { result ≡ wrap (width_of self.size) (pos (bit_and a b)) }
     {
         a & b
     }
@@ -147,7 +148,7 @@ impl Width {
     pub fn or(self, a: u64, b: u64) -> u64
         requires a { a < 2 ^ width_of self.size }
         requires b { b < 2 ^ width_of self.size }
-        ensures { result ≡ reduced (width_of self.size) (pos (bit_or a b)) }
+        ensures { result ≡ wrap (width_of self.size) (pos (bit_or a b)) }
     {
         a | b
     }
@@ -156,7 +157,7 @@ impl Width {
     pub fn xor(self, a: u64, b: u64) -> u64
         requires a { a < 2 ^ width_of self.size }
         requires b { b < 2 ^ width_of self.size }
-        ensures { result ≡ reduced (width_of self.size) (pos (bit_xor a b)) }
+        ensures { result ≡ wrap (width_of self.size) (pos (bit_xor a b)) }
     {
         a ^ b
     }
@@ -166,7 +167,7 @@ impl Width {
     pub fn rem(self, a: u64, b: u64) -> u64
         requires a { a < 2 ^ width_of self.size }
         requires nonzero { 0 < b }
-        ensures { result ≡ reduced (width_of self.size) (pos (a % b)) }
+        ensures { result ≡ wrap (width_of self.size) (pos (a % b)) }
     {
         a % b
     }
@@ -174,14 +175,14 @@ impl Width {
     /// 1 for true, 0 for false.
     #[inline(always)]
     pub fn truth(self, holds: bool) -> u64
-        ensures { result ≡ reduced (width_of self.size) (truth holds) }
+        ensures { result ≡ wrap (width_of self.size) (truth holds) }
     {
         u64::from(holds)
     }
 
     #[inline(always)]
     pub fn shl(self, a: u64, b: u64) -> u64
-        ensures { result ≡ reduced (width_of self.size) (pos (a * 2 ^ b)) }
+        ensures { result ≡ wrap (width_of self.size) (pos (a * 2 ^ b)) }
     {
         if b < 64 { self.reduce(a << b) } else { 0 }
     }
@@ -190,7 +191,7 @@ impl Width {
     #[inline(always)]
     pub fn shr(self, a: u64, b: u64) -> u64
         requires { a < 2 ^ width_of self.size }
-        ensures { result ≡ reduced (width_of self.size) (pos (a / 2 ^ b)) }
+        ensures { result ≡ wrap (width_of self.size) (pos (a / 2 ^ b)) }
     {
         if b < 64 { a >> b } else { 0 }
     }
@@ -199,8 +200,8 @@ impl Width {
     #[inline(always)]
     pub fn shra(self, a: u64, b: u64) -> u64
         requires { a < 2 ^ width_of self.size }
-        ensures { result ≡ reduced (width_of self.size)
-            (int_shr (signed (width_of self.size) a) b) }
+        ensures { result ≡ wrap (width_of self.size)
+            (int_shr (twos_complement (width_of self.size) a) b) }
     {
         self.reduce_signed(self.sign(a) >> b.min(63))
     }
@@ -210,7 +211,8 @@ impl Width {
     pub fn is_below(self, a: u64, b: u64) -> bool
         requires a { a < 2 ^ width_of self.size }
         requires b { b < 2 ^ width_of self.size }
-        ensures { result ≡ int_lt (signed (width_of self.size) a) (signed (width_of self.size) b) }
+        ensures { result ≡ int_lt (twos_complement (width_of self.size) a)
+            (twos_complement (width_of self.size) b) }
     {
         self.sign(a) < self.sign(b)
     }
@@ -220,7 +222,8 @@ impl Width {
     pub fn is_at_most(self, a: u64, b: u64) -> bool
         requires a { a < 2 ^ width_of self.size }
         requires b { b < 2 ^ width_of self.size }
-        ensures { result ≡ int_le (signed (width_of self.size) a) (signed (width_of self.size) b) }
+        ensures { result ≡ int_le (twos_complement (width_of self.size) a)
+            (twos_complement (width_of self.size) b) }
     {
         self.sign(a) <= self.sign(b)
     }

@@ -13,6 +13,21 @@ use std::marker::Model;
 
 /// The records of a section in order, up to its end or the first fault. Nothing comes after a fault.
 /// Seen as the list of what is still to come.
+///
+/// ```rust
+/// for entry in entries(section, target) {
+///     match entry? {
+///         Entry::Cie(cie) => println!(rt; "return address in {}", cie.return_address_register)?,
+///         Entry::Fde(fde) => {
+///             println!(rt; "{:#x}, {:#x} bytes", fde.initial_location, fde.address_range)?;
+///             for instruction in fde.program.instructions() {
+///                 let (offset, instruction) = instruction?;
+///                 println!(rt; "{offset:#x}: {instruction:?}")?;
+///             }
+///         }
+///     }
+/// }
+/// ```
 #[derive(Debug, Drop)]
 pub struct Entries<'a> {
     section: &'a [u8],

@@ -12,7 +12,7 @@ use Rattle.dw_bytes.specs.declared.fault.Fault.{Fault}
 use Rattle.dw_bytes.specs.declared.fault.FaultKind.TheVariants.{BadOffsetEntry}
 use Rattle.dw_bytes.specs.Encoding.{Len, Length, Offset}
 use Rattle.dw_bytes.specs.Reading.{ReadPosition, Next, IsExact, ◌>>=◌, section_from, offset_at}
-use Rattle.dw_bytes.specs.Fields.{Encodes, unless, judged, fields_at}
+use Rattle.dw_bytes.specs.Fields.{Encodes, unless, ok_unless, fields_at}
 use Rattle.dw_bytes.specs.Bodies.{framed_at}
 use Rattle.dw_bytes.specs.Sequence.{Sequence, sequence_of, Exactly, exactly_of}
 use Rattle.dw_bytes.proofs.Readers.{ExactAt, bind-ok, ok-is, offset-exact, leaves-suffix}
@@ -113,9 +113,9 @@ nothing-more (l ∷ ls) = ap (λ (t : List Loclist). l ∷ t) (nothing-more ls)
 
 -- ---- offsets of the array
 
-start-found : (starts : List ℕ) (at : ℕ) → is_among starts at ≡ true → Contains starts at
+start-found : (starts : List ℕ) (at : ℕ) → is_among at starts ≡ true → Contains starts at
 start-found [] at is = absurd cc
-start-found (n ∷ starts) at is = elim (either (n == at) (is_among starts at) is) [
+start-found (n ∷ starts) at is = elim (either (n == at) (is_among at starts) is) [
   | inl e ↦ (0, omega arith, eqb-true n at e)
   | inr e ↦ let (k, lt, same) = start-found starts at e in (suc k, omega arith, same)
 ]
@@ -124,29 +124,29 @@ start-found (n ∷ starts) at is = elim (either (n == at) (is_among starts at) i
     either true c h = inl refl
     either false c h = inr h
 
-start-only : (starts : List ℕ) (at : ℕ) → Contains starts at → is_among starts at ≡ true
+start-only : (starts : List ℕ) (at : ℕ) → Contains starts at → is_among at starts ≡ true
 start-only [] at (k, lt, is) = absurd (omega arith)
-start-only (n ∷ starts) at (zero, lt, is) = ap (λ b. b || is_among starts at) (eq-eqb n at is)
+start-only (n ∷ starts) at (zero, lt, is) = ap (λ b. b || is_among at starts) (eq-eqb n at is)
 start-only (n ∷ starts) at (suc k, lt, is) = ap (λ b. (n == at) || b) (start-only starts at (k, omega arith, is)) ∙ or-true (n == at)
   where
     or-true : (b : Bool) → (b || true) ≡ true
     or-true true = refl
     or-true false = refl
 
-pub among-if : (starts : List ℕ) (at : ℕ) → Contains starts at → is_among starts at ≡ true
+pub among-if : (starts : List ℕ) (at : ℕ) → Contains starts at → is_among at starts ≡ true
 among-if = start-only
 
-pub not-among : (starts : List ℕ) (at : ℕ) → (Contains starts at → ⊥) → is_among starts at ≡ false
-not-among starts at never = which (is_among starts at) refl
+pub not-among : (starts : List ℕ) (at : ℕ) → (Contains starts at → ⊥) → is_among at starts ≡ false
+not-among starts at never = which (is_among at starts) refl
   where
-    which : (b : Bool) → is_among starts at ≡ b → is_among starts at ≡ false
+    which : (b : Bool) → is_among at starts ≡ b → is_among at starts ≡ false
     which true e = absurd (never (start-found starts at e))
     which false e = e
 
 abbrev number : ℕ → ReadPosition → Result (ℕ × ReadPosition) Fault
 number n r = Ok (n, r)
 
-unjudged : (b : Bool) (at : ℕ) (x y : ℕ × ReadPosition) → judged (unless b BadOffsetEntry) at x ≡ number y.0 y.1 → (b ≡ true) × (x ≡ y)
+unjudged : (b : Bool) (at : ℕ) (x y : ℕ × ReadPosition) → ok_unless (unless b BadOffsetEntry) at x ≡ number y.0 y.1 → (b ≡ true) × (x ≡ y)
 unjudged true at x y is = (refl, ok-is x y is)
 unjudged false at x y is = absurd cc
 
@@ -155,8 +155,8 @@ pub list-offset-exact : (target : Target) (format : Format) (array : ℕ) (lists
 list-offset-exact target format array lists r same = record {
   found = λ v after is.
       let o =
-      bind-ok (offset_at format r) (λ o. judged (unless (is_among lists (array + o.0)) BadOffsetEntry) r.position o) (v, after) is in
-      let ok = unjudged (is_among lists (array + o.0.0)) r.position o.0 (v, after) o.2 in
+      bind-ok (offset_at format r) (λ o. ok_unless (unless (is_among (array + o.0) lists) BadOffsetEntry) r.position o) (v, after) is in
+      let ok = unjudged (is_among (array + o.0.0) lists) r.position o.0 (v, after) o.2 in
       let next = (offset-exact target format r same).found o.0.0 o.0.1 o.1 in
       subst (λ (p : ℕ × ReadPosition). Next (IsListOffset target format array lists r.position) r p.0 p.1) ok.1
       (record {
@@ -172,9 +172,9 @@ list-offset-exact target format array lists r same = record {
       (offset-exact target format r same).only v after
       (record { bytes = h.bytes; encoded = h.encoded.0; parts = h.parts; position = h.position; target = h.target }) in
       let start = start-only lists (array + v) h.encoded.1 in
-      ap (λ (x : Result (ℕ × ReadPosition) Fault). x >>= λ o. judged (unless (is_among lists (array + o.0)) BadOffsetEntry) r.position o)
+      ap (λ (x : Result (ℕ × ReadPosition) Fault). x >>= λ o. ok_unless (unless (is_among (array + o.0) lists) BadOffsetEntry) r.position o)
       read
-      ∙ ap (λ b. judged (unless b BadOffsetEntry) r.position (v, after)) start;
+      ∙ ap (λ b. ok_unless (unless b BadOffsetEntry) r.position (v, after)) start;
 }
 
 -- offsets, whatever begins there
@@ -411,21 +411,24 @@ list-begins r l after is = (list-found r.target r l after refl is).encoded.offse
 pub offset-refused : (format : Format) (array : ℕ) (starts : List ℕ) (r : ReadPosition) (f : Fault) → offset_at format r ≡ Err f
     → list_offset_at format array starts r ≡ Err f
 offset-refused format array starts r f is =
-    ap (λ (x : Result (ℕ × ReadPosition) Fault). x >>= λ o. judged (unless (is_among starts (array + o.0)) BadOffsetEntry) r.position o) is
+    ap (λ (x : Result (ℕ × ReadPosition) Fault). x >>= λ o.
+    ok_unless (unless (is_among (array + o.0) starts) BadOffsetEntry) r.position o) is
 
 pub offset-good : (format : Format) (array : ℕ) (starts : List ℕ) (r after : ReadPosition) (v : ℕ) → offset_at format r ≡ Ok (v, after)
     → Contains starts (array + v) → list_offset_at format array starts r ≡ Ok (v, after)
 offset-good format array starts r after v is among =
-    ap (λ (x : Result (ℕ × ReadPosition) Fault). x >>= λ o. judged (unless (is_among starts (array + o.0)) BadOffsetEntry) r.position o) is
-    ∙ ap (λ b. judged (unless b BadOffsetEntry) r.position (v, after)) (among-if starts (array + v) among)
+    ap (λ (x : Result (ℕ × ReadPosition) Fault). x >>= λ o.
+    ok_unless (unless (is_among (array + o.0) starts) BadOffsetEntry) r.position o) is
+    ∙ ap (λ b. ok_unless (unless b BadOffsetEntry) r.position (v, after)) (among-if starts (array + v) among)
 
 pub offset-bad : (format : Format) (array : ℕ) (starts : List ℕ) (r after : ReadPosition) (v at : ℕ) → r.position ≡ at
     → offset_at format r ≡ Ok (v, after) → (Contains starts (array + v) → ⊥)
     → list_offset_at format array starts r ≡ Err (record { kind = BadOffsetEntry; at = at })
 offset-bad format array starts r after v at here is never =
-    ap (λ (x : Result (ℕ × ReadPosition) Fault). x >>= λ o. judged (unless (is_among starts (array + o.0)) BadOffsetEntry) r.position o) is
-    ∙ (ap (λ b. judged (unless b BadOffsetEntry) r.position (v, after)) (not-among starts (array + v) never)
-    ∙ ap (λ n. judged (unless false BadOffsetEntry) n (v, after)) here)
+    ap (λ (x : Result (ℕ × ReadPosition) Fault). x >>= λ o.
+    ok_unless (unless (is_among (array + o.0) starts) BadOffsetEntry) r.position o) is
+    ∙ (ap (λ b. ok_unless (unless b BadOffsetEntry) r.position (v, after)) (not-among starts (array + v) never)
+    ∙ ap (λ n. ok_unless (unless false BadOffsetEntry) n (v, after)) here)
 
 -- ---- a table, field by field
 

@@ -9,7 +9,7 @@ use Rattle.dw_bytes.specs.declared.fault.Fault.{Fault}
 use Rattle.dw_bytes.specs.declared.fault.FaultKind.TheVariants.{UnknownEntry, SecondDefault, BackRange, NoEnd, BadOffsetEntry}
 use Rattle.dw_bytes.specs.Reading.{ReadPosition, ◌>>=◌, section_from, offset_at}
 use Rattle.dw_bytes.specs.Operands.{Block, coded_at}
-use Rattle.dw_bytes.specs.Fields.{unless, judged, fields_at}
+use Rattle.dw_bytes.specs.Fields.{unless, ok_unless, fields_at}
 use Rattle.dw_bytes.specs.Bodies.{framed_at}
 use Rattle.dw_bytes.specs.Sequence.{sequence_of, exactly_of}
 use Rattle.dw_bytes.specs.Answers.{fault_in, values_in}
@@ -90,12 +90,12 @@ lists_at r = all_of (sequence_of list_at r)
 -- ---- tables
 
 -- an offset of an array is judged by the lists of its table
-abbrev pub is_among : List ℕ → ℕ → Bool
-is_among starts at = list_any (λ start. start == at) starts
+abbrev pub is_among : ℕ → List ℕ → Bool
+is_among at starts = list_any (λ start. start == at) starts
 
 abbrev pub list_offset_at : Format → ℕ → List ℕ → ReadPosition → Result (ℕ × ReadPosition) Fault
-list_offset_at format array starts r = offset_at format r >>= λ offset. judged
-    (unless (is_among starts (array + offset.0)) BadOffsetEntry) r.position offset
+list_offset_at format array starts r = offset_at format r >>= λ offset. ok_unless
+    (unless (is_among (array + offset.0) starts) BadOffsetEntry) r.position offset
 
 -- A table, read within its body: the header, the array, the lists, and then the array again, now that its lists are known.
 unfoldable pub table_at : ReadPosition → Result (Table × ReadPosition) Fault

@@ -19,6 +19,16 @@ use std::marker::Model;
 
 /// A `.debug_loclists` section that was checked: it is tables without a gap, each offset of a table's array is that of a list,
 /// and each expression is good as a location. Seen as its target and its bytes.
+///
+/// ```rust
+/// let lists = check_lists(alloc, section, target)?;
+/// // The list that DW_AT_location names, in a unit that begins at 0x1000, where the program stands at 0x1005.
+/// if let Some(list) = lists.list(0xc) {
+///     for (offset, expression) in lists.locations_at(&list, 0x1000, 0x1005) {
+///         println!(rt; "{offset:#x}: {} operations", expression.operation_count())?;
+///     }
+/// }
+/// ```
 #[derive(Drop)]
 pub struct CheckedLists<'a> {
     target: Target,

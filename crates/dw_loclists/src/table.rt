@@ -1,7 +1,7 @@
 //! Reading and judging tables.
 
 ghost use Rattle.std.specs.Prelude.{◌≡◌, ◌⊎◌, ◌<◌, ◌≤◌, ◌+◌, ◌^◌, ℕ, List, length, map, IfErr, IfOk, Ok, Err, MatchResult};
-ghost use Rattle.dw_bytes.specs.Reading.{MovesForward, section_from};
+ghost use Rattle.dw_bytes.specs.Reading.{MovesForward, ReadsPast, section_from};
 ghost use Rattle.dw_bytes.specs.Readers.{IsRefusedWithin, ParsesBy};
 ghost use Rattle.dw_bytes.specs.Answers.{memory};
 ghost use Rattle.dw_bytes.specs.Fields.{fields_at};
@@ -70,13 +70,9 @@ fn check_array(
     lists: &[LocationList],
 ) -> Result<(), Fault>
     requires { Ascends start_of lists.now }
-    ensures exact { MatchResult result
-        (λ _. (offsets : List ℕ) ×
-        (exactly_of (list_offset_at format cursor.old.position (map start_of lists.now))
-        count cursor.old ≡ Ok (offsets, cursor.new)))
-        (λ f.
-        exactly_of (list_offset_at format cursor.old.position (map start_of lists.now))
-        count cursor.old ≡ Err f) }
+    ensures exact { ReadsPast
+        (exactly_of (list_offset_at format cursor.old.position (map start_of lists.now)) count)
+        cursor.old result cursor.new }
     ensures within { IsRefusedWithin cursor.old result }
 {
     let array = u64::from(cursor.position());

@@ -6,6 +6,14 @@ use dw_bytes::Target;
 
 /// The bytes of an expression and the target whose numbers they encode (DWARF 5, section 2.5).
 /// Offsets inside it count from its first byte. Nothing of the bytes has been judged.
+///
+/// ```rust
+/// // DW_OP_breg7 8, DW_OP_deref
+/// let expression = Expression::new(&[0x77, 0x08, 0x06], target);
+/// let found = operations(alloc, &expression)?;
+/// let breg = Operation::Breg { register: 7, offset: 8 };
+/// assert_eq!(rt; found.as_slice(), [(0, breg), (2, Operation::Deref)].as_slice());
+/// ```
 #[derive(Clone, Copy, Debug)]
 pub struct Expression<'a> {
     bytes: &'a [u8],

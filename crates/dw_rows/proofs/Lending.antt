@@ -19,7 +19,7 @@ use Rattle.dw_rows.specs.ExpressionOrder.{expression_offset}
 use Rattle.dw_rows.specs.InForce.{Start, rule_at, cie_start, effects_of_cie, fde_start}
 use Rattle.dw_rows.specs.RuleSet.{LendsRules}
 use Rattle.dw_rows.specs.GivenRows.{LendsRule, LendsCfa, LendsEach}
-use Rattle.dw_rows.specs.Good.{beginning, rule_after, IsGoodFdeProgram}
+use Rattle.dw_rows.specs.Good.{prefix, rule_after, IsGoodFdeProgram}
 use Rattle.dw_rows.specs.Clauses.{IsRowAt, start_in, program_in}
 use Rattle.dw_rows.specs.Section.{FrameSection, IsChecked, frame_of}
 use Rattle.dw_rows.specs.RowCursors.{RowCursor, StandsBehind, LendsTo, Lends}
@@ -83,13 +83,13 @@ row-lends es c f good row k at lends =
     let start_cfa : IfSome s.cfa (LendsCfa es) =
     subst (λ (t : Start). IfSome t.cfa (LendsCfa es)) same (start-cfa es c f lends.to_cie) in
     let all : effects_of c (instructions_of f.program) ≡ p = effects-good c good.items _ (good-read-fde c f good) in
-    let own : (x : Effect) → Contains (beginning p k) x → Contains (effects_of c (instructions_of f.program)) x =
+    let own : (x : Effect) → Contains (prefix p k) x → Contains (effects_of c (instructions_of f.program)) x =
     λ x among. rw all (in-take k p x (in-reverse (take k p) x among)) in
     let rules : row.rules ≡ rule_list (rule_after s p k) =
     sym (rule_list-table row.rules at.table) ∙ rule_list-same (rule_in row.rules) (rule_after s p k) at.rules in (
-      rw at.cfa (cfa-has (LendsCfa es) (λ r n. tt) s start_cfa (beginning p k)
+      rw at.cfa (cfa-has (LendsCfa es) (λ r n. tt) s start_cfa (prefix p k)
           (λ d among. lends.to_fde.cfas d (own (defines_cfa d) among)) 0),
-      rw rules (listed-have (LendsRule es) (rule_after s p k) (λ r. rules-have (LendsRule es) s start (beginning p k)
+      rw rules (listed-have (LendsRule es) (rule_after s p k) (λ r. rules-have (LendsRule es) s start (prefix p k)
           (λ q x among. lends.to_fde.rules q x (own (sets q x) among)) 0 r)),
     )
 

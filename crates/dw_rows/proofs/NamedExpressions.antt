@@ -27,8 +27,8 @@ EachDefined P before = (c : PlacedCfa) → Contains before (defines_cfa c) → P
 set-behind : (P : PlacedRule → Type 0) (y : Effect) (before : List Effect) → EachSet P (y ∷ before) → EachSet P before
 set-behind P y before each q x among = each q x (behind (sets q x) y before among)
 
-defined-behind : (P : PlacedCfa → Type 0) (y : Effect) (before : List Effect) → EachDefined P (y ∷ before) → EachDefined P before
-defined-behind P y before each c among = each c (behind (defines_cfa c) y before among)
+define_cfa-behind : (P : PlacedCfa → Type 0) (y : Effect) (before : List Effect) → EachDefined P (y ∷ before) → EachDefined P before
+define_cfa-behind P y before each c among = each c (behind (defines_cfa c) y before among)
 
 -- ---- the rules of registers
 
@@ -66,17 +66,18 @@ pub cfa-has : (P : PlacedCfa → Type 0) → ((r : ℕ) (n : ℤ) → P (registe
     → EachDefined P before → (d : ℕ) → IfSome (cfa_at s before d) P
 cfa-has P sums s start [] each d = start
 cfa-has P sums s start (restores_state ∷ before) each d =
-    cfa-has P sums s start before (defined-behind P restores_state before each) (suc d)
+    cfa-has P sums s start before (define_cfa-behind P restores_state before each) (suc d)
 cfa-has P sums s start (remembers_state ∷ before) each zero =
-    cfa-has P sums s start before (defined-behind P remembers_state before each) zero
+    cfa-has P sums s start before (define_cfa-behind P remembers_state before each) zero
 cfa-has P sums s start (remembers_state ∷ before) each (suc d) =
-    cfa-has P sums s start before (defined-behind P remembers_state before each) d
+    cfa-has P sums s start before (define_cfa-behind P remembers_state before each) d
 cfa-has P sums s start (defines_cfa c ∷ before) each zero = each c (here (defines_cfa c) before)
 cfa-has P sums s start (changes_register q ∷ before) each zero =
-    with-register P sums q (cfa_at s before zero) (cfa-has P sums s start before (defined-behind P (changes_register q) before each) zero)
+    with-register P sums q (cfa_at s before zero) (cfa-has P sums s start before
+    (define_cfa-behind P (changes_register q) before each) zero)
 cfa-has P sums s start (changes_offset n ∷ before) each zero =
-    with-offset P sums n (cfa_at s before zero) (cfa-has P sums s start before (defined-behind P (changes_offset n) before each) zero)
-cfa-has P sums s start (y ∷ before) each d = cfa-has P sums s start before (defined-behind P y before each) d
+    with-offset P sums n (cfa_at s before zero) (cfa-has P sums s start before (define_cfa-behind P (changes_offset n) before each) zero)
+cfa-has P sums s start (y ∷ before) each d = cfa-has P sums s start before (define_cfa-behind P y before each) d
 
 -- ---- lists of rules
 

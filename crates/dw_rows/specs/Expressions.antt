@@ -21,9 +21,9 @@ abbrev pub expressions_in : List (ℕ × Instruction) → List LocatedExpression
 expressions_in items = filter_map (λ item. expression_in item.1) items
 
 -- one, or none, as a list
-abbrev pub listed : Option LocatedExpression → List LocatedExpression
-listed None = []
-listed (Some e) = e ∷ []
+abbrev pub list_of : Option LocatedExpression → List LocatedExpression
+list_of None = []
+list_of (Some e) = e ∷ []
 
 -- the expressions of a program, up to its first fault
 abbrev pub expressions_of : ReadPosition → List LocatedExpression

@@ -18,6 +18,11 @@ pub const MAX_KEPT: usize = MAX_RULES - 1;
 /// What an ABI says of registers that no instruction has given a rule: which ones calls keep (they are callee-saved), and which one is
 /// the stack pointer.
 /// DWARF 5, section 6.4.1, leaves that to the ABI.
+///
+/// ```rust
+/// // The ABI of x86-64: calls keep rbx, rbp and r12 to r15, and register 7 is the stack pointer.
+/// let abi = Abi::new(&[3, 6, 12, 13, 14, 15], Some(7))?;
+/// ```
 #[derive(Debug, Drop)]
 pub struct Abi {
     rules: RegisterRuleMap,

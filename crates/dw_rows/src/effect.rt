@@ -38,7 +38,7 @@ fn unfactored_offset(offset: u64) -> i128
 
 /// An unsigned offset times the data alignment factor.
 #[inline(always)]
-fn factor_offset(cie: &CommonInformationEntry<'_>, offset: u64) -> i128
+fn data_aligned_offset(cie: &CommonInformationEntry<'_>, offset: u64) -> i128
     ensures { result ≡ pos offset *ℤ cie.now.data_alignment_factor }
 {
     i128::from(offset) * i128::from(cie.data_alignment_factor)
@@ -46,7 +46,7 @@ fn factor_offset(cie: &CommonInformationEntry<'_>, offset: u64) -> i128
 
 /// A signed offset times the data alignment factor.
 #[inline(always)]
-fn factor_signed_offset(cie: &CommonInformationEntry<'_>, offset: i64) -> i128
+fn data_aligned_signed_offset(cie: &CommonInformationEntry<'_>, offset: i64) -> i128
     ensures { result ≡ offset *ℤ cie.now.data_alignment_factor }
 {
     i128::from(offset) * i128::from(cie.data_alignment_factor)
@@ -84,7 +84,7 @@ pub fn instruction_effect(
             factored_offset,
         } => InstructionEffect::DefinesCfa {
             register,
-            offset: factor_signed_offset(cie, factored_offset),
+            offset: data_aligned_signed_offset(cie, factored_offset),
         },
         CallFrameInstruction::DefCfaRegister { register } => InstructionEffect::ChangesRegister(
             register,
@@ -93,7 +93,7 @@ pub fn instruction_effect(
             unfactored_offset(offset),
         ),
         CallFrameInstruction::DefCfaOffsetSf { factored_offset } => {
-            InstructionEffect::ChangesOffset(factor_signed_offset(cie, factored_offset))
+            InstructionEffect::ChangesOffset(data_aligned_signed_offset(cie, factored_offset))
         }
         CallFrameInstruction::DefCfaExpression { expression } => {
             InstructionEffect::DefinesCfaExpression(expression.offset)
@@ -115,35 +115,35 @@ pub fn instruction_effect(
             factored_offset,
         } => InstructionEffect::SetsOffset {
             register,
-            offset: factor_offset(cie, factored_offset),
+            offset: data_aligned_offset(cie, factored_offset),
         },
         CallFrameInstruction::OffsetExtended {
             register,
             factored_offset,
         } => InstructionEffect::SetsOffset {
             register,
-            offset: factor_offset(cie, factored_offset),
+            offset: data_aligned_offset(cie, factored_offset),
         },
         CallFrameInstruction::OffsetExtendedSf {
             register,
             factored_offset,
         } => InstructionEffect::SetsOffset {
             register,
-            offset: factor_signed_offset(cie, factored_offset),
+            offset: data_aligned_signed_offset(cie, factored_offset),
         },
         CallFrameInstruction::ValOffset {
             register,
             factored_offset,
         } => InstructionEffect::SetsValOffset {
             register,
-            offset: factor_offset(cie, factored_offset),
+            offset: data_aligned_offset(cie, factored_offset),
         },
         CallFrameInstruction::ValOffsetSf {
             register,
             factored_offset,
         } => InstructionEffect::SetsValOffset {
             register,
-            offset: factor_signed_offset(cie, factored_offset),
+            offset: data_aligned_signed_offset(cie, factored_offset),
         },
         CallFrameInstruction::Expression {
             register,

@@ -36,6 +36,22 @@ use std::alloc::Global;
 use std::marker::Model;
 
 /// A section that was checked: each FDE has its CIE, each program is good, and no address is covered by two FDEs.
+///
+/// ```rust
+/// let frame = check_frame(alloc, section, target)?;
+/// for fde in frame.fdes() {
+///     for row in frame.rows(fde) {
+///         println!(rt; "{:#x}..{:#x}", row.start_address(), row.end_address())?;
+///     }
+/// }
+///
+/// // Where register 6 of the caller is saved, at one address.
+/// if let Some(row) = frame.row_for_address(0x1002) {
+///     if let RegisterRule::Offset(offset) = row.register(6) {
+///         println!(rt; "{offset} from the CFA")?;
+///     }
+/// }
+/// ```
 #[derive(Drop)]
 pub struct CheckedFrame<'a> {
     target: Target,
@@ -308,7 +324,7 @@ impl<'a> CheckedFrame<'a> {
         requires { Contains self.now.fdes (fde_of fde.now) }
         ensures cie { cie_in self.now (fde_of fde.now) ≡ Some (cie_of result) }
         ensures fde_program { fde_fault (cie_of result) (fde_of fde.now) ≡ None }
-        ensures left { IsLeftBy (cie_of result) state.new.first }
+        ensures left { IsLeftBy (cie_of result) state.new.initial_rules }
         ensures lends { Lends self.now.expressions (cie_of result) (fde_of fde.now) }
     {
         match begin_with_rules_of_cie(state, &self.cies, &self.initial, fde.cie_pointer) {

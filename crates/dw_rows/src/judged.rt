@@ -4,7 +4,7 @@ ghost use Rattle.std.specs.Prelude.{◌≡◌, [], ◌∷◌, ◌++◌, Some, On
 ghost use Rattle.dw_bytes.specs.Answers.{Answers};
 ghost use Rattle.dw_frame.specs.Views.{instruction_of, expression_of};
 ghost use Rattle.dw_stack.specs.Located.{located_as, located_fault};
-ghost use Rattle.dw_rows.specs.Expressions.{expression_in, listed};
+ghost use Rattle.dw_rows.specs.Expressions.{expression_in, list_of};
 
 use dw_bytes::{Fault, FaultKind, OUT_OF_MEMORY};
 use dw_frame::{CallFrameInstruction, UnwindExpression};
@@ -63,7 +63,7 @@ impl<'a> JudgedExpressions<'a> {
         ensures answer { Answers (located_fault (expression_in (instruction_of instruction.now)))
             result }
         ensures kept { OnOk result
-            (self.new ≡ self.old ++ listed (expression_in (instruction_of instruction.now))) }
+            (self.new ≡ self.old ++ list_of (expression_in (instruction_of instruction.now))) }
     {
         match instruction {
             CallFrameInstruction::DefCfaExpression { expression } => {

@@ -28,7 +28,7 @@ pub(crate) fn write_row_at<'f, 'a>(
     row: &mut UnwindTableRow<'f, 'a>,
 )
     requires lent { Lends (lent_by expressions) (cie_of cie.now) (fde_of fde.now) }
-    requires left { IsLeftBy (cie_of cie.now) state.old.first }
+    requires left { IsLeftBy (cie_of cie.now) state.old.initial_rules }
     requires fde { fde_fault (cie_of cie.now) (fde_of fde.now) ≡ None }
     requires low { fde.now.initial_location ≤ address }
     requires high { address < fde.now.initial_location + fde.now.address_range }

@@ -56,7 +56,7 @@ pub fn begin_with_rules_of_cie<'a>(
     requires order { Ascends cie_offset (map cie_of cies.now) }
     requires left { AreLeftBy (map cie_of cies.now) initial.now }
     ensures cie { option_map cie_of result ≡ cie_at (map cie_of cies.now) offset }
-    ensures first { IfSome result (λ cie. IsLeftBy (cie_of cie) state.new.first) }
+    ensures first { IfSome result (λ cie. IsLeftBy (cie_of cie) state.new.initial_rules) }
 {
     let place = place_of_cie(cies, offset)?;
     state.set_initial_rules(initial, place);
@@ -97,7 +97,7 @@ pub fn check_cies<'a>(
     let mut left = InitialRules::new(alloc);
     for cie in cies {
         judge_cie(state, judged, cie)?;
-        if left.push(state.first()).is_err() {
+        if left.push(state.initial_rules()).is_err() {
             return Err(OUT_OF_MEMORY);
         }
     }

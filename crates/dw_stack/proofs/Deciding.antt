@@ -242,18 +242,19 @@ module _ (kind : Kind) (ops : List Placed) (len : ℕ) (laid : IsLaidOut ops len
       comes : (t : StackState) → Has l t → Comes kind ops len i (place ops len i) t
       comes t h = states_come kind ops len laid i t le (subst (λ (m : List StackState). Has m t) (sym list_is) h)
 
-      listed_there : (t : StackState) → Comes kind ops len i (place ops len i) t → Has l t
-      listed_there t c = subst (λ (m : List StackState). Has m t) list_is (come_states kind ops len laid i t le c)
+      placed_in_there : (t : StackState) → Comes kind ops len i (place ops len i) t → Has l t
+      placed_in_there t c = subst (λ (m : List StackState). Has m t) list_is (come_states kind ops len laid i t le c)
 
       nothing_there : l ≡ [] → get_or in_states i Unreached ≡ Unreached
       nothing_there is = arrived_none (get_or in_states i Unreached) (Comes kind ops len i (place ops len i))
-          (w.described i (omega arith) le) (λ t c. subst (λ (m : List StackState). Has m t) is (listed_there t c))
+          (w.described i (omega arith) le) (λ t c. subst (λ (m : List StackState). Has m t) is (placed_in_there t c))
 
       one_there : (s : StackState) (others : List StackState) → l ≡ s ∷ others → ((t : StackState) → Has others t → t ≡ s)
           → get_or in_states i Unreached ≡ Known s
       one_there s others is same = arrived_one (get_or in_states i Unreached) (Comes kind ops len i (place ops len i)) s
           (w.described i (omega arith) le) (comes s (subst (λ (m : List StackState). Has m s) (sym is) (inl refl)))
-          (λ t c. elim (subst (λ (m : List StackState). Has m t) is (listed_there t c)) [ inl here ↦ sym here | inr later ↦ same t later ])
+          (λ t c. elim (subst (λ (m : List StackState). Has m t) is (placed_in_there t c))
+          [ inl here ↦ sym here | inr later ↦ same t later ])
 
       many_there : (s t : StackState) (others : List StackState) → l ≡ s ∷ others → Has others t → s ≢ t
           → get_or in_states i Unreached ≡ Conflict

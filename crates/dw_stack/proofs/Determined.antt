@@ -6,7 +6,8 @@ use Rattle.std.proofs.lemmas.Option.{slice_get_within, same_Some}
 use Rattle.dw_stack.specs.declared.state.Kind.{Kind}
 use Rattle.dw_stack.specs.Effects.{effect_of}
 use Rattle.dw_stack.specs.Paths.{Placed, place, IsLaidOut}
-use Rattle.dw_stack.specs.Machine.{LocationDescription, Piece, Configuration, EvaluationError, Meaning, named, jumps, JumpsTo, LeadsTo}
+use Rattle.dw_stack.specs.Machine.{LocationDescription, Piece, Configuration, EvaluationError, Meaning}
+use Rattle.dw_stack.specs.Machine.{location_named, jumps, JumpsTo, LeadsTo}
 use Rattle.dw_stack.specs.Machine.{extent_of, location_of, stack_after, pieces_after, Meets, Step, Stops, Run, Ended, IsOver}
 use Rattle.dw_stack.proofs.Places.{place_of_some, place_past, place_mono, place_inj}
 
@@ -69,7 +70,7 @@ module _ (m : Meaning) (ops : List Placed) (len : ℕ) (laid : IsLaidOut ops len
       (take (length c.stack - (effect_of t.meets.placed.1).takes) c.stack)) new
       ∙ (ap (λ (x : Placed). stack_after (effect_of x.1).role u.new (take (length c.stack - (effect_of x.1).takes) c.stack))
       (sym placed) ∙ sym u.stack)) in
-      let pending : d.pending ≡ e.pending = t.pending ∙ (ap (λ (x : Placed). named x.1 c.stack) (sym placed) ∙ sym u.pending) in
+      let pending : d.pending ≡ e.pending = t.pending ∙ (ap (λ (x : Placed). location_named x.1 c.stack) (sym placed) ∙ sym u.pending) in
       let pieces : d.pieces ≡ e.pieces = t.pieces
       ∙ (ap (λ (x : Placed). pieces_after (effect_of x.1).role c.pieces
       (record { location = location_of c.stack c.pending; size = extent_of x.1 })) (sym placed) ∙ sym u.pieces) in

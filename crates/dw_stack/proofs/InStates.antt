@@ -11,7 +11,7 @@ use Rattle.dw_stack.specs.declared.state.Kind.{Kind}
 use Rattle.dw_stack.specs.Effects.{effect_of}
 use Rattle.dw_stack.specs.States.{start_of, state_after}
 use Rattle.dw_stack.specs.Paths.{Placed, place, IsLaidOut, jump_target, branch_target_of, Leads}
-use Rattle.dw_stack.specs.FirstFault.{offsets_to, offsets_after, states_at, onward, arriving, states_to}
+use Rattle.dw_stack.specs.FirstFault.{offsets_to, offsets_after, states_at, onward, arrivals, states_to}
 use Rattle.dw_stack.proofs.Places.{place_of_some, later_place}
 use Rattle.dw_stack.proofs.Routes.{reach_from, Comes, reaches_from_comes, comes_from_reaches}
 
@@ -147,28 +147,28 @@ module _ (kind : Kind) (ops : List Placed) (len : ℕ) (laid : IsLaidOut ops len
   abbrev from_state : ℕ → Placed → StackState → List (ℕ × StackState)
   from_state i x t = map (λ (b : ℕ). paired b (state_after (effect_of x.1) t)) (offsets_after ops len i (effect_of x.1))
 
-  arriving_comes : (i j b : ℕ) (s : StackState) → i ≤ length ops → j ≤ length ops → place ops len j ≡ b
-      → Has (arriving kind ops len i) (b, s) → Comes kind ops len i b s
-  arriving_comes zero j b s le lej at h = elim h [
+  arrivals_come : (i j b : ℕ) (s : StackState) → i ≤ length ops → j ≤ length ops → place ops len j ≡ b
+      → Has (arrivals kind ops len i) (b, s) → Comes kind ops len i b s
+  arrivals_come zero j b s le lej at h = elim h [
     | inl e ↦ inl
         (ap (λ (p : ℕ × StackState). p.0) e, ap (λ (p : ℕ × StackState). p.1) e)
     | inr none ↦ absurd none
   ]
-  arriving_comes (suc i) j b s le lej at h =
-      elim (has_split (arriving kind ops len i) (onward ops len i (slice_get ops i) (states_to kind ops len i)) (b, s) h) [
-        | inl old ↦ weaker i b s (arriving_comes i j b s (omega arith) lej at old)
-        | inr new ↦ over (slice_get ops i) refl (λ t has. arriving_comes i i (place ops len i) t (omega arith) (omega arith) refl has) new
+  arrivals_come (suc i) j b s le lej at h =
+      elim (has_split (arrivals kind ops len i) (onward ops len i (slice_get ops i) (states_to kind ops len i)) (b, s) h) [
+        | inl old ↦ weaker i b s (arrivals_come i j b s (omega arith) lej at old)
+        | inr new ↦ over (slice_get ops i) refl (λ t has. arrivals_come i i (place ops len i) t (omega arith) (omega arith) refl has) new
       ]
     where
       over : (o : Option Placed) → slice_get ops i ≡ o
-          → ((t : StackState) → Has (arriving kind ops len i) (place ops len i, t) → Comes kind ops len i (place ops len i) t)
+          → ((t : StackState) → Has (arrivals kind ops len i) (place ops len i, t) → Comes kind ops len i (place ops len i) t)
           → Has (onward ops len i o (states_to kind ops len i)) (b, s) → Comes kind ops len (suc i) b s
       over None is before new = absurd new
       over (Some x) is before new =
           let f = flat_map_has (from_state i x) (states_to kind ops len i) (b, s) new in
           let m = map_has (λ (n : ℕ). paired n (state_after (effect_of x.1) f.0)) (offsets_after ops len i (effect_of x.1)) (b, s) f.2 in
           let to : m.0 ≡ b = ap (λ (p : ℕ × StackState). p.0) m.2 in
-          let here = before f.0 (state_has (place ops len i) (arriving kind ops len i) f.0 f.1) in
+          let here = before f.0 (state_has (place ops len i) (arrivals kind ops len i) f.0 f.1) in
           let leads = leads_to i j b (effect_of x.1) (slice_get_within ops i x is) lej at
           (subst (λ (n : ℕ). Has (offsets_after ops len i (effect_of x.1)) n) to m.1) in
           inr (record {
@@ -188,21 +188,21 @@ module _ (kind : Kind) (ops : List Placed) (len : ℕ) (laid : IsLaidOut ops len
             below = omega arith;
           })
 
-  comes_arriving : (i b : ℕ) (s : StackState) → i ≤ length ops → Comes kind ops len i b s → Has (arriving kind ops len i) (b, s)
-  comes_arriving zero b s le c = elim c [
+  comes_arrivals : (i b : ℕ) (s : StackState) → i ≤ length ops → Comes kind ops len i b s → Has (arrivals kind ops len i) (b, s)
+  comes_arrivals zero b s le c = elim c [
     | inl same ↦ inl (ap (λ (n : ℕ). paired n (start_of kind)) same.0 ∙ ap (λ (t : StackState). paired b t) same.1)
     | inr before ↦ absurd (omega (arith, before.below))
   ]
-  comes_arriving (suc i) b s le c = elim c [
-    | inl same ↦ old (comes_arriving i b s (omega arith) (inl same))
+  comes_arrivals (suc i) b s le c = elim c [
+    | inl same ↦ old (comes_arrivals i b s (omega arith) (inl same))
     | inr before ↦ elim (cases_lt before.last.edge.number i) [
-      | inl below ↦ old (comes_arriving i b s (omega arith) (inr (record { last = before.last; below = below })))
+      | inl below ↦ old (comes_arrivals i b s (omega arith) (inr (record { last = before.last; below = below })))
       | inr above ↦
           let e = before.last.edge in
           let same : e.number ≡ i = omega (arith, before.below, above) in
           let stands : slice_get ops i ≡ Some e.placed = ap (slice_get ops) (sym same) ∙ e.stands in
           let at : before.last.a ≡ place ops len i = sym e.from ∙ sym (place_of_some ops len i e.placed stands) in
-          let here = comes_arriving i (place ops len i) before.last.h (omega arith)
+          let here = comes_arrivals i (place ops len i) before.last.h (omega arith)
           (comes_from_reaches kind ops len laid i before.last.h (omega arith)
           (reach_from kind ops len before.last.a (place ops len i) before.last.h before.last.h at refl before.last.reached)) in
           let leads = leads_has i b (effect_of e.placed.1) (subst (λ (n : ℕ). Leads ops len n (effect_of e.placed.1) b) same e.leads) in
@@ -211,17 +211,17 @@ module _ (kind : Kind) (ops : List Placed) (len : ℕ) (laid : IsLaidOut ops len
           let it : Has (from_state i e.placed before.last.h) (b, s) =
           subst (λ (t : StackState). Has (from_state i e.placed before.last.h) (b, t)) (sym e.state) there in
           let new = has_flat_map (from_state i e.placed) (states_to kind ops len i) before.last.h (b, s)
-          (has_state (place ops len i) (arriving kind ops len i) before.last.h here) it in
-          has_right (arriving kind ops len i) (onward ops len i (slice_get ops i) (states_to kind ops len i)) (b, s)
+          (has_state (place ops len i) (arrivals kind ops len i) before.last.h here) it in
+          has_right (arrivals kind ops len i) (onward ops len i (slice_get ops i) (states_to kind ops len i)) (b, s)
           (subst (λ (o : Option Placed). Has (onward ops len i o (states_to kind ops len i)) (b, s)) (sym stands) new)
     ]
   ]
     where
-      old : Has (arriving kind ops len i) (b, s) → Has (arriving kind ops len (suc i)) (b, s)
-      old h = has_left (arriving kind ops len i) (onward ops len i (slice_get ops i) (states_to kind ops len i)) (b, s) h
+      old : Has (arrivals kind ops len i) (b, s) → Has (arrivals kind ops len (suc i)) (b, s)
+      old h = has_left (arrivals kind ops len i) (onward ops len i (slice_get ops i) (states_to kind ops len i)) (b, s) h
 
   pub states_come : (j : ℕ) (s : StackState) → j ≤ length ops → Has (states_to kind ops len j) s → Comes kind ops len j (place ops len j) s
-  states_come j s le h = arriving_comes j j (place ops len j) s le le refl (state_has (place ops len j) (arriving kind ops len j) s h)
+  states_come j s le h = arrivals_come j j (place ops len j) s le le refl (state_has (place ops len j) (arrivals kind ops len j) s h)
 
   pub come_states : (j : ℕ) (s : StackState) → j ≤ length ops → Comes kind ops len j (place ops len j) s → Has (states_to kind ops len j) s
-  come_states j s le c = has_state (place ops len j) (arriving kind ops len j) s (comes_arriving j (place ops len j) s le c)
+  come_states j s le c = has_state (place ops len j) (arrivals kind ops len j) s (comes_arrivals j (place ops len j) s le c)

@@ -20,7 +20,8 @@ use Rattle.dw_stack.specs.Effects.{effect_of}
 use Rattle.dw_stack.specs.States.{start_of, next_mode, height_after, state_after, StandsAlone, at_offset}
 use Rattle.dw_stack.specs.Paths.{Placed, place, IsLaidOut, jump_target, Leads, Edge, Follows, Reaches, IsStart, is_piece, pieces_before}
 use Rattle.dw_stack.specs.Paths.{IsGood, AreStates, IsDepth}
-use Rattle.dw_stack.specs.Machine.{LocationDescription, Piece, Configuration, EvaluationError, Meaning, entry, named, jumps, JumpsTo}
+use Rattle.dw_stack.specs.Machine.{LocationDescription, Piece, Configuration, EvaluationError, Meaning}
+use Rattle.dw_stack.specs.Machine.{entry, location_named, jumps, JumpsTo}
 use Rattle.dw_stack.specs.Machine.{extent_of, location_of, stack_after, pieces_after, CanDo, Meets, Step, Run, offsets_of, Starts}
 use Rattle.dw_stack.specs.Machine.{PendingIs, has_pieces, Agrees, IsNotStuck, IsOver, RunsWell}
 use Rattle.dw_stack.proofs.Places.{place_of_some, place_past, place_mono, place_inj}
@@ -30,7 +31,7 @@ use Rattle.dw_stack.proofs.Ends.{pieced_after, result_there}
 use Rattle.dw_stack.proofs.Routes.{reach_from, extend, at_start, reached_place, edge_lands}
 
 -- per operation: what it names is what its role says
-pending_is : (op : Operation) (s : List ℕ) (p : Option LocationDescription) (h : ℕ) (b : Bool) → p ≡ named op s
+pending_is : (op : Operation) (s : List ℕ) (p : Option LocationDescription) (h : ℕ) (b : Bool) → p ≡ location_named op s
     → PendingIs (next_mode (effect_of op).role h b).mode p (next_mode (effect_of op).role h b).height
 pending_is (reg r) s p h b e = (r, e)
 pending_is (regx r) s p h b e = (r, e)
@@ -238,7 +239,7 @@ module _ (kind : Kind) (ops : List Placed) (len : ℕ) (laid : IsLaidOut ops len
   behind x c new at = record {
     offset = at;
     stack = stack_after (effect_of x.1).role new (take (length c.stack - (effect_of x.1).takes) c.stack);
-    pending = named x.1 c.stack;
+    pending = location_named x.1 c.stack;
     pieces = pieces_after (effect_of x.1).role c.pieces (record { location = location_of c.stack c.pending; size = extent_of x.1 });
   }
 

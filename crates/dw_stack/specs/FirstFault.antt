@@ -43,14 +43,14 @@ onward ops len k (Some x) states =
     flat_map (λ s. map (λ b. (b, state_after (effect_of x.1) s)) (offsets_after ops len k (effect_of x.1))) states
 
 -- the offsets to which paths over the first k operations come, with the states there
-abbrev pub arriving : Kind → List Placed → ℕ → ℕ → List (ℕ × StackState)
-arriving kind ops len zero = (0, start_of kind) ∷ []
-arriving kind ops len (suc k) =
-    arriving kind ops len k ++ onward ops len k (slice_get ops k) (states_at (place ops len k) (arriving kind ops len k))
+abbrev pub arrivals : Kind → List Placed → ℕ → ℕ → List (ℕ × StackState)
+arrivals kind ops len zero = (0, start_of kind) ∷ []
+arrivals kind ops len (suc k) =
+    arrivals kind ops len k ++ onward ops len k (slice_get ops k) (states_at (place ops len k) (arrivals kind ops len k))
 
 -- the states of the paths that come to the operation numbered k, or to the end
 abbrev pub states_to : Kind → List Placed → ℕ → ℕ → List StackState
-states_to kind ops len k = states_at (place ops len k) (arriving kind ops len k)
+states_to kind ops len k = states_at (place ops len k) (arrivals kind ops len k)
 
 -- ---- what is asked
 

@@ -4,5 +4,5 @@ use Rattle.dw_ops.specs.declared.operation.Operation as coded
 use Rattle.dw_ops.specs.Views.{located_of}
 use Rattle.dw_stack.specs.Paths.{Placed}
 
-abbrev pub listed : List (ℕ × coded.Operation) → List Placed
-listed items = map located_of items
+abbrev pub placed_in : List (ℕ × coded.Operation) → List Placed
+placed_in items = map located_of items

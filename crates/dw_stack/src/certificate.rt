@@ -7,6 +7,13 @@ use crate::state::State;
 use smallvec::SmallVec;
 
 /// An expression that was certified, with the state before each of its operations.
+///
+/// ```rust
+/// let certificate = certify(alloc, expression, Kind::Location)?;
+/// // Whoever is handed the states asks for one pass that compares with them.
+/// let again = recheck(alloc, expression, Kind::Location, certificate.states());
+/// assert!(rt; again.is_ok());
+/// ```
 #[derive(Drop)]
 pub struct Certificate<'a> {
     pub(crate) checked: CheckedExpression<'a>,

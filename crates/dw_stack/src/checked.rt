@@ -11,6 +11,18 @@ use dw_ops::Expression;
 
 /// An expression that was found good over all paths (`certify`, `recheck`), with what was learned of it. It keeps no
 /// memory: the expression's bytes are lent.
+///
+/// ```rust
+/// // DW_OP_lit2, DW_OP_lit3, DW_OP_plus
+/// let sum = Expression::new(&[0x32, 0x33, 0x22], target);
+/// let checked = check_expression(alloc, sum, Kind::Location)?;
+/// assert_eq!(rt; (checked.operation_count(), checked.depth()), (3, 2));
+///
+/// // DW_OP_dup has nothing to double.
+/// let dup = Expression::new(&[0x12], target);
+/// let fault = check_expression(alloc, dup, Kind::Location).err();
+/// assert_eq!(rt; fault, Some(Fault { kind: FaultKind::Underflow, at: 0 }));
+/// ```
 #[derive(Clone, Copy, Debug)]
 pub struct CheckedExpression<'a> {
     bytes: &'a [u8],

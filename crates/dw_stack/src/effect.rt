@@ -2,7 +2,7 @@
 
 ghost use Rattle.std.specs.Prelude.{◌≡◌, ◌≤◌, true, false};
 ghost use Rattle.dw_ops.specs.Views.{operation_of};
-ghost use Rattle.dw_stack.specs.Effects.{computing, contextual, naming, effect_of};
+ghost use Rattle.dw_stack.specs.Effects.{plain_effect, context_effect, naming_effect, effect_of};
 
 use dw_ops::Operation;
 
@@ -41,7 +41,7 @@ pub struct StackEffect {
 
 #[inline(always)]
 fn computes(needs: u16, takes: u16, adds: u16) -> StackEffect
-    ensures { result ≡ computing needs takes adds }
+    ensures { result ≡ plain_effect needs takes adds }
 {
     StackEffect {
         needs,
@@ -56,7 +56,7 @@ fn computes(needs: u16, takes: u16, adds: u16) -> StackEffect
 
 #[inline(always)]
 fn asks_context() -> StackEffect
-    ensures { result ≡ contextual }
+    ensures { result ≡ context_effect }
 {
     StackEffect {
         allowed_in_cfi: false,
@@ -66,7 +66,7 @@ fn asks_context() -> StackEffect
 
 #[inline(always)]
 fn names(role: Role, needs: u16, takes: u16) -> StackEffect
-    ensures { result ≡ naming role needs takes }
+    ensures { result ≡ naming_effect role needs takes }
 {
     StackEffect {
         role,
@@ -77,7 +77,7 @@ fn names(role: Role, needs: u16, takes: u16) -> StackEffect
 
 #[inline(always)]
 fn branches(needs: u16, falls_through: bool, offset: i16) -> StackEffect
-    ensures { result ≡ record (computing needs needs 0) {
+    ensures { result ≡ record (plain_effect needs needs 0) {
       falls_through = falls_through;
       jump = Some offset;
     } }

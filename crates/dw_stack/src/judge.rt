@@ -4,7 +4,7 @@ ghost use Rattle.std.specs.Prelude.{◌≡◌, ◌<◌, ◌≤◌, length, Some,
 ghost use Rattle.dw_stack.specs.Paths.{IsLaidOut};
 ghost use Rattle.dw_stack.specs.Judge.{IsEffectAt, Suits, Judged, Objects};
 ghost use Rattle.dw_stack.specs.Faults.{suits, first_failed};
-ghost use Rattle.dw_stack.specs.Views.{listed};
+ghost use Rattle.dw_stack.specs.Views.{placed_in};
 
 use crate::effect::{Role, StackEffect, effect};
 use crate::state::{Kind, StackState, may_stand_at_state, next_state};
@@ -38,7 +38,7 @@ pub struct OutState {
 #[inline(always)]
 fn effect_at(operations: &[(u32, Operation<'_>)], i: usize) -> StackEffect
     requires { i < length operations.now }
-    ensures effect { IsEffectAt (listed operations.now) i result }
+    ensures effect { IsEffectAt (placed_in operations.now) i result }
     ensures fair { result.takes ≤ result.needs }
     ensures few { result.adds ≤ 3 }
 {
@@ -89,10 +89,10 @@ pub fn judge(
     pieces: usize,
     state: StackState,
 ) -> Result<OutState, FaultKind>
-    requires laid { IsLaidOut (listed operations.now) end }
+    requires laid { IsLaidOut (placed_in operations.now) end }
     requires i { i < length operations.now }
-    ensures ok { IfOk result (Judged kind (listed operations.now) end i pieces state) }
-    ensures err { IfErr result (Objects kind (listed operations.now) end i pieces state) }
+    ensures ok { IfOk result (Judged kind (placed_in operations.now) end i pieces state) }
+    ensures err { IfErr result (Objects kind (placed_in operations.now) end i pieces state) }
 {
     let effect = effect_at(operations, i);
     let height = suits(kind, &effect, pieces, state)?;

@@ -5,7 +5,7 @@ ghost use Rattle.dw_bytes.specs.Answers.{memory};
 ghost use Rattle.dw_stack.specs.Paths.{IsLaidOut, IsGood, AreStates, IsDepth};
 ghost use Rattle.dw_stack.specs.Faults.{IsFirstFault, KnowsOnly};
 ghost use Rattle.dw_stack.specs.InStates.{given_of};
-ghost use Rattle.dw_stack.specs.Views.{listed};
+ghost use Rattle.dw_stack.specs.Views.{placed_in};
 
 use crate::in_state::{InState, in_state_at};
 use crate::state::{Kind, StackState, State, has_result, start_state};
@@ -61,15 +61,16 @@ pub fn pass(
     end: u32,
     given: Option<&[State]>,
 ) -> Result<Passed, Fault>
-    requires laid { IsLaidOut (listed operations.now) end }
+    requires laid { IsLaidOut (placed_in operations.now) end }
     requires given { IfSome given (λ states. length states.now ≡ length operations.now) }
-    ensures good { OnOk result (IsGood kind (listed operations.now) end) }
-    ensures states { IfOk result (λ p. AreStates kind (listed operations.now) end p.states.items) }
-    ensures depth { IfOk result (λ p. IsDepth kind (listed operations.now) end p.depth) }
-    ensures known { OnOk result (KnowsOnly kind (listed operations.now) end
+    ensures good { OnOk result (IsGood kind (placed_in operations.now) end) }
+    ensures states { IfOk result (λ p.
+        AreStates kind (placed_in operations.now) end p.states.items) }
+    ensures depth { IfOk result (λ p. IsDepth kind (placed_in operations.now) end p.depth) }
+    ensures known { OnOk result (KnowsOnly kind (placed_in operations.now) end
         (given_of given.entry)) }
-    ensures first { IfErr result (λ f. (f ≡ memory) ⊎ IsFirstFault kind (listed operations.now) end
-        (given_of given.entry) f.kind f.at) }
+    ensures first { IfErr result (λ f. (f ≡ memory)
+        ⊎ IsFirstFault kind (placed_in operations.now) end (given_of given.entry) f.kind f.at) }
     ensures inside { IfErr result (λ f. f.at ≤ end) }
 {
     let start = start_state(kind);

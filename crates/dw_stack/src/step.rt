@@ -4,7 +4,7 @@ ghost use Rattle.std.specs.Prelude.{◌≡◌, ◌+◌, ◌<◌, length, ◌↔�
 ghost use Rattle.dw_stack.specs.Paths.{IsLaidOut};
 ghost use Rattle.dw_stack.specs.Faults.{Keeps};
 ghost use Rattle.dw_stack.specs.InStates.{Stepped, StepObjects, given_of};
-ghost use Rattle.dw_stack.specs.Views.{listed};
+ghost use Rattle.dw_stack.specs.Views.{placed_in};
 
 use crate::in_state::{InState, in_state_at, pass_on};
 use crate::judge::judge;
@@ -44,13 +44,13 @@ pub fn step_of_pass(
     pieces: usize,
     in_states: &mut [InState],
 ) -> Result<Done, FaultKind>
-    requires laid { IsLaidOut (listed operations.now) end }
+    requires laid { IsLaidOut (placed_in operations.now) end }
     requires i { i < length operations.now }
     requires wide { length in_states.old ≡ length operations.now + 1 }
     requires given { IfSome given (λ states. length states.now ≡ length operations.now) }
-    ensures ok { IfOk result (λ done. Stepped kind (listed operations.now) end
+    ensures ok { IfOk result (λ done. Stepped kind (placed_in operations.now) end
         (given_of given.entry) i pieces in_states.old done in_states.new) }
-    ensures err { IfErr result (StepObjects kind (listed operations.now) end
+    ensures err { IfErr result (StepObjects kind (placed_in operations.now) end
         (given_of given.entry) i pieces in_states.old) }
 {
     let state = in_state_at(in_states, i)?;

@@ -4,7 +4,7 @@ ghost use Rattle.std.specs.Prelude.{◌≡◌, ◌≢◌, ◌+◌, ◌<◌, ◌�
 ghost use Rattle.dw_bytes.specs.declared.fault.FaultKind.{FaultKind};
 ghost use Rattle.dw_stack.specs.Paths.{IsLaidOut, place, branch_target};
 ghost use Rattle.dw_stack.specs.Judge.{TargetPlace, TargetObjects};
-ghost use Rattle.dw_stack.specs.Views.{listed};
+ghost use Rattle.dw_stack.specs.Views.{placed_in};
 
 use dw_bytes::FaultKind;
 use dw_ops::Operation;
@@ -13,7 +13,7 @@ use dw_ops::Operation;
 #[tactic(auto, using(crate::proofs::Lists::places))]
 #[inline(always)]
 pub fn place_of_operation(operations: &[(u32, Operation<'_>)], end: u32, i: usize) -> u32
-    ensures { result ≡ place (listed operations.now) end i }
+    ensures { result ≡ place (placed_in operations.now) end i }
 {
     if i < operations.len() {
         operations[i].0
@@ -41,13 +41,13 @@ fn place_at_target(
     from: usize,
     target: u64,
 ) -> Result<usize, FaultKind>
-    requires laid { IsLaidOut (listed operations.now) end }
+    requires laid { IsLaidOut (placed_in operations.now) end }
     requires from { from < length operations.now }
-    requires ahead { place (listed operations.now) end (from + 1) ≤ target }
+    requires ahead { place (placed_in operations.now) end (from + 1) ≤ target }
     ensures ok { IfOk result (λ j. (from < j) × (j ≤ length operations.now)
-        × (place (listed operations.now) end j ≡ target)) }
+        × (place (placed_in operations.now) end j ≡ target)) }
     ensures err { IfErr result (λ e. (e ≡ FaultKind.TargetNotStart)
-        × ((j : ℕ) → j ≤ length operations.now → place (listed operations.now) end j ≢ target)) }
+        × ((j : ℕ) → j ≤ length operations.now → place (placed_in operations.now) end j ≢ target)) }
 {
     let mut low = from + 1;
     let mut high = operations.len();
@@ -75,10 +75,10 @@ pub fn place_of_jump(
     from: usize,
     jump: i16,
 ) -> Result<usize, FaultKind>
-    requires laid { IsLaidOut (listed operations.now) end }
+    requires laid { IsLaidOut (placed_in operations.now) end }
     requires from { from < length operations.now }
-    ensures ok { IfOk result (TargetPlace (listed operations.now) end from jump) }
-    ensures err { IfErr result (TargetObjects (listed operations.now) end from jump) }
+    ensures ok { IfOk result (TargetPlace (placed_in operations.now) end from jump) }
+    ensures err { IfErr result (TargetObjects (placed_in operations.now) end from jump) }
 {
     match jump_target(place_of_operation(operations, end, from + 1), jump) {
         None => Err(FaultKind::Backward),

@@ -7,7 +7,7 @@ use Rattle.dw_eval.specs.Handed.{world_in}
 use Rattle.dw_eval.specs.StackChanges.{error_of}
 use Rattle.dw_eval.specs.Results.{result_of}
 use Rattle.dw_eval.specs.Views.{outcome_of}
-use Rattle.dw_eval.specs.Steps.{configured}
+use Rattle.dw_eval.specs.Steps.{configuration_of}
 use Rattle.dw_eval.proofs.Going.{one_more, few_steps, ends, finished, finished_fits, failed}
 use Rattle.dw_eval.proofs.Loop.{same_end, ahead_here, can_step_here, goes_to, goes_behind}
 use Rattle.dw_eval.proofs.description.run_location.Goals as goal
@@ -27,7 +27,7 @@ overflow_add-steps g c =
       arith,
       one_more e Location
           (bytes_of c.args.expression.now) c.requires.can.depth c.requires.can.good c.requires.can.runs c.args.expression.now.short [] refl
-          c.loop-at.steps (configured c.loop-at.at c.loop-at.run []) c.loop-at.invariant test,
+          c.loop-at.steps (configuration_of c.loop-at.at c.loop-at.run []) c.loop-at.invariant test,
       few_steps e Location
           (bytes_of c.args.expression.now) c.requires.can.depth c.requires.can.good c.requires.can.runs c.args.expression.now.short [] refl,
       c.args.expression.now.short,
@@ -75,17 +75,17 @@ returns-in-Err g c =
     let test = before c.loop-at.at (bytes_of c.args.expression.now) c.bytes.result.now c.bytes.ensures c.loop-at-test.true in
     let ahead = ahead_here e Location c.args.expression.now c.requires.can.depth c.requires.can.good c.requires.can.runs
     c.requires.can.target [] refl c.loop-at.steps
-    (configured c.loop-at.at c.loop-at.run []) c.loop-at.invariant test c.in-Err.ensures.operation c.in-Err.ensures.next
+    (configuration_of c.loop-at.at c.loop-at.run []) c.loop-at.invariant test c.in-Err.ensures.operation c.in-Err.ensures.next
     c.in-Err.ensures.read in
     record {
       run = failed e Location
           (bytes_of c.args.expression.now) c.requires.can.depth c.requires.can.good c.requires.can.runs c.args.expression.now.short [] refl
-          c.loop-at.steps (configured c.loop-at.at c.loop-at.run []) c.in-Err.ensures.operation c.in-Err.ensures.next
+          c.loop-at.steps (configuration_of c.loop-at.at c.loop-at.run []) c.in-Err.ensures.operation c.in-Err.ensures.next
           (error_of c.in-Err.why)
           (outcome_of c.outcome_without_answer.result) c.loop-at.invariant ahead c.in-Err.ensures.answered c.outcome_without_answer.ensures;
       steps = one_more e Location
           (bytes_of c.args.expression.now) c.requires.can.depth c.requires.can.good c.requires.can.runs c.args.expression.now.short [] refl
-          c.loop-at.steps (configured c.loop-at.at c.loop-at.run []) c.loop-at.invariant test;
+          c.loop-at.steps (configuration_of c.loop-at.at c.loop-at.run []) c.loop-at.invariant test;
       fits = search rules;
     }
 
@@ -95,8 +95,8 @@ result-requires g c =
     let past = after c.loop-at.at (bytes_of c.args.expression.now) c.bytes.result.now c.bytes.ensures c.loop-at-test.false in
     let end = ends e Location
     (bytes_of c.args.expression.now) c.requires.can.depth c.requires.can.good c.requires.can.runs c.args.expression.now.short [] refl
-    c.loop-at.steps (configured c.loop-at.at c.loop-at.run []) c.loop-at.invariant past in
-    let gives = subst (λ (xs : List ℕ). GivesResult Location (length xs == 0) (configured 0 c.loop-at.run [])) (sym c.bytes.ensures)
+    c.loop-at.steps (configuration_of c.loop-at.at c.loop-at.run []) c.loop-at.invariant past in
+    let gives = subst (λ (xs : List ℕ). GivesResult Location (length xs == 0) (configuration_of 0 c.loop-at.run [])) (sym c.bytes.ensures)
     (same_end (length (bytes_of c.args.expression.now) == 0) c.loop-at.at c.loop-at.run [] end) in
     (search rules, gives)
 
@@ -104,13 +104,13 @@ pub returns : goal.returns
 returns g c =
     let e = world_in g.R.Registers.contents g.M.Memory.bytes c.args.environment.now in
     let past = after c.loop-at.at (bytes_of c.args.expression.now) c.bytes.result.now c.bytes.ensures c.loop-at-test.false in
-    let gives = ap (λ (xs : List ℕ). result_of Location (length xs == 0) (configured 0 c.loop-at.run [])) c.bytes.ensures in
+    let gives = ap (λ (xs : List ℕ). result_of Location (length xs == 0) (configuration_of 0 c.loop-at.run [])) c.bytes.ensures in
     record {
       run = finished e Location
           (bytes_of c.args.expression.now) c.requires.can.depth c.requires.can.good c.requires.can.runs c.args.expression.now.short [] refl
-          c.loop-at.steps (configured c.loop-at.at c.loop-at.run []) _ c.loop-at.invariant past (c.result.ensures ∙ gives);
+          c.loop-at.steps (configuration_of c.loop-at.at c.loop-at.run []) _ c.loop-at.invariant past (c.result.ensures ∙ gives);
       steps = search rules;
       fits = finished_fits e Location
           (bytes_of c.args.expression.now) c.requires.can.depth c.requires.can.good c.requires.can.runs c.args.expression.now.short [] refl
-          c.loop-at.steps (configured c.loop-at.at c.loop-at.run []) _ c.loop-at.invariant past (c.result.ensures ∙ gives);
+          c.loop-at.steps (configuration_of c.loop-at.at c.loop-at.run []) _ c.loop-at.invariant past (c.result.ensures ∙ gives);
     }

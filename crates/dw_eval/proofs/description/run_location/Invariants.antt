@@ -1,13 +1,13 @@
 use Rattle.std.proofs.Common.{◌-◌, []}
 use Rattle.dw_ops.specs.Views.{bytes_of}
 use Rattle.dw_eval.specs.Handed.{world_in}
-use Rattle.dw_eval.specs.Steps.{configured}
+use Rattle.dw_eval.specs.Steps.{configuration_of}
 use Rattle.dw_eval.specs.UnderWay.{IsUnderWay}
 use Rattle.dw_eval.proofs.description.run_location.Given as goal
 
 abbrev pub invariant-loop-at : goal.invariant-loop-at
 invariant-loop-at g l = IsUnderWay (world_in g.R.Registers.contents g.M.Memory.bytes l.environment) (bytes_of l.expression) []
-    (configured l.at l.run []) l.steps
+    (configuration_of l.at l.run []) l.steps
 
 abbrev pub decreases-loop-at : goal.decreases-loop-at
 decreases-loop-at g l = l.end - l.at

@@ -20,15 +20,17 @@ loop-cie-preserved c =
     let cies = c.args.cies.now in
     let i = c.loop-cie.cie-index in
     let x = c.cie-item.result in
-    let one : IsLeftBy (cie_of x) c.first.result.now = subst (IsLeftBy (cie_of x)) (sym c.first.ensures) c.in_ok-judge_cie.ensures.left in
-    let kept : c.push.new.self ≡ c.loop-cie.left ++ c.first.result.now ∷ [] = not-refused _ _ _ c.if-is_err.ensures.value c.push.ensures in
+    let one : IsLeftBy (cie_of x) c.initial_rules.result.now = subst (IsLeftBy (cie_of x))
+    (sym c.initial_rules.ensures) c.in_ok-judge_cie.ensures.left in
+    let kept : c.push.new.self ≡ c.loop-cie.left ++ c.initial_rules.result.now ∷ []
+    = not-refused _ _ _ c.if-is_err.ensures.value c.push.ensures in
     let front : map cie_of (take (i + 1) cies) ≡ map cie_of (take i cies) ++ cie_of x ∷ [] =
     front-map cie_of cies i x (omega arith) (sym c.cie-item.is) in
     record {
       fault = c.loop-cie.invariant.fault
           ∙ passed cie_of cie_fault cies i x (omega arith) (sym c.cie-item.is) c.in_ok-judge_cie.ensures.fault;
       left = rw (front, kept) (left-one (map cie_of (take i cies)) c.loop-cie.left
-          (cie_of x) c.first.result.now c.loop-cie.invariant.left one);
+          (cie_of x) c.initial_rules.result.now c.loop-cie.invariant.left one);
       kept =
           let ahead : cie_expressions (map cie_of (drop i cies)) ≡ expressions_of (cie_of x).program
           ++ cie_expressions (map cie_of (drop (i + 1) cies)) =

@@ -18,9 +18,9 @@ use Rattle.dw_stack.specs.States.{start_of, HasResult, at_offset}
 use Rattle.dw_stack.specs.Paths.{Placed, place, IsLaidOut}
 use Rattle.dw_stack.specs.Faults.{IsFirstFault}
 use Rattle.dw_stack.specs.InStates.{given_of, known_state, Stepped, StepObjects}
-use Rattle.dw_stack.specs.Views.{listed}
+use Rattle.dw_stack.specs.Views.{placed_in}
 use Rattle.dw_stack.proofs.Describes.{arrived_is}
-use Rattle.dw_stack.proofs.Lists.{listed_length}
+use Rattle.dw_stack.proofs.Lists.{placed_in_length}
 use Rattle.dw_stack.proofs.Places.{place_le}
 use Rattle.dw_stack.proofs.Walks.{Walked, length-passed, walked_start, walked_step}
 use Rattle.dw_stack.proofs.Verdicts.{step_fault, end_not_nothing, end_mismatch, end_empty, end_good, end_states, end_given, end_depth}
@@ -70,14 +70,14 @@ step_of kind ops len laid given i states states' old new last depth depth' piece
     (subst (λ (d : ℕ). Walked kind ops len given (i + 1) more new d (pieces + cond done.piece 1 0)) (sym ed) v)))
 
 pub loop-i-init : goal.loop-i-init
-loop-i-init c = begins c.args.kind (listed c.args.operations.now) c.args.end c.requires.laid (given_of c.args.given)
+loop-i-init c = begins c.args.kind (placed_in c.args.operations.now) c.args.end c.requires.laid (given_of c.args.given)
     (length c.args.operations.now) c.start_state-start.result c.new-states.result.items c.in_ok-in_states.in_states.items
-    (sym (listed_length c.args.operations.now)) c.start_state-start.ensures c.new-states.ensures.items c.in_ok-in_states.ensures.ok
+    (sym (placed_in_length c.args.operations.now)) c.start_state-start.ensures c.new-states.ensures.items c.in_ok-in_states.ensures.ok
 
 pub loop-i-preserved : goal.loop-i-preserved
 loop-i-preserved c =
-    let ops = listed c.args.operations.now in
-    let long = listed_length c.args.operations.now in
+    let ops = placed_in c.args.operations.now in
+    let long = placed_in_length c.args.operations.now in
     let pushed : c.push.new.self.items ≡ c.loop-i.states.items ++ at_offset (place ops c.args.end c.loop-i.i) c.in-Ok.done.state ∷ [] =
     search rules in
     let stepped = subst (λ (xs : List InState). Stepped c.args.kind ops c.args.end
@@ -100,10 +100,10 @@ loop-i-preserved c =
 
 pub returns-in-Err-clause-first : goal.returns-in-Err-clause-first
 returns-in-Err-clause-first c =
-    let ops = listed c.args.operations.now in
+    let ops = placed_in c.args.operations.now in
     let f = step_fault c.args.kind ops c.args.end c.requires.laid
     (given_of c.args.given) c.loop-i.i c.loop-i.states.items c.loop-i.in_states.items c.loop-i.depth c.loop-i.pieces c.loop-i.invariant
-    c.in-Err.kind (omega (arith, listed_length c.args.operations.now, c.loop-i-test.true))
+    c.in-Err.kind (omega (arith, placed_in_length c.args.operations.now, c.loop-i-test.true))
     (subst (λ (xs : List InState). StepObjects c.args.kind ops c.args.end
     (given_of c.args.given) c.loop-i.i c.loop-i.pieces xs c.in-Err.kind) c.deref_mut.ensures.value c.in-Err.ensures.err) in
     refusal_of c.args.kind ops c.args.end
@@ -134,74 +134,76 @@ last_read xs items n m same long = ap (get_or_at m) (sym same) ∙ ap (λ (k : �
 
 pub returns-in-Err-in_state_at-clause-first : goal.returns-in-Err-in_state_at-clause-first
 returns-in-Err-in_state_at-clause-first c =
-    let long = listed_length c.args.operations.now in
-    let all : c.loop-i.i ≡ length (listed c.args.operations.now) = omega (arith, long, c.loop-i-test.false, c.loop-i.auto.i-end) in
+    let long = placed_in_length c.args.operations.now in
+    let all : c.loop-i.i ≡ length (placed_in c.args.operations.now) = omega (arith, long, c.loop-i-test.false, c.loop-i.auto.i-end) in
     let e = last_read c.as_slice.result.now c.loop-i.in_states.items (length c.args.operations.now)
-    (length (listed c.args.operations.now)) c.as_slice.ensures long in
-    let f = end_refused c.args.kind (listed c.args.operations.now) c.args.end c.requires.laid
+    (length (placed_in c.args.operations.now)) c.as_slice.ensures long in
+    let f = end_refused c.args.kind (placed_in c.args.operations.now) c.args.end c.requires.laid
     (given_of c.args.given) c.loop-i.i all c.loop-i.states.items c.loop-i.in_states.items c.loop-i.depth c.loop-i.pieces c.loop-i.invariant
     (get_or c.as_slice.result.now (length c.args.operations.now) Unreached) c.in-Err-in_state_at.kind e c.in-Err-in_state_at.ensures in
-    refusal_of c.args.kind (listed c.args.operations.now) c.args.end
+    refusal_of c.args.kind (placed_in c.args.operations.now) c.args.end
     (given_of c.args.given) c.refusal-in-Err-in_state_at.result c.in-Err-in_state_at.kind _ _ c.refusal-in-Err-in_state_at.ensures refl f
 
 pub returns-then-not-has_result-clause-first : goal.returns-then-not-has_result-clause-first
 returns-then-not-has_result-clause-first c =
-    let long = listed_length c.args.operations.now in
-    let all : c.loop-i.i ≡ length (listed c.args.operations.now) = omega (arith, long, c.loop-i-test.false, c.loop-i.auto.i-end) in
+    let long = placed_in_length c.args.operations.now in
+    let all : c.loop-i.i ≡ length (placed_in c.args.operations.now) = omega (arith, long, c.loop-i-test.false, c.loop-i.auto.i-end) in
     let e = last_read c.as_slice.result.now c.loop-i.in_states.items (length c.args.operations.now)
-    (length (listed c.args.operations.now)) c.as_slice.ensures long in
-    let one = end_state c.args.kind (listed c.args.operations.now) c.args.end c.requires.laid
+    (length (placed_in c.args.operations.now)) c.as_slice.ensures long in
+    let one = end_state c.args.kind (placed_in c.args.operations.now) c.args.end c.requires.laid
     (given_of c.args.given) c.loop-i.i all c.loop-i.states.items c.loop-i.in_states.items c.loop-i.depth c.loop-i.pieces c.loop-i.invariant
     (get_or c.as_slice.result.now (length c.args.operations.now) Unreached) c.in-Ok-in_state_at.state e c.in-Ok-in_state_at.ensures in
-    let empty : (length (listed c.args.operations.now) == 0) ≡ c.is_empty.result = ap (λ (n : ℕ). n == 0) long ∙ sym c.is_empty.ensures in
-    let f = end_empty c.args.kind (listed c.args.operations.now) c.args.end c.requires.laid
+    let empty : (length (placed_in c.args.operations.now) == 0) ≡ c.is_empty.result = ap (λ (n : ℕ). n == 0) long
+    ∙ sym c.is_empty.ensures in
+    let f = end_empty c.args.kind (placed_in c.args.operations.now) c.args.end c.requires.laid
     (given_of c.args.given) c.loop-i.i all c.loop-i.states.items c.loop-i.in_states.items c.loop-i.depth c.loop-i.pieces c.loop-i.invariant
     c.in-Ok-in_state_at.state one (λ has. let yes = subst (λ (b : Bool). HasResult c.args.kind b c.in-Ok-in_state_at.state) empty has in
     let same = c.has_result.ensures in let other = c.if-not-has_result.true in absurd (cc)) in
-    refusal_of c.args.kind (listed c.args.operations.now) c.args.end
+    refusal_of c.args.kind (placed_in c.args.operations.now) c.args.end
     (given_of c.args.given) c.refusal-then-not-has_result.result EndsEmpty _ _ c.refusal-then-not-has_result.ensures refl f
 
 pub returns-clause-good : goal.returns-clause-good
 returns-clause-good c =
-    let long = listed_length c.args.operations.now in
-    let all : c.loop-i.i ≡ length (listed c.args.operations.now) = omega (arith, long, c.loop-i-test.false, c.loop-i.auto.i-end) in
+    let long = placed_in_length c.args.operations.now in
+    let all : c.loop-i.i ≡ length (placed_in c.args.operations.now) = omega (arith, long, c.loop-i-test.false, c.loop-i.auto.i-end) in
     let e = last_read c.as_slice.result.now c.loop-i.in_states.items (length c.args.operations.now)
-    (length (listed c.args.operations.now)) c.as_slice.ensures long in
-    let one = end_state c.args.kind (listed c.args.operations.now) c.args.end c.requires.laid
+    (length (placed_in c.args.operations.now)) c.as_slice.ensures long in
+    let one = end_state c.args.kind (placed_in c.args.operations.now) c.args.end c.requires.laid
     (given_of c.args.given) c.loop-i.i all c.loop-i.states.items c.loop-i.in_states.items c.loop-i.depth c.loop-i.pieces c.loop-i.invariant
     (get_or c.as_slice.result.now (length c.args.operations.now) Unreached) c.in-Ok-in_state_at.state e c.in-Ok-in_state_at.ensures in
-    let empty : (length (listed c.args.operations.now) == 0) ≡ c.is_empty.result = ap (λ (n : ℕ). n == 0) long ∙ sym c.is_empty.ensures in
-    end_good c.args.kind (listed c.args.operations.now) c.args.end c.requires.laid
+    let empty : (length (placed_in c.args.operations.now) == 0) ≡ c.is_empty.result = ap (λ (n : ℕ). n == 0) long
+    ∙ sym c.is_empty.ensures in
+    end_good c.args.kind (placed_in c.args.operations.now) c.args.end c.requires.laid
     (given_of c.args.given) c.loop-i.i all c.loop-i.states.items c.loop-i.in_states.items c.loop-i.depth c.loop-i.pieces c.loop-i.invariant
     c.in-Ok-in_state_at.state one (subst (λ (b : Bool). HasResult c.args.kind b c.in-Ok-in_state_at.state) (sym empty)
     (sym c.has_result.ensures ∙ c.if-not-has_result.false))
 
 pub returns-clause-states : goal.returns-clause-states
 returns-clause-states c =
-    let all : c.loop-i.i ≡ length (listed c.args.operations.now) =
-    omega (arith, listed_length c.args.operations.now, c.loop-i-test.false, c.loop-i.auto.i-end) in
-    end_states c.args.kind (listed c.args.operations.now) c.args.end c.requires.laid
+    let all : c.loop-i.i ≡ length (placed_in c.args.operations.now) =
+    omega (arith, placed_in_length c.args.operations.now, c.loop-i-test.false, c.loop-i.auto.i-end) in
+    end_states c.args.kind (placed_in c.args.operations.now) c.args.end c.requires.laid
     (given_of c.args.given) c.loop-i.i all c.loop-i.states.items c.loop-i.in_states.items c.loop-i.depth c.loop-i.pieces c.loop-i.invariant
 
 pub returns-clause-depth : goal.returns-clause-depth
 returns-clause-depth c =
-    let all : c.loop-i.i ≡ length (listed c.args.operations.now) =
-    omega (arith, listed_length c.args.operations.now, c.loop-i-test.false, c.loop-i.auto.i-end) in
-    end_depth c.args.kind (listed c.args.operations.now) c.args.end c.requires.laid
+    let all : c.loop-i.i ≡ length (placed_in c.args.operations.now) =
+    omega (arith, placed_in_length c.args.operations.now, c.loop-i-test.false, c.loop-i.auto.i-end) in
+    end_depth c.args.kind (placed_in c.args.operations.now) c.args.end c.requires.laid
     (given_of c.args.given) c.loop-i.i all c.loop-i.states.items c.loop-i.in_states.items c.loop-i.depth c.loop-i.pieces c.loop-i.invariant
 
 pub returns-clause-known : goal.returns-clause-known
 returns-clause-known c =
-    let all : c.loop-i.i ≡ length (listed c.args.operations.now) =
-    omega (arith, listed_length c.args.operations.now, c.loop-i-test.false, c.loop-i.auto.i-end) in
+    let all : c.loop-i.i ≡ length (placed_in c.args.operations.now) =
+    omega (arith, placed_in_length c.args.operations.now, c.loop-i-test.false, c.loop-i.auto.i-end) in
     record {
-      each = λ k x h s r. end_given c.args.kind (listed c.args.operations.now) c.args.end c.requires.laid
+      each = λ k x h s r. end_given c.args.kind (placed_in c.args.operations.now) c.args.end c.requires.laid
           (given_of c.args.given) c.loop-i.i all c.loop-i.states.items c.loop-i.in_states.items c.loop-i.depth c.loop-i.pieces
           c.loop-i.invariant k x h s r;
     }
 
 pub returns-in-Err-clause-inside : goal.returns-in-Err-clause-inside
 returns-in-Err-clause-inside c =
-    let le = place_le (listed c.args.operations.now) c.args.end c.requires.laid c.loop-i.i in
+    let le = place_le (placed_in c.args.operations.now) c.args.end c.requires.laid c.loop-i.i in
     let at = ap (λ (f : Fault). f.at) c.refusal.ensures in
     omega (arith, le, at, c.place_of_operation-in-Err.ensures)

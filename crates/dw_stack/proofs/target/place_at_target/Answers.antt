@@ -1,14 +1,14 @@
 use Rattle.std.proofs.Common.{◌≡◌, ◌+◌, ◌-◌, ◌/◌, arith, refl, sym, ap, ◌∙◌}
 use Rattle.dw_stack.specs.Paths.{place}
-use Rattle.dw_stack.specs.Views.{listed}
-use Rattle.dw_stack.proofs.Lists.{listed_length, place_read}
+use Rattle.dw_stack.specs.Views.{placed_in}
+use Rattle.dw_stack.proofs.Lists.{placed_in_length, place_read}
 use Rattle.dw_stack.proofs.Places.{nowhere}
 use Rattle.dw_stack.proofs.target.place_at_target.Goals as goal
 
 pub returns-else-from-target-2-clause-err : goal.returns-else-from-target-2-clause-err
 returns-else-from-target-2-clause-err c =
-    let ops = listed c.args.operations.now in
-    let long = listed_length c.args.operations.now in
+    let ops = placed_in c.args.operations.now in
+    let long = placed_in_length c.args.operations.now in
     let done : c.loop-low.low ≡ c.loop-low.high = omega arith in
     let same : place ops c.args.end c.loop-low.low ≡ place ops c.args.end c.loop-low.high = ap (place ops c.args.end) done in (
       refl,
@@ -24,9 +24,10 @@ loop-low-preserved-then-from-target c = record {
   top = omega arith;
   below = let read = place_read c.args.operations.now c.args.end (c.loop-low.low + (c.loop-low.high - c.loop-low.low) / 2) _ (omega arith)
       ∙ sym c.from.ensures in
-      let same : place (listed c.args.operations.now) c.args.end (c.loop-low.low + (c.loop-low.high - c.loop-low.low) / 2 + 1 - 1) ≡ place
-      (listed c.args.operations.now) c.args.end (c.loop-low.low + (c.loop-low.high - c.loop-low.low) / 2) =
-      ap (place (listed c.args.operations.now) c.args.end) (omega arith) in
+      let same : place (placed_in c.args.operations.now) c.args.end
+      (c.loop-low.low + (c.loop-low.high - c.loop-low.low) / 2 + 1 - 1) ≡ place
+      (placed_in c.args.operations.now) c.args.end (c.loop-low.low + (c.loop-low.high - c.loop-low.low) / 2) =
+      ap (place (placed_in c.args.operations.now) c.args.end) (omega arith) in
       omega (arith, read, same, c.if-from-target.true);
   above = c.loop-low.invariant.above;
 }
