@@ -1,8 +1,6 @@
 -- ---- To be believed: the standard's words. Who checks the headline against DWARF 5 reads these.
 -- two sections that are right, and their first fault
 pub mod Checked
--- the text of a report
-pub mod Report
 -- what holds of sections that are accepted
 pub mod Headline
 -- the frame that called (6.4.1)
@@ -11,6 +9,9 @@ pub mod Caller
 pub mod Walks
 -- which callers and frames have numbers below 2^w alone
 pub mod CallerFits
+-- ---- To be believed: docs/PROFILE.md's words, of texts, command lines, files and statuses. The headline needs none of these.
+-- the text of a report
+pub mod Report
 -- the lines of sections and rows
 pub mod Text
 -- the text of an outcome
@@ -21,7 +22,7 @@ pub mod CallerText
 pub mod WalkText
 -- the names of faults
 pub mod Names
--- numbers and addresses as text
+-- the numbers and addresses that digits spell
 pub mod Addresses
 -- lines and words
 pub mod Parts
@@ -37,18 +38,18 @@ pub mod Files
 pub mod LongFiles
 -- what a state file says
 pub mod StateFile
--- what an expression comes to
+-- the text of what an expression comes to
 pub mod Evaluations
--- what a location list says of an address
+-- the text of what a location list says of an address
 pub mod Lookups
 -- exit statuses
 pub mod Statuses
 -- what a run writes, and how it ends
 pub mod Runs
 -- ---- What the code's own values stand for, and what its calls answer.
--- the table of the command line
+-- the code's table of commands
 pub mod CommandViews
--- lines of expressions of the code
+-- the report's line of an expression of the code
 pub mod ReportViews
 -- answers and callers of the code
 pub mod CallerViews

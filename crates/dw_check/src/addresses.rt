@@ -1,4 +1,4 @@
-//! Numbers and addresses as text.
+//! The numbers and addresses that digits spell.
 
 ghost use Rattle.std.specs.Prelude.{◌≡◌, ◌≤◌, ◌⊎◌, option_and_then};
 ghost use Rattle.dw_frame.specs.Sections.{top_of};

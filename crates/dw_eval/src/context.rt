@@ -8,6 +8,8 @@ use dw_bytes::Order;
 /// A register file: a partial function from register numbers to contents.
 ///
 /// ```rust
+/// ghost use Rattle.std.specs.Prelude.{◌==◌, if◌then◌else◌, Some, None};
+///
 /// /// The stack pointer alone is known.
 /// #[derive(Clone, Copy)]
 /// struct StackPointer(u64);

@@ -5,14 +5,14 @@ pub mod Entries
 pub mod Lists
 -- what a list says of an address (2.6.2)
 pub mod Locations
+-- where things stand, and in what order
+pub mod Bounds
 -- ---- The first fault, as a function of the bytes. Laws tie it to what is to be believed.
 -- from left to right: tables, lists and entries, or the first fault
 pub mod Reading
 -- ---- What the code's own values stand for, and what its calls answer.
 -- entries, lists and kept expressions of the code
 pub mod Views
--- where things stand, and in what order
-pub mod Bounds
 -- ---- Behind the contracts: no contract of a public call speaks of these.
 -- what is kept of a section
 pub mod Kept

@@ -38,7 +38,7 @@ pub mod LentExpressions
 -- ---- Behind the contracts: no contract of a public call speaks of these.
 -- the rules of a row, as they are kept
 pub mod RuleSet
--- places in a table of rules, and in a stack of them
+-- the place of a register in a table of rules, and remembered rules
 pub mod RememberStack
 -- where a program stands
 pub mod ProgramState
@@ -54,5 +54,5 @@ pub mod EffectViews
 pub mod Initial
 -- going from row to row
 pub mod RowCursors
--- FDEs in order of offset, and of address
+-- FDEs in order of offset and of address, their index, and what a checked section keeps
 pub mod Overlap

@@ -1,4 +1,4 @@
-//! The rows of an FDE whose program is good.
+//! The row of an address, by an FDE whose program is good.
 
 ghost use Rattle.std.specs.Prelude.{◌≡◌, ◌+◌, ◌<◌, ◌≤◌, List, ◌∷◌, Some, find, map};
 ghost use Rattle.std.specs.Bool.{OnTrue, OnFalse};

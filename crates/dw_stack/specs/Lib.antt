@@ -1,5 +1,5 @@
 -- ---- To be believed: the standard's words. Who checks the headline against DWARF 5 reads these.
--- what each operation does to the height of the stack (2.5, 2.6)
+-- what each operation needs, takes and adds, where it leads, and whether a frame's expression may have it (2.5, 2.6, 6.4.2)
 pub mod Effects
 -- height, mode and pieces on a path
 pub mod States
@@ -7,7 +7,7 @@ pub mod States
 pub mod Paths
 -- runs, value by value, whatever registers and memory answer (2.5, 2.6)
 pub mod Machine
--- the same of an expression by its bytes
+-- an expression by its bytes: whether it is good, its states, its depth, its first fault
 pub mod Expressions
 -- an expression where it stands in a section
 pub mod Located
@@ -19,7 +19,7 @@ pub mod FirstFault
 -- ---- What the code's own values stand for, and what its calls answer.
 -- what certificates and checked expressions are
 pub mod Certificates
--- lists of states
+-- operations of the code, with their offsets
 pub mod Views
 -- ---- Behind the contracts: no contract of a public call speaks of these.
 -- one operation at one state

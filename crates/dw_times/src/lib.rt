@@ -1,5 +1,5 @@
-//! The libraries as `bench/beside_gimli/driver.c` times them: each export does one kind of work, and answers a number that all of
-//! it goes into.
+//! The libraries as `bench/beside_gimli` times them: each export does one kind of work, and answers a number that all of it goes
+//! into.
 #![tactic(auto)]
 
 mod answers;
