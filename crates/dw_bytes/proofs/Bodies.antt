@@ -7,18 +7,9 @@ use Rattle.dw_bytes.specs.declared.target.Format.{Format}
 use Rattle.dw_bytes.specs.declared.fault.Fault.{Fault}
 use Rattle.dw_bytes.specs.Encoding.{Bytes, Length}
 use Rattle.dw_bytes.specs.Reading.{ReadPosition, ◌>>=◌, section_from, take_at, initial_length_at}
-use Rattle.dw_bytes.specs.Bodies.{body_of, framed_at}
+use Rattle.dw_bytes.specs.Bodies.{body_of, framed_at, IsFramed}
 use Rattle.dw_bytes.proofs.Readers.{bind-ok, ok-is, same-reading, length-exact, take-exact, leaves-suffix}
 use Rattle.dw_bytes.proofs.Bounds.{Stays, end-of, length-stays, take-stays}
-
-pub record IsFramed (r : ReadPosition) (format : Format) (body after : ReadPosition) : Type 0 where
-  pub front : List ℕ
-  pub length_is : Length r.target.order front (format, length body.rest)
-  pub parts : r.rest ≡ front ++ (body.rest ++ after.rest)
-  pub body_position : body.position ≡ r.position + length front
-  pub body_target : body.target ≡ r.target
-  pub position : after.position ≡ body.position + length body.rest
-  pub target : after.target ≡ r.target
 
 abbrev framed : Format → ReadPosition → ReadPosition → Result ((Format × ReadPosition) × ReadPosition) Fault
 framed format body after = Ok ((format, body), after)

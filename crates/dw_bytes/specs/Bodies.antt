@@ -1,8 +1,9 @@
 -- A body with its length before it, as a record or a table has one (DWARF 5, section 7.4).
-use Rattle.std.specs.Prelude.{ℕ, List, take, Result, Ok}
+use Rattle.std.specs.Prelude.{◌≡◌, ℕ, ◌+◌, List, ◌++◌, length, take, Result, Ok}
 use Rattle.dw_bytes.specs.declared.target.Target.{Target}
 use Rattle.dw_bytes.specs.declared.target.Format.{Format}
 use Rattle.dw_bytes.specs.declared.fault.Fault.{Fault}
+use Rattle.dw_bytes.specs.Encoding.{Length}
 use Rattle.dw_bytes.specs.Reading.{ReadPosition, ◌>>=◌, section_from, take_at, initial_length_at}
 
 -- a body of these bytes
@@ -15,6 +16,16 @@ framed_at r = do
   size ← initial_length_at r
   body ← take_at size.0.1 size.1
   Ok ((size.0.0, body_of size.1 body.0), body.1)
+
+-- A length is encoded at the reading position, then the body that it counts, and this is what comes after.
+pub record IsFramed (r : ReadPosition) (format : Format) (body after : ReadPosition) : Type 0 where
+  pub front : List ℕ
+  pub length_is : Length r.target.order front (format, length body.rest)
+  pub parts : r.rest ≡ front ++ (body.rest ++ after.rest)
+  pub body_position : body.position ≡ r.position + length front
+  pub body_target : body.target ≡ r.target
+  pub position : after.position ≡ body.position + length body.rest
+  pub target : after.target ≡ r.target
 
 -- a section from an offset up to another
 abbrev pub window : Target → List ℕ → ℕ → ℕ → ReadPosition

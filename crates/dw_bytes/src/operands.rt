@@ -3,11 +3,11 @@
 //! `RegisterNumber` for a register above 65535, `PieceSize` for a size or offset of a piece above 2^32 - 1, `BadSize` for the size of
 //! a read. A refused read leaves the cursor where it was.
 
-ghost use Rattle.std.specs.Prelude.{◌≡◌, ◌≤◌, [], ◌∷◌};
+ghost use Rattle.std.specs.Prelude.{◌≡◌, ◌≤◌, [], ◌∷◌, MatchOption, Ok};
 ghost use Rattle.dw_bytes.specs.Reading.{MovesForward, ReadsBy};
 ghost use Rattle.dw_bytes.specs.Readers.{IsRefusedWithin};
 ghost use Rattle.dw_bytes.specs.Operands.{unsigned, signed, register_number, read_size, piece_size, block, in_range, one_value, two_values};
-ghost use Rattle.dw_bytes.specs.Operands.{block_of, operands_in_range_at};
+ghost use Rattle.dw_bytes.specs.Operands.{block_at, block_of, operands_in_range_at};
 
 use crate::block::Block;
 use crate::cursor::Cursor;
@@ -157,6 +157,28 @@ pub fn block<'a>(cursor: &mut Cursor<'a>, at: u32) -> Result<Block<'a>, Fault>
     let bytes = ahead.take(length)?;
     *cursor = ahead;
     Ok(Block {
+        offset,
+        target: cursor.target(),
+        bytes,
+    })
+}
+
+/// As `block`, for a block whose count has at most three bytes: none where it has more or the block isn't there, and then the
+/// cursor stays. It is a shortcut: who gets none asks `block`.
+#[inline(always)]
+pub fn short_block<'a>(cursor: &mut Cursor<'a>) -> Option<Block<'a>>
+    ensures exact { MatchOption result (cursor.new ≡ cursor.old)
+        (λ v. block_at cursor.old ≡ Ok (block_of v, cursor.new)) }
+    ensures goes_on { MovesForward cursor.old cursor.new }
+{
+    let mut ahead = cursor.copy();
+    let length = ahead.short_uleb()?;
+    let offset = ahead.position();
+    let Ok(bytes) = ahead.take(u64::from(length)) else {
+        return None;
+    };
+    *cursor = ahead;
+    Some(Block {
         offset,
         target: cursor.target(),
         bytes,

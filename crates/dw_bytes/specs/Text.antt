@@ -1,0 +1,31 @@
+-- How numbers and faults are written.
+use Rattle.std.specs.Prelude.{ℕ, zero, suc, ◌+◌, ◌/◌, ◌%◌, if◌then◌else◌, nat_lt, List, [], ◌∷◌, ◌++◌, codes, decimal}
+use Rattle.dw_bytes.specs.Faults.{number_of}
+use Rattle.dw_bytes.specs.Names.{name_of}
+use Rattle.dw_bytes.specs.declared.fault.Fault.{Fault}
+use Rattle.dw_bytes.specs.declared.fault.FaultKind.{FaultKind}
+
+-- the digit for d
+abbrev pub digit : ℕ → ℕ
+digit d = if nat_lt d 10 then 48 + d else 87 + d
+
+-- the last k hex digits of n, the most significant first
+unfoldable pub hex_digits : ℕ → ℕ → List ℕ
+hex_digits zero n = []
+hex_digits (suc k) n = hex_digits k (n / 16) ++ digit (n % 16) ∷ []
+
+-- n in k hex digits
+abbrev pub hex_number : ℕ → ℕ → List ℕ
+hex_number k n = codes "0x" ++ hex_digits k n
+
+-- an offset in a section or in an expression
+abbrev pub offset_text : ℕ → List ℕ
+offset_text n = hex_number 8 n
+
+-- the number and the name of what is wrong
+unfoldable pub kind_text : FaultKind → List ℕ
+kind_text kind = decimal (number_of kind) ++ codes " " ++ name_of kind
+
+-- a fault: what is wrong, and the offset
+unfoldable pub fault_text : Fault → List ℕ
+fault_text fault = kind_text fault.kind ++ codes " at " ++ offset_text fault.at
