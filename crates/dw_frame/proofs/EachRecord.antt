@@ -9,9 +9,9 @@ use Rattle.dw_bytes.specs.declared.target.Format.TheVariants.{Dwarf32, Dwarf64}
 use Rattle.dw_bytes.specs.declared.fault.Fault.{Fault}
 use Rattle.dw_bytes.specs.Encoding.{Len, Length}
 use Rattle.dw_bytes.specs.Reading.{ReadPosition, Next, IsExact, ◌>>=◌, section_from}
-use Rattle.dw_bytes.specs.Bodies.{framed_at}
+use Rattle.dw_bytes.specs.Bodies.{framed_at, IsFramed}
 use Rattle.dw_bytes.proofs.Readers.{bind-ok, ok-is, same-reading, leaves-suffix}
-use Rattle.dw_bytes.proofs.Bodies.{IsFramed, framed-found, framed-only}
+use Rattle.dw_bytes.proofs.Bodies.{framed-found, framed-only}
 use Rattle.dw_bytes.proofs.Sequences.{ReadsEach, Forward, forward, goes-on, stops, ends, all-read, sequence-exact}
 use Rattle.dw_frame.specs.Records.{Record}
 use Rattle.dw_frame.specs.Sections.{Header, IsHeader, IsRecord, AreRecords, record_from, header_at, record_at, entries_from, entries_of}

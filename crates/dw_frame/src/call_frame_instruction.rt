@@ -5,7 +5,7 @@ ghost use Rattle.dw_ops.specs.Views.{bytes_of};
 
 use dw_ops::Expression;
 
-/// The expression of an instruction, and where it stands.
+/// The expression of an instruction, and where it is.
 #[derive(Clone, Copy, Debug)]
 pub struct UnwindExpression<'a> {
     /// The offset of its first byte in the section. Offsets inside it count from there.
@@ -20,110 +20,110 @@ pub struct UnwindExpression<'a> {
 /// alignment factor. Offsets are in bytes, and register numbers are those of the rules' columns.
 #[derive(Clone, Copy, Debug)]
 pub enum CallFrameInstruction<'a> {
-    /// The location moves on by a delta of six bits.
+    /// `DW_CFA_advance_loc`: the location moves on by a delta of six bits.
     AdvanceLoc {
         delta: u8,
     },
-    /// A register of six bits is saved at an offset from the CFA.
+    /// `DW_CFA_offset`: a register of six bits is saved at an offset from the CFA.
     Offset {
         register: u16,
         factored_offset: u64,
     },
-    /// A register of six bits has the rule again that the CIE gave it.
+    /// `DW_CFA_restore`: a register of six bits has the rule again that the CIE gave it.
     Restore {
         register: u16,
     },
-    /// Nothing.
+    /// `DW_CFA_nop`: does nothing.
     Nop,
-    /// The location becomes an address.
+    /// `DW_CFA_set_loc`: the location becomes an address.
     SetLoc {
         address: u64,
     },
-    /// The location moves on by a delta of one byte.
+    /// `DW_CFA_advance_loc1`: the location moves on by a delta of one byte.
     AdvanceLoc1 {
         delta: u8,
     },
-    /// The location moves on by a delta of two bytes.
+    /// `DW_CFA_advance_loc2`: the location moves on by a delta of two bytes.
     AdvanceLoc2 {
         delta: u16,
     },
-    /// The location moves on by a delta of four bytes.
+    /// `DW_CFA_advance_loc4`: the location moves on by a delta of four bytes.
     AdvanceLoc4 {
         delta: u32,
     },
-    /// A register is saved at an offset from the CFA.
+    /// `DW_CFA_offset_extended`: a register is saved at an offset from the CFA.
     OffsetExtended {
         register: u16,
         factored_offset: u64,
     },
-    /// A register has the rule again that the CIE gave it.
+    /// `DW_CFA_restore_extended`: a register has the rule again that the CIE gave it.
     RestoreExtended {
         register: u16,
     },
-    /// A register has no content that can be known.
+    /// `DW_CFA_undefined`: a register has no content that can be known.
     Undefined {
         register: u16,
     },
-    /// A register has the content that it had.
+    /// `DW_CFA_same_value`: a register has the content that it had.
     SameValue {
         register: u16,
     },
-    /// A register's content is in another one.
+    /// `DW_CFA_register`: a register's content is in another one.
     Register {
         register: u16,
         source: u16,
     },
-    /// The rules are remembered.
+    /// `DW_CFA_remember_state`: the rules are remembered.
     RememberState,
-    /// The rules that were remembered last come back.
+    /// `DW_CFA_restore_state`: the rules that were remembered last come back.
     RestoreState,
-    /// The CFA is a register and an offset.
+    /// `DW_CFA_def_cfa`: the CFA is a register and an offset.
     DefCfa {
         register: u16,
         offset: u64,
     },
-    /// The CFA's register is another one.
+    /// `DW_CFA_def_cfa_register`: the CFA's register is another one.
     DefCfaRegister {
         register: u16,
     },
-    /// The CFA's offset is another one.
+    /// `DW_CFA_def_cfa_offset`: the CFA's offset is another one.
     DefCfaOffset {
         offset: u64,
     },
-    /// The CFA is what an expression gives.
+    /// `DW_CFA_def_cfa_expression`: the CFA is what an expression gives.
     DefCfaExpression {
         expression: UnwindExpression<'a>,
     },
-    /// A register is saved at the address that an expression gives.
+    /// `DW_CFA_expression`: a register is saved at the address that an expression gives.
     Expression {
         register: u16,
         expression: UnwindExpression<'a>,
     },
-    /// A register is saved at a signed offset from the CFA.
+    /// `DW_CFA_offset_extended_sf`: a register is saved at a signed offset from the CFA.
     OffsetExtendedSf {
         register: u16,
         factored_offset: i64,
     },
-    /// The CFA is a register and a signed offset.
+    /// `DW_CFA_def_cfa_sf`: the CFA is a register and a signed offset.
     DefCfaSf {
         register: u16,
         factored_offset: i64,
     },
-    /// The CFA's offset is another, signed one.
+    /// `DW_CFA_def_cfa_offset_sf`: the CFA's offset is another, signed one.
     DefCfaOffsetSf {
         factored_offset: i64,
     },
-    /// A register's content is the CFA and an offset.
+    /// `DW_CFA_val_offset`: a register's content is the CFA and an offset.
     ValOffset {
         register: u16,
         factored_offset: u64,
     },
-    /// A register's content is the CFA and a signed offset.
+    /// `DW_CFA_val_offset_sf`: a register's content is the CFA and a signed offset.
     ValOffsetSf {
         register: u16,
         factored_offset: i64,
     },
-    /// A register's content is what an expression gives.
+    /// `DW_CFA_val_expression`: a register's content is what an expression gives.
     ValExpression {
         register: u16,
         expression: UnwindExpression<'a>,

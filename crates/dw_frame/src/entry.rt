@@ -44,17 +44,27 @@ pub struct FrameDescriptionEntry<'a> {
     pub offset: u32,
     /// The format of the record's length.
     pub format: Format,
-    /// Where its CIE is said to begin in the section.
+    /// The offset in the section at which it says that its CIE begins.
     pub cie_pointer: u64,
-    /// Where that field stands in the section.
+    /// The offset of that field in the section.
     pub cie_pointer_offset: u32,
     /// The first address that it covers.
     pub initial_location: u64,
-    /// How many addresses it covers.
+    /// The number of addresses that it covers.
     pub address_range: u64,
     /// The instructions.
     pub program: Program<'a>,
     pub ghost in_range: { initial_location + address_range < 2 ^ 64 },
+}
+
+impl<'a> FrameDescriptionEntry<'a> {
+    /// The address after the last one that it covers; `initial_location` where it covers none.
+    #[inline(always)]
+    pub fn end_address(&self) -> u64
+        ensures { result ≡ self.now.initial_location + self.now.address_range }
+    {
+        self.initial_location + self.address_range
+    }
 }
 
 /// A record of a section.

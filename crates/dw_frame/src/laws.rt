@@ -118,3 +118,9 @@ pub fn the_cie_at_an_offset()
     ensures fault { (offset : ℕ) (entries : List (Result Record Fault)) (fault : Fault)
         → cie_among offset entries ≡ Err fault → Contains entries (Err fault) }
 {}
+
+/// An instruction has a byte at least.
+pub fn no_instruction_is_empty()
+    ensures { (target : Target) (at : ℕ) (bytes : List ℕ) (i : Instruction)
+        → EncodesInstruction target at bytes i → 0 < length bytes }
+{}

@@ -8,7 +8,7 @@ ghost use Rattle.dw_ops.specs.Views.{bytes_of, reading_from, located_of};
 use crate::decode::decode_one;
 use crate::expression::Expression;
 use crate::operation::Operation;
-use dw_bytes::{Fault, FaultKind};
+use dw_bytes::Fault;
 use smallvec::SmallVec;
 use std::alloc::Global;
 
@@ -29,18 +29,9 @@ pub fn operations<'a>(
     let end = expression.bytes().len() as u32;
     let mut at = 0;
     while at < end {
-        match decode_one(expression, at) {
-            Ok((operation, next)) => {
-                if list.push((at, operation)).is_err() {
-                    return Err(Fault {
-                        kind: FaultKind::Memory,
-                        at: 0,
-                    });
-                }
-                at = next;
-            }
-            Err(fault) => return Err(fault),
-        }
+        let (operation, next) = decode_one(expression, at)?;
+        list.push((at, operation))?;
+        at = next;
     }
     Ok(list)
 }

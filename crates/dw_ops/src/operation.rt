@@ -4,119 +4,119 @@
 /// line of the standard's table that the profile has; those of 32 codes carry their number.
 #[derive(Clone, Copy, Debug, PartialEq, Eq)]
 pub enum Operation<'a> {
-    /// Pushes the address.
+    /// `DW_OP_addr`: pushes the address.
     Addr { address: u64 },
-    /// Replaces the top by the word at that address.
+    /// `DW_OP_deref`: replaces the top by the word at that address.
     Deref,
-    /// Pushes the value.
+    /// `DW_OP_const1u`: pushes the value.
     Const1u { value: u8 },
-    /// Pushes the value.
+    /// `DW_OP_const1s`: pushes the value.
     Const1s { value: i8 },
-    /// Pushes the value.
+    /// `DW_OP_const2u`: pushes the value.
     Const2u { value: u16 },
-    /// Pushes the value.
+    /// `DW_OP_const2s`: pushes the value.
     Const2s { value: i16 },
-    /// Pushes the value.
+    /// `DW_OP_const4u`: pushes the value.
     Const4u { value: u32 },
-    /// Pushes the value.
+    /// `DW_OP_const4s`: pushes the value.
     Const4s { value: i32 },
-    /// Pushes the value.
+    /// `DW_OP_const8u`: pushes the value.
     Const8u { value: u64 },
-    /// Pushes the value.
+    /// `DW_OP_const8s`: pushes the value.
     Const8s { value: i64 },
-    /// Pushes the value.
+    /// `DW_OP_constu`: pushes the value.
     Constu { value: u64 },
-    /// Pushes the value.
+    /// `DW_OP_consts`: pushes the value.
     Consts { value: i64 },
-    /// Pushes the top again.
+    /// `DW_OP_dup`: pushes the top again.
     Dup,
-    /// Pops the top.
+    /// `DW_OP_drop`: pops the top.
     Drop,
-    /// Pushes the second entry.
+    /// `DW_OP_over`: pushes the second entry.
     Over,
-    /// Pushes the entry `index` below the top; 0 is the top.
+    /// `DW_OP_pick`: pushes the entry `index` below the top; 0 is the top.
     Pick { index: u8 },
-    /// Exchanges the top and the second entry.
+    /// `DW_OP_swap`: exchanges the top and the second entry.
     Swap,
-    /// Makes the top the third entry, the second the top and the third the second.
+    /// `DW_OP_rot`: makes the top the third entry, the second the top and the third the second.
     Rot,
-    /// The absolute value of the top, signed.
+    /// `DW_OP_abs`: the absolute value of the top, signed.
     Abs,
-    /// Bitwise and.
+    /// `DW_OP_and`: bitwise and.
     And,
-    /// The second entry divided by the top, signed and truncated.
+    /// `DW_OP_div`: the second entry divided by the top, signed and truncated.
     Div,
-    /// The second entry minus the top.
+    /// `DW_OP_minus`: the second entry minus the top.
     Minus,
-    /// The second entry modulo the top, unsigned.
+    /// `DW_OP_mod`: the second entry modulo the top, unsigned.
     Mod,
-    /// The product.
+    /// `DW_OP_mul`: the product.
     Mul,
-    /// 0 minus the top.
+    /// `DW_OP_neg`: 0 minus the top.
     Neg,
-    /// The top with all bits inverted.
+    /// `DW_OP_not`: the top with all bits inverted.
     Not,
-    /// Bitwise or.
+    /// `DW_OP_or`: bitwise or.
     Or,
-    /// The sum.
+    /// `DW_OP_plus`: the sum.
     Plus,
-    /// The top plus the value.
+    /// `DW_OP_plus_uconst`: the top plus the value.
     PlusUconst { value: u64 },
-    /// The second entry shifted left by the top.
+    /// `DW_OP_shl`: the second entry shifted left by the top.
     Shl,
-    /// The second entry shifted right by the top, zeros in.
+    /// `DW_OP_shr`: the second entry shifted right by the top, zeros in.
     Shr,
-    /// The second entry shifted right by the top, its sign in.
+    /// `DW_OP_shra`: the second entry shifted right by the top, its sign in.
     Shra,
-    /// Bitwise exclusive or.
+    /// `DW_OP_xor`: bitwise exclusive or.
     Xor,
-    /// Pops, and branches where the entry isn't 0. The offset counts from the byte behind it.
+    /// `DW_OP_bra`: pops, and branches where the entry isn't 0. The offset counts from the byte after it.
     Bra { offset: i16 },
-    /// 1 if the second entry is equal to the top, else 0.
+    /// `DW_OP_eq`: 1 if the second entry is equal to the top, else 0.
     Eq,
-    /// 1 if the second entry is at least the top, signed, else 0.
+    /// `DW_OP_ge`: 1 if the second entry is at least the top, signed, else 0.
     Ge,
-    /// 1 if the second entry is above the top, signed, else 0.
+    /// `DW_OP_gt`: 1 if the second entry is above the top, signed, else 0.
     Gt,
-    /// 1 if the second entry is at most the top, signed, else 0.
+    /// `DW_OP_le`: 1 if the second entry is at most the top, signed, else 0.
     Le,
-    /// 1 if the second entry is below the top, signed, else 0.
+    /// `DW_OP_lt`: 1 if the second entry is below the top, signed, else 0.
     Lt,
-    /// 1 if the second entry is other than the top, else 0.
+    /// `DW_OP_ne`: 1 if the second entry is other than the top, else 0.
     Ne,
-    /// Branches. The offset counts from the byte behind it.
+    /// `DW_OP_skip`: branches. The offset counts from the byte after it.
     Skip { offset: i16 },
-    /// Pushes the value, 0 to 31.
+    /// `DW_OP_lit0` to `DW_OP_lit31`: pushes the value, 0 to 31.
     Lit { value: u8 },
-    /// The location is the register, 0 to 31.
+    /// `DW_OP_reg0` to `DW_OP_reg31`: the location is the register, 0 to 31.
     Reg { register: u8 },
-    /// Pushes the register's content plus the offset; the register is 0 to 31.
+    /// `DW_OP_breg0` to `DW_OP_breg31`: pushes the register's content plus the offset; the register is 0 to 31.
     Breg { register: u8, offset: i64 },
-    /// The location is the register.
+    /// `DW_OP_regx`: the location is the register.
     Regx { register: u16 },
-    /// Pushes the frame base plus the offset.
+    /// `DW_OP_fbreg`: pushes the frame base plus the offset.
     Fbreg { offset: i64 },
-    /// Pushes the register's content plus the offset.
+    /// `DW_OP_bregx`: pushes the register's content plus the offset.
     Bregx { register: u16, offset: i64 },
-    /// What comes before it is a piece of so many bytes.
+    /// `DW_OP_piece`: what comes before it is a piece of `size` bytes.
     Piece { size: u32 },
-    /// Replaces the top by that many bytes at that address, zero-extended.
+    /// `DW_OP_deref_size`: replaces the top by that many bytes at that address, zero-extended.
     DerefSize { size: u8 },
-    /// Nothing.
+    /// `DW_OP_nop`: does nothing.
     Nop,
-    /// Pushes the object's address.
+    /// `DW_OP_push_object_address`: pushes the object's address.
     PushObjectAddress,
-    /// Pushes the CFA.
+    /// `DW_OP_call_frame_cfa`: pushes the CFA.
     CallFrameCfa,
-    /// What comes before it is a piece of so many bits, from an offset in bits.
+    /// `DW_OP_bit_piece`: what comes before it is a piece of `size` bits, from an offset in bits.
     BitPiece { size: u32, offset: u32 },
-    /// The value is these bytes.
+    /// `DW_OP_implicit_value`: the value is these bytes.
     ImplicitValue { bytes: &'a [u8] },
-    /// The value is the top.
+    /// `DW_OP_stack_value`: the value is the top.
     StackValue,
 }
 
-/// What fills the places of a list that aren't used: nop.
+/// What fills the unused slots of a list: nop.
 impl Default for Operation<'_> {
     ghost use Rattle.std.specs.Prelude.{◌≡◌};
     ghost use Rattle.dw_ops.specs.declared.operation.Operation.TheVariants.{Nop};
