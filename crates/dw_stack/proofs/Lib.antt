@@ -21,4 +21,5 @@ pub mod Named
 pub mod Existing
 pub mod Determined
 pub mod Unbranched
+pub mod Registers
 pub mod FaultsInside

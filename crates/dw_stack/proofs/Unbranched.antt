@@ -3,13 +3,13 @@ use Rattle.std.proofs.Common.{◌≡◌, ◌∙◌, ℕ, ℤ, zero, suc, ◌+◌
 use Rattle.std.proofs.Common.{get_or-set_same, get_or-set_other, length-append, Option, Some, None, Ok, refl, sym, ap, subst, arith}
 use Rattle.std.specs.Prelude.{slice_get, slice_set, replicate, max, ◌==◌}
 use Rattle.std.proofs.lemmas.Option.{slice_get_within}
-use Rattle.std.proofs.lemmas.List.{length-replicate, get_or-replicate, append_assoc, append-nil}
+use Rattle.std.proofs.lemmas.List.{length-drop, length-replicate, get_or-replicate, append_assoc, append-nil}
 use Rattle.dw_bytes.specs.Answers.{values_in, fault_in}
 use Rattle.dw_ops.specs.declared.expression.Expression.{Expression}
 use Rattle.dw_ops.specs.Operations.{Operation, bra, skip}
 use Rattle.dw_ops.specs.Opcodes.{operation_at, operations_of}
 use Rattle.dw_ops.specs.Views.{bytes_of, target_of, reading_from}
-use Rattle.dw_ops.proofs.Lists.{at-operation, at-end}
+use Rattle.dw_ops.proofs.Lists.{next-operation, no-operation}
 use Rattle.dw_stack.specs.declared.effect.StackEffect.{StackEffect}
 use Rattle.dw_stack.specs.declared.judge.OutState.{OutState}
 use Rattle.dw_stack.specs.declared.state.State.{State}
@@ -177,7 +177,7 @@ further kind e at count state depth pieces op next height j read forward within 
     left = values_in (operations_of (reading_from e next))
 
     step : operations_of (reading_from e at) ≡ Ok (at, op) ∷ operations_of (reading_from e next)
-    step = at-operation e at next op read
+    step = next-operation (reading_from e at) op (reading_from e next) read
 
     parts : j.before ++ (at, op) ∷ left ≡ ops
     parts = ap (λ l. j.before ++ values_in l) (sym step) ∙ j.parts
@@ -207,7 +207,7 @@ judged kind e at count state depth pieces j past result = record {
     ops = operations_in (target_of e) (bytes_of e)
 
     none : operations_of (reading_from e at) ≡ []
-    none = at-end e at past
+    none = no-operation (reading_from e at) (omega (arith, past, length-drop at (bytes_of e)))
 
     fine : reading_fault (target_of e) (bytes_of e) ≡ None
     fine = j.fault ∙ ap fault_in none

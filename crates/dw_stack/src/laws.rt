@@ -1,17 +1,18 @@
 //! Laws of expressions: functions that do nothing, each with the law as its contract.
 
-ghost use Rattle.std.specs.Prelude.{◌≡◌, ◌+◌, ◌<◌, ◌≤◌, ◌⊎◌, ◌↔◌, ℕ, List, length, slice_get, Option, Some, None, Ok};
+ghost use Rattle.std.specs.Prelude.{◌≡◌, ◌+◌, ◌<◌, ◌≤◌, ◌⊎◌, ◌↔◌, ℕ, suc, ℤ, pos, List, length, slice_get, Option, Some, None, Ok};
 ghost use Rattle.dw_bytes.specs.declared.target.Target.{Target};
 ghost use Rattle.dw_bytes.specs.declared.fault.Fault.{Fault};
 ghost use Rattle.dw_stack.specs.declared.state.Kind.{Kind};
 ghost use Rattle.dw_stack.specs.declared.state.State.{State};
 ghost use Rattle.dw_stack.specs.declared.state.StackState.{StackState};
-ghost use Rattle.dw_ops.specs.Opcodes.{operation_at};
+ghost use Rattle.dw_ops.specs.Opcodes.{AreOperations, operation_at};
 ghost use Rattle.dw_stack.specs.States.{at_offset};
-ghost use Rattle.dw_stack.specs.Paths.{Placed, place, IsStart, IsLaidOut, Reaches};
-ghost use Rattle.dw_stack.specs.Machine.{Configuration, Meaning, Starts, Run, Agrees, Meets, IsOver};
+ghost use Rattle.dw_stack.specs.Paths.{Placed, place, IsStart, IsLaidOut, IsGood, Reaches};
+ghost use Rattle.dw_stack.specs.Effects.{effect_of};
+ghost use Rattle.dw_stack.specs.Machine.{Configuration, EvaluationError, Meaning, Starts, Step, Stops, Run, Agrees, Meets, Ended, IsOver};
 ghost use Rattle.dw_stack.specs.Expressions.{operations_in, reading_at, IsGoodExpression, IsDepthOf, AreStatesOf, RunsWellWithin};
-ghost use Rattle.dw_stack.specs.Expressions.{IsFaultOf, Knows};
+ghost use Rattle.dw_stack.specs.Expressions.{Checked, IsChecked, IsFaultOf, Knows};
 ghost use Rattle.dw_stack.specs.FirstFault.{expression_fault};
 
 use crate::judge::{MAX_HEIGHT, MAX_PIECES};
@@ -147,6 +148,51 @@ pub fn places_ascend()
     ensures ends { (ops : List Placed) (len k : ℕ) → length ops ≤ k → place ops len k ≡ len }
     ensures ascends { (ops : List Placed) (len : ℕ) → IsLaidOut ops len → (j k : ℕ) → j < k
         → k ≤ length ops → place ops len j < place ops len k }
+    ensures within { (ops : List Placed) (len : ℕ) → IsLaidOut ops len → (k : ℕ)
+        → place ops len k ≤ len }
+    ensures few { (ops : List Placed) (len : ℕ) → IsLaidOut ops len → length ops ≤ len }
+{}
+
+/// Operations that bytes encode, one after the other, follow each other from the first byte to the end, and each is read at its
+/// offset.
+pub fn encoded_operations_stand_in_the_bytes()
+    ensures laid { (target : Target) (bytes : List ℕ) (ops : List Placed)
+        → AreOperations target 0 bytes ops → IsLaidOut ops (length bytes) }
+    ensures read { (target : Target) (bytes : List ℕ)
+        → AreOperations target 0 bytes (operations_in target bytes) → (k : ℕ) (x : Placed)
+        → slice_get (operations_in target bytes) k ≡ Some x
+        → operation_at (reading_at target bytes x.0) ≡ Ok
+        (x.1, reading_at target bytes (place (operations_in target bytes) (length bytes) (k + 1))) }
+{}
+
+/// A run and one step more are a run.
+pub fn runs_go_on()
+    ensures { (m : Meaning) (ops : List Placed) (len n : ℕ) (c d e : Configuration)
+        → Run m ops len n c d → Step m ops len d e → Run m ops len (suc n) c e }
+{}
+
+/// Over operations that follow each other a run has one end, and stops for one reason. No operation begins at the end.
+pub fn runs_over_operations_are_determined()
+    ensures run { (m : Meaning) (ops : List Placed) (len : ℕ) → IsLaidOut ops len
+        → (kind : Kind) (n k : ℕ) (c d e : Configuration) → Run m ops len n c d
+        → IsOver kind m ops len d → Run m ops len k c e → IsOver kind m ops len e
+        → (n ≡ k) × (d ≡ e) }
+    ensures stop { (m : Meaning) (ops : List Placed) (len : ℕ) → IsLaidOut ops len
+        → (c : Configuration) (w v : EvaluationError) → Stops m ops c w → Stops m ops c v → w ≡ v }
+    ensures end { (m : Meaning) (ops : List Placed) (len : ℕ) → IsLaidOut ops len
+        → (kind : Kind) (c : Configuration) → Ended kind ops len c → ¬ Meets ops c }
+{}
+
+/// A branch of operations that are good over all paths leads ahead.
+pub fn branches_lead_ahead()
+    ensures { (kind : Kind) (ops : List Placed) (len : ℕ) → IsLaidOut ops len → IsGood kind ops len
+        → (k : ℕ) (x : Placed) (z : ℤ) → slice_get ops k ≡ Some x
+        → (effect_of x.1).jump ≡ Some z → (n : ℕ) × (z ≡ pos n) }
+{}
+
+/// What is known of a checked expression as a mere proposition can be had.
+pub fn checked_expressions_are_known()
+    ensures { (c : Checked) → ∥ IsChecked c ∥₁ → IsChecked c }
 {}
 
 /// Where a path comes to an operation of a good expression, all that it needs is there.

@@ -11,7 +11,7 @@ use crate::in_state::{InState, in_state_at};
 use crate::state::{Kind, StackState, State, has_result, start_state};
 use crate::step::step_of_pass;
 use crate::target::place_of_operation;
-use dw_bytes::{Fault, FaultKind, OUT_OF_MEMORY};
+use dw_bytes::{Fault, FaultKind};
 use dw_ops::Operation;
 use smallvec::SmallVec;
 use std::alloc::Global;
@@ -42,13 +42,9 @@ fn first_arrivals(
         (InState.Known start)) }
     ensures err { IfErr result (λ f. f ≡ memory) }
 {
-    match SmallVec::from_elem(alloc, InState::Unreached, count + 1) {
-        Ok(mut in_states) => {
-            in_states.as_mut_slice()[0] = InState::Known(start);
-            Ok(in_states)
-        }
-        Err(_) => Err(OUT_OF_MEMORY),
-    }
+    let mut in_states = SmallVec::from_elem(alloc, InState::Unreached, count + 1)?;
+    in_states.as_mut_slice()[0] = InState::Known(start);
+    Ok(in_states)
 }
 
 /// One pass over the operations in order, which compares with the given states where there are some. Each branch looks for
@@ -81,12 +77,7 @@ pub fn pass(
     for i in 0..operations.len() {
         match step_of_pass(kind, operations, end, given, i, pieces, &mut in_states) {
             Ok(done) => {
-                if states
-                    .push(done.state.at(place_of_operation(operations, end, i)))
-                    .is_err()
-                {
-                    return Err(OUT_OF_MEMORY);
-                }
+                states.push(done.state.at(place_of_operation(operations, end, i)))?;
                 depth = depth.max(done.state.height).max(done.height);
                 pieces += if done.piece { 1 } else { 0 };
             }
