@@ -16,7 +16,7 @@ use Rattle.dw_stack.specs.FirstFault.{expression_fault}
 use Rattle.dw_stack.proofs.Named.{none_if_good, good_if_none}
 use Rattle.dw_loclists.specs.Entries.{Entry, end_of_list, offset_pair, default_location, base_address, start_end, start_length, entry_line}
 use Rattle.dw_loclists.specs.Entries.{IsEntry, is_default, expression_in, IsRange, IsGoodLocation}
-use Rattle.dw_loclists.specs.Bounds.{IsUpTo, IsBefore}
+use Rattle.dw_loclists.specs.Bounds.{IsUpTo, IsBefore, StandsWithin, AllWithin}
 use Rattle.dw_loclists.specs.Reading.{entry_at, is_back_range, location_fault, entry_fault, unless_fault, checked_entry_at}
 use Rattle.dw_stack.specs.Located.{moved_by}
 
@@ -29,16 +29,6 @@ pub entry-some : (target : Target) (at : ℕ) (bytes : List ℕ) (e : Entry) →
 entry-some target at bytes e h = coded-some target entry_line at bytes e h
 
 -- ---- where the expression of an entry stands
-
--- behind the first byte, and up to the last, under the target of the section
-pub record StandsWithin (target : Target) (at end : ℕ) (b : Block) : Type 0 where
-  pub behind : at < b.offset
-  pub ends : b.offset + length b.bytes ≡ end
-  pub of_target : b.target ≡ target
-
-abbrev pub AllWithin : Target → ℕ → ℕ → Option Block → Type 0
-AllWithin target at end None = Unit {0}
-AllWithin target at end (Some b) = StandsWithin target at end b
 
 block-within : (target : Target) (start at : ℕ) (bytes : List ℕ) (b : Block) → start < at → IsBlock target at bytes b
     → StandsWithin target start (at + length bytes) b

@@ -13,11 +13,11 @@ use Rattle.dw_bytes.specs.declared.fault.FaultKind.TheVariants.{BadOffsetEntry}
 use Rattle.dw_bytes.specs.Encoding.{Len, Length, Offset}
 use Rattle.dw_bytes.specs.Reading.{ReadPosition, Next, IsExact, ◌>>=◌, section_from, offset_at}
 use Rattle.dw_bytes.specs.Fields.{Encodes, unless, ok_unless, fields_at}
-use Rattle.dw_bytes.specs.Bodies.{framed_at}
+use Rattle.dw_bytes.specs.Bodies.{framed_at, IsFramed}
 use Rattle.dw_bytes.specs.Sequence.{Sequence, sequence_of, Exactly, exactly_of}
 use Rattle.dw_bytes.proofs.Readers.{ExactAt, bind-ok, ok-is, offset-exact, leaves-suffix}
 use Rattle.dw_bytes.proofs.FieldsOf.{fields-exact}
-use Rattle.dw_bytes.proofs.Bodies.{IsFramed, framed-found, framed-only}
+use Rattle.dw_bytes.proofs.Bodies.{framed-found, framed-only}
 use Rattle.dw_bytes.proofs.Sequences.{ReadsEach, Forward, forward, goes-on, stops, ends, all-read, sequence-exact, exactly-exact}
 use Rattle.dw_loclists.specs.Entries.{Entry, end_of_list}
 use Rattle.dw_loclists.specs.Lists.{Loclist, IsList, Table, table_header, starts_of, IsListOffset, IsTable, AreTables}

@@ -1,5 +1,6 @@
 pub mod EachEntry
 pub mod EachList
+pub mod Passing
 pub mod EachTable
 pub mod KeptLists
 pub mod Search

@@ -16,22 +16,12 @@ use Rattle.dw_loclists.specs.Locations.{default_of, defaults_in}
 use Rattle.dw_loclists.specs.Reading.{entries_at, ListSection, IsChecked, tables_in, lists_in, located_in}
 use Rattle.dw_loclists.proofs.EachList.{entries-read}
 use Rattle.dw_loclists.specs.declared.kept.KeptExpression.{KeptExpression}
-use Rattle.dw_loclists.specs.Bounds.{Ascends}
+use Rattle.dw_loclists.specs.Bounds.{Ascends, StandsIn}
 use Rattle.dw_loclists.specs.Kept.{IsKeptOf, AreKeptOf, IsAmong}
 use Rattle.dw_loclists.specs.Views.{offset_of}
 use Rattle.dw_loclists.proofs.Order.{entries-front, offsets-of}
 use Rattle.dw_loclists.proofs.Checked.{checked-tables, lists-ascend, expressions-ascend}
 use Rattle.dw_loclists.proofs.Search.{ascends-back, ascending-same, contains-behind}
-
--- ---- where lists stand
-
-pub record StandsIn (target : Target) (at : ℕ) (bytes : List ℕ) (l : Loclist) : Type 0 where
-  pub front : List ℕ
-  pub own : List ℕ
-  pub rest : List ℕ
-  pub parts : bytes ≡ front ++ (own ++ rest)
-  pub offset_is : l.offset ≡ at + length front
-  pub list_is : IsList target l.offset own l
 
 no-list : {X : Type 0} (x : X) → Contains [] x → ⊥
 no-list x (k, lt, is) = omega arith

@@ -13,8 +13,8 @@ use Rattle.dw_loclists.specs.Entries.{Entry, IsEntry, is_default, expression_in}
 use Rattle.dw_loclists.specs.Lists.{Loclist, IsList, Table, IsTable, AreTables, lists_of, starts_of}
 use Rattle.dw_loclists.specs.Locations.{location_of, expressions_of, expressions_in}
 use Rattle.dw_stack.specs.Located.{LocatedExpression}
-use Rattle.dw_loclists.specs.Bounds.{RiseWithin}
-use Rattle.dw_loclists.proofs.EachEntry.{AllWithin, entry-within, entry-some}
+use Rattle.dw_loclists.specs.Bounds.{AllWithin, RiseWithin}
+use Rattle.dw_loclists.proofs.EachEntry.{entry-within, entry-some}
 use Rattle.dw_loclists.proofs.EachList.{AreEntries, entries-in}
 use Rattle.dw_loclists.proofs.EachTable.{list-some}
 use Rattle.dw_loclists.proofs.Search.{rise-append}

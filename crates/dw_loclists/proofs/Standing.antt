@@ -18,8 +18,8 @@ use Rattle.dw_loclists.specs.Lists.{Loclist, IsList, IsWellFormed}
 use Rattle.dw_loclists.specs.Locations.{base_after, held_by, bounded_at, default_of, defaults_in}
 use Rattle.dw_stack.specs.Located.{LocatedExpression}
 use Rattle.dw_loclists.specs.Reading.{entry_at, list_at, lists_fault, ListSection, IsChecked, tables_in, lists_in, located_in}
-use Rattle.dw_loclists.specs.Bounds.{Ascends}
-use Rattle.dw_loclists.proofs.EachEntry.{AllWithin, entry-exact, entry-within}
+use Rattle.dw_loclists.specs.Bounds.{AllWithin, Ascends}
+use Rattle.dw_loclists.proofs.EachEntry.{entry-exact, entry-within}
 use Rattle.dw_loclists.proofs.EachList.{list-found, list-only, count-cons}
 use Rattle.dw_loclists.proofs.EachTable.{sections-are-tables}
 use Rattle.dw_loclists.proofs.Checked.{checked-tables, tables-checked, expressions-ascend}

@@ -1,8 +1,10 @@
 -- Where things stand in their section, and in what order.
-use Rattle.std.specs.Prelude.{◌≤◌, ◌<◌, ◌+◌, ◌⊎◌, ℕ, List, [], ◌∷◌, length, Option, Some, None}
+use Rattle.std.specs.Prelude.{◌≡◌, ◌≤◌, ◌<◌, ◌+◌, ◌⊎◌, ℕ, List, [], ◌∷◌, ◌++◌, length, Option, Some, None}
 use Rattle.std.specs.List.{AllByRecursion}
 use Rattle.dw_bytes.specs.Operands.{Block}
+use Rattle.dw_bytes.specs.declared.target.Target.{Target}
 use Rattle.dw_loclists.specs.Entries.{Entry, expression_in}
+use Rattle.dw_loclists.specs.Lists.{Loclist, IsList}
 
 -- up to the end of an expression, if there is one
 abbrev pub IsUpTo : ℕ → Option Block → Type 0
@@ -22,3 +24,23 @@ Ascends at (x ∷ xs) = AllByRecursion (λ y. at x < at y) xs × Ascends at xs
 abbrev pub RiseWithin : ℕ → ℕ → List ℕ → Type 0
 RiseWithin low high [] = low ≤ high
 RiseWithin low high (n ∷ ns) = (low ≤ n) × RiseWithin (n + 1) high ns
+
+-- an expression after the first byte of its entry and up to the last, under the target of the section
+pub record StandsWithin (target : Target) (at end : ℕ) (b : Block) : Type 0 where
+  pub behind : at < b.offset
+  pub ends : b.offset + length b.bytes ≡ end
+  pub of_target : b.target ≡ target
+
+-- the same where there is one
+abbrev pub AllWithin : Target → ℕ → ℕ → Option Block → Type 0
+AllWithin target at end None = Unit {0}
+AllWithin target at end (Some b) = StandsWithin target at end b
+
+-- a list in the bytes of a section, at its offset
+pub record StandsIn (target : Target) (at : ℕ) (bytes : List ℕ) (l : Loclist) : Type 0 where
+  pub front : List ℕ
+  pub own : List ℕ
+  pub rest : List ℕ
+  pub parts : bytes ≡ front ++ (own ++ rest)
+  pub offset_is : l.offset ≡ at + length front
+  pub list_is : IsList target l.offset own l

@@ -1,15 +1,17 @@
 -- What is kept of a section. No contract of a public call speaks of these.
-use Rattle.std.specs.Prelude.{◌≡◌, ◌<◌, ◌≤◌, ◌+◌, ◌^◌, length, take, drop, ℕ, List, [], ◌∷◌, ◌++◌, map, Contains}
+use Rattle.std.specs.Prelude.{◌≡◌, ◌<◌, ◌≤◌, ◌+◌, ◌^◌, length, take, drop, ℕ, Bool, List, [], ◌∷◌, ◌++◌, map, Contains, Ok}
 use Rattle.std.specs.List.{AllByRecursion, AllZip}
 use Rattle.dw_bytes.specs.declared.target.Target.{Target}
 use Rattle.dw_loclists.specs.declared.contents.Contents.{Contents}
 use Rattle.dw_loclists.specs.declared.kept.KeptExpression.{KeptExpression}
+use Rattle.dw_bytes.specs.Reading.{ReadPosition}
+use Rattle.dw_loclists.specs.Entries.{Entry, is_end, is_default}
 use Rattle.dw_loclists.specs.Lists.{Loclist, Table, lists_of, starts_of}
-use Rattle.dw_loclists.specs.Locations.{expressions_in}
+use Rattle.dw_loclists.specs.Locations.{expressions_of, expressions_in}
 use Rattle.dw_stack.specs.declared.state.Kind.TheVariants.{Location}
 use Rattle.dw_stack.specs.Expressions as stack
 use Rattle.dw_stack.specs.Located.{LocatedExpression}
-use Rattle.dw_loclists.specs.Reading.{ListSection, IsChecked, tables_in, located_in}
+use Rattle.dw_loclists.specs.Reading.{ListSection, IsChecked, checked_entry_at, tables_in, located_in}
 use Rattle.dw_loclists.specs.Views.{start_of}
 
 -- ---- expressions
@@ -27,6 +29,15 @@ AreKeptOf = AllZip IsKeptOf
 -- of these besides, behind what was kept
 abbrev pub KeepsMore : List LocatedExpression → List KeptExpression → List KeptExpression → Type 0
 KeepsMore more old new = (xs : List LocatedExpression) → AreKeptOf xs old → AreKeptOf (xs ++ more) new
+
+-- An entry, behind a default or not, was read and has no fault, and its expression is kept. Its list ends with it or not, and it
+-- is a default or not.
+pub record Passes (has_default ended default : Bool) (old new : ReadPosition) (before after : List KeptExpression) : Type 0 where
+  pub entry : Entry
+  pub read : checked_entry_at has_default old ≡ Ok (entry, new)
+  pub end_is : is_end entry ≡ ended
+  pub default_is : is_default entry ≡ default
+  pub kept : KeepsMore (expressions_of (entry ∷ [])) before after
 
 -- of an expression among others
 abbrev pub IsAmong : List KeptExpression → LocatedExpression → Type 0

@@ -11,23 +11,29 @@ use dw_bytes::{Block, Cursor, Fault, FaultKind, operands};
 /// An entry of a location list (DWARF 5, section 7.7.3), with its operands as they are encoded.
 #[derive(Clone, Copy)]
 pub enum Entry<'a> {
+    /// `DW_LLE_end_of_list`: the list ends here.
     EndOfList,
+    /// `DW_LLE_offset_pair`: the expression holds from one offset to before another, both from the base.
     OffsetPair {
         begin: u64,
         end: u64,
         expression: Block<'a>,
     },
+    /// `DW_LLE_default_location`: the expression holds where no other entry covers the address.
     DefaultLocation {
         expression: Block<'a>,
     },
+    /// `DW_LLE_base_address`: the base of the entries after it.
     BaseAddress {
         base: u64,
     },
+    /// `DW_LLE_start_end`: the expression holds from one address to before another.
     StartEnd {
         begin: u64,
         end: u64,
         expression: Block<'a>,
     },
+    /// `DW_LLE_start_length`: the expression holds from an address on, for a number of bytes.
     StartLength {
         begin: u64,
         count: u64,

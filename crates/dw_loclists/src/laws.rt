@@ -1,6 +1,6 @@
 //! Laws of location lists: functions that do nothing, each with the law as its contract.
 
-ghost use Rattle.std.specs.Prelude.{◌≡◌, ◌<◌, ◌≤◌, ◌↔◌, ℕ, List, [], ◌∷◌, ◌++◌, length, map, Contains, Ok, Err, None, Some};
+ghost use Rattle.std.specs.Prelude.{◌≡◌, ◌+◌, ◌<◌, ◌≤◌, ◌↔◌, ℕ, List, [], ◌∷◌, ◌++◌, length, map, Contains, Ok, Err, None, Some};
 ghost use Rattle.dw_bytes.specs.declared.target.Target.{Target};
 ghost use Rattle.dw_bytes.specs.declared.fault.Fault.{Fault};
 ghost use Rattle.dw_bytes.specs.Operands.{Block};
@@ -8,12 +8,12 @@ ghost use Rattle.dw_bytes.specs.Reading.{ReadPosition, IsExact, section_from};
 ghost use Rattle.dw_stack.specs.declared.state.Kind.TheVariants.{Location};
 ghost use Rattle.dw_stack.specs.Expressions.{IsGoodExpression};
 ghost use Rattle.dw_loclists.specs.Entries.{Entry, IsEntry, expression_in};
-ghost use Rattle.dw_loclists.specs.Lists.{Loclist, IsList, Table, IsTable, AreTables, starts_of, IsWellFormed};
+ghost use Rattle.dw_loclists.specs.Lists.{Loclist, IsList, Table, IsTable, AreTables, lists_of, starts_of, IsWellFormed};
 ghost use Rattle.dw_loclists.specs.Locations.{base_after, held_by, bounded_at, defaults_in};
 ghost use Rattle.dw_stack.specs.Located.{LocatedExpression};
 ghost use Rattle.dw_loclists.specs.Reading.{entry_at, list_at, table_at, tables_from, tables_of, lists_fault, ListSection, IsChecked};
 ghost use Rattle.dw_loclists.specs.Reading.{tables_in, lists_in, located_in};
-ghost use Rattle.dw_loclists.specs.Bounds.{Ascends};
+ghost use Rattle.dw_loclists.specs.Bounds.{AllWithin, Ascends, StandsIn};
 
 /// No encoding of an entry begins another, and bytes encode one entry.
 pub fn entries_are_unambiguous()
@@ -85,4 +85,14 @@ pub fn entries_hold_by_the_base_before_them()
         ++ bounded_at (base_after base (before ++ e ∷ [])) address behind) }
     ensures one_default { (target : Target) (at : ℕ) (bytes : List ℕ) (l : Loclist) →
         IsList target at bytes l → length (defaults_in l.entries) ≤ 1 }
+{}
+
+/// Where things are in a section: an entry's expression after its first byte and up to its last, under the section's target; and a
+/// list of its tables at its offset.
+pub fn lists_and_expressions_stand_in_their_bytes()
+    ensures expressions { (target : Target) (at : ℕ) (bytes : List ℕ) (e : Entry) →
+        IsEntry target at bytes e → AllWithin target at (at + length bytes) (expression_in e) }
+    ensures lists { (target : Target) (at : ℕ) (bytes : List ℕ) (tables : List Table) (l : Loclist) →
+        AreTables target at bytes tables → Contains (lists_of tables) l →
+        StandsIn target at bytes l }
 {}

@@ -1,23 +1,23 @@
 //! Reading and judging lists.
 
-ghost use Rattle.std.specs.Prelude.{◌≡◌, ◌⊎◌, ◌<◌, ◌≤◌, ◌+◌, [], ◌∷◌, ◌++◌, length, map, IfErr, IfOk, OnOk, Ok, Err, Some, MatchResult};
-ghost use Rattle.std.specs.Prelude.{IsTrue, ◌↔◌};
+ghost use Rattle.std.specs.Prelude.{◌≡◌, ◌⊎◌, ◌<◌, ◌≤◌, ◌+◌, [], ◌∷◌, ◌++◌, length, map, IfErr, IfOk, IfSome, OnOk, Ok, Err, None, Some};
+ghost use Rattle.std.specs.Prelude.{Bool, false, MatchBool, MatchOption, MatchResult};
 ghost use Rattle.dw_bytes.specs.Reading.{MovesForward};
 ghost use Rattle.dw_bytes.specs.Readers.{IsRefusedWithin};
 ghost use Rattle.dw_bytes.specs.Answers.{memory, Answers};
 ghost use Rattle.dw_bytes.specs.Operands.{block_of};
 ghost use Rattle.dw_loclists.specs.Bounds.{IsBefore};
-ghost use Rattle.dw_loclists.specs.Kept.{KeepsMore};
+ghost use Rattle.dw_loclists.specs.Kept.{KeepsMore, Passes};
 ghost use Rattle.dw_loclists.specs.Lists.{Loclist};
 ghost use Rattle.dw_loclists.specs.Locations.{location_of, expressions_of};
-ghost use Rattle.dw_loclists.specs.Reading.{entry_fault, location_fault, list_at};
+ghost use Rattle.dw_loclists.specs.Reading.{entry_fault, location_fault, checked_entry_at, list_at};
 ghost use Rattle.dw_loclists.specs.Views.{entry_of};
 
 use crate::entry::Entry;
 use crate::kept::KeptExpression;
-use dw_bytes::{Block, Cursor, Fault, FaultKind, OUT_OF_MEMORY};
+use dw_bytes::{Block, Cursor, Fault, FaultKind, OUT_OF_MEMORY, operands};
 use dw_ops::Expression;
-use dw_stack::{Kind, check_expression};
+use dw_stack::{Kind, check_expression, check_register};
 use std::alloc::Global;
 
 /// Judges an expression as a location, and keeps what was learned of it.
@@ -36,12 +36,7 @@ fn check_entry_expression(
     let expression = Expression::new(block.bytes, block.target);
     match check_expression(alloc, expression, Kind::Location) {
         Ok(checked) => {
-            if expressions
-                .push(KeptExpression::new(block, &checked))
-                .is_err()
-            {
-                return Err(OUT_OF_MEMORY);
-            }
+            expressions.push(KeptExpression::new(block, &checked))?;
             Ok(())
         }
         Err(fault) if fault.kind == FaultKind::Memory => Err(OUT_OF_MEMORY),
@@ -84,6 +79,136 @@ fn check_entry(
     }
 }
 
+/// What came of an entry that has no fault.
+#[derive(Clone, Copy)]
+struct Passed {
+    /// Whether its list ends with it.
+    ended: bool,
+    /// Whether it is a default.
+    default: bool,
+}
+
+/// Reads an entry, behind a default of its list or not, judges it, and keeps its expression.
+#[inline(never)]
+fn check_next(
+    alloc: Global,
+    cursor: &mut Cursor<'_>,
+    has_default: bool,
+    expressions: &mut Vec<KeptExpression>,
+) -> Result<Passed, Fault>
+    ensures exact { MatchResult result
+        (λ passed. Passes has_default passed.ended passed.default cursor.old cursor.new
+        expressions.old.items expressions.new.items)
+        (λ f. (f ≡ memory) ⊎ (checked_entry_at has_default cursor.old ≡ Err f)) }
+    ensures within { IsRefusedWithin cursor.old result }
+    ensures goes_on { MovesForward cursor.old cursor.new }
+    ensures forward { IfOk result (λ _. cursor.old.position < cursor.new.position) }
+{
+    let at = cursor.position();
+    let entry = Entry::read(cursor)?;
+    check_entry(alloc, &entry, at, has_default, expressions)?;
+    Ok(Passed {
+        ended: entry.is_end(),
+        default: entry.is_default(),
+    })
+}
+
+/// Keeps an expression that is a good location, if it is one and there is room: else nothing changes. It stays a call, so that
+/// it costs nothing where an expression is a register.
+#[inline(never)]
+fn keep_any(alloc: Global, block: Block<'_>, expressions: &mut Vec<KeptExpression>) -> bool
+    ensures { MatchBool result
+        ((location_fault (Some (block_of block.entry)) ≡ None)
+        × KeepsMore (location_of (block_of block.entry) ∷ [])
+        expressions.old.items expressions.new.items)
+        (expressions.new.items ≡ expressions.old.items) }
+{
+    let expression = Expression::new(block.bytes, block.target);
+    let Ok(checked) = check_expression(alloc, expression, Kind::Location) else {
+        return false;
+    };
+    if expressions
+        .push(KeptExpression::new(block, &checked))
+        .is_err()
+    {
+        return false;
+    }
+    true
+}
+
+/// The same. A register, which nearly all are, is kept here.
+#[inline(always)]
+fn keep_location(alloc: Global, block: Block<'_>, expressions: &mut Vec<KeptExpression>) -> bool
+    ensures { MatchBool result
+        ((location_fault (Some (block_of block.entry)) ≡ None)
+        × KeepsMore (location_of (block_of block.entry) ∷ [])
+        expressions.old.items expressions.new.items)
+        (expressions.new.items ≡ expressions.old.items) }
+{
+    let expression = Expression::new(block.bytes, block.target);
+    let Some(checked) = check_register(expression) else {
+        return keep_any(alloc, block, expressions);
+    };
+    if expressions
+        .push(KeptExpression::new(block, &checked))
+        .is_err()
+    {
+        return false;
+    }
+    true
+}
+
+/// The same as `check_next` for what real lists are made of, and says whether the list ends there: an end_of_list, a
+/// base_address, an offset_pair and a start_length whose numbers are short. It is a shortcut: where it is something else, or has
+/// a fault, or there is no room, it answers none and nothing changes. Who gets none asks `check_next`.
+#[inline(always)]
+fn check_common(
+    alloc: Global,
+    cursor: &mut Cursor<'_>,
+    expressions: &mut Vec<KeptExpression>,
+) -> Option<bool>
+    ensures exact { MatchOption result
+        ((cursor.new ≡ cursor.old) × (expressions.new.items ≡ expressions.old.items))
+        (λ ended. (has_default : Bool) → Passes has_default ended false cursor.old cursor.new
+        expressions.old.items expressions.new.items) }
+    ensures goes_on { MovesForward cursor.old cursor.new }
+    ensures forward { IfSome result (λ _. cursor.old.position < cursor.new.position) }
+{
+    let mut ahead = cursor.copy();
+    match ahead.u8() {
+        Ok(0x00) => {
+            *cursor = ahead;
+            Some(true)
+        }
+        Ok(0x04) => {
+            let begin = ahead.short_uleb()?;
+            let end = ahead.short_uleb()?;
+            let block = operands::short_block(&mut ahead)?;
+            if end < begin || !keep_location(alloc, block, expressions) {
+                return None;
+            }
+            *cursor = ahead;
+            Some(false)
+        }
+        Ok(0x06) => {
+            ahead.skip_address()?;
+            *cursor = ahead;
+            Some(false)
+        }
+        Ok(0x08) => {
+            ahead.skip_address()?;
+            ahead.short_uleb()?;
+            let block = operands::short_block(&mut ahead)?;
+            if !keep_location(alloc, block, expressions) {
+                return None;
+            }
+            *cursor = ahead;
+            Some(false)
+        }
+        _ => None,
+    }
+}
+
 /// Reads a list up to its end_of_list, at which the cursor then has come by. Each entry is judged as soon as it is read, and
 /// its expression is kept. The table ends at an offset.
 pub fn read_list(
@@ -102,14 +227,26 @@ pub fn read_list(
     ensures forward { IfOk result (λ _. cursor.old.position < cursor.new.position) }
 {
     let mut has_default = false;
-    'entries: while cursor.position() < end {
-        let at = cursor.position();
-        let entry = Entry::read(cursor)?;
-        check_entry(alloc, &entry, at, has_default, expressions)?;
-        if entry.is_end() {
+    let mut ahead = cursor.copy();
+    'entries: while ahead.position() < end {
+        match check_common(alloc, &mut ahead, expressions) {
+            Some(ended) => {
+                if ended {
+                    *cursor = ahead;
+                    return Ok(());
+                }
+                continue 'entries;
+            }
+            None => {}
+        }
+        let mut aside = ahead.copy();
+        let passed = check_next(alloc, &mut aside, has_default, expressions)?;
+        ahead = aside;
+        if passed.ended {
+            *cursor = ahead;
             return Ok(());
         }
-        has_default = has_default || entry.is_default();
+        has_default = has_default || passed.default;
     }
     Err(Fault {
         kind: FaultKind::NoEnd,

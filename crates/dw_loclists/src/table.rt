@@ -15,7 +15,7 @@ ghost use Rattle.dw_loclists.specs.Views.{start_of};
 use crate::contents::{Contents, LocationList};
 use crate::find::find_list;
 use crate::list::read_list;
-use dw_bytes::{Body, Cursor, Fault, FaultKind, Format, OUT_OF_MEMORY, Target};
+use dw_bytes::{Body, Cursor, Fault, FaultKind, Format, Target};
 use std::alloc::Global;
 
 /// What is behind the length of a table, up to its array: how many offsets that has.
@@ -54,9 +54,7 @@ fn read_lists(
     'lists: while cursor.position() < end {
         let offset = cursor.position();
         read_list(alloc, cursor, end, &mut contents.expressions)?;
-        if contents.lists.push(LocationList::new(offset)).is_err() {
-            return Err(OUT_OF_MEMORY);
-        }
+        contents.lists.push(LocationList::new(offset))?;
     }
     Ok(())
 }
@@ -120,8 +118,6 @@ pub fn read_table(
     let first = contents.lists.len();
     read_lists(alloc, &mut cursor, body.end, contents)?;
     check_array(&mut array, body.format, count, &contents.lists[first..])?;
-    if contents.tables.push(at).is_err() {
-        return Err(OUT_OF_MEMORY);
-    }
+    contents.tables.push(at)?;
     Ok(body.end)
 }
