@@ -20,3 +20,4 @@ mod width;
 pub use context::{Context, Memory, Registers};
 pub use evaluation::evaluate;
 pub use location::{Evaluation, Location, Outcome, Piece, PieceSize};
+pub use width::Width;

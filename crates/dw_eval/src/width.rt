@@ -1,4 +1,4 @@
-//! Arithmetic on the entries of the stack.
+//! Arithmetic modulo 2^w, w being the size of an address in bits: on the entries of the stack, and on what registers and memory have.
 
 ghost use Rattle.std.specs.Prelude.{◌≡◌, ◌<◌, ◌+◌, ◌-◌, ◌*◌, ◌/◌, ◌%◌, ◌^◌, ◌==◌, pos, ◌+ℤ◌, ◌-ℤ◌, unsigned_abs, int_div, int_lt, int_le};
 ghost use Rattle.std.specs.Prelude.{bit_and, bit_or, bit_xor};
@@ -7,14 +7,20 @@ ghost use Rattle.dw_eval.specs.Numbers.{width_of, wrap, twos_complement, truth};
 
 use dw_bytes::AddressSize;
 
-/// How many bits an entry has: those of an address. Operands are entries, and results are taken modulo 2^w.
-#[derive(Clone, Copy)]
+/// The number of bits of an entry of the stack, w: those of an address (DWARF 5, section 2.5.1). Results are taken modulo 2^w.
+///
+/// ```rust
+/// let width = Width { size: AddressSize::Four };
+/// assert_eq!(rt; width.offset(0xffff_ffff, 2), 1);
+/// ```
+#[derive(Clone, Copy, Debug, PartialEq, Eq)]
 pub struct Width {
+    /// The size of an address.
     pub size: AddressSize,
 }
 
 impl Width {
-    /// The greatest entry.
+    /// The greatest entry, 2^w - 1.
     #[inline(always)]
     pub fn max(self) -> u64
         ensures { result + 1 ≡ 2 ^ width_of self.size }
@@ -35,7 +41,7 @@ impl Width {
 
     /// A number of one byte, which is below 2^w.
     #[inline(always)]
-    pub fn byte(self, n: u8) -> u64
+    pub(crate) fn byte(self, n: u8) -> u64
         ensures { result ≡ wrap (width_of self.size) (pos n) }
     {
         u64::from(n)
@@ -43,7 +49,7 @@ impl Width {
 
     /// The signed number modulo 2^w.
     #[inline(always)]
-    pub fn reduce_signed(self, z: i64) -> u64
+    pub(crate) fn reduce_signed(self, z: i64) -> u64
         ensures { result ≡ wrap (width_of self.size) z }
     {
         self.reduce(z.cast_unsigned())
@@ -67,7 +73,7 @@ impl Width {
         }
     }
 
-    /// The sum of a number and an offset.
+    /// The sum of a number and an offset, modulo 2^w.
     #[inline(always)]
     pub fn offset(self, n: u64, offset: i64) -> u64
         ensures { result ≡ wrap (width_of self.size) (pos n +ℤ offset) }
@@ -76,21 +82,21 @@ impl Width {
     }
 
     #[inline(always)]
-    pub fn plus(self, a: u64, b: u64) -> u64
+    pub(crate) fn plus(self, a: u64, b: u64) -> u64
         ensures { result ≡ wrap (width_of self.size) (pos (a + b)) }
     {
         self.reduce(a.wrapping_add(b))
     }
 
     #[inline(always)]
-    pub fn minus(self, a: u64, b: u64) -> u64
+    pub(crate) fn minus(self, a: u64, b: u64) -> u64
         ensures { result ≡ wrap (width_of self.size) (pos a -ℤ pos b) }
     {
         self.reduce(a.wrapping_sub(b))
     }
 
     #[inline(always)]
-    pub fn mul(self, a: u64, b: u64) -> u64
+    pub(crate) fn mul(self, a: u64, b: u64) -> u64
         ensures { result ≡ wrap (width_of self.size) (pos (a * b)) }
     {
         self.reduce(a.wrapping_mul(b))
@@ -98,7 +104,7 @@ impl Width {
 
     /// The quotient, signed and truncated.
     #[inline(always)]
-    pub fn div(self, a: u64, b: u64) -> u64
+    pub(crate) fn div(self, a: u64, b: u64) -> u64
         requires a { a < 2 ^ width_of self.size }
         requires b { b < 2 ^ width_of self.size }
         requires nonzero { 0 < b }
@@ -111,7 +117,7 @@ impl Width {
 
     /// The absolute value, signed. The most negative number keeps its value.
     #[inline(always)]
-    pub fn abs(self, b: u64) -> u64
+    pub(crate) fn abs(self, b: u64) -> u64
         requires { b < 2 ^ width_of self.size }
         ensures { result ≡ wrap (width_of self.size)
             (pos (unsigned_abs (twos_complement (width_of self.size) b))) }
@@ -120,7 +126,7 @@ impl Width {
     }
 
     #[inline(always)]
-    pub fn neg(self, b: u64) -> u64
+    pub(crate) fn neg(self, b: u64) -> u64
         ensures { result ≡ wrap (width_of self.size) (pos 0 -ℤ pos b) }
     {
         self.minus(0, b)
@@ -128,7 +134,7 @@ impl Width {
 
     /// All w bits inverted.
     #[inline(always)]
-    pub fn not(self, b: u64) -> u64
+    pub(crate) fn not(self, b: u64) -> u64
         requires { b < 2 ^ width_of self.size }
         ensures { result ≡ wrap (width_of self.size) (pos (2 ^ width_of self.size - 1 - b)) }
     {
@@ -136,7 +142,7 @@ impl Width {
     }
 
     #[inline(always)]
-    pub fn and(self, a: u64, b: u64) -> u64
+    pub(crate) fn and(self, a: u64, b: u64) -> u64
         requires a { a < 2 ^ width_of self.size }
         requires b { b < 2 ^ width_of self.size }
         ensures { result ≡ wrap (width_of self.size) (pos (bit_and a b)) }
@@ -145,7 +151,7 @@ impl Width {
     }
 
     #[inline(always)]
-    pub fn or(self, a: u64, b: u64) -> u64
+    pub(crate) fn or(self, a: u64, b: u64) -> u64
         requires a { a < 2 ^ width_of self.size }
         requires b { b < 2 ^ width_of self.size }
         ensures { result ≡ wrap (width_of self.size) (pos (bit_or a b)) }
@@ -154,7 +160,7 @@ impl Width {
     }
 
     #[inline(always)]
-    pub fn xor(self, a: u64, b: u64) -> u64
+    pub(crate) fn xor(self, a: u64, b: u64) -> u64
         requires a { a < 2 ^ width_of self.size }
         requires b { b < 2 ^ width_of self.size }
         ensures { result ≡ wrap (width_of self.size) (pos (bit_xor a b)) }
@@ -164,7 +170,7 @@ impl Width {
 
     /// The remainder, unsigned.
     #[inline(always)]
-    pub fn rem(self, a: u64, b: u64) -> u64
+    pub(crate) fn rem(self, a: u64, b: u64) -> u64
         requires a { a < 2 ^ width_of self.size }
         requires nonzero { 0 < b }
         ensures { result ≡ wrap (width_of self.size) (pos (a % b)) }
@@ -174,14 +180,14 @@ impl Width {
 
     /// 1 for true, 0 for false.
     #[inline(always)]
-    pub fn truth(self, holds: bool) -> u64
+    pub(crate) fn truth(self, holds: bool) -> u64
         ensures { result ≡ wrap (width_of self.size) (truth holds) }
     {
         u64::from(holds)
     }
 
     #[inline(always)]
-    pub fn shl(self, a: u64, b: u64) -> u64
+    pub(crate) fn shl(self, a: u64, b: u64) -> u64
         ensures { result ≡ wrap (width_of self.size) (pos (a * 2 ^ b)) }
     {
         if b < 64 { self.reduce(a << b) } else { 0 }
@@ -189,7 +195,7 @@ impl Width {
 
     /// Shifted right, zeros in.
     #[inline(always)]
-    pub fn shr(self, a: u64, b: u64) -> u64
+    pub(crate) fn shr(self, a: u64, b: u64) -> u64
         requires { a < 2 ^ width_of self.size }
         ensures { result ≡ wrap (width_of self.size) (pos (a / 2 ^ b)) }
     {
@@ -198,7 +204,7 @@ impl Width {
 
     /// Shifted right, the sign in.
     #[inline(always)]
-    pub fn shra(self, a: u64, b: u64) -> u64
+    pub(crate) fn shra(self, a: u64, b: u64) -> u64
         requires { a < 2 ^ width_of self.size }
         ensures { result ≡ wrap (width_of self.size)
             (int_shr (twos_complement (width_of self.size) a) b) }
@@ -208,7 +214,7 @@ impl Width {
 
     /// Whether `a` is below `b`, signed.
     #[inline(always)]
-    pub fn is_below(self, a: u64, b: u64) -> bool
+    pub(crate) fn is_below(self, a: u64, b: u64) -> bool
         requires a { a < 2 ^ width_of self.size }
         requires b { b < 2 ^ width_of self.size }
         ensures { result ≡ int_lt (twos_complement (width_of self.size) a)
@@ -219,7 +225,7 @@ impl Width {
 
     /// Whether `a` is at most `b`, signed.
     #[inline(always)]
-    pub fn is_at_most(self, a: u64, b: u64) -> bool
+    pub(crate) fn is_at_most(self, a: u64, b: u64) -> bool
         requires a { a < 2 ^ width_of self.size }
         requires b { b < 2 ^ width_of self.size }
         ensures { result ≡ int_le (twos_complement (width_of self.size) a)
