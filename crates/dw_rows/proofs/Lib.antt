@@ -39,3 +39,7 @@ mod JudgedInPlace
 mod Under
 mod AbiRules
 mod AbiFaults
+pub mod CompiledTables
+pub mod TableEntries
+pub mod RuleSets
+pub mod OwnedExpressions

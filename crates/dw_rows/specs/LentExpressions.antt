@@ -1,8 +1,11 @@
--- The expressions that the rows of a section lend.
-use Rattle.std.specs.Prelude.{List, ◌++◌}
-use Rattle.dw_stack.specs.Located.{LocatedExpression, all_located}
+-- The expressions that rows lend.
+use Rattle.std.specs.Prelude.{List}
+use Rattle.dw_stack.specs.Located.{LocatedExpression}
 use Rattle.dw_rows.specs.declared.expressions.LentExpressions.{LentExpressions}
+use Rattle.dw_rows.specs.declared.expressions.LentExpressions.TheVariants.{Borrowed, Owned}
+use Rattle.dw_rows.specs.BorrowedExpressions.{borrowed_by}
 
--- those of CIEs, and then those of FDEs
+-- those that a section keeps, or those that a table keeps
 abbrev pub lent_by : LentExpressions → List LocatedExpression
-lent_by x = all_located x.cies.now ++ all_located x.fdes.now
+lent_by (Borrowed x) = borrowed_by x
+lent_by (Owned x) = x.now

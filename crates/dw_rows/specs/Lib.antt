@@ -25,6 +25,8 @@ pub mod GivenRows
 pub mod GoodRows
 -- the one row of an address (6.4.1)
 pub mod ExactRows
+-- tables that keep rows by themselves
+pub mod UnwindTables
 -- ---- The first fault, as a function of the bytes. Laws tie it to what is to be believed.
 -- the first fault of a program
 pub mod Judgement
@@ -56,3 +58,8 @@ pub mod Initial
 pub mod RowCursors
 -- FDEs in order of offset and of address, their index, and what a checked section keeps
 pub mod Overlap
+-- all rows of a section in order of address
+pub mod CompiledTable
+-- expressions with bytes of their own, and those that a section keeps
+pub mod OwnedExpressions
+pub mod BorrowedExpressions

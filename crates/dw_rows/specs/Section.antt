@@ -142,3 +142,14 @@ covers a f = nat_le f.initial_location a && nat_lt a (f.initial_location + f.add
 -- that of the FDE that covers it, if one does
 abbrev pub row_of : FrameSection → ℕ → Option Row
 row_of s a = option_and_then (λ f. find (has_address a) (rows_in s f)) (find (covers a) s.fdes)
+
+-- ---- the return address
+
+-- the register that the CIE of the FDE that covers an address names for where the caller goes on
+abbrev pub IsReturnRegister : FrameSection → ℕ → ℕ → Type 0
+IsReturnRegister s a r = (fde : Fde) × (cie : Cie) × IsCoverOf s.fdes a (Some fde) × (cie_in s fde ≡ Some cie)
+    × (cie.return_address_register ≡ r)
+
+-- all CIEs name this one
+abbrev pub AllReturnIn : List Cie → ℕ → Type 0
+AllReturnIn cies r = (c : Cie) → Contains cies c → c.return_address_register ≡ r

@@ -1,75 +1,40 @@
-//! The checked expressions of a section, as its rows lend them.
+//! Checked expressions, as rows lend them.
 
-ghost use Rattle.std.specs.Prelude.{◌≡◌, None, Some, MatchOption};
-ghost use Rattle.dw_stack.specs.Located.{located_of, all_located};
+ghost use Rattle.std.specs.Prelude.{◌≡◌, [], None, Some, MatchOption};
+ghost use Rattle.dw_stack.specs.Located.{located_of};
 ghost use Rattle.dw_rows.specs.Expressions.{expression_at};
-ghost use Rattle.dw_rows.specs.ExpressionOrder.{AreInOrder, in_order_prop};
 
+use crate::borrowed_expressions::BorrowedExpressions;
+use crate::owned_expressions::OwnedExpressions;
 use dw_stack::CheckedExpression;
 
-/// The checked expressions of a section's CIEs and of its FDEs (DWARF 5, sections 6.4.2.2 and 6.4.2.3), each with the offset of
-/// its first byte in the section, and both parts in order of these offsets. It keeps no memory: the expressions are lent.
+/// The checked expressions that rows lend: those that a section keeps, or those that a table keeps with their bytes.
 #[derive(Clone, Copy, Debug)]
-pub struct LentExpressions<'f, 'a> {
-    cies: &'f [(u32, CheckedExpression<'a>)],
-    fdes: &'f [(u32, CheckedExpression<'a>)],
-    pub ghost cies_in_order: { AreInOrder cies.now } by { in_order_prop cies.now },
-    pub ghost fdes_in_order: { AreInOrder fdes.now } by { in_order_prop fdes.now },
+pub enum LentExpressions<'f, 'a> {
+    Borrowed(BorrowedExpressions<'f, 'a>),
+    Owned(&'a OwnedExpressions),
 }
 
 impl<'f, 'a> LentExpressions<'f, 'a> {
-    ghost use Rattle.std.specs.Prelude.{[], ◌++◌};
     ghost use Rattle.dw_rows.specs.LentExpressions.{lent_by};
 
     /// Those of a section that has none.
     pub(crate) fn empty() -> Self
         ensures { lent_by result ≡ [] }
     {
-        LentExpressions {
-            cies: &[],
-            fdes: &[],
-        }
+        LentExpressions::Borrowed(BorrowedExpressions::empty())
     }
 
-    /// Those of CIEs and those of FDEs, each in order of offset.
-    pub(crate) fn new(
-        cies: &'f [(u32, CheckedExpression<'a>)],
-        fdes: &'f [(u32, CheckedExpression<'a>)],
-    ) -> Self
-        requires cies { AreInOrder cies.now }
-        requires fdes { AreInOrder fdes.now }
-        ensures { lent_by result ≡ all_located cies.now ++ all_located fdes.now }
-    {
-        LentExpressions { cies, fdes }
-    }
-
-    /// The expression whose first byte stands at an offset of the section, by halving: those of CIEs, which are few, come first.
+    /// The expression whose first byte stands at an offset of the section.
     pub(crate) fn at(&self, offset: u32) -> Option<CheckedExpression<'a>>
         ensures { MatchOption result
             (expression_at (lent_by self.now) offset ≡ None)
             (λ checked. expression_at (lent_by self.now) offset ≡ Some
             (located_of (offset, checked))) }
     {
-        if let Some(checked) = find_lent(self.cies, offset) {
-            return Some(checked);
+        match self {
+            LentExpressions::Borrowed(borrowed) => borrowed.at(offset),
+            LentExpressions::Owned(owned) => owned.at(offset),
         }
-        find_lent(self.fdes, offset)
-    }
-}
-
-/// The expression at an offset, by halving.
-fn find_lent<'a>(
-    expressions: &[(u32, CheckedExpression<'a>)],
-    offset: u32,
-) -> Option<CheckedExpression<'a>>
-    requires { AreInOrder expressions.now }
-    ensures { MatchOption result
-        (expression_at (all_located expressions.now) offset ≡ None)
-        (λ checked. expression_at (all_located expressions.now) offset ≡ Some
-        (located_of (offset, checked))) }
-{
-    match expressions.binary_search_by_key(&offset, |expression| expression.0) {
-        Ok(place) => Some(expressions[place].1),
-        Err(_) => None,
     }
 }

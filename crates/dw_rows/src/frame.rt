@@ -1,6 +1,6 @@
 //! A checked section.
 
-ghost use Rattle.std.specs.Prelude.{◌≡◌, ◌+◌, ◌<◌, ◌≤◌, ◌^◌, None, Some, Contains, length, map, option_map, IfOk, IfErr, IfSome, IfNone};
+ghost use Rattle.std.specs.Prelude.{◌≡◌, ◌+◌, ◌*◌, ◌<◌, ◌≤◌, ◌^◌, None, Some, Contains, length, map, option_map, IfOk, IfErr, IfSome, IfNone};
 ghost use Rattle.std.specs.Prelude.{find};
 ghost use Rattle.dw_rows.specs.UnwindRows.{has_address};
 ghost use Rattle.dw_frame.specs.Records.{Cie, Fde};
@@ -16,17 +16,22 @@ ghost use Rattle.dw_rows.specs.ProgramState.{IsLeftBy};
 ghost use Rattle.dw_rows.specs.Initial.{AreLeftBy};
 ghost use Rattle.dw_stack.specs.Located.{all_located};
 ghost use Rattle.dw_rows.specs.Expressions.{cie_expressions, frame_expressions};
+ghost use Rattle.dw_rows.specs.BorrowedExpressions.{borrowed_by};
 ghost use Rattle.dw_rows.specs.LentExpressions.{lent_by};
+ghost use Rattle.dw_rows.specs.UnwindTables.{IsTableOf};
 ghost use Rattle.dw_rows.specs.RowCursors.{Lends};
 
+use crate::borrowed_expressions::BorrowedExpressions;
 use crate::expressions::LentExpressions;
 use crate::index::{IndexEntry, covering, first_overlap, index_of};
 use crate::initial_rules::InitialRules;
 use crate::judged::JudgedExpressions;
 use crate::lookup::write_row_at;
+use crate::room::Unmade;
 use crate::row::UnwindTableRow;
 use crate::row_iter::Rows;
 use crate::section::{begin_with_rules_of_cie, check_cies, check_fdes, check_pointers, find_cie};
+use crate::table::UnwindTable;
 use crate::unwind_context::UnwindContext;
 use crate::unwind_state::UnwindState;
 use dw_bytes::{Fault, FaultKind, OUT_OF_MEMORY, Target};
@@ -119,21 +124,11 @@ fn records_of<'a>(
         (frame_of target section.now).fdes) }
 {
     let mut cies = Vec::new(alloc);
-    let Ok(mut fdes) = Vec::with_capacity(alloc, section.len() / USUAL_FDE) else {
-        return Err(OUT_OF_MEMORY);
-    };
+    let mut fdes = Vec::with_capacity(alloc, section.len() / USUAL_FDE)?;
     for entry in entries(section, target) {
         match entry? {
-            Entry::Cie(cie) => {
-                if cies.push(cie).is_err() {
-                    return Err(OUT_OF_MEMORY);
-                }
-            }
-            Entry::Fde(fde) => {
-                if fdes.push(fde).is_err() {
-                    return Err(OUT_OF_MEMORY);
-                }
-            }
+            Entry::Cie(cie) => cies.push(cie)?,
+            Entry::Fde(fde) => fdes.push(fde)?,
         }
     }
     Ok((cies, fdes))
@@ -211,10 +206,7 @@ fn check_parts<'a>(
     ensures index { IfOk result (λ parts. IsAddressIndex (map fde_of fdes.now) parts.1.items) }
 {
     let programs = check_programs(alloc, cies, fdes)?;
-    let index = match index_of(alloc, fdes) {
-        Ok(index) => index,
-        Err(_) => return Err(OUT_OF_MEMORY),
-    };
+    let index = index_of(alloc, fdes)?;
     check_overlap(fdes, &index)?;
     Ok((programs, index))
 }
@@ -333,12 +325,45 @@ impl<'a> CheckedFrame<'a> {
         }
     }
 
+    /// The FDEs that cover an address, in order of address.
+    pub(crate) fn index(&self) -> &[IndexEntry]
+        ensures index { IsAddressIndex self.now.fdes result.now }
+        ensures checked { IsChecked self.now }
+    {
+        self.index.as_slice()
+    }
+
+    /// A table of the rows of all FDEs, for look-ups by the million. It borrows nothing, so the section may go.
+    ///
+    /// `room` is the number of bytes that its rows and their rules may take: a section of N bytes may have rows that take 700 times
+    /// N. `Ok(None)` says that they take more, and nothing is kept. The one fault is `Memory`, at 0. It runs each program once, and
+    /// takes n log n for n rows at most.
+    pub fn compile(&self, alloc: Global, room: usize) -> Result<Option<UnwindTable>, Fault>
+        ensures table { IfOk result (λ made. IfSome made (IsTableOf self.now)) }
+        ensures room { IfOk result
+            (λ made. IfSome made (λ table. 16 * length table.rows ≤ room)) }
+        ensures memory { IfErr result (λ fault. fault ≡ OUT_OF_MEMORY) }
+    {
+        match UnwindTable::of(self, alloc, room) {
+            Ok(table) => Ok(Some(table)),
+            Err(Unmade::Room) => Ok(None),
+            Err(Unmade::Memory) => Err(OUT_OF_MEMORY),
+        }
+    }
+
+    /// The expressions, as they are kept.
+    pub(crate) fn borrowed(&self) -> BorrowedExpressions<'_, 'a>
+        ensures { borrowed_by result ≡ self.now.expressions }
+    {
+        let (cies, fdes) = self.expressions.split_at(self.in_cies);
+        BorrowedExpressions::new(cies, fdes)
+    }
+
     /// The expressions, as rows lend them.
     pub(crate) fn lent(&self) -> LentExpressions<'_, 'a>
         ensures { lent_by result ≡ self.now.expressions }
     {
-        let (cies, fdes) = self.expressions.split_at(self.in_cies);
-        LentExpressions::new(cies, fdes)
+        LentExpressions::Borrowed(self.borrowed())
     }
 
     /// The rows of one of the FDEs, in the order of their addresses. Each call runs the FDE's program again as the rows are

@@ -1,9 +1,13 @@
 //! What the initial instructions of CIEs leave.
 
-ghost use Rattle.std.specs.Prelude.{◌≡◌, ◌<◌, [], ◌∷◌, ◌++◌, length, Some, slice_get, MatchResult};
+ghost use Rattle.std.specs.Prelude.{◌≡◌, ◌<◌, ◌≤◌, [], ◌∷◌, ◌++◌, length, Some, slice_get, MatchResult};
+ghost use Rattle.std.specs.Bool.{OnTrue};
+ghost use Rattle.std.specs.Option.{option_map};
+ghost use Rattle.dw_rows.specs.Rules.{IsTable};
+ghost use Rattle.dw_rows.specs.Views.{kept_cfa_of, entries_of};
 
 use crate::kept_rule::KeptCfa;
-use crate::map::RuleEntry;
+use crate::map::{MAX_RULES, RuleEntry, RuleKind};
 use crate::rule_set::RuleSet;
 use std::alloc::{AllocError, Global};
 use std::marker::Model;
@@ -67,6 +71,17 @@ impl InitialRules {
         Ok(())
     }
 
+    /// The same in memory of their size.
+    pub fn cut(&mut self, alloc: Global) -> Result<(), AllocError>
+        ensures { self.new ≡ self.old }
+    {
+        let entries = Vec::from_slice(alloc, self.entries.as_slice())?;
+        let spans = Vec::from_slice(alloc, self.spans.as_slice())?;
+        self.entries = entries;
+        self.spans = spans;
+        Ok(())
+    }
+
     /// Gives back the rules that the CIE at a place leaves. Its cost is that of the rules that there are.
     pub fn copy_to(&self, place: usize, rules: &mut RuleSet)
         requires { place < length self.now }
@@ -75,4 +90,89 @@ impl InitialRules {
         let span = self.spans[place];
         rules.assign(span.cfa, &self.entries[span.start..span.end]);
     }
+
+    /// How many there are.
+    pub fn count(&self) -> usize
+        ensures { result ≡ length self.now }
+    {
+        self.spans.len()
+    }
+
+    /// Lends the rules at a place: that of the CFA, and the entries of the others.
+    #[inline(always)]
+    pub fn lend(&self, place: usize) -> (Option<KeptCfa>, &[RuleEntry])
+        requires { place < length self.now }
+        ensures rules { slice_get self.now place ≡ Some (record {
+          cfa = option_map kept_cfa_of result.0;
+          rules = entries_of (result.1).now;
+        }) }
+        ensures few { length (result.1).now ≤ MAX_RULES }
+        ensures table { IsTable 0 (entries_of (result.1).now) }
+    {
+        let span = self.spans[place];
+        (span.cfa, &self.entries[span.start..span.end])
+    }
+
+    /// Whether the rules at a place are these.
+    pub fn are_at(&self, place: usize, rules: &RuleSet) -> bool
+        requires { place < length self.now }
+        ensures { OnTrue result (slice_get self.now place ≡ Some rules.now) }
+    {
+        let (cfa, entries) = self.lend(place);
+        same_cfa(cfa, rules.cfa()) && same_entries(entries, rules.register_rules().as_slice())
+    }
+}
+
+/// Whether both are the same rule of the CFA.
+fn same_cfa(one: Option<KeptCfa>, other: Option<KeptCfa>) -> bool
+    ensures { OnTrue result (one ≡ other) }
+{
+    match one {
+        None => other.is_none(),
+        Some(KeptCfa::RegisterAndOffset { register, offset }) => match other {
+            Some(
+                KeptCfa::RegisterAndOffset {
+                    register: other_register,
+                    offset: other_offset,
+                },
+            ) => register == other_register && offset == other_offset,
+            _ => false,
+        },
+        Some(KeptCfa::Expression(at)) => match other {
+            Some(KeptCfa::Expression(other_at)) => at == other_at,
+            _ => false,
+        },
+    }
+}
+
+fn same_kind(one: RuleKind, other: RuleKind) -> bool
+    ensures { OnTrue result (one ≡ other) }
+{
+    one == other
+}
+
+/// Whether both are the same entry.
+#[inline(always)]
+fn same_entry(one: &RuleEntry, other: &RuleEntry) -> bool
+    ensures { OnTrue result (one.now ≡ other.now) }
+{
+    same_kind(one.kind, other.kind)
+        && one.register == other.register
+        && one.offset == other.offset
+        && one.number == other.number
+}
+
+/// Whether both are the same entries.
+fn same_entries(entries: &[RuleEntry], others: &[RuleEntry]) -> bool
+    ensures { OnTrue result (entries.now ≡ others.now) }
+{
+    if entries.len() != others.len() {
+        return false;
+    }
+    for place in 0..entries.len() {
+        if !same_entry(&entries[place], &others[place]) {
+            return false;
+        }
+    }
+    true
 }

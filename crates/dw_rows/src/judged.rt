@@ -88,9 +88,7 @@ impl<'a> JudgedExpressions<'a> {
     {
         match check_expression(self.alloc, found.expression, kind) {
             Ok(checked) => {
-                if self.kept.push((found.offset, checked)).is_err() {
-                    return Err(OUT_OF_MEMORY);
-                }
+                self.kept.push((found.offset, checked))?;
                 Ok(())
             }
             Err(fault) if fault.kind == FaultKind::Memory => Err(OUT_OF_MEMORY),

@@ -2,7 +2,10 @@
 //! its contract.
 
 ghost use Rattle.std.specs.Prelude.{◌≡◌, ◌⊎◌, false, ℕ, ◌+◌, ◌<◌, ◌≤◌, ◌↔◌, List, length, Option, Some, None, slice_get, filter, [], ◌∷◌};
-ghost use Rattle.std.specs.Prelude.{Err, All, Contains, ◌++◌};
+ghost use Rattle.std.specs.Prelude.{Err, All, Contains, IfSome, map, ◌++◌};
+ghost use Rattle.dw_rows.specs.GivenRows.{given_row};
+ghost use Rattle.dw_frame.specs.Sections.{top_of};
+ghost use Rattle.dw_rows.specs.UnwindTables.{IsTableOf, RowTable, row_at};
 ghost use Rattle.dw_frame.specs.Records.{Cie, Fde};
 ghost use Rattle.std.specs.Option.{option_to_list};
 ghost use Rattle.dw_bytes.specs.declared.fault.FaultKind.TheVariants.{AbiTwice};
@@ -77,6 +80,8 @@ pub fn rows_cover()
     ensures one { (cie : Cie) (fde : Fde) (address : ℕ) → fde_fault cie fde ≡ None
         → fde.initial_location ≤ address → address < fde.initial_location + fde.address_range
         → (row : PlacedRow) × (filter (has_address address) (rows_of cie fde) ≡ row ∷ []) }
+    ensures given { (es : List LocatedExpression) (from : ℕ) (rows : List PlacedRow) (to : ℕ)
+        → Cover from rows to → Cover from (map (given_row es) rows) to }
 {}
 
 /// A list of rules by ascending registers and the function that it stands for say the same.
@@ -151,6 +156,15 @@ pub fn rows_have_good_expressions()
         → Contains (rows_in s f) row → HasGoodExpressions s.expressions row }
     ensures addresses { (s : FrameSection) (a : ℕ) → IsChecked s → (row : Row)
         → row_of s a ≡ Some row → HasGoodExpressions s.expressions row }
+{}
+
+/// A table of a section that is accepted has rows with addresses of the section's target, and two such tables find the same.
+pub fn tables_of_sections()
+    ensures fit { (s : FrameSection) (t : RowTable) → IsChecked s → IsTableOf s t → (a : ℕ)
+        → IfSome (row_at t a) (λ found. ((found.0).start ≤ top_of s.target)
+        × ((found.0).end ≤ top_of s.target)) }
+    ensures same { (s : FrameSection) (t u : RowTable) → IsTableOf s t → IsTableOf s u → (a : ℕ)
+        → row_at t a ≡ row_at u a }
 {}
 
 /// Each restore_state has at most one match, and so has each remember_state.

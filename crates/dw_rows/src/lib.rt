@@ -2,6 +2,7 @@
 #![tactic(auto)]
 
 mod abi;
+mod borrowed_expressions;
 mod check;
 mod effect;
 mod expressions;
@@ -13,13 +14,24 @@ mod kept_rule;
 pub mod laws;
 mod lookup;
 mod map;
+mod owned_expressions;
+mod placed_table;
 mod remember_stack;
+mod room;
 mod row;
 mod row_cursor;
 mod row_iter;
+mod rule_numbers;
 mod rule_set;
+mod rule_sets;
 mod section;
+mod set_numbers;
+mod starts;
+mod table;
+mod table_entries;
 mod unwind_context;
+mod unwind_row;
+mod unwind_rows;
 mod unwind_state;
 
 pub use abi::{Abi, MAX_KEPT};
@@ -29,3 +41,6 @@ pub use map::MAX_RULES;
 pub use remember_stack::MAX_REMEMBERED;
 pub use row::{CfaRule, RegisterRule, RegisterRules, UnwindTableRow};
 pub use row_iter::Rows;
+pub use table::UnwindTable;
+pub use unwind_row::UnwindRow;
+pub use unwind_rows::UnwindRows;

@@ -7,7 +7,7 @@ ghost use Rattle.dw_rows.specs.Judgement.{fde_fault};
 ghost use Rattle.dw_rows.specs.UnwindRows.{rows_of, has_address};
 ghost use Rattle.dw_rows.specs.ProgramState.{IsLeftBy};
 ghost use Rattle.dw_rows.specs.RuleSet.{KeptRules};
-ghost use Rattle.dw_rows.specs.RowCursors.{above, Seeks, GoesBehind, Lends};
+ghost use Rattle.dw_rows.specs.RowCursors.{cursor_at, above, Seeks, GoesBehind, Lends};
 ghost use Rattle.dw_rows.specs.GivenRows.{given_row};
 ghost use Rattle.dw_rows.specs.LentExpressions.{lent_by};
 
@@ -82,28 +82,13 @@ fn write_row_in_bracket<'f, 'a>(
     requires high { address < fde.now.initial_location + fde.now.address_range }
     requires seeks { (ks : List KeptRules) × Seeks (cie_of cie.now) (fde_of fde.now) address
         (above (state.old.current ∷ ks)
-        (record {
-          cie = cie_of cie.now;
-          end = fde.now.initial_location + fde.now.address_range;
-          context = state.old;
-          instructions = instructions.old;
-        })) }
+        (cursor_at (cie_of cie.now) (fde.now.initial_location + fde.now.address_range) state.old instructions.old)) }
     ensures found { OnTrue result (find (has_address address)
         (map (given_row (lent_by expressions.entry)) (rows_of (cie_of cie.now) (fde_of fde.now)))
         ≡ Some row.new) }
     ensures behind { OnFalse result (GoesBehind (cie_of cie.now) (fde_of fde.now) address
-        (record {
-          cie = cie_of cie.now;
-          end = fde.now.initial_location + fde.now.address_range;
-          context = state.old;
-          instructions = instructions.old;
-        })
-        (record {
-          cie = cie_of cie.now;
-          end = fde.now.initial_location + fde.now.address_range;
-          context = state.new;
-          instructions = instructions.new;
-        })) }
+        (cursor_at (cie_of cie.now) (fde.now.initial_location + fde.now.address_range) state.old instructions.old)
+        (cursor_at (cie_of cie.now) (fde.now.initial_location + fde.now.address_range) state.new instructions.new)) }
 {
     let limit = fde.initial_location + fde.address_range;
     let rules = state.rules().copy();

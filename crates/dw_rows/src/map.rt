@@ -17,7 +17,7 @@ use std::marker::Model;
 pub const MAX_RULES: usize = 128;
 
 /// What kind of rule a register has.
-#[derive(Clone, Copy, Debug)]
+#[derive(Clone, Copy, Debug, PartialEq)]
 pub enum RuleKind {
     Default,
     Undefined,
@@ -192,7 +192,7 @@ impl RegisterRuleMap {
 
 /// The rule of a register.
 #[inline(always)]
-fn rule_of_register(entries: &[RuleEntry], register: u16) -> KeptRule
+pub fn rule_of_register(entries: &[RuleEntry], register: u16) -> KeptRule
     ensures { kept_rule_of result ≡ rule_in (entries_of entries.now) register }
 {
     for entry in entries {

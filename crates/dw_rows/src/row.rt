@@ -16,6 +16,7 @@ use crate::abi::Abi;
 use crate::expressions::LentExpressions;
 use crate::kept_rule::{KeptCfa, KeptRule};
 use crate::map::{MAX_RULES, RegisterRuleMap, RuleEntry, rule_of_entry};
+use crate::unwind_row::UnwindRow;
 use dw_stack::CheckedExpression;
 use std::cmp::Ordering;
 use std::iter::FusedIterator;
@@ -71,7 +72,10 @@ pub enum CfaRule<'a> {
 }
 
 /// The rule of a register, with the expression that it names.
-fn given_rule<'a>(rule: KeptRule, expressions: &LentExpressions<'_, 'a>) -> RegisterRule<'a>
+pub(crate) fn given_rule<'a>(
+    rule: KeptRule,
+    expressions: &LentExpressions<'_, 'a>,
+) -> RegisterRule<'a>
     requires { LendsRule (lent_by expressions.now) (kept_rule_of rule) }
     ensures { rule_of result ≡ given_rule (lent_by expressions.now) (kept_rule_of rule) }
 {
@@ -94,7 +98,7 @@ fn given_rule<'a>(rule: KeptRule, expressions: &LentExpressions<'_, 'a>) -> Regi
 }
 
 /// The rule of the CFA, likewise.
-fn given_cfa<'a>(cfa: KeptCfa, expressions: &LentExpressions<'_, 'a>) -> CfaRule<'a>
+pub(crate) fn given_cfa<'a>(cfa: KeptCfa, expressions: &LentExpressions<'_, 'a>) -> CfaRule<'a>
     requires { LendsCfa (lent_by expressions.now) (kept_cfa_of cfa) }
     ensures { cfa_rule_of result ≡ given_cfa (lent_by expressions.now) (kept_cfa_of cfa) }
 {
@@ -200,6 +204,21 @@ impl<'f, 'a> UnwindTableRow<'f, 'a> {
         self.expressions = expressions;
     }
 
+    /// The same row, lent.
+    #[inline(always)]
+    pub fn lend(&self) -> UnwindRow<'_, 'a>
+        ensures { result ≡ self.now }
+    {
+        let row = self;
+        UnwindRow::new(
+            row.start,
+            row.end,
+            row.cfa,
+            row.rules.as_slice(),
+            row.expressions,
+        )
+    }
+
     /// The first address that it covers.
     pub fn start_address(&self) -> u64
         ensures { result ≡ self.now.start }
@@ -280,9 +299,9 @@ impl<'f, 'a> UnwindTableRow<'f, 'a> {
 /// Rules that are still to come, each with its register: those of entries, and of others for registers that have none there.
 #[derive(Debug, Drop)]
 pub struct RegisterRules<'f, 'a> {
-    entries: &'f [RuleEntry],
-    others: &'f [RuleEntry],
-    expressions: LentExpressions<'f, 'a>,
+    pub(crate) entries: &'f [RuleEntry],
+    pub(crate) others: &'f [RuleEntry],
+    pub(crate) expressions: LentExpressions<'f, 'a>,
 }
 
 impl<'f, 'a> Model for RegisterRules<'f, 'a> {

@@ -37,18 +37,13 @@ impl<'f, 'a> Model for Rows<'f, 'a> {
     ghost use Rattle.dw_rows.specs.UnwindRows.{rows_of};
     ghost use Rattle.dw_rows.specs.GivenRows.{given_row};
     ghost use Rattle.dw_rows.specs.LentExpressions.{lent_by};
-    ghost use Rattle.dw_rows.specs.RowCursors.{IsReady, Lends};
+    ghost use Rattle.dw_rows.specs.RowCursors.{cursor_at, IsReady, Lends};
 
     ghost view = { λ r. map (given_row (lent_by r.expressions))
         (drop r.given (rows_of (cie_of r.cie) (fde_of r.fde))) };
 
     ghost invariant = { λ r. IsReady (cie_of r.cie) (fde_of r.fde)
-        (record {
-          cie = cie_of r.cie;
-          end = r.fde.initial_location + r.fde.address_range;
-          context = r.context;
-          instructions = r.instructions;
-        }) r.given × Lends (lent_by r.expressions) (cie_of r.cie) (fde_of r.fde) };
+        (cursor_at (cie_of r.cie) (r.fde.initial_location + r.fde.address_range) r.context r.instructions) r.given × Lends (lent_by r.expressions) (cie_of r.cie) (fde_of r.fde) };
 }
 
 impl<'f, 'a> Rows<'f, 'a> {

@@ -1,6 +1,6 @@
 //! The judgement of a section's records, part by part.
 
-ghost use Rattle.std.specs.Prelude.{◌≡◌, ◌<◌, ◌++◌, None, option_map, map, length, slice_get, MatchOption, IfSome, IfOk, OnOk};
+ghost use Rattle.std.specs.Prelude.{◌≡◌, ◌<◌, ◌++◌, None, Some, option_map, map, length, slice_get, MatchOption, IfSome, IfOk, OnOk};
 ghost use Rattle.dw_bytes.specs.Answers.{Judges, Answers};
 ghost use Rattle.dw_frame.specs.Views.{cie_of, fde_of};
 ghost use Rattle.dw_rows.specs.Expressions.{cie_expressions, fde_expressions};
@@ -16,7 +16,7 @@ use crate::initial_rules::InitialRules;
 use crate::judged::JudgedExpressions;
 use crate::unwind_context::UnwindContext;
 use crate::unwind_state::UnwindState;
-use dw_bytes::{Fault, FaultKind, OUT_OF_MEMORY};
+use dw_bytes::{Fault, FaultKind};
 use dw_frame::{CommonInformationEntry, FrameDescriptionEntry};
 use std::alloc::Global;
 
@@ -32,6 +32,24 @@ fn place_of_cie(cies: &[CommonInformationEntry<'_>], offset: u64) -> Option<usiz
         Ok(place) => Some(place),
         Err(_) => None,
     }
+}
+
+/// The same. Most FDEs come behind their CIE, so a place and the next one are tried before halving.
+#[inline(always)]
+fn place_near(cies: &[CommonInformationEntry<'_>], near: usize, offset: u64) -> Option<usize>
+    requires { Ascends cie_offset (map cie_of cies.now) }
+    ensures { MatchOption result
+        (cie_at (map cie_of cies.now) offset ≡ None)
+        (λ place. (place < length cies.now)
+        × (cie_at (map cie_of cies.now) offset ≡ slice_get (map cie_of cies.now) place)) }
+{
+    if near < cies.len() && u64::from(cies[near].offset) == offset {
+        return Some(near);
+    }
+    if cies.len() > 1 && near < cies.len() - 1 && u64::from(cies[near + 1].offset) == offset {
+        return Some(near + 1);
+    }
+    place_of_cie(cies, offset)
 }
 
 /// The CIE that begins at an offset.
@@ -63,6 +81,49 @@ pub fn begin_with_rules_of_cie<'a>(
     Some(cies[place])
 }
 
+/// A CIE that was found: the offset that it was asked for by, and its place.
+#[derive(Clone, Copy)]
+struct FoundCie<'a> {
+    offset: u64,
+    place: usize,
+    cie: CommonInformationEntry<'a>,
+}
+
+/// As `begin_with_rules_of_cie`, behind the CIE that was found last: where it is that one, its rules are still kept at the state, and
+/// where it is the next one, nothing is looked for.
+#[inline(always)]
+fn begin_with_rules_again<'a>(
+    state: &mut UnwindState,
+    cies: &[CommonInformationEntry<'a>],
+    initial: &InitialRules,
+    last: Option<FoundCie<'a>>,
+    offset: u64,
+) -> Option<FoundCie<'a>>
+    requires order { Ascends cie_offset (map cie_of cies.now) }
+    requires left { AreLeftBy (map cie_of cies.now) initial.now }
+    requires last { IfSome last (λ found. (cie_at (map cie_of cies.now) found.offset
+        ≡ Some (cie_of found.cie)) × IsLeftBy (cie_of found.cie) state.old.initial_rules) }
+    ensures cie { option_map (λ found. cie_of found.cie) result
+        ≡ cie_at (map cie_of cies.now) offset }
+    ensures asked { IfSome result (λ found. found.offset ≡ offset) }
+    ensures first { IfSome result
+        (λ found. IsLeftBy (cie_of found.cie) state.new.initial_rules) }
+{
+    let near = match last {
+        Some(found) => {
+            if found.offset == offset {
+                return last;
+            }
+            found.place
+        }
+        None => 0,
+    };
+    let place = place_near(cies, near, offset)?;
+    state.set_initial_rules(initial, place);
+    let cie = cies[place];
+    Some(FoundCie { offset, place, cie })
+}
+
 /// Each CIE_pointer has to be the offset of a CIE: n log n for n records.
 pub fn check_pointers(
     cies: &[CommonInformationEntry<'_>],
@@ -72,12 +133,16 @@ pub fn check_pointers(
     ensures { Judges (first_fault (pointer_fault (map cie_of cies.now))
         (map fde_of fdes.now)) result }
 {
+    let mut near = 0;
     for fde in fdes {
-        if find_cie(cies, fde.cie_pointer).is_none() {
-            return Err(Fault {
-                kind: FaultKind::NoSuchCie,
-                at: fde.cie_pointer_offset,
-            });
+        match place_near(cies, near, fde.cie_pointer) {
+            Some(place) => near = place,
+            None => {
+                return Err(Fault {
+                    kind: FaultKind::NoSuchCie,
+                    at: fde.cie_pointer_offset,
+                });
+            }
         }
     }
     Ok(())
@@ -97,9 +162,7 @@ pub fn check_cies<'a>(
     let mut left = InitialRules::new(alloc);
     for cie in cies {
         judge_cie(state, judged, cie)?;
-        if left.push(state.initial_rules()).is_err() {
-            return Err(OUT_OF_MEMORY);
-        }
+        left.push(state.initial_rules())?;
     }
     Ok(left)
 }
@@ -120,9 +183,14 @@ pub fn check_fdes<'a>(
         (map fde_of fdes.now)) result }
     ensures kept { OnOk result (judged.new ≡ judged.old ++ fde_expressions (map fde_of fdes.now)) }
 {
+    let mut last = None;
     for fde in fdes {
-        match begin_with_rules_of_cie(&mut context.state, cies, initial, fde.cie_pointer) {
-            Some(cie) => judge_fde(context, judged, &cie, fde)?,
+        let offset = fde.cie_pointer;
+        match begin_with_rules_again(&mut context.state, cies, initial, last, offset) {
+            Some(found) => {
+                judge_fde(context, judged, &found.cie, fde)?;
+                last = Some(found);
+            }
             None => unreachable!(),
         }
     }

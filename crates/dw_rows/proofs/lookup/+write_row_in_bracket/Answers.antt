@@ -3,7 +3,7 @@ use Rattle.std.specs.Prelude.{find}
 use Rattle.dw_frame.specs.Views.{cie_of, fde_of}
 use Rattle.dw_rows.specs.UnwindRows.{rows_of, has_address}
 use Rattle.dw_rows.specs.RuleSet.{KeptRules}
-use Rattle.dw_rows.specs.RowCursors.{RowCursor, above}
+use Rattle.dw_rows.specs.RowCursors.{cursor_at, RowCursor, above}
 use Rattle.dw_rows.specs.LentExpressions.{lent_by}
 use Rattle.dw_rows.proofs.GivenRows.{find-with}
 use Rattle.dw_rows.proofs.Covering.{not-missed}
@@ -20,18 +20,8 @@ pub write_row-requires-clause-cfa : goal.write_row-requires-clause-cfa
 write_row-requires-clause-cfa t c =
     let cie = cie_of c.args.cie.now in
     let fde = fde_of c.args.fde.now in
-    let w : RowCursor = record {
-      cie = cie;
-      end = fde.initial_location + fde.address_range;
-      context = c.loop-start.state;
-      instructions = c.loop-start.instructions;
-    } in
-    let new : RowCursor = record {
-      cie = cie;
-      end = fde.initial_location + fde.address_range;
-      context = c.next_plain.new.state;
-      instructions = c.next_plain.new.instructions;
-    } in
+    let w : RowCursor = cursor_at cie (fde.initial_location + fde.address_range) c.loop-start.state c.loop-start.instructions in
+    let new : RowCursor = cursor_at cie (fde.initial_location + fde.address_range) c.next_plain.new.state c.next_plain.new.instructions in
     let rules = c.copy-rules.result in
     let ks : List KeptRules = rules ∷ c.requires.seeks.0 in
     let h = c.loop-start.invariant.seeks c.requires.seeks.0 c.requires.seeks.1 in
@@ -42,18 +32,8 @@ pub write_row-requires-clause-lent : goal.write_row-requires-clause-lent
 write_row-requires-clause-lent t c =
     let cie = cie_of c.args.cie.now in
     let fde = fde_of c.args.fde.now in
-    let w : RowCursor = record {
-      cie = cie;
-      end = fde.initial_location + fde.address_range;
-      context = c.loop-start.state;
-      instructions = c.loop-start.instructions;
-    } in
-    let new : RowCursor = record {
-      cie = cie;
-      end = fde.initial_location + fde.address_range;
-      context = c.next_plain.new.state;
-      instructions = c.next_plain.new.instructions;
-    } in
+    let w : RowCursor = cursor_at cie (fde.initial_location + fde.address_range) c.loop-start.state c.loop-start.instructions in
+    let new : RowCursor = cursor_at cie (fde.initial_location + fde.address_range) c.next_plain.new.state c.next_plain.new.instructions in
     let rules = c.copy-rules.result in
     let ks : List KeptRules = rules ∷ c.requires.seeks.0 in
     let h = c.loop-start.invariant.seeks c.requires.seeks.0 c.requires.seeks.1 in
@@ -65,18 +45,8 @@ pub returns-then-address-end-clause-found : goal.returns-then-address-end-clause
 returns-then-address-end-clause-found t c =
     let cie = cie_of c.args.cie.now in
     let fde = fde_of c.args.fde.now in
-    let w : RowCursor = record {
-      cie = cie;
-      end = fde.initial_location + fde.address_range;
-      context = c.loop-start.state;
-      instructions = c.loop-start.instructions;
-    } in
-    let new : RowCursor = record {
-      cie = cie;
-      end = fde.initial_location + fde.address_range;
-      context = c.next_plain.new.state;
-      instructions = c.next_plain.new.instructions;
-    } in
+    let w : RowCursor = cursor_at cie (fde.initial_location + fde.address_range) c.loop-start.state c.loop-start.instructions in
+    let new : RowCursor = cursor_at cie (fde.initial_location + fde.address_range) c.next_plain.new.state c.next_plain.new.instructions in
     let rules = c.copy-rules.result in
     let ks : List KeptRules = rules ∷ c.requires.seeks.0 in
     let h = c.loop-start.invariant.seeks c.requires.seeks.0 c.requires.seeks.1 in
@@ -89,18 +59,8 @@ pub loop-start-smaller-else-address-end : goal.loop-start-smaller-else-address-e
 loop-start-smaller-else-address-end t c =
     let cie = cie_of c.args.cie.now in
     let fde = fde_of c.args.fde.now in
-    let w : RowCursor = record {
-      cie = cie;
-      end = fde.initial_location + fde.address_range;
-      context = c.loop-start.state;
-      instructions = c.loop-start.instructions;
-    } in
-    let new : RowCursor = record {
-      cie = cie;
-      end = fde.initial_location + fde.address_range;
-      context = c.next_plain.new.state;
-      instructions = c.next_plain.new.instructions;
-    } in
+    let w : RowCursor = cursor_at cie (fde.initial_location + fde.address_range) c.loop-start.state c.loop-start.instructions in
+    let new : RowCursor = cursor_at cie (fde.initial_location + fde.address_range) c.next_plain.new.state c.next_plain.new.instructions in
     let rules = c.copy-rules.result in
     let ks : List KeptRules = rules ∷ c.requires.seeks.0 in
     let h = c.loop-start.invariant.seeks c.requires.seeks.0 c.requires.seeks.1 in
@@ -115,18 +75,8 @@ pub loop-start-preserved-else-address-end : goal.loop-start-preserved-else-addre
 loop-start-preserved-else-address-end t c =
     let cie = cie_of c.args.cie.now in
     let fde = fde_of c.args.fde.now in
-    let w : RowCursor = record {
-      cie = cie;
-      end = fde.initial_location + fde.address_range;
-      context = c.loop-start.state;
-      instructions = c.loop-start.instructions;
-    } in
-    let new : RowCursor = record {
-      cie = cie;
-      end = fde.initial_location + fde.address_range;
-      context = c.next_plain.new.state;
-      instructions = c.next_plain.new.instructions;
-    } in
+    let w : RowCursor = cursor_at cie (fde.initial_location + fde.address_range) c.loop-start.state c.loop-start.instructions in
+    let new : RowCursor = cursor_at cie (fde.initial_location + fde.address_range) c.next_plain.new.state c.next_plain.new.instructions in
     let rules = c.copy-rules.result in
     let ks : List KeptRules = rules ∷ c.requires.seeks.0 in
     let h = c.loop-start.invariant.seeks c.requires.seeks.0 c.requires.seeks.1 in
@@ -146,18 +96,8 @@ pub write_row_in_bracket-requires : goal.write_row_in_bracket-requires
 write_row_in_bracket-requires t c =
     let cie = cie_of c.args.cie.now in
     let fde = fde_of c.args.fde.now in
-    let w : RowCursor = record {
-      cie = cie;
-      end = fde.initial_location + fde.address_range;
-      context = c.loop-start.state;
-      instructions = c.loop-start.instructions;
-    } in
-    let new : RowCursor = record {
-      cie = cie;
-      end = fde.initial_location + fde.address_range;
-      context = c.next_plain.new.state;
-      instructions = c.next_plain.new.instructions;
-    } in
+    let w : RowCursor = cursor_at cie (fde.initial_location + fde.address_range) c.loop-start.state c.loop-start.instructions in
+    let new : RowCursor = cursor_at cie (fde.initial_location + fde.address_range) c.next_plain.new.state c.next_plain.new.instructions in
     let rules = c.copy-rules.result in
     let ks : List KeptRules = rules ∷ c.requires.seeks.0 in
     let h = c.loop-start.invariant.seeks c.requires.seeks.0 c.requires.seeks.1 in
@@ -171,18 +111,8 @@ pub loop-start-smaller : goal.loop-start-smaller
 loop-start-smaller t c =
     let cie = cie_of c.args.cie.now in
     let fde = fde_of c.args.fde.now in
-    let w : RowCursor = record {
-      cie = cie;
-      end = fde.initial_location + fde.address_range;
-      context = c.loop-start.state;
-      instructions = c.loop-start.instructions;
-    } in
-    let new : RowCursor = record {
-      cie = cie;
-      end = fde.initial_location + fde.address_range;
-      context = c.next_plain.new.state;
-      instructions = c.next_plain.new.instructions;
-    } in
+    let w : RowCursor = cursor_at cie (fde.initial_location + fde.address_range) c.loop-start.state c.loop-start.instructions in
+    let new : RowCursor = cursor_at cie (fde.initial_location + fde.address_range) c.next_plain.new.state c.next_plain.new.instructions in
     let rules = c.copy-rules.result in
     let ks : List KeptRules = rules ∷ c.requires.seeks.0 in
     let h = c.loop-start.invariant.seeks c.requires.seeks.0 c.requires.seeks.1 in
@@ -194,18 +124,8 @@ pub loop-start-preserved : goal.loop-start-preserved
 loop-start-preserved t c =
     let cie = cie_of c.args.cie.now in
     let fde = fde_of c.args.fde.now in
-    let w : RowCursor = record {
-      cie = cie;
-      end = fde.initial_location + fde.address_range;
-      context = c.loop-start.state;
-      instructions = c.loop-start.instructions;
-    } in
-    let new : RowCursor = record {
-      cie = cie;
-      end = fde.initial_location + fde.address_range;
-      context = c.next_plain.new.state;
-      instructions = c.next_plain.new.instructions;
-    } in
+    let w : RowCursor = cursor_at cie (fde.initial_location + fde.address_range) c.loop-start.state c.loop-start.instructions in
+    let new : RowCursor = cursor_at cie (fde.initial_location + fde.address_range) c.next_plain.new.state c.next_plain.new.instructions in
     let rules = c.copy-rules.result in
     let ks : List KeptRules = rules ∷ c.requires.seeks.0 in
     let h = c.loop-start.invariant.seeks c.requires.seeks.0 c.requires.seeks.1 in
@@ -223,18 +143,8 @@ pub returns-in-Restores-clause-behind : goal.returns-in-Restores-clause-behind
 returns-in-Restores-clause-behind t c =
     let cie = cie_of c.args.cie.now in
     let fde = fde_of c.args.fde.now in
-    let w : RowCursor = record {
-      cie = cie;
-      end = fde.initial_location + fde.address_range;
-      context = c.loop-start.state;
-      instructions = c.loop-start.instructions;
-    } in
-    let new : RowCursor = record {
-      cie = cie;
-      end = fde.initial_location + fde.address_range;
-      context = c.next_plain.new.state;
-      instructions = c.next_plain.new.instructions;
-    } in
+    let w : RowCursor = cursor_at cie (fde.initial_location + fde.address_range) c.loop-start.state c.loop-start.instructions in
+    let new : RowCursor = cursor_at cie (fde.initial_location + fde.address_range) c.next_plain.new.state c.next_plain.new.instructions in
     let rules = c.copy-rules.result in
     let ks : List KeptRules = rules ∷ c.requires.seeks.0 in
     let h = c.loop-start.invariant.seeks c.requires.seeks.0 c.requires.seeks.1 in
@@ -251,18 +161,8 @@ pub unreachable-requires : goal.unreachable-requires
 unreachable-requires t c =
     let cie = cie_of c.args.cie.now in
     let fde = fde_of c.args.fde.now in
-    let w : RowCursor = record {
-      cie = cie;
-      end = fde.initial_location + fde.address_range;
-      context = c.loop-start.state;
-      instructions = c.loop-start.instructions;
-    } in
-    let new : RowCursor = record {
-      cie = cie;
-      end = fde.initial_location + fde.address_range;
-      context = c.next_plain.new.state;
-      instructions = c.next_plain.new.instructions;
-    } in
+    let w : RowCursor = cursor_at cie (fde.initial_location + fde.address_range) c.loop-start.state c.loop-start.instructions in
+    let new : RowCursor = cursor_at cie (fde.initial_location + fde.address_range) c.next_plain.new.state c.next_plain.new.instructions in
     let rules = c.copy-rules.result in
     let ks : List KeptRules = rules ∷ c.requires.seeks.0 in
     let h = c.loop-start.invariant.seeks c.requires.seeks.0 c.requires.seeks.1 in

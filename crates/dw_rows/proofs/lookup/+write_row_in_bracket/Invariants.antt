@@ -1,7 +1,7 @@
 use Rattle.std.proofs.Common.{◌+◌, ◌-◌, ◌≤◌, List, ◌∷◌, length}
 use Rattle.dw_frame.specs.Views.{cie_of, fde_of}
 use Rattle.dw_rows.specs.RuleSet.{KeptRules}
-use Rattle.dw_rows.specs.RowCursors.{Seeks, above}
+use Rattle.dw_rows.specs.RowCursors.{cursor_at, Seeks, above}
 use Rattle.dw_rows.proofs.lookup.+write_row_in_bracket.Given as goal
 
 abbrev pub decreases-write_row_in_bracket : goal.decreases-write_row_in_bracket
@@ -11,9 +11,9 @@ abbrev pub invariant-loop-start : goal.invariant-loop-start
 invariant-loop-start l = record {
   seeks : (ks : List KeptRules) → Seeks (cie_of l.cie) (fde_of l.fde) l.address
       (above (l.initial.state.current ∷ ks)
-      (record { cie = cie_of l.cie; end = l.limit; context = l.initial.state; instructions = l.initial.instructions }))
+      (cursor_at (cie_of l.cie) l.limit l.initial.state l.initial.instructions))
       → Seeks (cie_of l.cie) (fde_of l.fde) l.address
-      (above (l.rules ∷ ks) (record { cie = cie_of l.cie; end = l.limit; context = l.state; instructions = l.instructions }));
+      (above (l.rules ∷ ks) (cursor_at (cie_of l.cie) l.limit l.state l.instructions));
   location : l.initial.state.location ≤ l.state.location;
   shorter : length l.instructions ≤ length l.initial.instructions;
 }

@@ -2,7 +2,7 @@ use Rattle.std.proofs.Common.{◌≡◌, ◌+◌, [], Some, None, sym, ap, ◌�
 use Rattle.std.specs.Prelude.{find}
 use Rattle.dw_frame.specs.Views.{cie_of, fde_of}
 use Rattle.dw_rows.specs.UnwindRows.{rows_of, has_address}
-use Rattle.dw_rows.specs.RowCursors.{RowCursor, above}
+use Rattle.dw_rows.specs.RowCursors.{cursor_at, RowCursor, above}
 use Rattle.dw_rows.specs.LentExpressions.{lent_by}
 use Rattle.dw_rows.proofs.GivenRows.{find-with}
 use Rattle.dw_rows.proofs.Covering.{not-missed}
@@ -17,18 +17,8 @@ pub write_row-requires : goal.write_row-requires
 write_row-requires c =
     let cie = cie_of c.args.cie.now in
     let fde = fde_of c.args.fde.now in
-    let w : RowCursor = record {
-      cie = cie;
-      end = fde.initial_location + fde.address_range;
-      context = c.loop-start.state;
-      instructions = c.loop-start.instructions;
-    } in
-    let new : RowCursor = record {
-      cie = cie;
-      end = fde.initial_location + fde.address_range;
-      context = c.next_plain.new.state;
-      instructions = c.next_plain.new.instructions;
-    } in
+    let w : RowCursor = cursor_at cie (fde.initial_location + fde.address_range) c.loop-start.state c.loop-start.instructions in
+    let new : RowCursor = cursor_at cie (fde.initial_location + fde.address_range) c.next_plain.new.state c.next_plain.new.instructions in
     let step = plain-row w new c.in-Row.start c.in-Row.end [] c.in-Row.ensures.next in
     record {
       cfa = seeks-cfa cie fde c.args.address (above [] w) (above [] new) c.in-Row.start c.in-Row.end c.loop-start.invariant step;
@@ -40,18 +30,8 @@ pub returns-then-address-end : goal.returns-then-address-end
 returns-then-address-end c =
     let cie = cie_of c.args.cie.now in
     let fde = fde_of c.args.fde.now in
-    let w : RowCursor = record {
-      cie = cie;
-      end = fde.initial_location + fde.address_range;
-      context = c.loop-start.state;
-      instructions = c.loop-start.instructions;
-    } in
-    let new : RowCursor = record {
-      cie = cie;
-      end = fde.initial_location + fde.address_range;
-      context = c.next_plain.new.state;
-      instructions = c.next_plain.new.instructions;
-    } in
+    let w : RowCursor = cursor_at cie (fde.initial_location + fde.address_range) c.loop-start.state c.loop-start.instructions in
+    let new : RowCursor = cursor_at cie (fde.initial_location + fde.address_range) c.next_plain.new.state c.next_plain.new.instructions in
     let step = plain-row w new c.in-Row.start c.in-Row.end [] c.in-Row.ensures.next in
     find-with (lent_by c.args.expressions) c.args.address (rows_of cie fde) _
     (seeks-found cie fde c.args.address (above [] w) (above [] new) c.in-Row.start c.in-Row.end c.loop-start.invariant step
@@ -62,18 +42,8 @@ pub loop-start-smaller-else-address-end : goal.loop-start-smaller-else-address-e
 loop-start-smaller-else-address-end c =
     let cie = cie_of c.args.cie.now in
     let fde = fde_of c.args.fde.now in
-    let w : RowCursor = record {
-      cie = cie;
-      end = fde.initial_location + fde.address_range;
-      context = c.loop-start.state;
-      instructions = c.loop-start.instructions;
-    } in
-    let new : RowCursor = record {
-      cie = cie;
-      end = fde.initial_location + fde.address_range;
-      context = c.next_plain.new.state;
-      instructions = c.next_plain.new.instructions;
-    } in
+    let w : RowCursor = cursor_at cie (fde.initial_location + fde.address_range) c.loop-start.state c.loop-start.instructions in
+    let new : RowCursor = cursor_at cie (fde.initial_location + fde.address_range) c.next_plain.new.state c.next_plain.new.instructions in
     let step = plain-row w new c.in-Row.start c.in-Row.end [] c.in-Row.ensures.next in
     omega (
       arith,
@@ -85,18 +55,8 @@ pub loop-start-preserved-else-address-end : goal.loop-start-preserved-else-addre
 loop-start-preserved-else-address-end c =
     let cie = cie_of c.args.cie.now in
     let fde = fde_of c.args.fde.now in
-    let w : RowCursor = record {
-      cie = cie;
-      end = fde.initial_location + fde.address_range;
-      context = c.loop-start.state;
-      instructions = c.loop-start.instructions;
-    } in
-    let new : RowCursor = record {
-      cie = cie;
-      end = fde.initial_location + fde.address_range;
-      context = c.next_plain.new.state;
-      instructions = c.next_plain.new.instructions;
-    } in
+    let w : RowCursor = cursor_at cie (fde.initial_location + fde.address_range) c.loop-start.state c.loop-start.instructions in
+    let new : RowCursor = cursor_at cie (fde.initial_location + fde.address_range) c.next_plain.new.state c.next_plain.new.instructions in
     let step = plain-row w new c.in-Row.start c.in-Row.end [] c.in-Row.ensures.next in
     seeks-on cie fde c.args.address (above [] w) (above [] new) c.in-Row.start c.in-Row.end c.loop-start.invariant step
     c.if-address-end.false
@@ -105,36 +65,16 @@ pub write_row_in_bracket-requires-clause-seeks : goal.write_row_in_bracket-requi
 write_row_in_bracket-requires-clause-seeks c =
     let cie = cie_of c.args.cie.now in
     let fde = fde_of c.args.fde.now in
-    let w : RowCursor = record {
-      cie = cie;
-      end = fde.initial_location + fde.address_range;
-      context = c.loop-start.state;
-      instructions = c.loop-start.instructions;
-    } in
-    let new : RowCursor = record {
-      cie = cie;
-      end = fde.initial_location + fde.address_range;
-      context = c.next_plain.new.state;
-      instructions = c.next_plain.new.instructions;
-    } in
+    let w : RowCursor = cursor_at cie (fde.initial_location + fde.address_range) c.loop-start.state c.loop-start.instructions in
+    let new : RowCursor = cursor_at cie (fde.initial_location + fde.address_range) c.next_plain.new.state c.next_plain.new.instructions in
     ([], seeks-remembers cie fde c.args.address w new [] c.loop-start.invariant c.in-Remembers.ensures.next)
 
 pub loop-start-smaller : goal.loop-start-smaller
 loop-start-smaller c =
     let cie = cie_of c.args.cie.now in
     let fde = fde_of c.args.fde.now in
-    let w : RowCursor = record {
-      cie = cie;
-      end = fde.initial_location + fde.address_range;
-      context = c.loop-start.state;
-      instructions = c.loop-start.instructions;
-    } in
-    let new : RowCursor = record {
-      cie = cie;
-      end = fde.initial_location + fde.address_range;
-      context = c.next_plain.new.state;
-      instructions = c.next_plain.new.instructions;
-    } in
+    let w : RowCursor = cursor_at cie (fde.initial_location + fde.address_range) c.loop-start.state c.loop-start.instructions in
+    let new : RowCursor = cursor_at cie (fde.initial_location + fde.address_range) c.next_plain.new.state c.next_plain.new.instructions in
     let h = c.loop-start.invariant in
     let went = c.in-Remembers.ensures.next [] cie fde h.before h.is_at in
     let behind = c.if-write_row_in_bracket.ensures.behind in
@@ -144,18 +84,8 @@ pub loop-start-preserved : goal.loop-start-preserved
 loop-start-preserved c =
     let cie = cie_of c.args.cie.now in
     let fde = fde_of c.args.fde.now in
-    let w : RowCursor = record {
-      cie = cie;
-      end = fde.initial_location + fde.address_range;
-      context = c.loop-start.state;
-      instructions = c.loop-start.instructions;
-    } in
-    let new : RowCursor = record {
-      cie = cie;
-      end = fde.initial_location + fde.address_range;
-      context = c.next_plain.new.state;
-      instructions = c.next_plain.new.instructions;
-    } in
+    let w : RowCursor = cursor_at cie (fde.initial_location + fde.address_range) c.loop-start.state c.loop-start.instructions in
+    let new : RowCursor = cursor_at cie (fde.initial_location + fde.address_range) c.next_plain.new.state c.next_plain.new.instructions in
     c.if-write_row_in_bracket.ensures.behind.seeks []
     (seeks-remembers cie fde c.args.address w new [] c.loop-start.invariant c.in-Remembers.ensures.next)
 
@@ -163,18 +93,8 @@ pub unreachable-requires : goal.unreachable-requires
 unreachable-requires c =
     let cie = cie_of c.args.cie.now in
     let fde = fde_of c.args.fde.now in
-    let w : RowCursor = record {
-      cie = cie;
-      end = fde.initial_location + fde.address_range;
-      context = c.loop-start.state;
-      instructions = c.loop-start.instructions;
-    } in
-    let new : RowCursor = record {
-      cie = cie;
-      end = fde.initial_location + fde.address_range;
-      context = c.next_plain.new.state;
-      instructions = c.next_plain.new.instructions;
-    } in
+    let w : RowCursor = cursor_at cie (fde.initial_location + fde.address_range) c.loop-start.state c.loop-start.instructions in
+    let new : RowCursor = cursor_at cie (fde.initial_location + fde.address_range) c.next_plain.new.state c.next_plain.new.instructions in
     elim c.in-Restores.is [
       | inl restores ↦ seeks-no-restore cie fde c.args.address w new c.loop-start.invariant (rw restores at c.next_plain.ensures.next)
       | inr ends ↦

@@ -1,6 +1,5 @@
-use Rattle.std.proofs.Common.{◌≡◌, ◌+◌, [], ◌∷◌, ◌++◌, map, take, drop, false, Result, Ok, Err, MatchResult, sym, ap, subst, ◌∙◌, arith}
+use Rattle.std.proofs.Common.{◌≡◌, ◌+◌, [], ◌∷◌, ◌++◌, map, take, drop, sym, ap, subst, ◌∙◌, arith, rules}
 use Rattle.std.proofs.Common.{append_assoc}
-use Rattle.std.specs.Result.{is_err}
 use Rattle.dw_frame.specs.Views.{cie_of}
 use Rattle.dw_rows.specs.Expressions.{expressions_of, cie_expressions}
 use Rattle.dw_rows.specs.Judgement.{cie_fault}
@@ -10,11 +9,6 @@ use Rattle.dw_rows.proofs.Faults.{passed, drop-at}
 use Rattle.dw_rows.proofs.Initials.{left-one}
 use Rattle.dw_rows.proofs.section.check_cies.Goals as goal
 
--- what an answer that isn't refused says
-not-refused : {E : Type 0} (P Q : Type 0) (r : Result (Unit {0}) E) → false ≡ is_err r → MatchResult r (λ _. P) (λ _. Q) → P
-not-refused P Q (Ok _) e h = h
-not-refused P Q (Err x) e h = cc
-
 pub loop-cie-preserved : goal.loop-cie-preserved
 loop-cie-preserved c =
     let cies = c.args.cies.now in
@@ -23,7 +17,7 @@ loop-cie-preserved c =
     let one : IsLeftBy (cie_of x) c.initial_rules.result.now = subst (IsLeftBy (cie_of x))
     (sym c.initial_rules.ensures) c.in_ok-judge_cie.ensures.left in
     let kept : c.push.new.self ≡ c.loop-cie.left ++ c.initial_rules.result.now ∷ []
-    = not-refused _ _ _ c.if-is_err.ensures.value c.push.ensures in
+    = search rules in
     let front : map cie_of (take (i + 1) cies) ≡ map cie_of (take i cies) ++ cie_of x ∷ [] =
     front-map cie_of cies i x (omega arith) (sym c.cie-item.is) in
     record {

@@ -1,0 +1,84 @@
+use Rattle.std.proofs.Common.{◌≡◌, ◌++◌, ◌∷◌, [], List, ℕ, length, take, drop, sym, ap, subst, ◌∙◌, arith}
+use Rattle.std.proofs.lemmas.List.{map-append, length-append}
+use Rattle.dw_bytes.specs.declared.target.Target.{Target}
+use Rattle.dw_stack.specs.declared.state.Kind.{Kind}
+use Rattle.dw_stack.specs.Expressions.{IsChecked}
+use Rattle.dw_stack.specs.Certificates.{checked_of}
+use Rattle.dw_stack.specs.Located.{LocatedExpression, located_of}
+use Rattle.dw_rows.specs.declared.owned_expressions.OwnedExpression.{OwnedExpression}
+use Rattle.dw_rows.specs.OwnedExpressions.{owned_in, IsOwned}
+use Rattle.dw_rows.proofs.OwnedExpressions.{bytes-behind, all-grown, are-grown, are-more, owned-checked}
+use Rattle.dw_rows.proofs.owned_expressions.ExpressionList.push.Goals as goal
+
+pub invariant_of-self-in_err-push : goal.invariant_of-self-in_err-push
+invariant_of-self-in_err-push c =
+    let more : c.extend_from_slice.new.self.items ≡ c.self.inside.bytes.items ++ c.bytes-bytes.result.now =
+    c.in_ok-extend_from_slice.ensures.items in
+    let kept : c.push.new.self.items ≡ c.self.inside.kept.items = c.in_err-push.ensures.items in
+    rw (more, kept) (are-grown c.self.inside.bytes.items c.bytes-bytes.result.now c.self.inside.kept.items c.self.invariant)
+
+-- what is kept
+abbrev one : goal.In_ok-push → OwnedExpression
+one c = record {
+  offset = c.args.offset;
+  start = c.in-Ok.start;
+  length = c.in-Ok-try_from.length;
+  count = c.operation_count.result;
+  depth = c.depth.result;
+  kind = c.kind.result;
+  target = c.target.result;
+}
+
+begins : (c : goal.In_ok-push) → c.in-Ok.start ≡ length c.self.inside.bytes.items
+begins c = omega (arith, c.in-Ok.ensures, c.len.ensures, c.self.inside.bytes.ok.0)
+
+long : (c : goal.In_ok-push) → c.in-Ok-try_from.length ≡ length c.bytes-bytes.result.now
+long c = omega (arith, c.in-Ok-try_from.ensures)
+
+behind : (c : goal.In_ok-push) → take c.in-Ok-try_from.length (drop c.in-Ok.start (c.self.inside.bytes.items ++ c.bytes-bytes.result.now))
+    ≡ c.bytes-bytes.result.now
+behind c = bytes-behind c.self.inside.bytes.items c.bytes-bytes.result.now c.in-Ok.start c.in-Ok-try_from.length (begins c) (long c)
+
+-- its bytes are the expression's
+same : (c : goal.In_ok-push) → c.bytes-bytes.result.now ≡ (checked_of c.args.checked.now).bytes
+same c = c.bytes-bytes.ensures ∙ c.expression.ensures.bytes
+
+owned : (c : goal.In_ok-push) → IsOwned (c.self.inside.bytes.items ++ c.bytes-bytes.result.now) (one c)
+owned c =
+    let is = checked_of c.args.checked.now in
+    let bytes = c.self.inside.bytes.items ++ c.bytes-bytes.result.now in
+    let k = one c in record {
+      inside = omega (arith, begins c, long c, length-append c.self.inside.bytes.items c.bytes-bytes.result.now);
+      checked = subst (λ (l : List ℕ). IsChecked (record { kind = k.kind; target = k.target; bytes = l; depth = k.depth; count = k.count }))
+          (sym (behind c ∙ same c))
+          (owned-checked is.kind k.kind is.target _ k.target is.bytes _ k.depth k.count c.expression.ensures.good
+          c.expression.ensures.target c.expression.ensures.bytes c.kind.ensures (c.target.ensures ∙ c.expression-2.ensures.target)
+          c.depth.ensures.depth c.operation_count.ensures.count);
+    }
+
+pub invariant_of-self-2 : goal.invariant_of-self-2
+invariant_of-self-2 c =
+    let more : c.extend_from_slice.new.self.items ≡ c.self.inside.bytes.items ++ c.bytes-bytes.result.now =
+    c.in_ok-extend_from_slice.ensures.items in
+    let kept : c.push.new.self.items ≡ c.self.inside.kept.items ++ one c ∷ [] = c.in_ok-push.ensures.items in
+    rw (more, kept) (are-more _ c.self.inside.kept.items (one c)
+    (are-grown c.self.inside.bytes.items c.bytes-bytes.result.now c.self.inside.kept.items c.self.invariant) (owned c))
+
+pub returns : goal.returns
+returns c =
+    let bytes = c.self.inside.bytes.items in
+    let its = c.bytes-bytes.result.now in
+    let more : c.extend_from_slice.new.self.items ≡ bytes ++ its = c.in_ok-extend_from_slice.ensures.items in
+    let kept : c.push.new.self.items ≡ c.self.inside.kept.items ++ one c ∷ [] = c.in_ok-push.ensures.items in
+    let is = checked_of c.args.checked.now in
+    let with : Kind → Target → List ℕ → LocatedExpression =
+    λ k t l. record { offset = c.args.offset; kind = k; target = t; bytes = l } in
+    let new : owned_in (bytes ++ its) (one c) ≡ located_of (c.args.offset, c.args.checked.now) =
+    ap (λ (l : List ℕ). with c.kind.result c.target.result l) (behind c ∙ same c)
+    ∙ ap (λ (k : Kind). with k c.target.result is.bytes) c.kind.ensures
+    ∙ ap (λ (t : Target). with is.kind t is.bytes) (c.target.ensures ∙ c.expression-2.ensures.target) in
+    rw (more, kept)
+    (map-append (owned_in (bytes ++ its)) c.self.inside.kept.items (one c ∷ [])
+    ∙ ap (λ (l : List LocatedExpression). l ++ owned_in (bytes ++ its) (one c) ∷ []) (all-grown bytes its c.self.inside.kept.items c.self.invariant)
+    ∙ ap (λ (l : List LocatedExpression). l ++ owned_in (bytes ++ its) (one c) ∷ []) c.self.view_is
+    ∙ ap (λ (x : LocatedExpression). c.args.self.now ++ x ∷ []) new)

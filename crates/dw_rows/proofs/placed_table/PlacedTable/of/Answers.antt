@@ -1,0 +1,8 @@
+use Rattle.std.proofs.Common.{arith}
+use Rattle.dw_rows.proofs.CompiledTables.{rows-few}
+use Rattle.dw_rows.proofs.placed_table.PlacedTable.of.Goals as goal
+
+pub returns-clause-room : goal.returns-clause-room
+returns-clause-room c =
+    let e = c.in_ok-entries.ensures.room in
+    omega (arith, e, rows-few c.in_ok-into_sets.field-0 c.in_ok-entries.field-0.entries 0)

@@ -1,0 +1,83 @@
+use Rattle.std.proofs.Common.{◌≡◌, ◌+◌, ◌++◌, ap, subst, ◌∙◌, arith}
+use Rattle.dw_frame.specs.Views.{cie_of, fde_of}
+use Rattle.dw_rows.specs.UnwindRows.{rows_of}
+use Rattle.dw_rows.specs.ProgramState.{ProgramState}
+use Rattle.dw_rows.specs.RuleSet.{KeptRules}
+use Rattle.dw_rows.specs.RowCursors.{cursor_at, RowCursor, BeginsRows}
+use Rattle.dw_rows.specs.CompiledTable.{returning, rows_to, IsPushed}
+use Rattle.dw_rows.proofs.CompiledTables.{filling-begins, filling-on, filling-table, filling-lends, filling-end, filling-all, table-further, filled}
+use Rattle.dw_rows.proofs.placed_table.fill.Goals as goal
+
+pub loop-start-init : goal.loop-start-init
+loop-start-init c =
+    let cie = cie_of c.begin_with_cie-cie.result in
+    let fde = fde_of c.args.fde.now in
+    let limit = c.args.fde.now.initial_location + c.args.fde.now.address_range in
+    let es = c.args.frame.now.expressions in
+    let w : RowCursor =
+    cursor_at cie limit c.begin_rows-instructions.new.context c.begin_rows-instructions.result in
+    let begins : BeginsRows cie fde w = c.begin_rows-instructions.ensures cie c.begin_with_cie-cie.ensures.left c.begin_with_cie-cie.ensures.fde_program in
+    let begun = c.in_ok-begin_at.ensures.begun in
+    let rows = rows_to c.args.table.now.numbers.sets c.args.table.now.entries c.args.table.now.end in
+    let new = c.begin_at.new.self.entries in
+    let sets = c.begin_at.new.self.numbers.sets in
+    record {
+      filling = filling-begins cie fde rows w new sets begins (begun.rows es c.requires.table);
+      table = table-further es fde.initial_location w.context.location new sets (begun.table es c.requires.table c.requires.order)
+          (omega (arith, begins.location));
+      room = c.in_ok-begin_at.ensures.room;
+    }
+
+pub loop-start-preserved : goal.loop-start-preserved
+loop-start-preserved c =
+    let cie = cie_of c.begin_with_cie-cie.result in
+    let fde = fde_of c.args.fde.now in
+    let limit = c.args.fde.now.initial_location + c.args.fde.now.address_range in
+    let es = c.args.frame.now.expressions in
+    let w : RowCursor =
+    cursor_at cie limit c.loop-start.context c.loop-start.instructions in
+    let new : RowCursor =
+    cursor_at cie limit c.next_range.new.context c.next_range.new.instructions in
+    let rows = rows_to c.args.table.now.numbers.sets c.args.table.now.entries c.args.table.now.end ++ returning cie.return_address_register (rows_of cie fde) in
+    let entries = c.loop-start.table.entries in
+    let sets = c.loop-start.table.numbers.sets in
+    let more = c.push.new.self.entries in
+    let more_sets = c.push.new.self.numbers.sets in
+    let h = c.loop-start.invariant in
+    let is : c.rules.result.now ≡ c.next_range.new.context.current =
+    c.rules.ensures ∙ ap (λ (m : ProgramState). m.current) c.context-in-loop-start.view_is in
+    let r = cie.return_address_register in
+    let pushed : IsPushed entries sets c.in-Some.start (record { rules = c.next_range.new.context.current; register = r }) more more_sets =
+    subst (λ (k : KeptRules). IsPushed entries sets c.in-Some.start (record { rules = k; register = r }) more more_sets) is
+    c.in_ok-push.ensures.pushed in
+    let lends = filling-lends es cie fde rows w new entries sets c.in-Some.start c.in-Some.field-0-1 h.filling c.in-Some.ensures
+    c.begin_with_cie-cie.ensures.lends in
+    record {
+      filling = filling-on es cie fde rows w new entries more sets more_sets c.in-Some.start c.in-Some.field-0-1 h.filling
+          c.in-Some.ensures h.table pushed;
+      table = filling-table es cie fde rows w new entries more sets more_sets c.in-Some.start c.in-Some.field-0-1 h.filling
+          c.in-Some.ensures h.table pushed lends;
+      room = omega (arith, h.room, c.in_ok-push.ensures.room.0, c.in_ok-push.ensures.room.1);
+    }
+
+pub returns-clause-filled : goal.returns-clause-filled
+returns-clause-filled c =
+    let cie = cie_of c.begin_with_cie-cie.result in
+    let fde = fde_of c.args.fde.now in
+    let limit = c.args.fde.now.initial_location + c.args.fde.now.address_range in
+    let s = c.args.frame.now in
+    let w : RowCursor =
+    cursor_at cie limit c.loop-start.context c.loop-start.instructions in
+    let new : RowCursor =
+    cursor_at cie limit c.next_range.new.context c.next_range.new.instructions in
+    let last = c.args.table.now.end in
+    let old = c.args.table.now.entries in
+    let old_sets = c.args.table.now.numbers.sets in
+    let rows = rows_to old_sets old last ++ returning cie.return_address_register (rows_of cie fde) in
+    let entries = c.loop-start.table.entries in
+    let sets = c.loop-start.table.numbers.sets in
+    let h = c.loop-start.invariant in
+    let end : c.loop-start.context.location ≡ limit = filling-end cie fde rows w new entries sets h.filling c.in_default.ensures in
+    filled s cie fde last old entries old_sets sets c.begin_with_cie-cie.ensures.cie
+    (filling-all cie fde rows w new entries sets h.filling c.in_default.ensures)
+    (table-further s.expressions c.loop-start.context.location limit entries sets h.table (omega arith))

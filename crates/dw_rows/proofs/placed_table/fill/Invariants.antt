@@ -1,0 +1,18 @@
+use Rattle.std.proofs.Common.{◌-◌, ◌+◌, ◌*◌, ◌≤◌, ◌++◌, length}
+use Rattle.dw_frame.specs.Views.{cie_of, fde_of}
+use Rattle.dw_rows.specs.UnwindRows.{rows_of}
+use Rattle.dw_rows.specs.CompiledTable.{IsFilling, IsTableUpTo, returning, rows_to}
+use Rattle.dw_rows.specs.RowCursors.{cursor_at}
+use Rattle.dw_rows.proofs.placed_table.fill.Given as goal
+
+abbrev pub invariant-loop-start : goal.invariant-loop-start
+invariant-loop-start l = record {
+  filling : IsFilling (cie_of l.cie) (fde_of l.fn.fde) (rows_to l.fn.table.numbers.sets l.fn.table.entries l.fn.table.end
+      ++ returning l.cie.return_address_register (rows_of (cie_of l.cie) (fde_of l.fn.fde)))
+      (cursor_at (cie_of l.cie) l.limit l.context l.instructions) l.table.entries l.table.numbers.sets;
+  table : IsTableUpTo l.fn.frame.expressions l.context.location l.table.entries l.table.numbers.sets;
+  room : 16 * length l.table.entries + l.table.numbers.room ≤ 16 * length l.fn.table.entries + l.fn.table.numbers.room;
+}
+
+abbrev pub decreases-loop-start : goal.decreases-loop-start
+decreases-loop-start l = l.limit - l.context.location

@@ -1,0 +1,98 @@
+use Rattle.std.proofs.Common.{ℕ, ◌+◌, List, Contains, length, map, sym, ap, subst, arith}
+use Rattle.std.proofs.lemmas.List.{length-map}
+use Rattle.dw_frame.specs.Records.{Fde}
+use Rattle.dw_frame.specs.Views.{fde_of}
+use Rattle.dw_rows.specs.Overlap.{IsAddressIndex, IsIndexOf, fde_at}
+use Rattle.dw_rows.specs.declared.table_entries.TableEntry.{TableEntry}
+use Rattle.dw_rows.specs.CompiledTable.{AreEntries, ArePlacedRows, rows_to}
+use Rattle.dw_rows.proofs.Indexes.{entry-placed}
+use Rattle.dw_rows.proofs.CompiledTables.{IsFillingAll, all-begin, all-on, all-done}
+use Rattle.dw_rows.proofs.placed_table.fill_all.Goals as goal
+
+pub fill-requires-clause-among : goal.fill-requires-clause-among
+fill-requires-clause-among c =
+    let fdes = c.fdes-fdes.result.now in
+    let index = c.index-index.result.now in
+    let view = fde_at (map fde_of fdes) in
+    let is : IsAddressIndex (map fde_of fdes) index =
+    subst (λ (l : List Fde). IsAddressIndex l index) (sym c.fdes-fdes.ensures.fdes) c.index-index.ensures.index in
+    let x = c.index-fdes-entry.result in
+    let k = c.loop-entry.entry-index in
+    let long = length-map index view in
+    let placed = entry-placed fdes index k _ x is.each c.loop-entry-test.true c.index-fdes-entry.is in
+    subst (λ (l : List Fde). Contains l (fde_of x)) c.fdes-fdes.ensures.fdes
+    (is.index_of.from (fde_of x) (k, omega arith, placed))
+
+pub fill-requires-clause-order : goal.fill-requires-clause-order
+fill-requires-clause-order c =
+    let fdes = c.fdes-fdes.result.now in
+    let index = c.index-index.result.now in
+    let view = fde_at (map fde_of fdes) in
+    let is : IsAddressIndex (map fde_of fdes) index =
+    subst (λ (l : List Fde). IsAddressIndex l index) (sym c.fdes-fdes.ensures.fdes) c.index-index.ensures.index in
+    let x = c.index-fdes-entry.result in
+    let k = c.loop-entry.entry-index in
+    let long = length-map index view in
+    let placed = entry-placed fdes index k _ x is.each c.loop-entry-test.true c.index-fdes-entry.is in
+    let low = c.loop-entry.invariant.filling.next k (fde_of x) (omega arith) (omega arith) in
+    omega (arith, low, ap (λ (f : Fde). f.initial_location) placed)
+
+pub fill-requires-clause-table : goal.fill-requires-clause-table
+fill-requires-clause-table c = c.loop-entry.invariant.filling.table
+
+pub loop-entry-preserved : goal.loop-entry-preserved
+loop-entry-preserved c =
+    let fdes = c.fdes-fdes.result.now in
+    let index = c.index-index.result.now in
+    let view = fde_at (map fde_of fdes) in
+    let is : IsAddressIndex (map fde_of fdes) index =
+    subst (λ (l : List Fde). IsAddressIndex l index) (sym c.fdes-fdes.ensures.fdes) c.index-index.ensures.index in
+    let x = c.index-fdes-entry.result in
+    let k = c.loop-entry.entry-index in
+    let long = length-map index view in
+    let placed = entry-placed fdes index k _ x is.each c.loop-entry-test.true c.index-fdes-entry.is in
+    let index_of : IsIndexOf c.args.frame.now.fdes (map view index) =
+    subst (λ (l : List Fde). IsIndexOf l (map view index)) c.fdes-fdes.ensures.fdes is.index_of in
+    record {
+      filling = subst (λ (n : ℕ). IsFillingAll c.args.frame.now (map view index) (k + 1) n c.fill.new.table.entries
+          c.fill.new.table.numbers.sets) (sym c.in_ok-fill.ensures.end)
+          (all-on c.args.frame.now (map view index) k c.loop-entry.table.end (fde_of x) c.loop-entry.table.entries
+          c.fill.new.table.entries c.loop-entry.table.numbers.sets c.fill.new.table.numbers.sets c.index-index.ensures.checked index_of
+          (omega arith) placed c.loop-entry.invariant.filling c.in_ok-fill.ensures.filled);
+      room = omega (arith, c.loop-entry.invariant.room, c.in_ok-fill.ensures.room);
+    }
+
+-- what is known where all FDEs are done
+both : (c : goal.In_ok-finish) → AreEntries c.finish.new.self c.close.new.self.numbers.sets
+    × ArePlacedRows c.args.frame.now (rows_to c.close.new.self.numbers.sets c.finish.new.self 0)
+both c =
+    let fdes = c.fdes-fdes.result.now in
+    let index = c.index-index.result.now in
+    let view = fde_at (map fde_of fdes) in
+    let sets = c.close.new.self.numbers.sets in
+    let is : IsAddressIndex (map fde_of fdes) index =
+    subst (λ (l : List Fde). IsAddressIndex l index) (sym c.fdes-fdes.ensures.fdes) c.index-index.ensures.index in
+    let long = length-map index view in
+    let index_of : IsIndexOf c.args.frame.now.fdes (map view index) =
+    subst (λ (l : List Fde). IsIndexOf l (map view index)) c.fdes-fdes.ensures.fdes is.index_of in
+    let done = all-done c.args.frame.now (map view index) c.loop-entry.entry-index c.loop-entry.table.end c.loop-entry.table.entries
+    c.close.new.self.entries c.loop-entry.table.numbers.sets sets c.index-index.ensures.checked index_of
+    (omega (arith, c.loop-entry-test.false)) c.loop-entry.invariant.filling c.in_ok-close.ensures.closed in
+    subst (λ (l : List TableEntry). AreEntries l sets × ArePlacedRows c.args.frame.now (rows_to sets l 0))
+    (sym c.in_ok-finish.ensures) done
+
+pub returns-clause-entries : goal.returns-clause-entries
+returns-clause-entries c = (both c).0
+
+pub returns-clause-rows : goal.returns-clause-rows
+returns-clause-rows c = (both c).1
+
+pub loop-entry-init : goal.loop-entry-init
+loop-entry-init c = record {
+  filling = all-begin c.args.frame.now _ _ _ c.new.ensures c.in_ok-new.ensures.sets;
+  room = omega (arith, ap (λ (l : List TableEntry). length l) c.new.ensures, c.in_ok-new.ensures.room);
+}
+
+pub returns-clause-room : goal.returns-clause-room
+returns-clause-room c =
+    omega (arith, c.loop-entry.invariant.room, c.in_ok-close.ensures.room, ap (λ (l : List TableEntry). length l) c.in_ok-finish.ensures)

@@ -1,0 +1,11 @@
+use Rattle.std.proofs.Common.{◌+◌, ◌*◌, ◌≤◌, length, map}
+use Rattle.dw_frame.specs.Views.{fde_of}
+use Rattle.dw_rows.specs.Overlap.{fde_at}
+use Rattle.dw_rows.proofs.CompiledTables.{IsFillingAll}
+use Rattle.dw_rows.proofs.placed_table.fill_all.Given as goal
+
+abbrev pub invariant-loop-entry : goal.invariant-loop-entry
+invariant-loop-entry l = record {
+  filling : IsFillingAll l.frame (map (fde_at (map fde_of l.fdes)) l.index) l.entry-index l.table.end l.table.entries l.table.numbers.sets;
+  room : 16 * length l.table.entries + l.table.numbers.room ≤ l.fn.room;
+}

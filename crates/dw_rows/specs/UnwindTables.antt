@@ -1,0 +1,52 @@
+-- Tables that keep the rows of a section by themselves: nothing of the section is needed any more.
+use Rattle.std.specs.Prelude.{◌≡◌, ℕ, Bool, List, All, Contains, IfSome, Option, Some, None, find}
+use Rattle.dw_bytes.specs.declared.target.Target.{Target}
+use Rattle.dw_frame.specs.Records.{Fde}
+use Rattle.dw_stack.specs.Located.{LocatedExpression}
+use Rattle.dw_rows.specs.Rules.{RowOver, Row, Rule, Cfa, expression, val_expression, cfa_expression}
+use Rattle.dw_rows.specs.UnwindRows.{has_address}
+use Rattle.dw_rows.specs.Section.{FrameSection, Covers, IsReturnRegister, row_of}
+
+-- Rows, each with the register that names where the caller goes on, and the target that they were read under.
+pub record RowTable : Type 0 where
+  pub target : Target
+  pub rows : List (Row × ℕ)
+
+-- such a row has an address
+abbrev pub has : {E : Type 0} → ℕ → RowOver E × ℕ → Bool
+has address found = has_address address found.0
+
+-- the row of an address, with its register
+abbrev pub row_at : RowTable → ℕ → Option (Row × ℕ)
+row_at t address = find (has address) t.rows
+
+-- What is found is a section's row of an address, with the register that the CIE names; and where none is found, no FDE covers it.
+abbrev pub IsFoundAt : FrameSection → ℕ → Option (Row × ℕ) → Type 0
+IsFoundAt s address None = (f : Fde) → Contains s.fdes f → ¬ Covers f address
+IsFoundAt s address (Some found) = (row_of s address ≡ Some found.0) × IsReturnRegister s address found.1
+
+-- it has the row of each address of a section, and no other
+pub record IsTableOf (s : FrameSection) (t : RowTable) : Type 0 where
+  pub target : t.target ≡ s.target
+  pub row : (address : ℕ) → IsFoundAt s address (row_at t address)
+
+-- ---- a row's expressions are read under a target
+
+abbrev pub IsUnder : Target → LocatedExpression → Type 0
+IsUnder target e = e.target ≡ target
+
+abbrev pub IsRuleUnder : Target → Rule → Type 0
+IsRuleUnder target (expression e) = IsUnder target e
+IsRuleUnder target (val_expression e) = IsUnder target e
+IsRuleUnder target _ = Unit {0}
+
+abbrev pub IsCfaUnder : Target → Cfa → Type 0
+IsCfaUnder target (cfa_expression e) = IsUnder target e
+IsCfaUnder target _ = Unit {0}
+
+abbrev pub IsEntryUnder : Target → ℕ × Rule → Type 0
+IsEntryUnder target entry = IsRuleUnder target entry.1
+
+pub record IsRowUnder (target : Target) (row : Row) : Type 0 where
+  pub cfa : IfSome row.cfa (IsCfaUnder target)
+  pub rules : All (IsEntryUnder target) row.rules

@@ -1,0 +1,168 @@
+//! Checked expressions that are kept with their bytes.
+
+ghost use Rattle.std.specs.Prelude.{◌≡◌, ◌++◌, ◌∷◌, [], IfOk, None, Some, MatchOption};
+ghost use Rattle.dw_frame.specs.Bounds.{Ascends};
+ghost use Rattle.dw_stack.specs.Located.{all_located, located_of};
+ghost use Rattle.dw_rows.specs.Expressions.{expression_at};
+ghost use Rattle.dw_rows.specs.ExpressionOrder.{expression_offset};
+ghost use Rattle.dw_rows.specs.BorrowedExpressions.{borrowed_by};
+
+use crate::borrowed_expressions::BorrowedExpressions;
+use dw_bytes::Target;
+use dw_ops::Expression;
+use dw_stack::{CheckedExpression, Kind};
+use std::alloc::{AllocError, Global};
+use std::marker::Model;
+
+/// What is kept of an expression: where it stood in its section, where its bytes lie now, and what was learned of it.
+#[derive(Clone, Copy, Debug)]
+pub struct OwnedExpression {
+    /// The offset of its first byte in the section.
+    pub offset: u32,
+    /// Where its bytes begin among those of all.
+    pub start: u32,
+    pub length: u32,
+    /// How many operations it has.
+    pub count: u32,
+    pub depth: u8,
+    pub kind: Kind,
+    pub target: Target,
+}
+
+/// Expressions with their bytes, seen as the list of them.
+#[derive(Debug, Drop)]
+pub struct ExpressionList {
+    /// The bytes of one after the other.
+    bytes: Vec<u8>,
+    kept: Vec<OwnedExpression>,
+}
+
+impl Model for ExpressionList {
+    ghost use Rattle.std.specs.Prelude.{List};
+    ghost use Rattle.dw_stack.specs.Located.{LocatedExpression};
+
+    ghost Value = { List LocatedExpression };
+
+    ghost use Rattle.dw_rows.specs.OwnedExpressions.{all_owned, AreOwned};
+
+    ghost view = { λ l. all_owned l.bytes.items l.kept.items };
+
+    ghost invariant = { λ l. AreOwned l.bytes.items l.kept.items };
+}
+
+impl ExpressionList {
+    /// None yet.
+    pub fn new(alloc: Global) -> Self
+        ensures { result ≡ [] }
+    {
+        ExpressionList {
+            bytes: Vec::new(alloc),
+            kept: Vec::new(alloc),
+        }
+    }
+
+    /// One more, with a copy of its bytes.
+    pub fn push(&mut self, offset: u32, checked: &CheckedExpression<'_>) -> Result<(), AllocError>
+        ensures { IfOk result (λ _. self.new ≡ self.old ++ located_of (offset, checked.now) ∷ []) }
+    {
+        let bytes = checked.expression().bytes();
+        let Ok(start) = u32::try_from(self.bytes.len()) else {
+            return Err(AllocError);
+        };
+        let Ok(length) = u32::try_from(bytes.len()) else {
+            return Err(AllocError);
+        };
+        let kept = OwnedExpression {
+            offset,
+            start,
+            length,
+            count: checked.operation_count(),
+            depth: checked.depth(),
+            kind: checked.kind(),
+            target: checked.expression().target(),
+        };
+        self.bytes.extend_from_slice(bytes)?;
+        self.kept.push(kept)?;
+        Ok(())
+    }
+
+    /// The expression whose first byte stood at an offset of the section, by halving.
+    pub fn at(&self, offset: u32) -> Option<CheckedExpression<'_>>
+        requires { Ascends expression_offset self.now }
+        ensures { MatchOption result (expression_at self.now offset ≡ None)
+            (λ checked. expression_at self.now offset ≡ Some (located_of (offset, checked))) }
+    {
+        match self.kept.binary_search_by_key(&offset, |kept| kept.offset) {
+            Ok(place) => {
+                let kept = self.kept[place];
+                let start = kept.start as usize;
+                let bytes = &self.bytes[start..start + kept.length as usize];
+                Some(CheckedExpression::new(
+                    Expression::new(bytes, kept.target),
+                    kept.kind,
+                    kept.depth,
+                    kept.count,
+                ))
+            }
+            Err(_) => None,
+        }
+    }
+}
+
+/// The same expressions, with bytes of their own.
+fn list_of(
+    alloc: Global,
+    expressions: &[(u32, CheckedExpression<'_>)],
+) -> Result<ExpressionList, AllocError>
+    ensures { IfOk result (λ list. list ≡ all_located expressions.now) }
+{
+    let mut list = ExpressionList::new(alloc);
+    for expression in expressions {
+        list.push(expression.0, &expression.1)?;
+    }
+    Ok(list)
+}
+
+/// The checked expressions of a section, with bytes of their own, seen as the list of them: those of CIEs, and then those of FDEs, each
+/// in order of offset.
+#[derive(Debug, Drop)]
+pub struct OwnedExpressions {
+    cies: ExpressionList,
+    fdes: ExpressionList,
+}
+
+impl Model for OwnedExpressions {
+    ghost use Rattle.std.specs.Prelude.{List, ◌++◌};
+    ghost use Rattle.dw_stack.specs.Located.{LocatedExpression};
+
+    ghost Value = { List LocatedExpression };
+
+    ghost use Rattle.dw_frame.specs.Bounds.{Ascends};
+    ghost use Rattle.dw_rows.specs.ExpressionOrder.{expression_offset};
+
+    ghost view = { λ o. o.cies ++ o.fdes };
+
+    ghost invariant = { λ o. Ascends expression_offset o.cies × Ascends expression_offset o.fdes };
+}
+
+impl OwnedExpressions {
+    /// The same as those that are borrowed, with copies of their bytes.
+    pub fn of(alloc: Global, borrowed: &BorrowedExpressions<'_, '_>) -> Result<Self, AllocError>
+        ensures { IfOk result (λ owned. owned ≡ borrowed_by borrowed.now) }
+    {
+        let cies = list_of(alloc, borrowed.cies)?;
+        let fdes = list_of(alloc, borrowed.fdes)?;
+        Ok(OwnedExpressions { cies, fdes })
+    }
+
+    /// The expression whose first byte stood at an offset of the section, by halving: those of CIEs, which are few, come first.
+    pub fn at(&self, offset: u32) -> Option<CheckedExpression<'_>>
+        ensures { MatchOption result (expression_at self.now offset ≡ None)
+            (λ checked. expression_at self.now offset ≡ Some (located_of (offset, checked))) }
+    {
+        if let Some(checked) = self.cies.at(offset) {
+            return Some(checked);
+        }
+        self.fdes.at(offset)
+    }
+}

@@ -1,0 +1,204 @@
+//! Rows in order of address, whose rules name their expressions by offset.
+
+ghost use Rattle.std.specs.Prelude.{◌≡◌, ◌+◌, ◌*◌, ◌≤◌, Contains, IfOk, All, find, length};
+ghost use Rattle.std.specs.Option.{option_map};
+ghost use Rattle.dw_frame.specs.Views.{fde_of};
+ghost use Rattle.dw_rows.specs.LentExpressions.{lent_by};
+ghost use Rattle.dw_rows.specs.UnwindTables.{has};
+ghost use Rattle.dw_rows.specs.CompiledTable.{IsPushed, IsTableUpTo, IsClosedAt, IsBegunAt, IsFilled, ArePlacedRows, AreEntries, rows_to};
+ghost use Rattle.dw_rows.specs.CompiledTable.{LendsFound, given_found};
+
+use crate::expressions::LentExpressions;
+use crate::frame::CheckedFrame;
+use crate::room::{Unmade, less_room};
+use crate::row_cursor::{begin_rows, next_range};
+use crate::rule_numbers::RuleNumbers;
+use crate::rule_set::RuleSet;
+use crate::rule_sets::RuleSets;
+use crate::table_entries::{TableEntries, TableEntry};
+use crate::unwind_context::UnwindContext;
+use crate::unwind_row::UnwindRow;
+use dw_frame::FrameDescriptionEntry;
+use std::alloc::Global;
+use std::marker::Model;
+
+/// A row takes so much room at most, with its share of what leads to it.
+pub const ROW_ROOM: usize = 16;
+
+/// A table that grows.
+#[derive(Drop)]
+pub struct GrowingTable {
+    pub entries: TableEntries,
+    pub numbers: RuleNumbers,
+    /// Where the last row ends.
+    pub end: u64,
+}
+
+impl GrowingTable {
+    /// One entry more.
+    fn push(&mut self, start: u64, rules: &RuleSet, register: u16) -> Result<(), Unmade>
+        ensures pushed { IfOk result (λ _. IsPushed self.old.entries self.old.numbers.sets start
+            (record { rules = rules.now; register = register })
+            self.new.entries self.new.numbers.sets) }
+        ensures room { IfOk result (λ _. (self.new.numbers.room + 16 ≤ self.old.numbers.room)
+            × (length self.new.entries ≡ length self.old.entries + 1)) }
+    {
+        self.numbers.room = less_room(self.numbers.room, ROW_ROOM)?;
+        let set = self.numbers.number_of(rules, register)?;
+        self.entries.push(TableEntry { start, set })?;
+        Ok(())
+    }
+
+    /// From where the last row ends, no row is there.
+    fn close(&mut self) -> Result<(), Unmade>
+        ensures closed { IfOk result (λ _. IsClosedAt self.old.end self.old.entries
+            self.old.numbers.sets self.new.entries self.new.numbers.sets) }
+        ensures room { IfOk result (λ _. 16 * length self.new.entries + self.new.numbers.room
+            ≤ 16 * length self.old.entries + self.old.numbers.room) }
+    {
+        if self.entries.count() == 0 {
+            return Ok(());
+        }
+        let end = self.end;
+        self.push(end, &RuleSet::new(), 0)?;
+        Ok(())
+    }
+
+    /// The next row begins at an address. If the last one ends before it, no row is there in between.
+    fn begin_at(&mut self, start: u64) -> Result<(), Unmade>
+        ensures begun { IfOk result (λ _. IsBegunAt self.old.end start self.old.entries
+            self.old.numbers.sets self.new.entries self.new.numbers.sets) }
+        ensures room { IfOk result (λ _. 16 * length self.new.entries + self.new.numbers.room
+            ≤ 16 * length self.old.entries + self.old.numbers.room) }
+    {
+        if self.end == start {
+            return Ok(());
+        }
+        self.close()?;
+        Ok(())
+    }
+}
+
+/// The rows of one FDE more, which begins at or above where those so far end.
+fn fill(
+    frame: &CheckedFrame<'_>,
+    fde: &FrameDescriptionEntry<'_>,
+    context: &mut UnwindContext,
+    table: &mut GrowingTable,
+) -> Result<(), Unmade>
+    requires among { Contains frame.now.fdes (fde_of fde.now) }
+    requires table { IsTableUpTo frame.now.expressions table.old.end
+        table.old.entries table.old.numbers.sets }
+    requires order { table.old.end ≤ fde.now.initial_location }
+    ensures filled { IfOk result (λ _. IsFilled frame.now (fde_of fde.now) table.old.end
+        table.old.entries table.old.numbers.sets table.new.entries table.new.numbers.sets) }
+    ensures end { IfOk result (λ _. table.new.end
+        ≡ fde.now.initial_location + fde.now.address_range) }
+    ensures room { IfOk result (λ _. 16 * length table.new.entries + table.new.numbers.room
+        ≤ 16 * length table.old.entries + table.old.numbers.room) }
+{
+    table.begin_at(fde.initial_location)?;
+    let cie = frame.begin_with_cie(&mut context.state, fde);
+    let mut instructions = begin_rows(context, fde);
+    let limit = fde.initial_location + fde.address_range;
+    while let Some((start, _)) = next_range(context, &mut instructions, &cie, limit) {
+        table.push(start, context.state.rules(), cie.return_address_register)?;
+    }
+    table.end = limit;
+    Ok(())
+}
+
+/// The rows of all FDEs, in order of address.
+fn fill_all(alloc: Global, frame: &CheckedFrame<'_>, room: usize) -> Result<GrowingTable, Unmade>
+    ensures entries { IfOk result (λ table. AreEntries table.entries table.numbers.sets) }
+    ensures rows { IfOk result (λ table. ArePlacedRows frame.now
+        (rows_to table.numbers.sets table.entries 0)) }
+    ensures room { IfOk result (λ table. 16 * length table.entries ≤ room) }
+{
+    let base = match frame.index().first() {
+        Some(first) => first.start,
+        None => 0,
+    };
+    let mut table = GrowingTable {
+        entries: TableEntries::new(alloc, base),
+        numbers: RuleNumbers::new(alloc, room)?,
+        end: 0,
+    };
+    let mut context = UnwindContext::new();
+    let fdes = frame.fdes();
+    let index = frame.index();
+    for entry in index {
+        let fde = fdes[entry.place];
+        fill(frame, &fde, &mut context, &mut table)?;
+    }
+    table.close()?;
+    table.entries.finish(alloc)?;
+    Ok(table)
+}
+
+/// Rows in order of address, each with its register, seen as the list of them. An expression is named by its offset in the section.
+#[derive(Drop)]
+pub struct PlacedTable {
+    entries: TableEntries,
+    sets: RuleSets,
+}
+
+impl Model for PlacedTable {
+    ghost use Rattle.std.specs.Prelude.{List, ℕ};
+    ghost use Rattle.dw_rows.specs.Rules.{PlacedRow};
+
+    ghost Value = { List (PlacedRow × ℕ) };
+
+    ghost use Rattle.dw_rows.specs.CompiledTable.{AreEntries, rows_to};
+
+    ghost view = { λ t. rows_to t.sets t.entries 0 };
+
+    ghost invariant = { λ t. AreEntries t.entries t.sets };
+}
+
+impl PlacedTable {
+    /// The rows of a checked section, in so many bytes at most, apart from what growing takes for a while.
+    pub fn of(frame: &CheckedFrame<'_>, alloc: Global, room: usize) -> Result<Self, Unmade>
+        ensures rows { IfOk result (ArePlacedRows frame.now) }
+        ensures room { IfOk result (λ rows. 16 * length rows ≤ room) }
+    {
+        let GrowingTable {
+            entries,
+            numbers,
+            ..
+        } = fill_all(alloc, frame, room)?;
+        Ok(PlacedTable {
+            entries,
+            sets: numbers.into_sets(alloc)?,
+        })
+    }
+
+    /// The row of an address, with its register, or none. Its rules and expressions are lent.
+    #[inline(always)]
+    pub fn find<'t, 'a>(
+        &'t self,
+        address: u64,
+        expressions: LentExpressions<'t, 'a>,
+    ) -> Option<(UnwindRow<'t, 'a>, u16)>
+        requires { All (LendsFound (lent_by expressions)) self.now }
+        ensures { result ≡ option_map (given_found (lent_by expressions.entry))
+            (find (has address) self.now) }
+    {
+        let after = self.entries.count_up_to(address);
+        if after == 0 || after == self.entries.count() {
+            return None;
+        }
+        let entry = self.entries.at(after - 1);
+        let (cfa, rules, register) = self.sets.lend(entry.set as usize);
+        match cfa {
+            Some(cfa) => {
+                let end = self.entries.start_at(after);
+                Some((
+                    UnwindRow::new(entry.start, end, cfa, rules, expressions),
+                    register,
+                ))
+            }
+            None => None,
+        }
+    }
+}

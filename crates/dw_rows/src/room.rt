@@ -1,0 +1,36 @@
+//! The room that a table may take.
+
+ghost use Rattle.std.specs.Prelude.{◌≡◌, ◌+◌, IfOk};
+
+use std::alloc::{AllocError, AllocFailed};
+
+/// Why a table isn't made.
+#[derive(Clone, Copy, Debug, PartialEq, Eq)]
+pub(crate) enum Unmade {
+    /// Memory ran out.
+    Memory,
+    /// It takes more room than it may.
+    Room,
+}
+
+impl From<AllocError> for Unmade {
+    fn from(_: AllocError) -> Self {
+        Unmade::Memory
+    }
+}
+
+impl<T: Drop> From<AllocFailed<T>> for Unmade {
+    fn from(_: AllocFailed<T>) -> Self {
+        Unmade::Memory
+    }
+}
+
+/// The room that is left after some is taken.
+pub(crate) fn less_room(room: usize, taken: usize) -> Result<usize, Unmade>
+    ensures { IfOk result (λ left. left + taken ≡ room) }
+{
+    match room.checked_sub(taken) {
+        Some(left) => Ok(left),
+        None => Err(Unmade::Room),
+    }
+}

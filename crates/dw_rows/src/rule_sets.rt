@@ -1,0 +1,103 @@
+//! Rules of rows with the registers that name return addresses.
+
+ghost use Rattle.std.specs.Prelude.{◌≡◌, ◌<◌, ◌≤◌, [], ◌∷◌, ◌++◌, IfOk, length, Some, slice_get};
+ghost use Rattle.std.specs.Bool.{OnTrue};
+ghost use Rattle.std.specs.Option.{option_map};
+ghost use Rattle.dw_rows.specs.Rules.{IsTable};
+ghost use Rattle.dw_rows.specs.Views.{kept_cfa_of, entries_of};
+
+use crate::initial_rules::InitialRules;
+use crate::kept_rule::KeptCfa;
+use crate::map::{MAX_RULES, RuleEntry};
+use crate::rule_set::RuleSet;
+use std::alloc::{AllocError, Global};
+use std::marker::Model;
+
+/// Rules of rows, and for each the register that the CIE names for where the caller goes on.
+#[derive(Drop)]
+pub struct RuleSets {
+    rules: InitialRules,
+    registers: Vec<u16>,
+}
+
+impl Model for RuleSets {
+    ghost use Rattle.std.specs.Prelude.{◌≡◌, List, length};
+    ghost use Rattle.dw_rows.specs.CompiledTable.{KeptSet, zipped};
+
+    ghost Value = { List KeptSet };
+
+    ghost view = { λ s. zipped s.rules s.registers.items };
+
+    ghost invariant = { λ s. length s.rules ≡ length s.registers.items };
+}
+
+impl RuleSets {
+    /// None yet.
+    pub fn new(alloc: Global) -> Self
+        ensures { result ≡ [] }
+    {
+        RuleSets {
+            rules: InitialRules::new(alloc),
+            registers: Vec::new(alloc),
+        }
+    }
+
+    /// One more.
+    pub fn push(&mut self, rules: &RuleSet, register: u16) -> Result<(), AllocError>
+        ensures { IfOk result (λ _. self.new
+            ≡ self.old ++ record { rules = rules.now; register = register } ∷ []) }
+    {
+        self.registers.push(register)?;
+        match self.rules.push(rules) {
+            Ok(()) => Ok(()),
+            Err(_) => {
+                let _ = self.registers.pop();
+                Err(AllocError)
+            }
+        }
+    }
+
+    /// The same in memory of their size.
+    pub fn cut(&mut self, alloc: Global) -> Result<(), AllocError>
+        ensures { self.new ≡ self.old }
+    {
+        let registers = Vec::from_slice(alloc, self.registers.as_slice())?;
+        self.rules.cut(alloc)?;
+        self.registers = registers;
+        Ok(())
+    }
+
+    /// How many there are.
+    pub fn count(&self) -> usize
+        ensures { result ≡ length self.now }
+    {
+        self.registers.len()
+    }
+
+    /// Lends the rules at a place: that of the CFA, the entries of the others, and the register.
+    #[inline(always)]
+    pub fn lend(&self, place: usize) -> (Option<KeptCfa>, &[RuleEntry], u16)
+        requires { place < length self.now }
+        ensures rules { slice_get self.now place ≡ Some (record {
+          rules = record {
+            cfa = option_map kept_cfa_of result.0;
+            rules = entries_of (result.1).now;
+          };
+          register = result.2;
+        }) }
+        ensures few { length (result.1).now ≤ MAX_RULES }
+        ensures table { IsTable 0 (entries_of (result.1).now) }
+    {
+        let (cfa, entries) = self.rules.lend(place);
+        (cfa, entries, self.registers[place])
+    }
+
+    /// Whether the rules at a place are these.
+    pub fn are_at(&self, place: usize, rules: &RuleSet, register: u16) -> bool
+        requires { place < length self.now }
+        ensures { OnTrue result (slice_get self.now place
+            ≡ Some (record { rules = rules.now; register = register })) }
+    {
+        self.registers[place] == register && self.rules.are_at(place, rules)
+    }
+}

@@ -1,0 +1,105 @@
+//! Numbers of rule sets.
+
+ghost use Rattle.std.specs.Prelude.{◌≡◌, ◌<◌, [], ◌∷◌, ◌++◌, IsTrue, IfSome, MatchResult, length, slice_index_or, ℕ};
+
+use std::alloc::{AllocError, Global};
+use std::marker::Model;
+
+/// Numbers, in two bytes each as far as they fit, and in four from the first that doesn't.
+#[derive(Drop)]
+pub struct SetNumbers {
+    narrow: Vec<u16>,
+    wide: Vec<u32>,
+}
+
+impl Model for SetNumbers {
+    ghost use Rattle.std.specs.Prelude.{ℕ, List, ◌++◌};
+
+    ghost Value = { List ℕ };
+
+    ghost view = { λ n. n.narrow.items ++ n.wide.items };
+}
+
+/// A number in two bytes, if it may be kept so.
+fn narrow_number(may_be_narrow: bool, number: u32) -> Option<u16>
+    ensures number { IfSome result (λ narrow. narrow ≡ number) }
+    ensures narrow { IfSome result (λ _. IsTrue may_be_narrow) }
+{
+    if !may_be_narrow {
+        return None;
+    }
+    u16::try_from(number).ok()
+}
+
+impl SetNumbers {
+    /// None yet.
+    pub fn new(alloc: Global) -> Self
+        ensures { result ≡ [] }
+    {
+        SetNumbers {
+            narrow: Vec::new(alloc),
+            wide: Vec::new(alloc),
+        }
+    }
+
+    /// One more.
+    pub fn push(&mut self, number: u32) -> Result<(), AllocError>
+        ensures { MatchResult result (λ _. self.new ≡ self.old ++ number ∷ []) (λ _. self.new ≡ self.old) }
+    {
+        match narrow_number(self.wide.is_empty(), number) {
+            Some(number) => {
+                if self.narrow.push(number).is_err() {
+                    return Err(AllocError);
+                }
+            }
+            None => {
+                if self.wide.push(number).is_err() {
+                    return Err(AllocError);
+                }
+            }
+        }
+        Ok(())
+    }
+
+    /// None again.
+    pub fn clear(&mut self)
+        ensures { self.new ≡ [] }
+    {
+        self.narrow.clear();
+        self.wide.clear();
+    }
+
+    /// The same in memory of their size.
+    pub fn cut(&mut self, alloc: Global) -> Result<(), AllocError>
+        ensures { self.new ≡ self.old }
+    {
+        let narrow = Vec::from_slice(alloc, self.narrow.as_slice())?;
+        let wide = Vec::from_slice(alloc, self.wide.as_slice())?;
+        self.narrow = narrow;
+        self.wide = wide;
+        Ok(())
+    }
+
+    /// How many there are.
+    #[inline(always)]
+    pub fn count(&self) -> usize
+        ensures { result ≡ length self.now }
+    {
+        self.narrow.len() + self.wide.len()
+    }
+
+    /// The one at a place.
+    #[inline(always)]
+    pub fn at(&self, place: usize) -> u32
+        requires { place < length self.now }
+        ensures { (d : ℕ) → slice_index_or self.now place d ≡ result }
+    {
+        let narrow = self.narrow.as_slice();
+        let wide = self.wide.as_slice();
+        if place < narrow.len() {
+            u32::from(narrow[place])
+        } else {
+            wide[place - narrow.len()]
+        }
+    }
+}

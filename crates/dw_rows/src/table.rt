@@ -1,0 +1,98 @@
+//! All rows of a checked section in order of address, compiled for look-ups by the million.
+
+ghost use Rattle.std.specs.Prelude.{◌≡◌, ◌*◌, ◌≤◌, IfOk, IfSome, length};
+ghost use Rattle.std.specs.Option.{option_map};
+ghost use Rattle.dw_rows.specs.UnwindTables.{row_at, IsTableOf, IsRowUnder};
+
+use crate::expressions::LentExpressions;
+use crate::frame::CheckedFrame;
+use crate::owned_expressions::OwnedExpressions;
+use crate::placed_table::PlacedTable;
+use crate::room::Unmade;
+use crate::unwind_row::UnwindRow;
+use dw_bytes::Target;
+use std::alloc::Global;
+use std::marker::Model;
+
+/// All rows of a checked section in order of address, each with its return address register. `CheckedFrame::compile` makes one.
+///
+/// It borrows nothing: the bytes of the few expressions in its rules are its own, so the section may go. A look-up takes two or three
+/// reads where a checked section runs a program.
+///
+/// ```rust
+/// let Some(table) = frame.compile(alloc, 1 << 20)? else {
+///     return Ok(()); // its rows take more than that
+/// };
+/// if let Some(row) = table.row_for_address(0x1004) {
+///     println!(rt; "{:#x}..{:#x}", row.start_address(), row.end_address())?;
+/// }
+/// ```
+#[derive(Drop)]
+pub struct UnwindTable {
+    target: Target,
+    rows: PlacedTable,
+    expressions: OwnedExpressions,
+}
+
+impl Model for UnwindTable {
+    ghost use Rattle.dw_rows.specs.UnwindTables.{RowTable};
+
+    ghost Value = { RowTable };
+
+    ghost use Rattle.std.specs.Prelude.{All, Contains, map};
+    ghost use Rattle.dw_stack.specs.Located.{LocatedExpression};
+    ghost use Rattle.dw_rows.specs.UnwindTables.{IsUnder};
+    ghost use Rattle.dw_rows.specs.CompiledTable.{LendsFound, given_found};
+
+    ghost view = { λ t. record { target = t.target; rows = map (given_found t.expressions) t.rows } };
+
+    ghost invariant = { λ t. All (LendsFound t.expressions) t.rows
+        × ((e : LocatedExpression) → Contains t.expressions e → IsUnder t.target e) };
+}
+
+impl UnwindTable {
+    /// The table of a checked section, in `room` bytes at most.
+    pub(crate) fn of(frame: &CheckedFrame<'_>, alloc: Global, room: usize) -> Result<Self, Unmade>
+        ensures table { IfOk result (IsTableOf frame.now) }
+        ensures room { IfOk result (λ table. 16 * length table.rows ≤ room) }
+    {
+        let rows = PlacedTable::of(frame, alloc, room)?;
+        let expressions = OwnedExpressions::of(alloc, &frame.borrowed())?;
+        Ok(UnwindTable {
+            target: frame.target(),
+            rows,
+            expressions,
+        })
+    }
+
+    /// The target that the section was read under.
+    pub fn target(&self) -> Target
+        ensures { result ≡ self.now.target }
+    {
+        self.target
+    }
+
+    /// The row of an address and the register that its CIE names for the return address, or none where no FDE covers the address.
+    /// The row's rules and expressions are lent. It takes no memory, and for n rows at most log n steps, mostly two or three.
+    #[inline(always)]
+    pub fn row_and_return_register(&self, address: u64) -> Option<(UnwindRow<'_, '_>, u16)>
+        ensures row { result ≡ row_at self.now address }
+
+        // What its rules name is read under the target.
+        ensures under { IfSome result (λ found. IsRowUnder self.now.target found.0) }
+    {
+        self.rows
+            .find(address, LentExpressions::Owned(&self.expressions))
+    }
+
+    /// The row of an address, or none where no FDE covers it, as `row_and_return_register`.
+    #[inline(always)]
+    pub fn row_for_address(&self, address: u64) -> Option<UnwindRow<'_, '_>>
+        ensures row { result ≡ option_map (λ found. found.0) (row_at self.now address) }
+    {
+        match self.row_and_return_register(address) {
+            Some((row, _)) => Some(row),
+            None => None,
+        }
+    }
+}

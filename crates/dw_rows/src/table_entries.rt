@@ -1,0 +1,290 @@
+//! Where rules begin to hold.
+
+ghost use Rattle.std.specs.Prelude.{◌≡◌, ◌<◌, ◌≤◌, [], ◌∷◌, ◌++◌, IfOk, length, slice_get, slice_index_or, Some, ℕ};
+ghost use Rattle.std.specs.Bool.{OnTrue};
+ghost use Rattle.std.specs.Option.{option_map};
+ghost use Rattle.std.specs.List.Sorted.{IsNonDecreasingBy};
+ghost use Rattle.dw_rows.specs.CompiledTable.{IsEntryCount, IsStartCount, entry_start};
+
+use crate::set_numbers::SetNumbers;
+use crate::starts::Starts;
+use std::alloc::{AllocError, Global};
+use std::marker::Model;
+
+/// From an address on the rules of this number hold, up to where the next entry begins. Where they don't give the CFA, no row is there.
+#[derive(Clone, Copy)]
+pub struct TableEntry {
+    pub start: u64,
+    pub set: u32,
+}
+
+/// How many starts lie below each block of addresses: where to look first. What it says is tried before it is believed, so nothing
+/// hangs on it but time.
+#[derive(Drop)]
+struct Blocks {
+    shift: u32,
+    counts: Vec<u32>,
+}
+
+/// A block has about so many starts.
+const USUAL_BLOCK: usize = 4;
+
+/// Into how many blocks, at most, so many addresses are cut, and by how many bits: each block has as many addresses as the
+/// others.
+fn block_shift(span: u64, blocks: u64) -> u32
+    ensures { result < 64 }
+{
+    let mut shift = 0;
+    while shift < 63 && span >> shift > blocks {
+        shift += 1;
+    }
+    shift
+}
+
+/// The block of an offset.
+#[inline(always)]
+fn block_of(shift: u32, offset: u32) -> usize
+    requires { shift < 64 }
+{
+    (u64::from(offset) >> shift) as usize
+}
+
+/// The blocks of starts, which are in order, by how far they lie from the base.
+fn blocks_of(alloc: Global, offsets: &[u32]) -> Result<Blocks, AllocError> {
+    let last = match offsets.last() {
+        Some(last) => *last,
+        None => 0,
+    };
+    let limit = offsets.len() / USUAL_BLOCK;
+    let shift = block_shift(u64::from(last), limit as u64);
+    let mut counts = Vec::with_capacity(alloc, limit + 2)?;
+    for (place, offset) in offsets.iter().enumerate() {
+        let block = block_of(shift, *offset);
+        if block <= limit {
+            let Ok(count) = u32::try_from(place) else {
+                return Err(AllocError);
+            };
+            for _ in counts.len()..block + 1 {
+                counts.push(count)?;
+            }
+        }
+    }
+    let Ok(all) = u32::try_from(offsets.len()) else {
+        return Err(AllocError);
+    };
+    counts.push(all)?;
+    Ok(Blocks { shift, counts })
+}
+
+/// Between two places, how many places lie up to the last start at or below an address, by halving that doesn't branch.
+#[inline(always)]
+fn count_between(starts: &[u32], from: usize, to: usize, address: u32) -> usize {
+    if from > to || to > starts.len() {
+        return 0;
+    }
+    let mut low = from;
+    let mut size = to - from;
+    while size > 1 {
+        let half = size / 2;
+        low += half * usize::from(starts[low + half - 1] <= address);
+        size -= half;
+    }
+    if size == 1 {
+        low += usize::from(starts[low] <= address);
+    }
+    low
+}
+
+/// Whether the first so many are at or below an address.
+#[inline(always)]
+fn are_low(starts: &Starts, count: usize, address: u64) -> bool
+    requires sorted { IsNonDecreasingBy (λ x. x) starts.now }
+    requires bound { count ≤ length starts.now }
+    ensures { OnTrue result ((k d : ℕ) → k < count → slice_index_or starts.now k d ≤ address) }
+{
+    if count == 0 {
+        return true;
+    }
+    if starts.at(count - 1) > address {
+        return false;
+    }
+    true
+}
+
+/// Whether those behind the first so many are above an address.
+#[inline(always)]
+fn are_high(starts: &Starts, count: usize, address: u64) -> bool
+    requires sorted { IsNonDecreasingBy (λ x. x) starts.now }
+    requires bound { count ≤ length starts.now }
+    ensures { OnTrue result ((k d : ℕ) → count ≤ k → k < length starts.now
+        → address < slice_index_or starts.now k d) }
+{
+    if count == starts.count() {
+        return true;
+    }
+    if starts.at(count) <= address {
+        return false;
+    }
+    true
+}
+
+/// Whether so many are at or below an address.
+#[inline(always)]
+fn is_count(starts: &Starts, count: usize, address: u64) -> bool
+    requires { IsNonDecreasingBy (λ x. x) starts.now }
+    ensures { OnTrue result (IsStartCount starts.now address count) }
+{
+    if count > starts.count() {
+        return false;
+    }
+    if are_low(starts, count, address) && are_high(starts, count, address) {
+        return true;
+    }
+    false
+}
+
+impl Blocks {
+    /// How many starts are at or below an address, as far as the blocks know.
+    #[inline(always)]
+    fn guess(&self, base: u64, offsets: &[u32], address: u64) -> usize {
+        if self.shift >= 64 {
+            return 0;
+        }
+        let Ok(offset) = u32::try_from(address.wrapping_sub(base)) else {
+            return 0;
+        };
+        let block = block_of(self.shift, offset);
+        if block >= self.counts.len() || block + 1 >= self.counts.len() {
+            return offsets.len();
+        }
+        count_between(
+            offsets,
+            self.counts[block] as usize,
+            self.counts[block + 1] as usize,
+            offset,
+        )
+    }
+}
+
+/// Entries in order of address. The starts lie together, since a look-up reads these alone until it has found its entry.
+#[derive(Drop)]
+pub struct TableEntries {
+    starts: Starts,
+    sets: SetNumbers,
+    blocks: Blocks,
+}
+
+impl Model for TableEntries {
+    ghost use Rattle.std.specs.Prelude.{◌≡◌, List, length};
+    ghost use Rattle.dw_rows.specs.declared.table_entries.TableEntry.{TableEntry};
+
+    ghost Value = { List TableEntry };
+
+    ghost use Rattle.dw_rows.specs.CompiledTable.{paired};
+
+    ghost view = { λ t. paired t.starts t.sets };
+
+    ghost invariant = { λ t. length t.starts ≡ length t.sets };
+}
+
+/// How many of these are at or below an address, by halving.
+fn count_up_to(starts: &Starts, address: u64) -> usize
+    requires { IsNonDecreasingBy (λ x. x) starts.now }
+    ensures { IsStartCount starts.now address result }
+{
+    let mut low = 0;
+    let mut size = starts.count();
+    while size > 0 {
+        let half = size / 2;
+        if starts.at(low + half) <= address {
+            low += half + 1;
+            size -= half + 1;
+        } else {
+            size = half;
+        }
+    }
+    low
+}
+
+impl TableEntries {
+    /// No entry.
+    pub fn new(alloc: Global, base: u64) -> Self
+        ensures { result ≡ [] }
+    {
+        TableEntries {
+            starts: Starts::new(alloc, base),
+            sets: SetNumbers::new(alloc),
+            blocks: Blocks {
+                shift: 0,
+                counts: Vec::new(alloc),
+            },
+        }
+    }
+
+    /// The same entries, found faster, and in memory of their size.
+    pub fn finish(&mut self, alloc: Global) -> Result<(), AllocError>
+        ensures { self.new ≡ self.old }
+    {
+        self.starts.cut(alloc)?;
+        self.sets.cut(alloc)?;
+        let (_, offsets) = self.starts.near();
+        self.blocks = blocks_of(alloc, offsets)?;
+        Ok(())
+    }
+
+    /// One entry more.
+    pub fn push(&mut self, entry: TableEntry) -> Result<(), AllocError>
+        ensures { IfOk result (λ _. self.new ≡ self.old ++ entry ∷ []) }
+    {
+        self.sets.push(entry.set)?;
+        match self.starts.push(entry.start) {
+            Ok(()) => Ok(()),
+            Err(_) => {
+                self.starts.clear();
+                self.sets.clear();
+                Err(AllocError)
+            }
+        }
+    }
+
+    /// How many there are.
+    pub fn count(&self) -> usize
+        ensures { result ≡ length self.now }
+    {
+        self.starts.count()
+    }
+
+    /// How many begin at or below an address.
+    pub fn count_up_to(&self, address: u64) -> usize
+        requires { IsNonDecreasingBy entry_start self.now }
+        ensures { IsEntryCount self.now address result }
+    {
+        let (base, offsets) = self.starts.near();
+        let guess = self.blocks.guess(base, offsets, address);
+        if is_count(&self.starts, guess, address) {
+            return guess;
+        }
+        count_up_to(&self.starts, address)
+    }
+
+    /// The entry at a place.
+    #[inline(always)]
+    pub fn at(&self, place: usize) -> TableEntry
+        requires { place < length self.now }
+        ensures { slice_get self.now place ≡ Some result }
+    {
+        TableEntry {
+            start: self.starts.at(place),
+            set: self.sets.at(place),
+        }
+    }
+
+    /// Where the entry at a place begins.
+    #[inline(always)]
+    pub fn start_at(&self, place: usize) -> u64
+        requires { place < length self.now }
+        ensures { option_map entry_start (slice_get self.now place) ≡ Some result }
+    {
+        self.starts.at(place)
+    }
+}

@@ -1,0 +1,158 @@
+//! Rows whose rules are lent.
+
+ghost use Rattle.std.specs.Prelude.{◌≡◌, ◌≤◌, ◌+◌, Some, All, length};
+ghost use Rattle.dw_rows.specs.Abi.{or_rule, rule_under, rules_under};
+ghost use Rattle.dw_rows.specs.AbiViews.{roles_of};
+ghost use Rattle.dw_rows.specs.Rules.{IsTable, RuleOver, rule_in};
+ghost use Rattle.dw_rows.specs.Views.{rule_of, cfa_rule_of, entries_of, kept_cfa_of};
+ghost use Rattle.dw_rows.specs.GivenRows.{given_row, LendsCfa, LendsEach, IsRuleOfKind};
+ghost use Rattle.dw_rows.specs.GivenRows.{IsCfaOfKind, IsEntryOfKind};
+ghost use Rattle.dw_rows.specs.LentExpressions.{lent_by};
+
+use crate::abi::Abi;
+use crate::expressions::LentExpressions;
+use crate::kept_rule::{KeptCfa, KeptRule};
+use crate::map::{MAX_RULES, RuleEntry, rule_of_register};
+use crate::row::{CfaRule, RegisterRule, RegisterRules, given_cfa, given_rule};
+use std::marker::Model;
+
+/// The addresses from a start to before an end, and the rules that hold there, which are lent by a table.
+#[derive(Debug, Drop)]
+pub struct UnwindRow<'t, 'a> {
+    start: u64,
+    end: u64,
+    cfa: KeptCfa,
+    rules: &'t [RuleEntry],
+    expressions: LentExpressions<'t, 'a>,
+}
+
+impl<'t, 'a> Model for UnwindRow<'t, 'a> {
+    ghost use Rattle.std.specs.Prelude.{Some, length, ◌≤◌};
+    ghost use Rattle.dw_rows.specs.Rules.{Row, IsTable};
+
+    ghost Value = { Row };
+
+    ghost use Rattle.dw_rows.specs.declared.map.TheConstants.{MAX_RULES};
+    ghost use Rattle.dw_rows.specs.Views.{kept_cfa_of, entries_of};
+    ghost use Rattle.dw_rows.specs.GivenRows.{given_row, LendsCfa, LendsEach};
+    ghost use Rattle.dw_rows.specs.LentExpressions.{lent_by};
+
+    ghost view = { λ row. given_row (lent_by row.expressions) (record {
+      start = row.start;
+      end = row.end;
+      cfa = Some (kept_cfa_of row.cfa);
+      rules = entries_of row.rules.now;
+    }) };
+
+    ghost invariant = { λ row. LendsCfa (lent_by row.expressions) (kept_cfa_of row.cfa)
+        × LendsEach (lent_by row.expressions) (entries_of row.rules.now)
+        × IsTable 0 (entries_of row.rules.now)
+        × (length row.rules.now ≤ MAX_RULES) };
+}
+
+impl<'t, 'a> UnwindRow<'t, 'a> {
+    /// The row of these addresses with these rules, which name the expressions that are lent.
+    pub(crate) fn new(
+        start: u64,
+        end: u64,
+        cfa: KeptCfa,
+        rules: &'t [RuleEntry],
+        expressions: LentExpressions<'t, 'a>,
+    ) -> Self
+        requires cfa { LendsCfa (lent_by expressions) (kept_cfa_of cfa) }
+        requires rules { LendsEach (lent_by expressions) (entries_of rules.now) }
+        requires table { IsTable 0 (entries_of rules.now) }
+        requires few { length rules.now ≤ MAX_RULES }
+        ensures { result ≡ given_row (lent_by expressions.entry) (record {
+          start = start;
+          end = end;
+          cfa = Some (kept_cfa_of cfa);
+          rules = entries_of rules.now;
+        }) }
+    {
+        UnwindRow {
+            start,
+            end,
+            cfa,
+            rules,
+            expressions,
+        }
+    }
+
+    /// The first address that it covers.
+    pub fn start_address(&self) -> u64
+        ensures { result ≡ self.now.start }
+    {
+        self.start
+    }
+
+    /// The address after the last one that it covers.
+    pub fn end_address(&self) -> u64
+        ensures { result ≡ self.now.end }
+    {
+        self.end
+    }
+
+    /// How the CFA is found. An expression is lent, as it was checked.
+    pub fn cfa(&self) -> CfaRule<'a>
+        ensures cfa { self.now.cfa ≡ Some (cfa_rule_of result) }
+        ensures kind { IsCfaOfKind (cfa_rule_of result) }
+    {
+        given_cfa(self.cfa, &self.expressions)
+    }
+
+    /// The rule of a register: `Default` where none is in force. An expression is lent, as it was checked.
+    pub fn register(&self, number: u16) -> RegisterRule<'a>
+        ensures rule { rule_of result ≡ rule_in self.now.rules number }
+        ensures kind { IsRuleOfKind (rule_of result) }
+    {
+        given_rule(rule_of_register(self.rules, number), &self.expressions)
+    }
+
+    /// The rules other than `Default`, each with its register, in ascending order of registers: at most `MAX_RULES`.
+    pub fn rules(&self) -> RegisterRules<'t, 'a>
+        ensures rules { result ≡ self.now.rules }
+        ensures ascending { IsTable 0 self.now.rules }
+        ensures few { length self.now.rules ≤ MAX_RULES }
+        ensures kinds { All IsEntryOfKind self.now.rules }
+    {
+        RegisterRules {
+            entries: self.rules,
+            others: &[],
+            expressions: self.expressions,
+        }
+    }
+
+    /// The rule of a register under an ABI, which is asked where the row gives it none: `Undefined` where that gives none either.
+    pub fn register_with(&self, abi: &Abi, number: u16) -> RegisterRule<'a>
+        ensures rule { rule_of result
+            ≡ or_rule (rule_under (roles_of abi.now) self.now.rules number) RuleOver.undefined }
+        ensures kind { IsRuleOfKind (rule_of result) }
+    {
+        match self.register(number) {
+            RegisterRule::Default => match abi.register(number) {
+                KeptRule::Default => RegisterRule::Undefined,
+                rule => given_rule(rule, &self.expressions),
+            },
+            rule => rule,
+        }
+    }
+
+    /// The rules under an ABI, which is asked where the row gives none, each with its register, in ascending order of registers: at
+    /// most twice `MAX_RULES`.
+    pub fn rules_with<'r>(&self, abi: &'r Abi) -> RegisterRules<'r, 'a>
+    where
+        't: 'r,
+        ensures rules { result ≡ rules_under (roles_of abi.now) self.now.rules }
+        ensures ascending { IsTable 0 (rules_under (roles_of abi.now) self.now.rules) }
+        ensures few { length (rules_under (roles_of abi.now) self.now.rules)
+            ≤ MAX_RULES + MAX_RULES }
+        ensures kinds { All IsEntryOfKind (rules_under (roles_of abi.now) self.now.rules) }
+    {
+        RegisterRules {
+            entries: self.rules,
+            others: abi.as_slice(),
+            expressions: self.expressions,
+        }
+    }
+}
