@@ -1,18 +1,17 @@
 -- The caller by a row, and its registers, one after the other.
 use Rattle.std.proofs.Common.{◌≡◌, ℕ, suc, ◌+◌, ◌<◌, ◌≤◌, List, [], ◌∷◌, ◌++◌, length, map, refl, ap, sym, subst, ◌∙◌, arith, length-append}
-use Rattle.std.specs.Prelude.{All, Option, Some}
+use Rattle.std.specs.Prelude.{All, Option, Some, None}
 use Rattle.std.specs.List.{AllByRecursion}
 use Rattle.std.proofs.lemmas.List.{append_assoc, map-append}
 use Rattle.std.proofs.lemmas.List.Elements.{recursion_from_All}
-use Rattle.dw_bytes.specs.declared.target.Target.{Target}
-use Rattle.dw_frame.specs.Records.{Cie, Fde}
 use Rattle.dw_rows.specs.Abi.{Abi, or_rule, rule_under, rules_under}
 use Rattle.dw_rows.specs.Rules.{Rule, Cfa, Row, default, undefined, same_value, offset, val_offset, register, expression, val_expression}
-use Rattle.dw_rows.specs.Section.{FrameSection, IsCoverOf, cie_in, row_of}
+use Rattle.dw_rows.specs.Section.{FrameSection}
+use Rattle.dw_rows.specs.UnwindTables.{IsFoundAt}
 use Rattle.dw_stack.specs.declared.state.Kind.{Kind}
 use Rattle.dw_stack.specs.Located.{LocatedExpression}
 use Rattle.dw_eval.specs.World.{World}
-use Rattle.dw_check.specs.Caller.{Answer, Gives, IsCfa, IsRegister, AreRegisters, Caller, IsCaller, IsCallerAt, machine}
+use Rattle.dw_check.specs.Caller.{Answer, Gives, IsCfa, IsRegister, AreRegisters, Caller, IsCaller, Unwinds, UnwindsBy}
 
 -- as many as there are rules
 pub as_many : (e : World) (cfa : Answer) (rules : List (ℕ × Rule)) (answers : List (ℕ × Answer)) → AreRegisters e cfa rules answers
@@ -79,34 +78,33 @@ by_default e cfa r (register other) answer h = h
 by_default e cfa r (expression x) answer h = h
 by_default e cfa r (val_expression x) answer h = h
 
--- It is what is said of the row's rules, under the target of the section.
-pub by_row : (registers memory : ℕ → Option ℕ) (target : Target) (frame given : FrameSection) (address : ℕ) (fde : Fde) (cie : Cie)
-    (row : Row)
-    (rule : Cfa) (abi : Abi) (rules : List (ℕ × Rule)) (back : Rule) (cfa returned : Answer) (answers : List (ℕ × Answer)) → given ≡ frame
-    → target ≡ given.target → IsCoverOf given.fdes address (Some fde) → cie_in given fde ≡ Some cie → row_of given address ≡ Some row
-    → row.cfa ≡ Some rule → IsCfa (machine target registers memory) (Some rule) cfa → rules ≡ rules_under abi row.rules
-    → AreRegisters (machine target registers memory) cfa rules answers
-    → back ≡ or_rule (rule_under abi row.rules cie.return_address_register) undefined
-    → IsRegister (machine target registers memory) cfa cie.return_address_register back returned
-    → IsCallerAt (machine frame.target registers memory) abi frame address
-    (record { cfa = cfa; registers = answers; return_address = returned })
-by_row registers memory target frame given address fde cie row rule abi rules back cfa returned answers same of_target covers points found
-    cfa_is has_cfa rules_are has_registers back_is returns =
-    let e = machine target registers memory in
-    let caller : Caller = record { cfa = cfa; registers = answers; return_address = returned } in
-    let by_rules : IsCaller e abi cie.return_address_register row caller = record {
-      cfa = subst (λ c. IsCfa e c cfa) (sym cfa_is) has_cfa;
-      registers = subst (λ rs. AreRegisters e cfa rs answers) rules_are has_registers;
-      return_address = by_default e cfa cie.return_address_register (rule_under abi row.rules cie.return_address_register) returned
-          (subst (λ b. IsRegister e cfa cie.return_address_register b returned) back_is returns);
-    } in
-    let here : IsCallerAt (machine given.target registers memory) abi given address caller = record {
-      fde = fde;
-      covers = covers;
-      cie = cie;
-      cie_is = points;
-      row = row;
-      row_is = found;
-      is = subst (λ t. IsCaller (machine t registers memory) abi cie.return_address_register row caller) of_target by_rules;
-    } in
-    subst (λ f. IsCallerAt (machine f.target registers memory) abi f address caller) same here
+-- ---- by what is found
+
+pub unwinds-found : (e : World) (abi : Abi) (s : FrameSection) (address : ℕ) (found : Option (Row × ℕ)) (c : Option Caller)
+    → IsFoundAt s address found → UnwindsBy e abi found c → Unwinds e abi s address c
+unwinds-found e abi s address None None is by = is
+unwinds-found e abi s address None (Some caller) is by = absurd by
+unwinds-found e abi s address (Some found) None is by = absurd by
+unwinds-found e abi s address (Some found) (Some caller) is by =
+    let named = is.1 in record {
+      fde = named.0;
+      covers = named.2;
+      cie = named.1;
+      cie_is = named.3;
+      row = found.0;
+      row_is = is.0;
+      is = subst (λ (n : ℕ). IsCaller e abi n found.0 caller) (sym named.4) by;
+    }
+
+-- the caller by the rules of a row
+pub by_rules : (e : World) (abi : Abi) (number : ℕ) (row : Row) (rule : Cfa) (rules : List (ℕ × Rule)) (back : Rule)
+    (cfa returned : Answer) (answers : List (ℕ × Answer)) → row.cfa ≡ Some rule → IsCfa e (Some rule) cfa
+    → rules ≡ rules_under abi row.rules → AreRegisters e cfa rules answers
+    → back ≡ or_rule (rule_under abi row.rules number) undefined → IsRegister e cfa number back returned
+    → IsCaller e abi number row (record { cfa = cfa; registers = answers; return_address = returned })
+by_rules e abi number row rule rules back cfa returned answers cfa_is has_cfa rules_are has_registers back_is returns = record {
+  cfa = subst (λ c. IsCfa e c cfa) (sym cfa_is) has_cfa;
+  registers = subst (λ rs. AreRegisters e cfa rs answers) rules_are has_registers;
+  return_address = by_default e cfa number (rule_under abi row.rules number) returned
+      (subst (λ b. IsRegister e cfa number b returned) back_is returns);
+}

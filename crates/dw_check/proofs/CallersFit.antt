@@ -1,29 +1,24 @@
 -- The numbers of a caller are below 2^w, by what is said of checked sections and of runs.
-use Rattle.std.proofs.Common.{◌≡◌, ℕ, zero, suc, pos, negsuc, ◌+◌, ◌-◌, ◌^◌, ◌<◌, ◌≤◌, ◌==◌, Bool, true, false, cond, if◌then◌else◌, List}
-use Rattle.std.proofs.Common.{[], ◌∷◌, length, map, All, IfSome, Contains, refl, sym, subst, arith, inl, inr}
-use Rattle.std.specs.Prelude.{ℤ, Option, Some, None, find, nat_le, option_map}
+use Rattle.std.proofs.Common.{◌≡◌, ℕ, pos, negsuc, ◌+◌, ◌-◌, ◌^◌, ◌<◌, ◌≤◌, ◌==◌, Bool, true, false, if◌then◌else◌, List}
+use Rattle.std.proofs.Common.{[], ◌∷◌, length, All, IfSome, refl, sym, subst, arith, inl, inr}
+use Rattle.std.specs.Prelude.{ℤ, Option, Some, None, nat_le}
 use Rattle.std.specs.List.{AllByRecursion}
 use Rattle.std.proofs.lemmas.List.Elements.{All-from_recursion, recursion_from_All}
 use Rattle.std.proofs.lemmas.Nat.{pow_pos, mod_below}
-use Rattle.std.proofs.lemmas.Option.{option_and_then_some}
 use Rattle.dw_bytes.specs.declared.target.Target.{Target}
 use Rattle.dw_bytes.specs.declared.target.AddressSize.{AddressSize}
-use Rattle.dw_bytes.specs.declared.target.AddressSize.TheVariants.{Four, Eight}
 use Rattle.dw_bytes.specs.Encoding.{bytes_of_address}
 use Rattle.dw_stack.specs.declared.state.Kind.{Kind}
 use Rattle.dw_stack.specs.declared.state.Kind.TheVariants.{FrameCfa, FrameRegister, Location}
-use Rattle.dw_stack.specs.Expressions.{IsGoodExpression, operations_in}
+use Rattle.dw_stack.specs.Expressions.{operations_in}
 use Rattle.dw_stack.specs.Located.{LocatedExpression}
 use Rattle.dw_stack.specs.Machine.{Configuration, entry, EvaluationError, Unreadable, DivisionByZero, GivesResult, LocationDescription}
 use Rattle.dw_stack.specs.Machine.{Piece, Run}
 use Rattle.dw_stack.specs.Paths.{Placed}
 use Rattle.dw_rows.specs.Abi.{Abi, Role, unnamed, kept, stack_pointer, rule_of_role, or_rule, rule_under, rules_under}
-use Rattle.dw_rows.specs.Expressions.{expression_at}
-use Rattle.dw_rows.specs.GivenRows.{nowhere, or_nowhere, located_at, given_rule, given_cfa, given_rules, given_row}
-use Rattle.dw_rows.specs.Rules.{PlacedRule, PlacedCfa, PlacedRow, Rule, Cfa, Row, RuleOver, register_and_offset, cfa_expression, rule_in}
+use Rattle.dw_rows.specs.UnwindTables.{IsUnder, IsRuleUnder, IsCfaUnder, IsEntryUnder, IsRowUnder}
+use Rattle.dw_rows.specs.Rules.{Rule, Cfa, Row, RuleOver, register_and_offset, cfa_expression, rule_in}
 use Rattle.dw_rows.specs.Rules.{default, same_value, offset, val_offset, register, expression, val_expression}
-use Rattle.dw_rows.specs.Section.{FrameSection, IsChecked, cie_in, covers, rows_behind, rows_in, row_of}
-use Rattle.dw_rows.specs.UnwindRows.{has_address}
 use Rattle.dw_eval.specs.Fits.{NumbersFit}
 use Rattle.dw_eval.specs.Meaning.{meaning_of}
 use Rattle.dw_eval.specs.Numbers.{wrap, width_of}
@@ -31,7 +26,7 @@ use Rattle.dw_eval.specs.Results.{Outcome, outcome_of_location, no_answer, resul
 use Rattle.dw_eval.specs.World.{World, width, number_at}
 use Rattle.dw_check.specs.Caller.{Answer, value, undefined, unreadable, division_by_zero}
 use Rattle.dw_check.specs.Caller.{machine, with_cfa, under, number_plus, content_plus}
-use Rattle.dw_check.specs.Caller.{word, if_value, answer_of, Gives, IsCfa, NeedsCfa, IsRegister, AreRegisters, Caller, IsCaller, Unwinds}
+use Rattle.dw_check.specs.Caller.{word, if_value, answer_of, Gives, IsCfa, NeedsCfa, IsRegister, AreRegisters, Caller, IsCaller}
 use Rattle.dw_check.specs.CallerFits.{AnswerFits, CallerFits}
 
 -- ---- answers without a run
@@ -72,24 +67,6 @@ needs_fit m division_by_zero Is a each h = subst (AnswerFits m) (sym h) tt
 abbrev IsWithin : AddressSize → LocatedExpression → Type 0
 IsWithin size x = (n : ℕ) → n < 2 ^ width_of x.target.address_size → n < 2 ^ width_of size
 
-nowhere_within : (size : AddressSize) → IsWithin size nowhere
-nowhere_within Four n h = h
-nowhere_within Eight n h = omega (arith, h)
-
-abbrev EachWithin : AddressSize → List LocatedExpression → Type 0
-EachWithin size es = (x : LocatedExpression) → Contains es x → IsWithin size x
-
-found_within : (size : AddressSize) (at : ℕ) (es : List LocatedExpression) → EachWithin size es → IsWithin size (located_at es at)
-found_within size at [] each = nowhere_within size
-found_within size at (x ∷ es) each =
-    go (each x (zero, omega arith, refl)) (found_within size at es (λ y among. each y (suc among.0, omega (arith, among.1), among.2)))
-    (x.offset == at)
-  where
-    go : IsWithin size x → IsWithin size (located_at es at) → (b : Bool)
-        → IsWithin size (or_nowhere (cond b (Some x) (expression_at es at)))
-    go here later true = here
-    go here later false = later
-
 abbrev RuleWithin : AddressSize → Rule → Type 0
 RuleWithin size (expression x) = IsWithin size x
 RuleWithin size (val_expression x) = IsWithin size x
@@ -101,26 +78,6 @@ CfaWithin size _ = Unit {0}
 
 abbrev RulesWithin : AddressSize → List (ℕ × Rule) → Type 0
 RulesWithin size rules = AllByRecursion (λ (entry : ℕ × Rule). RuleWithin size entry.1) rules
-
-module _ (size : AddressSize) (es : List LocatedExpression) (each : EachWithin size es) where
-  rule_within : (x : PlacedRule) → RuleWithin size (given_rule es x)
-  rule_within (expression at) = found_within size at es each
-  rule_within (val_expression at) = found_within size at es each
-  rule_within default = tt
-  rule_within RuleOver.undefined = tt
-  rule_within same_value = tt
-  rule_within (offset n) = tt
-  rule_within (val_offset n) = tt
-  rule_within (register r) = tt
-
-  cfa_within : (o : Option PlacedCfa) → CfaWithin size (option_map (given_cfa es) o)
-  cfa_within None = tt
-  cfa_within (Some (register_and_offset r n)) = tt
-  cfa_within (Some (cfa_expression at)) = found_within size at es each
-
-  rules_within : (rules : List (ℕ × PlacedRule)) → RulesWithin size (given_rules es rules)
-  rules_within [] = tt
-  rules_within (x ∷ rules) = (rule_within x.1, rules_within rules)
 
 if_within : (size : AddressSize) (b : Bool) (x y : Rule) → RuleWithin size x → RuleWithin size y → RuleWithin size (if b then x else y)
 if_within size true x y h k = h
@@ -146,23 +103,6 @@ or_within size (val_expression x) role h = h
 one_under : (size : AddressSize) (abi : Abi) (rules : List (ℕ × Rule)) (r : ℕ) → RulesWithin size rules
     → RuleWithin size (rule_under abi rules r)
 one_under size abi rules r h = or_within size (rule_in rules r) (abi r) (one_within size rules r h)
-
--- ---- the row of an address is made of a placed one
-
-found_among : (es : List LocatedExpression) (test : Row → Bool) (rows : List PlacedRow) (row : Row)
-    → find test (map (given_row es) rows) ≡ Some row → (x : PlacedRow) × (given_row es x ≡ row)
-found_among es test [] row is = absurd (cc)
-found_among es test (x ∷ rows) row is = go (found_among es test rows row) (test (given_row es x)) is
-  where
-    go : (find test (map (given_row es) rows) ≡ Some row → (y : PlacedRow) × (given_row es y ≡ row)) → (b : Bool)
-        → cond b (Some (given_row es x)) (find test (map (given_row es) rows)) ≡ Some row → (y : PlacedRow) × (given_row es y ≡ row)
-    go later true e = let same : given_row es x ≡ row = cc in (x, same)
-    go later false e = later e
-
-row_is_with : (s : FrameSection) (a : ℕ) (row : Row) → row_of s a ≡ Some row → (x : PlacedRow) × (given_row s.expressions x ≡ row)
-row_is_with s a row is =
-    option_and_then_some (λ f. find (has_address a) (rows_in s f)) (find (covers a) s.fdes) row is
-    (λ f found here. found_among s.expressions (has_address a) (rows_behind (cie_in s f) f) row here)
 
 -- ---- runs
 
@@ -270,24 +210,33 @@ module _ (each : (abi : Abi) (rules : List (ℕ × Rule)) → All (λ entry. ent
           (one_under e.target.address_size abi row.rules back rules) is.return_address;
     }
 
-  -- ---- the caller at an address
+  -- ---- the caller by a row under the target
 
-  module _ (good : (s : FrameSection) → IsChecked s → (x : LocatedExpression) → Contains s.expressions x
-      → IsGoodExpression x.kind x.target x.bytes × (x.target ≡ s.target) × (x.offset + length x.bytes ≤ length s.section)) where
-    each_within : (s : FrameSection) → IsChecked s → EachWithin s.target.address_size s.expressions
-    each_within s checked x among n h =
-        subst (λ (t : Target). n < 2 ^ width_of t.address_size) (good s checked x among).1 h
+  pub row_caller_fits : (target : Target) (registers memory : ℕ → Option ℕ) (abi : Abi) (back : ℕ) (row : Row) (c : Caller)
+      → IsRowUnder target row → IsCaller (machine target registers memory) abi back row c
+      → CallerFits (2 ^ width_of target.address_size) c
+  row_caller_fits target registers memory abi back row c h is =
+      caller_fits (machine target registers memory) abi back row c (cfa_of row.cfa h.cfa)
+      (rules_of row.rules (recursion_from_All (IsEntryUnder target) row.rules h.rules)) is
+    where
+      within : (x : LocatedExpression) → IsUnder target x → IsWithin target.address_size x
+      within x under n lt = subst (λ (t : Target). n < 2 ^ width_of t.address_size) under lt
 
-    pub unwound_fits : (s : FrameSection) → IsChecked s → (registers memory : ℕ → Option ℕ) (abi : Abi) (address : ℕ) (c : Option Caller)
-        → Unwinds (machine s.target registers memory) abi s address c → IfSome c (CallerFits (2 ^ width_of s.target.address_size))
-    unwound_fits s checked registers memory abi address None h = tt
-    unwound_fits s checked registers memory abi address (Some c) h =
-        let e = machine s.target registers memory in
-        let size = s.target.address_size in
-        let placed = row_is_with s address h.row h.row_is in
-        let each = each_within s checked in
-        let cfa : CfaWithin size h.row.cfa =
-        subst (λ (row : Row). CfaWithin size row.cfa) placed.1 (cfa_within size s.expressions each placed.0.cfa) in
-        let rules : RulesWithin size h.row.rules =
-        subst (λ (row : Row). RulesWithin size row.rules) placed.1 (rules_within size s.expressions each placed.0.rules) in
-        caller_fits e abi h.cie.return_address_register h.row c cfa rules h.is
+      rule_of : (x : Rule) → IsRuleUnder target x → RuleWithin target.address_size x
+      rule_of (expression x) under = within x under
+      rule_of (val_expression x) under = within x under
+      rule_of default under = tt
+      rule_of RuleOver.undefined under = tt
+      rule_of same_value under = tt
+      rule_of (offset n) under = tt
+      rule_of (val_offset n) under = tt
+      rule_of (register r) under = tt
+
+      cfa_of : (o : Option Cfa) → IfSome o (IsCfaUnder target) → CfaWithin target.address_size o
+      cfa_of None under = tt
+      cfa_of (Some (register_and_offset r n)) under = tt
+      cfa_of (Some (cfa_expression x)) under = within x under
+
+      rules_of : (rules : List (ℕ × Rule)) → AllByRecursion (IsEntryUnder target) rules → RulesWithin target.address_size rules
+      rules_of [] under = tt
+      rules_of (entry ∷ rules) under = (rule_of entry.1 under.0, rules_of rules under.1)

@@ -1,5 +1,5 @@
 -- A request has a reply.
-use Rattle.std.proofs.Common.{◌≡◌, ℕ, ◌^◌, ◌<◌, Bool, true, false, List, [], length, Option, Some, None, Result, Ok, Err, refl, nat_lt}
+use Rattle.std.proofs.Common.{◌≡◌, ℕ, ◌^◌, ◌<◌, Bool, true, false, List, length, Option, Some, None, Result, Ok, Err, refl, nat_lt}
 use Rattle.std.proofs.Common.{arith}
 use Rattle.std.proofs.lemmas.Bool.Decides.{nat_tests}
 use Rattle.dw_bytes.specs.declared.target.Target.{Target}
@@ -11,7 +11,7 @@ use Rattle.dw_stack.proofs.Named.{good_if_none}
 use Rattle.dw_check.specs.Checked.{too_long}
 use Rattle.dw_check.specs.Requests.{Asked}
 use Rattle.dw_check.specs.StateFile.{StateFact, first_that, content_in, byte_in}
-use Rattle.dw_check.specs.Runs.{Reply, text, refusal, not_hex, bad_line, frame_reply, IsOutcome, OfSection, OfState, OfChecked}
+use Rattle.dw_check.specs.Runs.{Reply, text, refusal, not_hex, bad_line, frame_reply, IsOutcome, OfSection, OfState, OfChecked, OfFrameSection}
 use Rattle.dw_check.specs.Runs.{OfFrame, OfFrameAndState, ShowsCaller, ShowsWalk, abi_given, machine_of, IsFound, IsCheckReply, IsLocsReply}
 use Rattle.dw_check.specs.Runs.{IsEvalReply, IsReplyTo, IsReply}
 use Rattle.dw_check.specs.Text.{frame_text, lookup_text}
@@ -21,7 +21,7 @@ use Rattle.dw_loclists.specs.Reading.{ListSection, IsChecked}
 use Rattle.dw_rows.specs.Section.{FrameSection, frame_of}
 use Rattle.dw_eval.specs.World.{World}
 use Rattle.dw_rows.specs.Abi.{Abi}
-use Rattle.dw_check.specs.Walks.{Surroundings, Place, WalkedFrame, Walks, first_place}
+use Rattle.dw_check.specs.Walks.{Place, WalkedFrame, Walks, first_place, over_section}
 use Rattle.dw_check.specs.WalkText.{walk_text}
 use Rattle.dw_check.specs.declared.frames.Stop.{Stop}
 use Rattle.dw_check.specs.Caller.{Caller, Unwinds}
@@ -35,6 +35,7 @@ use Rattle.dw_check.specs.declared.requests.Task.TheVariants.{Check, Rows, Row, 
 use Rattle.dw_check.proofs.Evaluated.{each_text, refused_short, refused_long}
 use Rattle.dw_check.proofs.Found.{each_found}
 use Rattle.dw_check.proofs.BothSections.{each_of_checked}
+use Rattle.dw_check.proofs.Sections.{each_of_frame_section}
 
 module _ (kind : Kind) (target : Target) (bytes : List ℕ) (gs : List StateFact) where
   good_outcome : length bytes < 2 ^ 32 → IsGoodExpression kind target bytes → (r : Reply) × IsOutcome kind target bytes gs r
@@ -95,22 +96,20 @@ EachUnwinding = (e : World) (abi : Abi) (frame : FrameSection) (address : ℕ) �
 
 -- and of walks
 abbrev EachWalk : Type 0
-EachWalk = (s : Surroundings) (first : Place) (limit : ℕ) → rows.IsChecked s.frame
-    → (xs : List WalkedFrame) × (stop : Stop) × Walks s first limit xs stop
+EachWalk = (frame : FrameSection) (abi : Abi) (memory : ℕ → Option ℕ) (first : Place) (limit : ℕ) → rows.IsChecked frame
+    → (xs : List WalkedFrame) × (stop : Stop) × Walks (over_section frame abi memory) first limit xs stop
 
 -- of a section that is checked, and of what a state file gives, there is a text
-abbrev EachShown : (List StateFact → FrameSection → ListSection → List ℕ → Type 0) → Type 0
-EachShown Shows = (gs : List StateFact) (frame : FrameSection) (lists : ListSection) → rows.IsChecked frame
-    → (t : List ℕ) × Shows gs frame lists t
+abbrev EachShown : (List StateFact → FrameSection → List ℕ → Type 0) → Type 0
+EachShown Shows = (gs : List StateFact) (frame : FrameSection) → rows.IsChecked frame → (t : List ℕ) × Shows gs frame t
 
-each_of_frame_and_state : (Shows : List StateFact → FrameSection → ListSection → List ℕ → Type 0) → EachShown Shows
+each_of_frame_and_state : (Shows : List StateFact → FrameSection → List ℕ → Type 0) → EachShown Shows
     → (target : Target) (hex : Bool) (files : List (List ℕ)) → (r : Reply) × OfFrameAndState Shows target hex files r
 each_of_frame_and_state Shows each target hex files =
     each_of_section 0 (section_bytes hex (slice_get files 0))
-    (λ section. OfState (state_facts target (slice_get files 1)) (λ gs. OfChecked target section [] (Shows gs)))
-    (λ section. each_of_state (state_facts target (slice_get files 1)) (λ gs. OfChecked target section [] (Shows gs))
-    (λ gs. each_of_checked target section [] (Shows gs)
-    (λ checked. each gs (frame_of target section) (record { target = target; section = [] }) checked.0)))
+    (λ section. OfState (state_facts target (slice_get files 1)) (λ gs. OfFrameSection target section (Shows gs)))
+    (λ section. each_of_state (state_facts target (slice_get files 1)) (λ gs. OfFrameSection target section (Shows gs))
+    (λ gs. each_of_frame_section target section (Shows gs) (each gs (frame_of target section))))
 
 module _ (report : EachReport) (unwinding : EachUnwinding) (walk : EachWalk) where
   each_check : (target : Target) (hex : Bool) (files : List (List ℕ)) → (r : Reply) × IsCheckReply target hex files r
@@ -122,13 +121,13 @@ module _ (report : EachReport) (unwinding : EachUnwinding) (walk : EachWalk) whe
       (λ checked. report (frame_of target frame) (record { target = target; section = lists }) checked.0 checked.1)))
 
   each_caller : (address : ℕ) → EachShown (ShowsCaller address)
-  each_caller address gs frame lists checked =
+  each_caller address gs frame checked =
       let found = unwinding (machine_of frame.target gs) (abi_given gs) frame address checked in
       (caller_text frame.target.address_size found.0, (found.0, found.1, refl))
 
   each_walk : (address limit : ℕ) → EachShown (ShowsWalk address limit)
-  each_walk address limit gs frame lists checked =
-      let found = walk (record { frame = frame; abi = abi_given gs; memory = λ a. first_that (byte_in a) gs })
+  each_walk address limit gs frame checked =
+      let found = walk frame (abi_given gs) (λ a. first_that (byte_in a) gs)
       (first_place address (λ n. first_that (content_in n) gs)) limit checked in
       (walk_text frame.target.address_size found.0 found.1, (found.0, found.1, found.2, refl))
 

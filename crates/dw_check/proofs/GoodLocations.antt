@@ -1,24 +1,25 @@
 -- What a list of an accepted section gives is read under the section's target, is shorter than the section, and is good.
 use Rattle.std.proofs.Common.{◌≡◌, ℕ, ◌+◌, ◌^◌, ◌<◌, Bool, true, false, cond, List, [], ◌∷◌, ◌++◌, length, Contains, Option, Some, None}
 use Rattle.std.proofs.Common.{refl, sym, ap, subst, ◌∙◌, arith}
-use Rattle.std.specs.Prelude.{◌==◌, map}
+use Rattle.std.specs.Prelude.{◌==◌, map, filter_map}
 use Rattle.std.specs.List.{AllByRecursion, cons_option}
-use Rattle.std.proofs.lemmas.List.{length-append}
+use Rattle.std.proofs.lemmas.List.{length-append, map-append}
+use Rattle.std.proofs.lemmas.List.Elements.{filter_map-append}
 use Rattle.dw_bytes.specs.declared.target.Target.{Target}
 use Rattle.dw_bytes.specs.Operands.{OperandKind, unsigned, block, Block, Operands, Line, line, none, one, AreOperands}
 use Rattle.dw_bytes.specs.Operands as operands
 use Rattle.dw_bytes.specs.Sequence.{Sequence}
 use Rattle.dw_loclists.specs.Entries.{Entry, end_of_list, offset_pair, default_location, base_address, start_end, start_length}
 use Rattle.dw_loclists.specs.Entries.{entry_line, IsEntry, is_default, expression_in, IsGoodLocation}
+use Rattle.dw_loclists.specs.Bounds.{AllWithin}
 use Rattle.dw_loclists.specs.Lists.{Loclist}
 use Rattle.dw_loclists.specs.Locations.{location_of, expressions_of, base_after, holds, held_by, bounded_at, default_of, defaults_in}
 use Rattle.dw_loclists.specs.Locations.{or_else_all, locations_of}
 use Rattle.dw_stack.specs.Located.{LocatedExpression}
 use Rattle.dw_loclists.specs.Reading.{ListSection, IsChecked, tables_in, lists_in}
 use Rattle.dw_loclists.proofs.Checked.{checked-tables}
-use Rattle.dw_loclists.proofs.EachEntry.{AllWithin, entry-within}
+use Rattle.dw_loclists.proofs.EachEntry.{entry-within}
 use Rattle.dw_loclists.proofs.Located.{among-tables}
-use Rattle.dw_loclists.proofs.Order.{entries-front, located-of}
 use Rattle.dw_check.specs.Lookups.{IsShowable}
 
 -- ---- the target of an entry's expression
@@ -84,6 +85,15 @@ AllShowable target xs = AllByRecursion (IsShowable target.address_size) xs
 both : (target : Target) (xs ys : List LocatedExpression) → AllShowable target xs → AllShowable target ys → AllShowable target (xs ++ ys)
 both target [] ys h k = k
 both target (x ∷ xs) ys h k = (h.0, both target xs ys h.1 k)
+
+-- the expression of an entry, placed, if it has one
+abbrev located-of : Option Block → List LocatedExpression
+located-of None = []
+located-of (Some b) = location_of b ∷ []
+
+entries-front : (e : Entry) (es : List Entry) → expressions_of (e ∷ es) ≡ expressions_of (e ∷ []) ++ expressions_of es
+entries-front e es = ap (map location_of) (filter_map-append expression_in (e ∷ []) es)
+    ∙ map-append location_of (filter_map expression_in (e ∷ [])) (filter_map expression_in es)
 
 expressions-as : (e : Entry) → expressions_of (e ∷ []) ≡ located-of (expression_in e)
 expressions-as e = from (expression_in e)

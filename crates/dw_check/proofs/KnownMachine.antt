@@ -5,7 +5,7 @@ use Rattle.dw_bytes.specs.declared.target.Target.{Target}
 use Rattle.dw_check.specs.Caller.{machine}
 use Rattle.dw_rows.specs.Abi.{Abi, abi_of}
 use Rattle.dw_rows.specs.Section.{FrameSection}
-use Rattle.dw_check.specs.Walks.{WalkedFrame, Walks, first_place}
+use Rattle.dw_check.specs.Walks.{WalkedFrame, Walks, first_place, over_section}
 use Rattle.dw_check.specs.declared.frames.Stop.{Stop}
 use Rattle.dw_check.specs.Runs.{machine_of, abi_given}
 use Rattle.dw_check.specs.StateFile.{StateFact, KnownState, IsGivenBy, first_that, content_in, byte_in}
@@ -24,16 +24,14 @@ same_abi k gs is = rw (is.kept, is.stack_pointer) refl
 pub same_walk : (frame : FrameSection) (abi : Abi) (k : KnownState) (gs : List StateFact) (address limit : ℕ) (frames : List WalkedFrame)
     (stop : Stop)
     → IsGivenBy k gs → abi ≡ abi_of k.kept k.stack_pointer
-    → Walks (record { frame = frame; abi = abi; memory = k.memory }) (first_place address k.registers) limit frames stop
-    → Walks (record { frame = frame; abi = abi_given gs; memory = λ a. first_that (byte_in a) gs })
+    → Walks (over_section frame abi k.memory) (first_place address k.registers) limit frames stop
+    → Walks (over_section frame (abi_given gs) (λ a. first_that (byte_in a) gs))
     (first_place address (λ n. first_that (content_in n) gs)) limit frames stop
 same_walk frame abi k gs address limit frames stop is of_abi walks =
     let registers : k.registers ≡ (λ n. first_that (content_in n) gs) = fun_ext is.registers in
     let memory : k.memory ≡ (λ a. first_that (byte_in a) gs) = fun_ext is.memory in
     let given : abi ≡ abi_given gs = of_abi ∙ same_abi k gs is in
-    subst (λ r. Walks (record { frame = frame; abi = abi_given gs; memory = λ a. first_that (byte_in a) gs }) (first_place address r) limit
-    frames stop) registers
-    (subst (λ m. Walks (record { frame = frame; abi = abi_given gs; memory = m })
-    (first_place address k.registers) limit frames stop) memory
-    (subst (λ (a : Abi). Walks (record { frame = frame; abi = a; memory = k.memory }) (first_place address k.registers) limit frames stop)
-    given walks))
+    subst (λ r. Walks (over_section frame (abi_given gs) (λ a. first_that (byte_in a) gs)) (first_place address r) limit frames stop)
+    registers
+    (subst (λ m. Walks (over_section frame (abi_given gs) m) (first_place address k.registers) limit frames stop) memory
+    (subst (λ (a : Abi). Walks (over_section frame a k.memory) (first_place address k.registers) limit frames stop) given walks))

@@ -23,3 +23,11 @@ short_fault bytes own h = ap (λ (l : Option Fault). option_or l own) (short_len
 -- of a long one that of its length
 pub long_fault : (bytes : List ℕ) (own : Option Fault) → 2 ^ 32 ≤ length bytes → option_or (length_fault bytes) own ≡ Some too_long
 long_fault bytes own h = ap (λ (l : Option Fault). option_or l own) (long_length bytes h)
+
+-- where neither refuses, its bytes have no fault
+pub no_fault : (bytes : List ℕ) (own : Option Fault) → option_or (length_fault bytes) own ≡ None → own ≡ None
+no_fault bytes own = by (length_fault bytes)
+  where
+    by : (l : Option Fault) → option_or l own ≡ None → own ≡ None
+    by None h = h
+    by (Some fault) h = absurd (cc)

@@ -18,7 +18,6 @@ pub mod Loading
 pub mod LongFiles
 pub mod OneCaller
 pub mod OneReply
-pub mod Padded
 pub mod Digits
 pub mod Replies
 pub mod Reported
@@ -35,3 +34,4 @@ pub mod WholeCheck
 pub mod Writing
 mod Walking
 mod OneWalk
+mod WalksOver

@@ -15,7 +15,8 @@ use Rattle.dw_check.specs.LongFiles.{needed_parts}
 use Rattle.dw_check.specs.Report.{IsReport}
 use Rattle.dw_check.specs.StateFile.{StateFact}
 use Rattle.dw_check.specs.Runs.{Reply, text, refusal, not_hex, bad_line, frame_reply, text_unless}
-use Rattle.dw_check.specs.Runs.{ShowsCaller, ShowsWalk, OfFrameAndState, IsOutcome, IsFound, OfChecked, OfState, IsReplyTo}
+use Rattle.dw_check.specs.Runs.{ShowsCaller, ShowsWalk, OfFrameAndState, IsOutcome, IsFound, OfChecked, OfFrameSection, OfState}
+use Rattle.dw_check.specs.Runs.{IsReplyTo}
 use Rattle.dw_check.specs.Text.{frame_text, lookup_text}
 use Rattle.dw_check.specs.declared.requests.ListLookup.{ListLookup}
 use Rattle.dw_check.specs.declared.requests.Task.{Task}
@@ -140,12 +141,26 @@ abbrev Moves : Task → Target → List (List ℕ) → List (List ℕ) → Type 
 Moves task target files others = (r : Reply) → IsReplyTo task target false files r → IsReplyTo task target false others r
 
 -- a section that is alike, beside a state
-with_state_alike : (Shows : List StateFact → FrameSection → ListSection → List ℕ → Type 0) (target : Target) (xs ys : List ℕ)
+frame_section_alike : (target : Target) (xs ys : List ℕ) (Shows : FrameSection → List ℕ → Type 0) → Alike xs ys → (r : Reply)
+    → OfFrameSection target xs Shows r → OfFrameSection target ys Shows r
+frame_section_alike target xs ys Shows (inl same) r h = subst (λ (b : List ℕ). OfFrameSection target b Shows r) same h
+frame_section_alike target xs ys Shows (inr long) (text w) h =
+    let both : None ≡ Some too_long = sym h.0 ∙ long_fault xs (section_fault target xs) long.0 in
+    cc
+frame_section_alike target xs ys Shows (inr long) (refusal s f) h = (
+  h.0,
+  long_fault ys (section_fault target ys) long.1
+      ∙ sym (long_fault xs (section_fault target xs) long.0) ∙ h.1,
+)
+frame_section_alike target xs ys Shows (inr long) (not_hex n) h = absurd h
+frame_section_alike target xs ys Shows (inr long) (bad_line n) h = absurd h
+
+with_state_alike : (Shows : List StateFact → FrameSection → List ℕ → Type 0) (target : Target) (xs ys : List ℕ)
     (more : List (List ℕ)) → Alike xs ys → (r : Reply) → OfFrameAndState Shows target false (xs ∷ more) r
     → OfFrameAndState Shows target false (ys ∷ more) r
 with_state_alike Shows target xs ys more alike r h =
-    state_alike _ (λ gs. OfChecked target xs [] (Shows gs)) (λ gs. OfChecked target ys [] (Shows gs))
-    (λ gs s k. first_alike target xs ys [] (Shows gs) alike s k) r h
+    state_alike _ (λ gs. OfFrameSection target xs (Shows gs)) (λ gs. OfFrameSection target ys (Shows gs))
+    (λ gs s k. frame_section_alike target xs ys (Shows gs) alike s k) r h
 
 -- a file that is alike, before the same files
 one_alike : (task : Task) (target : Target) (xs ys : List ℕ) (more : List (List ℕ)) → Alike xs ys

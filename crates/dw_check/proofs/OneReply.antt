@@ -1,5 +1,5 @@
 -- A request has one reply.
-use Rattle.std.proofs.Common.{◌≡◌, ℕ, List, [], Option, Some, None, Result, Ok, Err, ap, sym, ◌∙◌}
+use Rattle.std.proofs.Common.{◌≡◌, ℕ, List, Option, Some, None, Result, Ok, Err, ap, sym, ◌∙◌}
 use Rattle.dw_bytes.specs.declared.target.Target.{Target}
 use Rattle.dw_bytes.specs.declared.fault.Fault.{Fault}
 use Rattle.dw_stack.specs.declared.state.Kind.{Kind}
@@ -9,7 +9,7 @@ use Rattle.dw_check.specs.Requests.{Asked}
 use Rattle.dw_check.specs.StateFile.{StateFact}
 use Rattle.dw_check.specs.Evaluations.{Evaluates}
 use Rattle.dw_check.specs.Runs.{Reply, text, refusal, not_hex, bad_line, frame_reply, expression_refusal, IsOutcome, OfSection, OfState}
-use Rattle.dw_check.specs.Runs.{OfChecked, OfFrame, OfFrameAndState, ShowsCaller, ShowsWalk, abi_given, machine_of, IsFound, IsCheckReply}
+use Rattle.dw_check.specs.Runs.{OfChecked, OfFrameSection, OfFrame, OfFrameAndState, ShowsCaller, ShowsWalk, abi_given, machine_of, IsFound, IsCheckReply}
 use Rattle.dw_check.specs.Runs.{IsLocsReply, IsEvalReply, IsReplyTo, IsReply}
 use Rattle.dw_check.specs.Text.{frame_text, lookup_text}
 use Rattle.dw_check.specs.Files.{section_bytes, state_facts}
@@ -19,7 +19,7 @@ use Rattle.dw_rows.specs.Section.{FrameSection, frame_of}
 use Rattle.dw_rows.specs.Section as rows
 use Rattle.dw_eval.specs.World.{World}
 use Rattle.dw_rows.specs.Abi.{Abi}
-use Rattle.dw_check.specs.Walks.{Surroundings, Place, WalkedFrame, Walks}
+use Rattle.dw_check.specs.Walks.{Place, WalkedFrame, Walks, over_section}
 use Rattle.dw_check.specs.WalkText.{walk_text}
 use Rattle.dw_check.specs.declared.frames.Stop.{Stop}
 use Rattle.dw_check.specs.Caller.{Caller, Unwinds}
@@ -32,7 +32,7 @@ use Rattle.dw_check.proofs.Evaluated.{same_text}
 use Rattle.dw_check.proofs.Lengths.{short_fault}
 use Rattle.dw_check.proofs.Found.{one_found}
 use Rattle.dw_check.proofs.BothSections.{one_of_checked}
-use Rattle.dw_check.proofs.Sections.{OneShown}
+use Rattle.dw_check.proofs.Sections.{OneShown, one_of_frame_section}
 
 not_both : (kind : Kind) (target : Target) (bytes : List ℕ) (gs : List StateFact) (a : List ℕ) (f : Fault)
     → Evaluates kind target bytes gs a → expression_refusal kind target bytes ≡ Some f → ⊥
@@ -102,31 +102,31 @@ OneCaller = (e : World) (abi : Abi) (frame : FrameSection) (address : ℕ) (c d 
 
 -- and of walks
 abbrev pub OneWalk : Type 0
-OneWalk = (s : Surroundings) (first : Place) (limit : ℕ) (xs ys : List WalkedFrame) (a b : Stop) → rows.IsChecked s.frame
-    → Walks s first limit xs a → Walks s first limit ys b → (xs ≡ ys) × (a ≡ b)
+OneWalk = (frame : FrameSection) (abi : Abi) (memory : ℕ → Option ℕ) (first : Place) (limit : ℕ) (xs ys : List WalkedFrame) (a b : Stop)
+    → rows.IsChecked frame → Walks (over_section frame abi memory) first limit xs a
+    → Walks (over_section frame abi memory) first limit ys b → (xs ≡ ys) × (a ≡ b)
 
 pub one_caller_shown : OneCaller → (address : ℕ) → OneShown (ShowsCaller address)
-one_caller_shown caller address gs frame lists checked s t (c, h, is) (d, k, same) =
+one_caller_shown caller address gs frame checked s t (c, h, is) (d, k, same) =
     is
     ∙ ap (caller_text frame.target.address_size) (caller (machine_of frame.target gs) (abi_given gs) frame address c d checked h k)
     ∙ sym same
 
 pub one_walk_shown : OneWalk → (address limit : ℕ) → OneShown (ShowsWalk address limit)
-one_walk_shown walk address limit gs frame lists checked s t (xs, a, h, is) (ys, b, k, same) =
-    let one = walk _ _ limit xs ys a b checked h k in
+one_walk_shown walk address limit gs frame checked s t (xs, a, h, is) (ys, b, k, same) =
+    let one = walk _ _ _ _ limit xs ys a b checked h k in
     is
     ∙ ap (λ l. walk_text frame.target.address_size l a) one.0 ∙ ap (walk_text frame.target.address_size ys) one.1
     ∙ sym same
 
-one_of_frame_and_state : (Shows : List StateFact → FrameSection → ListSection → List ℕ → Type 0) → OneShown Shows
+one_of_frame_and_state : (Shows : List StateFact → FrameSection → List ℕ → Type 0) → OneShown Shows
     → (target : Target) (hex : Bool) (files : List (List ℕ)) (r s : Reply)
     → OfFrameAndState Shows target hex files r → OfFrameAndState Shows target hex files s → r ≡ s
 one_of_frame_and_state Shows one target hex files r s h k =
     one_of_section 0 (section_bytes hex (slice_get files 0))
-    (λ section. OfState (state_facts target (slice_get files 1)) (λ gs. OfChecked target section [] (Shows gs)))
-    (λ section. one_of_state (state_facts target (slice_get files 1)) (λ gs. OfChecked target section [] (Shows gs))
-    (λ gs. one_of_checked target section [] (Shows gs)
-    (λ checked. one gs (frame_of target section) (record { target = target; section = [] }) checked.0))) r s h k
+    (λ section. OfState (state_facts target (slice_get files 1)) (λ gs. OfFrameSection target section (Shows gs)))
+    (λ section. one_of_state (state_facts target (slice_get files 1)) (λ gs. OfFrameSection target section (Shows gs))
+    (λ gs. one_of_frame_section target section (Shows gs) (one gs (frame_of target section)))) r s h k
 
 module _ (report : OneReport) (caller : OneCaller) (walk : OneWalk) where
   one_check : (target : Target) (hex : Bool) (files : List (List ℕ)) (r s : Reply) → IsCheckReply target hex files r

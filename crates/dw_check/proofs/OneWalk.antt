@@ -5,10 +5,10 @@ use Rattle.std.proofs.lemmas.Bool.{cases_lt}
 use Rattle.std.proofs.lemmas.Bool.Decides.{nat_tests}
 use Rattle.std.proofs.lemmas.List.{take_all, length-take-le}
 use Rattle.std.specs.Prelude.{◌⊎◌, if◌then◌else◌, option_map}
-use Rattle.dw_check.specs.Caller.{Answer, value, undefined, unreadable, division_by_zero, Caller, Unwinds, machine}
+use Rattle.dw_check.specs.Caller.{Answer, value, undefined, unreadable, division_by_zero, Caller}
 use Rattle.dw_check.specs.declared.frames.Stop.{Stop}
 use Rattle.dw_check.specs.declared.frames.Stop.TheVariants.{Limit, NotCovered, ReturnUndefined, ReturnUnreadable, ReturnDivisionByZero}
-use Rattle.dw_check.specs.Walks.{Surroundings, Place, WalkedFrame, AreFrames, IsFrameAt, UnwindsAt, Walks, next_place, place_of_caller}
+use Rattle.dw_check.specs.Walks.{Unwinder, Place, WalkedFrame, AreFrames, IsFrameAt, UnwindsAt, Walks, next_place, place_of_caller}
 use Rattle.dw_check.specs.Walks.{content_of, stop_of_return, stop_of_caller, stop_behind}
 
 -- ---- where frames end
@@ -66,10 +66,10 @@ some_end (Some caller) is = go caller.return_address is
 
 -- ---- one
 
-module _ (s : Surroundings)
-    (one : (registers : ℕ → Option ℕ) (a : ℕ) (c d : Option Caller) → Unwinds (machine s.frame.target registers s.memory) s.abi s.frame a c
-    → Unwinds (machine s.frame.target registers s.memory) s.abi s.frame a d → c ≡ d) where
-  one_caller_at : (registers : ℕ → Option ℕ) (o : Option ℕ) (c d : Option Caller) → UnwindsAt s registers o c → UnwindsAt s registers o d
+module _ (u : Unwinder)
+    (one : (registers : ℕ → Option ℕ) (a : ℕ) (c d : Option Caller) → u registers a c
+    → u registers a d → c ≡ d) where
+  one_caller_at : (registers : ℕ → Option ℕ) (o : Option ℕ) (c d : Option Caller) → UnwindsAt u registers o c → UnwindsAt u registers o d
       → c ≡ d
   one_caller_at registers None c d g h = g ∙ sym h
   one_caller_at registers (Some a) c d g h = one registers a c d g h
@@ -78,34 +78,34 @@ module _ (s : Surroundings)
       → ◌≡◌ {A = WalkedFrame} (record { address = a; caller = c }) (record { address = b; caller = d })
   made a b c d x y = rw (x, y) refl
 
-  one_frame_at : (p : Place) (f g : WalkedFrame) → IsFrameAt s p f → IsFrameAt s p g → f ≡ g
+  one_frame_at : (p : Place) (f g : WalkedFrame) → IsFrameAt u p f → IsFrameAt u p g → f ≡ g
   one_frame_at p f g h k =
       made f.address g.address f.caller g.caller (h.0 ∙ sym k.0) (one_caller_at p.registers p.looked_up f.caller g.caller h.1 k.1)
 
-  one_behind : (n : ℕ) (c : Option Caller) (xs ys : List WalkedFrame) → AreFrames s (next_place c) xs → AreFrames s (next_place c) ys
+  one_behind : (n : ℕ) (c : Option Caller) (xs ys : List WalkedFrame) → AreFrames u (next_place c) xs → AreFrames u (next_place c) ys
       → Ended n c xs → Ended n c ys → xs ≡ ys
   unfolding Ended
   one_behind n c [] [] g h e k = refl
   one_behind zero c [] (y ∷ ys) g h e k = absurd k
   one_behind (suc n) c [] (y ∷ ys) g h (inl none) k = absurd (omega (arith, none))
-  one_behind (suc n) c [] (y ∷ ys) g h (inr (stop, is)) k = absurd (subst (λ p. AreFrames s p (y ∷ ys)) (no_place c stop is) h)
+  one_behind (suc n) c [] (y ∷ ys) g h (inr (stop, is)) k = absurd (subst (λ p. AreFrames u p (y ∷ ys)) (no_place c stop is) h)
   one_behind zero c (x ∷ xs) ys g h e k = absurd e
   one_behind (suc n) c (x ∷ xs) [] g h e (inl none) = absurd (omega (arith, none))
-  one_behind (suc n) c (x ∷ xs) [] g h e (inr (stop, is)) = absurd (subst (λ p. AreFrames s p (x ∷ xs)) (no_place c stop is) g)
+  one_behind (suc n) c (x ∷ xs) [] g h e (inr (stop, is)) = absurd (subst (λ p. AreFrames u p (x ∷ xs)) (no_place c stop is) g)
   one_behind (suc n) c (x ∷ xs) (y ∷ ys) g h e k = go (one_behind n y.caller xs ys) (next_place c) g h
     where
-      go : (AreFrames s (next_place y.caller) xs → AreFrames s (next_place y.caller) ys
+      go : (AreFrames u (next_place y.caller) xs → AreFrames u (next_place y.caller) ys
           → Ended n y.caller xs → Ended n y.caller ys → xs ≡ ys)
-          → (p : Option Place) → AreFrames s p (x ∷ xs) → AreFrames s p (y ∷ ys) → ◌≡◌ {A = List WalkedFrame} (x ∷ xs) (y ∷ ys)
+          → (p : Option Place) → AreFrames u p (x ∷ xs) → AreFrames u p (y ∷ ys) → ◌≡◌ {A = List WalkedFrame} (x ∷ xs) (y ∷ ys)
       go later None g h = absurd g
       go later (Some p) g h =
           let same : x ≡ y = one_frame_at p x y g.0 h.0 in
-          let behind = subst (λ (f : WalkedFrame). AreFrames s (next_place f.caller) xs) same g.1 in
+          let behind = subst (λ (f : WalkedFrame). AreFrames u (next_place f.caller) xs) same g.1 in
           let ended = subst (λ (f : WalkedFrame). Ended n f.caller xs) same e in
           let rest : xs ≡ ys = later behind h.1 ended k in
           rw (same, rest) refl
 
-  one_list : (first : Place) (limit : ℕ) (xs ys : List WalkedFrame) (a b : Stop) → Walks s first limit xs a → Walks s first limit ys b
+  one_list : (first : Place) (limit : ℕ) (xs ys : List WalkedFrame) (a b : Stop) → Walks u first limit xs a → Walks u first limit ys b
       → xs ≡ ys
   one_list first limit [] [] a b g h = refl
   one_list first zero [] (y ∷ ys) a b g h = absurd (omega (arith, h.few))
@@ -114,13 +114,13 @@ module _ (s : Surroundings)
   one_list first (suc n) (x ∷ xs) [] a b g h = absurd (none_ends n b h.ends)
   one_list first (suc n) (x ∷ xs) (y ∷ ys) a b g h =
       let same : x ≡ y = one_frame_at first x y g.are.0 h.are.0 in
-      let behind = subst (λ (f : WalkedFrame). AreFrames s (next_place f.caller) xs) same g.are.1 in
+      let behind = subst (λ (f : WalkedFrame). AreFrames u (next_place f.caller) xs) same g.are.1 in
       let mine = ended_behind n x xs a (omega (arith, g.few)) g.ends in
       let ended = subst (λ (f : WalkedFrame). Ended n f.caller xs) same mine in
       let rest : xs ≡ ys = one_behind n y.caller xs ys behind h.are.1 ended (ended_behind n y ys b (omega (arith, h.few)) h.ends) in
       rw (same, rest) refl
 
-  pub one_walk : (first : Place) (limit : ℕ) (xs ys : List WalkedFrame) (a b : Stop) → Walks s first limit xs a → Walks s first limit ys b
+  pub one_walk : (first : Place) (limit : ℕ) (xs ys : List WalkedFrame) (a b : Stop) → Walks u first limit xs a → Walks u first limit ys b
       → (xs ≡ ys) × (a ≡ b)
   one_walk first limit xs ys a b g h =
       let same : xs ≡ ys = one_list first limit xs ys a b g h in
@@ -130,30 +130,30 @@ module _ (s : Surroundings)
 
 -- ---- some
 
-module _ (s : Surroundings)
+module _ (u : Unwinder)
     (some : (registers : ℕ → Option ℕ) (a : ℕ)
-    → (c : Option Caller) × Unwinds (machine s.frame.target registers s.memory) s.abi s.frame a c) where
-  some_caller_at : (registers : ℕ → Option ℕ) (o : Option ℕ) → (c : Option Caller) × UnwindsAt s registers o c
+    → (c : Option Caller) × u registers a c) where
+  some_caller_at : (registers : ℕ → Option ℕ) (o : Option ℕ) → (c : Option Caller) × UnwindsAt u registers o c
   some_caller_at registers None = (None, refl)
   some_caller_at registers (Some a) = some registers a
 
-  some_frame_at : (p : Place) → (f : WalkedFrame) × IsFrameAt s p f
+  some_frame_at : (p : Place) → (f : WalkedFrame) × IsFrameAt u p f
   some_frame_at p =
       let caller = some_caller_at p.registers p.looked_up in (record { address = p.address; caller = caller.0 }, (refl, caller.1))
 
-  some_behind : (n : ℕ) (c : Option Caller) → (xs : List WalkedFrame) × AreFrames s (next_place c) xs × (length xs ≤ n) × Ended n c xs
+  some_behind : (n : ℕ) (c : Option Caller) → (xs : List WalkedFrame) × AreFrames u (next_place c) xs × (length xs ≤ n) × Ended n c xs
   unfolding Ended
   some_behind zero c = ([], tt, omega arith, inl refl)
   some_behind (suc n) c = go (some_behind n) (next_place c) refl
     where
-      go : ((d : Option Caller) → (xs : List WalkedFrame) × AreFrames s (next_place d) xs × (length xs ≤ n) × Ended n d xs)
+      go : ((d : Option Caller) → (xs : List WalkedFrame) × AreFrames u (next_place d) xs × (length xs ≤ n) × Ended n d xs)
           → (p : Option Place) → next_place c ≡ p
-          → (xs : List WalkedFrame) × AreFrames s (next_place c) xs × (length xs ≤ suc n) × Ended (suc n) c xs
+          → (xs : List WalkedFrame) × AreFrames u (next_place c) xs × (length xs ≤ suc n) × Ended (suc n) c xs
       go later None is = ([], tt, omega arith, inr (some_end c is))
       go later (Some p) is =
           let f = some_frame_at p in
           let rest = later f.0.caller in
-          (f.0 ∷ rest.0, subst (λ (q : Option Place). AreFrames s q (f.0 ∷ rest.0)) (sym is) (f.1, rest.1), omega (arith, rest.2), rest.3)
+          (f.0 ∷ rest.0, subst (λ (q : Option Place). AreFrames u q (f.0 ∷ rest.0)) (sym is) (f.1, rest.1), omega (arith, rest.2), rest.3)
 
   ends_behind : (n : ℕ) (f : WalkedFrame) (frames : List WalkedFrame) → length frames ≤ n → Ended n f.caller frames
       → (stop : Stop) × ((if length (f ∷ frames) == suc n then Some Limit else stop_behind (f ∷ frames)) ≡ Some stop)
@@ -170,7 +170,7 @@ module _ (s : Surroundings)
           → (if suc k == suc m then Some Limit else stop_behind (g ∷ frames)) ≡ Some stop
       same k m stop h = let one : (suc k == suc m) ≡ (k == m) = grind (arith, nat_tests) in rw one h
 
-  pub some_walk : (first : Place) (limit : ℕ) → (xs : List WalkedFrame) × (stop : Stop) × Walks s first limit xs stop
+  pub some_walk : (first : Place) (limit : ℕ) → (xs : List WalkedFrame) × (stop : Stop) × Walks u first limit xs stop
   some_walk first zero = ([], Limit, record { are = tt; few = omega arith; ends = refl })
   some_walk first (suc n) =
       let f = some_frame_at first in
@@ -180,16 +180,16 @@ module _ (s : Surroundings)
 
 -- ---- a walk, cut short
 
-cut_frames : (s : Surroundings) (p : Option Place) (n : ℕ) (frames : List WalkedFrame) → AreFrames s p frames
-    → AreFrames s p (take n frames)
-cut_frames s p zero frames h = tt
-cut_frames s p (suc n) [] h = tt
-cut_frames s None (suc n) (f ∷ frames) h = absurd h
-cut_frames s (Some p) (suc n) (f ∷ frames) h = (h.0, cut_frames s (next_place f.caller) n frames h.1)
+cut_frames : (u : Unwinder) (p : Option Place) (n : ℕ) (frames : List WalkedFrame) → AreFrames u p frames
+    → AreFrames u p (take n frames)
+cut_frames u p zero frames h = tt
+cut_frames u p (suc n) [] h = tt
+cut_frames u None (suc n) (f ∷ frames) h = absurd h
+cut_frames u (Some p) (suc n) (f ∷ frames) h = (h.0, cut_frames u (next_place f.caller) n frames h.1)
 
-pub cut_walk : (s : Surroundings) (first : Place) (m n : ℕ) (frames : List WalkedFrame) (stop : Stop) → Walks s first n frames stop → m ≤ n
-    → (cut : Stop) × Walks s first m (take m frames) cut
-cut_walk s first m n frames stop walks le = elim (cases_lt (length frames) m) [
+pub cut_walk : (u : Unwinder) (first : Place) (m n : ℕ) (frames : List WalkedFrame) (stop : Stop) → Walks u first n frames stop → m ≤ n
+    → (cut : Stop) × Walks u first m (take m frames) cut
+cut_walk u first m n frames stop walks le = elim (cases_lt (length frames) m) [
   | inl short ↦
       let all : take m frames ≡ frames = take_all m frames (omega (arith, short)) in
       let other : (length frames == n) ≡ false = grind (arith, nat_tests, short, le) in
@@ -197,7 +197,7 @@ cut_walk s first m n frames stop walks le = elim (cases_lt (length frames) m) [
       let below : (length frames == m) ≡ false = grind (arith, nat_tests, short) in (
         stop,
         record {
-          are = cut_frames s (Some first) m frames walks.are;
+          are = cut_frames u (Some first) m frames walks.are;
           few = omega (arith, ap length all, short);
           ends = ap (λ l. if length l == m then Some Limit else stop_behind l) all ∙ rw below ends;
         },
@@ -207,7 +207,7 @@ cut_walk s first m n frames stop walks le = elim (cases_lt (length frames) m) [
       let same : (length (take m frames) == m) ≡ true = grind (arith, nat_tests, count) in (
         Limit,
         record {
-          are = cut_frames s (Some first) m frames walks.are;
+          are = cut_frames u (Some first) m frames walks.are;
           few = omega (arith, count);
           ends = rw same refl;
         },

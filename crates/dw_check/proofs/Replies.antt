@@ -81,14 +81,14 @@ pub goes_text : (count : ℕ) (Is : Reply → Type 0) (bytes : List ℕ) (old ne
 goes_text count Is bytes old new (Ok _) is only h = (bytes, is, h)
 goes_text count Is bytes old new (Err faults.Memory) is only h =
     λ reply i. subst (λ x. AppendsFront old new (accepted_text x)) (sym (only reply i)) h
-goes_text count Is bytes old new (Err faults.Write) is only h = (text bytes, is, h)
+goes_text count Is bytes old new (Err faults.Write) is only h = (text bytes, is, tt, h)
 
 -- a text that is handed over whole, or a beginning of it
 pub goes_whole : (count : ℕ) (Is : Reply → Type 0) (bytes : List ℕ) (old new : Option (List ℕ)) (r : Result (Unit {0}) ReportFault)
     → Is (text bytes) → WritesWhole old new r bytes → Goes count Is old new (ended_by r)
 goes_whole count Is bytes old new (Ok _) is h = (bytes, is, h)
 goes_whole count Is bytes old new (Err faults.Memory) is h = λ reply i. front_none old new (accepted_text reply) h
-goes_whole count Is bytes old new (Err faults.Write) is h = (text bytes, is, h)
+goes_whole count Is bytes old new (Err faults.Write) is h = (text bytes, is, tt, h)
 
 -- what is handed over whole is written
 pub writes_if_whole : (old new : Option (List ℕ)) (r : Result (Unit {0}) ReportFault) (bytes : List ℕ) → WritesWhole old new r bytes

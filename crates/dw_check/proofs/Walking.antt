@@ -8,18 +8,18 @@ use Rattle.std.proofs.lemmas.Bool.Decides.{nat_tests}
 use Rattle.std.proofs.lemmas.List.Elements.{All-append, All-from_recursion}
 use Rattle.dw_check.specs.declared.frames.Frame as declared
 use Rattle.dw_check.specs.declared.frames.Stop.{Stop}
-use Rattle.dw_check.specs.Walks.{Surroundings, Place, WalkedFrame, AreFrames, Walks, next_place}
+use Rattle.dw_check.specs.Walks.{Unwinder, Place, WalkedFrame, AreFrames, Walks, next_place}
 use Rattle.dw_check.specs.Walks.{address_before, stop_behind, stop_of_caller}
 use Rattle.dw_check.proofs.Callers.{of_next}
 use Rattle.dw_check.specs.WalkViews.{frame_in, frames_in}
 
 -- behind the last of frames comes the one behind it
-pub one_more_frame : (s : Surroundings) (p : Option Place) (frames : List WalkedFrame) (f g : WalkedFrame)
-    → AreFrames s p (frames ++ f ∷ []) → AreFrames s (next_place f.caller) (g ∷ []) → AreFrames s p ((frames ++ f ∷ []) ++ g ∷ [])
-one_more_frame s None [] f g h behind = absurd h
-one_more_frame s (Some p) [] f g h behind = (h.0, behind)
-one_more_frame s None (x ∷ frames) f g h behind = absurd h
-one_more_frame s (Some p) (x ∷ frames) f g h behind = (h.0, one_more_frame s (next_place x.caller) frames f g h.1 behind)
+pub one_more_frame : (u : Unwinder) (p : Option Place) (frames : List WalkedFrame) (f g : WalkedFrame)
+    → AreFrames u p (frames ++ f ∷ []) → AreFrames u (next_place f.caller) (g ∷ []) → AreFrames u p ((frames ++ f ∷ []) ++ g ∷ [])
+one_more_frame u None [] f g h behind = absurd h
+one_more_frame u (Some p) [] f g h behind = (h.0, behind)
+one_more_frame u None (x ∷ frames) f g h behind = absurd h
+one_more_frame u (Some p) (x ∷ frames) f g h behind = (h.0, one_more_frame u (next_place x.caller) frames f g h.1 behind)
 
 -- why there is none behind the last
 pub stop_behind_last : (frames : List WalkedFrame) (f : WalkedFrame) → stop_behind (frames ++ f ∷ []) ≡ stop_of_caller f.caller
@@ -51,11 +51,11 @@ none_before zero none = refl
 none_before (suc n) none = absurd (none (omega arith))
 
 -- a walk that ends behind its last frame
-pub walk_stops : (s : Surroundings) (first : Place) (limit : ℕ) (frames : List declared.Frame) (last : declared.Frame) (stop : Stop)
-    → AreFrames s (Some first) (frames_in frames) → 0 < length frames → length frames < limit
+pub walk_stops : (u : Unwinder) (first : Place) (limit : ℕ) (frames : List declared.Frame) (last : declared.Frame) (stop : Stop)
+    → AreFrames u (Some first) (frames_in frames) → 0 < length frames → length frames < limit
     → last ≡ get_or frames (length frames - 1) last → stop_of_caller (frame_in last).caller ≡ Some stop
-    → Walks s first limit (frames_in frames) stop
-walk_stops s first limit frames last stop are some few is why =
+    → Walks u first limit (frames_in frames) stop
+walk_stops u first limit frames last stop are some few is why =
     let count : length (frames_in frames) ≡ length frames = length-map frames frame_in in
     let other : (length (frames_in frames) == limit) ≡ false = grind (arith, nat_tests, count, few) in
     record {
@@ -68,15 +68,15 @@ walk_stops s first limit frames last stop are some few is why =
     }
 
 -- a walk that goes on
-pub walk_goes : (s : Surroundings) (p : Option Place) (frames : List declared.Frame) (last next : declared.Frame)
-    → AreFrames s p (frames_in frames) → 0 < length frames → last ≡ get_or frames (length frames - 1) last
-    → AreFrames s (next_place (frame_in last).caller) (frame_in next ∷ []) → AreFrames s p (frames_in (frames ++ next ∷ []))
-walk_goes s p frames last next are some is behind =
+pub walk_goes : (u : Unwinder) (p : Option Place) (frames : List declared.Frame) (last next : declared.Frame)
+    → AreFrames u p (frames_in frames) → 0 < length frames → last ≡ get_or frames (length frames - 1) last
+    → AreFrames u (next_place (frame_in last).caller) (frame_in next ∷ []) → AreFrames u p (frames_in (frames ++ next ∷ []))
+walk_goes u p frames last next are some is behind =
     let front = frames_in (take (length frames - 1) frames) in
     let cut : frames_in frames ≡ front ++ frame_in last ∷ [] =
     last_frame frames last some ∙ ap (λ (f : declared.Frame). front ++ frame_in f ∷ []) (sym is) in
-    subst (AreFrames s p) (ap (λ l. l ++ frame_in next ∷ []) (sym cut) ∙ sym (map-append frame_in frames (next ∷ [])))
-    (one_more_frame s p front (frame_in last) (frame_in next) (subst (AreFrames s p) cut are) behind)
+    subst (AreFrames u p) (ap (λ l. l ++ frame_in next ∷ []) (sym cut) ∙ sym (map-append frame_in frames (next ∷ [])))
+    (one_more_frame u p front (frame_in last) (frame_in next) (subst (AreFrames u p) cut are) behind)
 
 -- ---- their numbers
 

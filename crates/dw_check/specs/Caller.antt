@@ -141,3 +141,12 @@ pub record IsCallerAt (e : World) (abi : Abi) (frame : FrameSection) (address : 
 abbrev pub Unwinds : World → Abi → FrameSection → ℕ → Option Caller → Type 0
 Unwinds e abi frame address (Some caller) = IsCallerAt e abi frame address caller
 Unwinds e abi frame address None = (f : Fde) → Contains frame.fdes f → ¬ Covers f address
+
+-- ---- by what is found
+
+-- The caller by what is found at an address: a row with the register that names where the caller goes on, or none.
+abbrev pub UnwindsBy : World → Abi → Option (Row × ℕ) → Option Caller → Type 0
+UnwindsBy e abi (Some found) (Some caller) = IsCaller e abi found.1 found.0 caller
+UnwindsBy e abi None None = Unit {0}
+UnwindsBy e abi (Some found) None = ⊥
+UnwindsBy e abi None (Some caller) = ⊥

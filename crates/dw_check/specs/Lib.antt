@@ -20,8 +20,6 @@ pub mod Outcomes
 pub mod CallerText
 -- the text of a walk
 pub mod WalkText
--- the names of faults
-pub mod Names
 -- the numbers and addresses that digits spell
 pub mod Addresses
 -- lines and words

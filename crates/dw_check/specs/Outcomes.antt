@@ -6,7 +6,8 @@ use Rattle.dw_bytes.specs.declared.target.AddressSize.{AddressSize}
 use Rattle.dw_stack.specs.Machine.{LocationDescription, Nowhere, AtAddress, InRegister, HasValue, HasBytes, PieceExtent, Piece}
 use Rattle.dw_stack.specs.Machine as machine
 use Rattle.dw_eval.specs.Results.{Outcome, value, single, pieces, unreadable, division_by_zero}
-use Rattle.dw_check.specs.Text.{address_text, offset_text}
+use Rattle.dw_bytes.specs.Text.{offset_text}
+use Rattle.dw_check.specs.Text.{address_text}
 
 -- where an object is, or a piece of it
 abbrev pub location_text : AddressSize → LocationDescription → List ℕ

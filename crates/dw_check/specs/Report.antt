@@ -7,7 +7,8 @@ use Rattle.dw_stack.specs.declared.state.Kind.TheVariants.{FrameCfa, FrameRegist
 use Rattle.dw_stack.specs.Expressions.{IsDepthOf, operations_in}
 use Rattle.dw_stack.specs.Located.{LocatedExpression}
 use Rattle.dw_loclists.specs.Reading.{ListSection, tables_in, lists_in, located_in}
-use Rattle.dw_check.specs.Text.{offset_text, section_text}
+use Rattle.dw_bytes.specs.Text.{offset_text}
+use Rattle.dw_check.specs.Text.{section_text}
 use Rattle.dw_check.specs.declared.stop.Section.{Section}
 use Rattle.dw_check.specs.declared.stop.Section.TheVariants as sections
 

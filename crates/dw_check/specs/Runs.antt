@@ -15,7 +15,7 @@ use Rattle.dw_check.specs.Checked.{check_fault, length_fault}
 use Rattle.dw_check.specs.Report.{IsReport}
 use Rattle.dw_check.specs.Caller.{Caller, Unwinds, machine}
 use Rattle.dw_check.specs.CallerText.{caller_text}
-use Rattle.dw_check.specs.Walks.{WalkedFrame, Walks, first_place}
+use Rattle.dw_check.specs.Walks.{WalkedFrame, Walks, first_place, over_section}
 use Rattle.dw_check.specs.WalkText.{walk_text}
 use Rattle.dw_check.specs.declared.frames.Stop.{Stop}
 use Rattle.dw_eval.specs.World.{World}
@@ -35,8 +35,8 @@ use Rattle.dw_check.specs.declared.requests.Task.TheVariants.{Check, Rows, Row, 
 use Rattle.dw_check.specs.declared.requests.End.{End}
 use Rattle.dw_check.specs.declared.requests.End.TheVariants.{Done, Refused, BadHex, StateLine, Memory, Output}
 
--- What a run comes to: a text; the line of a refusal; or nothing, where the file at this place is to be hex text and isn't, or where
--- this line of the state file is none or can't stand with those before it.
+-- What a run comes to: a text; the line of a refusal; or nothing, where the file with this index is to be hex text and isn't, or
+-- where this line of the state file is malformed or contradicts those before it.
 pub data Reply : Type 0 where
   text : List ℕ → Reply
   refusal : Section → Fault → Reply
@@ -56,6 +56,13 @@ accepted_text (text bytes) = bytes
 accepted_text (refusal section fault) = []
 accepted_text (not_hex n) = []
 accepted_text (bad_line n) = []
+
+-- A text or a refusal: a reply that is written. Of the others nothing is, so no write of theirs can stop the sink.
+abbrev pub IsWritten : Reply → Type 0
+IsWritten (text bytes) = Unit {0}
+IsWritten (refusal section fault) = Unit {0}
+IsWritten (not_hex n) = ⊥
+IsWritten (bad_line n) = ⊥
 
 -- ---- files, judged in their order
 
@@ -82,6 +89,12 @@ text_unless None section bytes = text bytes
 -- a text of a frame section, unless that has a fault
 unfoldable pub frame_reply : (FrameSection → List ℕ) → Target → List ℕ → Reply
 frame_reply text_for target section = text_unless (frame_refusal target section) sections.Frame (text_for (frame_of target section))
+
+-- what a frame section comes to: a text of it, or its first fault
+abbrev pub OfFrameSection : Target → List ℕ → (FrameSection → List ℕ → Type 0) → Reply → Type 0
+OfFrameSection target section Shows (text written) = (frame_refusal target section ≡ None) × Shows (frame_of target section) written
+OfFrameSection target section Shows (refusal refused fault) = (refused ≡ sections.Frame) × (frame_refusal target section ≡ Some fault)
+OfFrameSection target section Shows _ = ⊥
 
 -- ---- expressions
 
@@ -128,16 +141,15 @@ abbrev pub abi_given : List StateFact → Abi
 abi_given facts = abi_of (kept_in facts) (first_that stack_pointer_in facts)
 
 -- the text shows the caller at an address, or that no FDE covers it, on a machine of which this was given
-abbrev pub ShowsCaller : ℕ → List StateFact → FrameSection → ListSection → List ℕ → Type 0
-ShowsCaller address facts frame lists written = (caller : Option Caller)
+abbrev pub ShowsCaller : ℕ → List StateFact → FrameSection → List ℕ → Type 0
+ShowsCaller address facts frame written = (caller : Option Caller)
     × Unwinds (machine_of frame.target facts) (abi_given facts) frame address caller
     × (written ≡ caller_text frame.target.address_size caller)
 
 -- it shows a walk from an address with a limit
-abbrev pub ShowsWalk : ℕ → ℕ → List StateFact → FrameSection → ListSection → List ℕ → Type 0
-ShowsWalk address limit facts frame lists written = (frames : List WalkedFrame) × (stop : Stop)
-    × Walks (record { frame = frame; abi = abi_given facts; memory = λ a. first_that (byte_in a) facts })
-    (first_place address (λ n. first_that (content_in n) facts)) limit frames stop
+abbrev pub ShowsWalk : ℕ → ℕ → List StateFact → FrameSection → List ℕ → Type 0
+ShowsWalk address limit facts frame written = (frames : List WalkedFrame) × (stop : Stop)
+    × Walks (over_section frame (abi_given facts) (λ a. first_that (byte_in a) facts)) (first_place address (λ n. first_that (content_in n) facts)) limit frames stop
     × (written ≡ walk_text frame.target.address_size frames stop)
 
 -- ---- what two commands share
@@ -147,12 +159,11 @@ abbrev pub OfFrame : (FrameSection → List ℕ) → Target → Bool → List (L
 OfFrame text_for target hex files reply =
     OfSection 0 (section_bytes hex (slice_get files 0)) (λ section r. r ≡ frame_reply text_for target section) reply
 
--- `unwind` and `backtrace`: a text of a frame section, checked as `check` does with no lists, and of what a state file gives
-abbrev pub OfFrameAndState : (List StateFact → FrameSection → ListSection → List ℕ → Type 0) → Target → Bool → List (List ℕ) → Reply
-    → Type 0
+-- `unwind` and `backtrace`: a text of a frame section, and of what a state file gives
+abbrev pub OfFrameAndState : (List StateFact → FrameSection → List ℕ → Type 0) → Target → Bool → List (List ℕ) → Reply → Type 0
 OfFrameAndState Shows target hex files reply =
     OfSection 0 (section_bytes hex (slice_get files 0))
-    (λ section. OfState (state_facts target (slice_get files 1)) (λ facts. OfChecked target section [] (Shows facts))) reply
+    (λ section. OfState (state_facts target (slice_get files 1)) (λ facts. OfFrameSection target section (Shows facts))) reply
 
 -- ---- requests: a definition for each command
 
@@ -205,23 +216,25 @@ IsReply asked files reply = IsReplyTo asked.task asked.target asked.hex files re
 
 -- ---- how a run ends
 
--- a file that isn't hex text is one of so many
+-- the index of a file that isn't hex text is below the number of files
 abbrev pub IsPlaceIn : ℕ → End → Type 0
 IsPlaceIn count (BadHex place) = place < count
 IsPlaceIn count other = Unit {0}
 
 -- How a run goes, where `Is` says what its reply may be and there are `count` files: it has written all of a text, or nothing yet of a
--- reply that is no text; for want of memory a beginning of whatever text is the reply; and a beginning where the sink stopped.
+-- reply that is no text. Where memory ran out it has written a beginning of whatever text is the reply, and where the sink stopped a
+-- beginning of the text or the refusal that is the reply.
 abbrev pub Goes : ℕ → (Reply → Type 0) → Option (List ℕ) → Option (List ℕ) → Result (Unit {0}) RunFault → Type 0
 Goes count Is old new (Ok _) = (bytes : List ℕ) × Is (text bytes) × Appends old new bytes
 Goes count Is old new (Err (stops.Refused section fault)) = Is (refusal section fault) × Appends old new []
 Goes count Is old new (Err (stops.BadHex n)) = (n < count) × Is (not_hex n) × Appends old new []
 Goes count Is old new (Err (stops.StateLine n)) = Is (bad_line n) × Appends old new []
 Goes count Is old new (Err stops.Memory) = (reply : Reply) → Is reply → AppendsFront old new (accepted_text reply)
-Goes count Is old new (Err stops.Output) = (reply : Reply) × Is reply × AppendsFront old new (text_of reply)
+Goes count Is old new (Err stops.Output) = (reply : Reply) × Is reply × IsWritten reply × AppendsFront old new (text_of reply)
 
--- How a run ends, where `Is` says what its reply may be: it has written all of the reply's text; for want of memory a beginning of it,
--- whichever it is, and nothing where it is a refusal; and a beginning where the sink stopped, which it has in that case alone.
+-- How a run ends, where `Is` says what its reply may be: it has written all of the reply's text. Where memory ran out it has written a
+-- beginning of it, whichever it is, and nothing of a refusal; where the sink stopped, which it has in that case alone, a beginning of
+-- the text or the refusal.
 abbrev pub Ends : (Reply → Type 0) → Option (List ℕ) → Option (List ℕ) → Bool → End → Type 0
 Ends Is old new stopped Done = (bytes : List ℕ) × Is (text bytes) × Appends old new bytes × (stopped ≡ false)
 Ends Is old new stopped Refused = (section : Section) × (fault : Fault) × Is (refusal section fault)
@@ -229,4 +242,5 @@ Ends Is old new stopped Refused = (section : Section) × (fault : Fault) × Is (
 Ends Is old new stopped (BadHex n) = Is (not_hex n) × Appends old new [] × (stopped ≡ false)
 Ends Is old new stopped (StateLine n) = Is (bad_line n) × Appends old new [] × (stopped ≡ false)
 Ends Is old new stopped Memory = ((reply : Reply) → Is reply → AppendsFront old new (accepted_text reply)) × (stopped ≡ false)
-Ends Is old new stopped Output = (reply : Reply) × Is reply × AppendsFront old new (text_of reply) × (stopped ≡ true)
+Ends Is old new stopped Output = (reply : Reply) × Is reply × IsWritten reply × AppendsFront old new (text_of reply)
+    × (stopped ≡ true)

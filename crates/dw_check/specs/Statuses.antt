@@ -1,5 +1,6 @@
--- The exit statuses.
-use Rattle.std.specs.Prelude.{ℕ}
+-- The exit statuses, and what a command line that asks for nothing is shown as.
+use Rattle.std.specs.Prelude.{ℕ, List, codes}
+use Rattle.std.specs.String.{string_bytes}
 use Rattle.dw_check.specs.declared.requests.Usage.{Usage}
 use Rattle.dw_check.specs.declared.requests.Usage.TheVariants as usages
 use Rattle.dw_check.specs.declared.requests.End.{End}
@@ -17,3 +18,8 @@ status_of_end (ends.BadHex _) = 3
 status_of_end (ends.StateLine _) = 2
 status_of_end ends.Memory = 3
 status_of_end ends.Output = 3
+
+abbrev pub usage_text : Usage → List ℕ
+usage_text (usages.Line text) = string_bytes text
+usage_text usages.BadArgument = codes "bad argument"
+usage_text usages.Memory = codes "out of memory"

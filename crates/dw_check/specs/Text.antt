@@ -1,39 +1,21 @@
 -- The texts that a run writes, a definition a form of line.
-use Rattle.std.specs.Prelude.{ℕ, zero, suc, ◌+◌, ◌/◌, ◌%◌, ◌<◌, ◌^◌, ℤ, pos, negsuc, if◌then◌else◌, nat_lt, List, [], ◌∷◌, ◌++◌, Option}
+use Rattle.std.specs.Prelude.{ℕ, suc, ◌+◌, ◌<◌, ◌^◌, ℤ, pos, negsuc, List, [], ◌++◌, Option}
 use Rattle.std.specs.Prelude.{Some, None, codes, decimal}
 use Rattle.std.specs.List.{flat_map}
 use Rattle.hex.specs.Hex.{encode_lower}
-use Rattle.dw_bytes.specs.Faults.{number_of}
+use Rattle.dw_bytes.specs.Text.{hex_number, offset_text, kind_text, fault_text}
 use Rattle.dw_bytes.specs.declared.fault.Fault.{Fault}
-use Rattle.dw_bytes.specs.declared.fault.FaultKind.{FaultKind}
 use Rattle.dw_bytes.specs.declared.target.AddressSize.{AddressSize}
 use Rattle.dw_bytes.specs.declared.target.AddressSize.TheVariants.{Four, Eight}
 use Rattle.dw_frame.specs.Records.{Cie, Fde}
 use Rattle.dw_rows.specs.Rules.{Rule, Cfa, Row, default, undefined, same_value, offset, val_offset, register, expression, val_expression}
 use Rattle.dw_rows.specs.Rules.{register_and_offset, cfa_expression}
 use Rattle.dw_rows.specs.Section.{FrameSection, cie_in, rows_in, row_of}
-use Rattle.dw_check.specs.Names.{name_of}
 use Rattle.dw_check.specs.declared.stop.Section.{Section}
 use Rattle.dw_check.specs.declared.stop.Section.TheVariants as sections
+use Rattle.dw_check.specs.declared.whole_check.CheckFault.{CheckFault}
 
 -- ---- numbers
-
--- the digit for d
-abbrev pub digit : ℕ → ℕ
-digit d = if nat_lt d 10 then 48 + d else 87 + d
-
--- the last k hex digits of n, the most significant first
-unfoldable pub hex_digits : ℕ → ℕ → List ℕ
-hex_digits zero n = []
-hex_digits (suc k) n = hex_digits k (n / 16) ++ digit (n % 16) ∷ []
-
--- n in k hex digits
-abbrev pub hex_number : ℕ → ℕ → List ℕ
-hex_number k n = codes "0x" ++ hex_digits k n
-
--- an offset in a section or in an expression
-abbrev pub offset_text : ℕ → List ℕ
-offset_text n = hex_number 8 n
 
 -- how many hex digits an address has
 abbrev pub digits_of : AddressSize → ℕ
@@ -54,14 +36,14 @@ signed_text (negsuc n) = codes "-" ++ decimal (suc n)
 
 -- ---- a refusal
 
--- the number and the name of what is wrong
-unfoldable pub kind_text : FaultKind → List ℕ
-kind_text kind = decimal (number_of kind) ++ codes " " ++ name_of kind
-
 abbrev pub section_text : Section → List ℕ
 section_text sections.Frame = codes "frame"
 section_text sections.Lists = codes "lists"
 section_text sections.Expression = codes "expression"
+
+-- the first fault of two sections
+unfoldable pub check_fault_text : CheckFault → List ℕ
+check_fault_text found = section_text found.section ++ codes ": " ++ fault_text found.fault
 
 unfoldable pub refused_line : Section → Fault → List ℕ
 refused_line section fault = codes "refused " ++ kind_text fault.kind ++ codes " " ++ section_text section

@@ -1,18 +1,38 @@
--- A walk up the stack: frame after frame, each the caller of the one before it. DWARF 5, section 6.4.1, says what one caller is, and
--- section 6.4.4 that a walk is complete where the return address is undefined, and that the call is looked for at the return address
--- less 1. Which registers have a content, the limit and the other ends are the profile's own.
+-- A walk up the stack: frame after frame, each the caller of the one before it. DWARF 5, section 6.4.1, says what one caller is,
+-- and section 6.4.4 that a walk is complete where the return address is undefined, and that the call is looked for at the return
+-- address less 1. Which registers have a content, the limit and the other ends are the profile's own.
 use Rattle.std.specs.Prelude.{◌≡◌, ℕ, zero, suc, ◌≤◌, ◌==◌, if◌then◌else◌, List, [], ◌∷◌, length, Option, Some, None, option_map}
+use Rattle.dw_bytes.specs.declared.target.Target.{Target}
 use Rattle.dw_rows.specs.Abi.{Abi}
+use Rattle.dw_rows.specs.Rules.{Row}
 use Rattle.dw_rows.specs.Section.{FrameSection}
-use Rattle.dw_check.specs.Caller.{Answer, value, undefined, unreadable, division_by_zero, Caller, Unwinds, machine}
+use Rattle.dw_rows.specs.UnwindTables.{RowTable, row_at}
+use Rattle.dw_check.specs.Caller.{Answer, value, undefined, unreadable, division_by_zero, Caller, Unwinds, UnwindsBy, machine}
 use Rattle.dw_check.specs.declared.frames.Stop.{Stop}
 use Rattle.dw_check.specs.declared.frames.Stop.TheVariants.{Limit, NotCovered, ReturnUndefined, ReturnUnreadable, ReturnDivisionByZero}
 
--- what stays the same on a walk: the checked section, the ABI and the memory
-pub record Surroundings : Type 0 where
-  pub frame : FrameSection
-  pub abi : Abi
-  pub memory : ℕ → Option ℕ
+-- ---- what is walked over
+
+-- What says which frame called: a relation between a frame's registers, the address that is looked up for it, and its caller, none
+-- where nothing covers the address.
+abbrev pub Unwinder : Type 1
+Unwinder = (ℕ → Option ℕ) → ℕ → Option Caller → Type 0
+
+-- over a checked section, under an ABI and memory, which stay the same on a walk
+abbrev pub over_section : FrameSection → Abi → (ℕ → Option ℕ) → Unwinder
+over_section frame abi memory = λ registers address caller. Unwinds (machine frame.target registers memory) abi frame address caller
+
+-- over a table of rows
+abbrev pub over_table : RowTable → Abi → (ℕ → Option ℕ) → Unwinder
+over_table table abi memory =
+    λ registers address caller. UnwindsBy (machine table.target registers memory) abi (row_at table address) caller
+
+-- over whatever gives rows: what it finds at an address is a row with its return address register, or none
+abbrev pub over_rows : Target → (ℕ → Option (Row × ℕ) → Type 0) → Abi → (ℕ → Option ℕ) → Unwinder
+over_rows target Finds abi memory = λ registers address caller. (found : Option (Row × ℕ)) × Finds address found
+    × UnwindsBy (machine target registers memory) abi found caller
+
+-- ---- places and frames
 
 -- Where a walk stands: the address of a frame, the address that its FDE is looked up at, if there is one, and its registers.
 pub record Place : Type 0 where
@@ -41,38 +61,38 @@ abbrev pub address_before : ℕ → Option ℕ
 address_before zero = None
 address_before (suc a) = Some a
 
--- the first place: a frame that stands at its address
+-- the first place: a frame is looked up at its own address
 abbrev pub first_place : ℕ → (ℕ → Option ℕ) → Place
 first_place address registers = record { address = address; looked_up = Some address; registers = registers }
 
--- The place of a caller. It goes on behind a call, which lies before that address: the next frame is looked up there.
+-- The place of a caller. It goes on after a call, which lies before that address: the next frame is looked up there.
 abbrev pub place_of_caller : Caller → ℕ → Place
 place_of_caller caller address =
     record { address = address; looked_up = address_before address; registers = contents_of caller.registers }
 
--- the place behind a frame: that of its caller, where there is one and its return address has a value
+-- the place after a frame: that of its caller, where there is one and its return address has a value
 abbrev pub next_place : Option Caller → Option Place
 next_place None = None
 next_place (Some caller) = option_map (place_of_caller caller) (content_of caller.return_address)
 
--- the caller at a place, or that no FDE covers the address that is looked up
-abbrev pub UnwindsAt : Surroundings → (ℕ → Option ℕ) → Option ℕ → Option Caller → Type 0
-UnwindsAt s registers None caller = caller ≡ None
-UnwindsAt s registers (Some a) caller = Unwinds (machine s.frame.target registers s.memory) s.abi s.frame a caller
+-- the caller at a place, or none where there is no address to be looked up
+abbrev pub UnwindsAt : Unwinder → (ℕ → Option ℕ) → Option ℕ → Option Caller → Type 0
+UnwindsAt u registers None caller = caller ≡ None
+UnwindsAt u registers (Some a) caller = u registers a caller
 
 -- a frame at a place
-abbrev pub IsFrameAt : Surroundings → Place → WalkedFrame → Type 0
-IsFrameAt s p f = (f.address ≡ p.address) × UnwindsAt s p.registers p.looked_up f.caller
+abbrev pub IsFrameAt : Unwinder → Place → WalkedFrame → Type 0
+IsFrameAt u p f = (f.address ≡ p.address) × UnwindsAt u p.registers p.looked_up f.caller
 
 -- ---- the frames of a walk
 
--- These are frames from a place on, each behind the one before it. Behind the last one there may be more.
-abbrev pub AreFrames : Surroundings → Option Place → List WalkedFrame → Type 0
-AreFrames s p [] = Unit {0}
-AreFrames s None (f ∷ frames) = ⊥
-AreFrames s (Some p) (f ∷ frames) = IsFrameAt s p f × AreFrames s (next_place f.caller) frames
+-- These are frames from a place on, each the caller of the one before it. After the last one there may be more.
+abbrev pub AreFrames : Unwinder → Option Place → List WalkedFrame → Type 0
+AreFrames u p [] = Unit {0}
+AreFrames u None (f ∷ frames) = ⊥
+AreFrames u (Some p) (f ∷ frames) = IsFrameAt u p f × AreFrames u (next_place f.caller) frames
 
--- why there is no frame behind one, if there is none
+-- why there is no frame after one, if there is none
 abbrev pub stop_of_return : Answer → Option Stop
 stop_of_return (value a) = None
 stop_of_return undefined = Some ReturnUndefined
@@ -83,14 +103,14 @@ abbrev pub stop_of_caller : Option Caller → Option Stop
 stop_of_caller None = Some NotCovered
 stop_of_caller (Some caller) = stop_of_return caller.return_address
 
--- why there is none behind the last of frames
+-- why there is none after the last of frames
 abbrev pub stop_behind : List WalkedFrame → Option Stop
 stop_behind [] = None
 stop_behind (f ∷ []) = stop_of_caller f.caller
 stop_behind (f ∷ g ∷ frames) = stop_behind (g ∷ frames)
 
 -- What a walk gives: its first frames, as many as the limit or all, and why these end, which is the limit wherever it is reached.
-pub record Walks (s : Surroundings) (first : Place) (limit : ℕ) (frames : List WalkedFrame) (stop : Stop) : Type 0 where
-  pub are : AreFrames s (Some first) frames
+pub record Walks (u : Unwinder) (first : Place) (limit : ℕ) (frames : List WalkedFrame) (stop : Stop) : Type 0 where
+  pub are : AreFrames u (Some first) frames
   pub few : length frames ≤ limit
   pub ends : (if length frames == limit then Some Limit else stop_behind frames) ≡ Some stop

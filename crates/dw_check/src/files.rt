@@ -38,48 +38,42 @@ fn drop_blanks(alloc: Global, text: &[u8]) -> Result<Vec<u8>, AllocError>
     Ok(bytes)
 }
 
-/// The bytes of the section or expression in the file at a place, none where no file is there. Hex text is
-/// decoded, its spaces, tabs, CRs and LFs dropped first; other bytes are lent.
-pub(crate) fn section_at<'a>(
-    alloc: Global,
-    hex: bool,
-    files: &'a [Vec<u8>],
-    place: usize,
-) -> Result<CowSlice<'a, u8, Global>, RunFault>
-    ensures bytes { IfOk result (λ bytes.
-        section_bytes hex (slice_get (map (λ file. file.items) files.entry.now) place) ≡ Some
-        (cow_slice_items bytes)) }
-    ensures stop { IfErr result (IsBadSection
-        (section_bytes hex (slice_get (map (λ file. file.items) files.entry.now) place)) place
-        (length files.entry.now)) }
-{
-    let Some(file) = files.get(place) else {
-        return Ok(CowSlice::Borrowed(&[]));
-    };
-    if !hex {
-        return Ok(CowSlice::Borrowed(file.as_slice()));
+impl<'a> Files<'a> {
+    /// The bytes of the section or expression in the file with an index, none where no file is there. Hex text is decoded, its
+    /// spaces, tabs, CRs and LFs dropped first; other bytes are lent.
+    pub fn section(&self, alloc: Global, index: usize) -> Result<CowSlice<'a, u8, Global>, RunFault>
+        ensures bytes { IfOk result (λ bytes.
+            section_bytes self.now.hex
+            (slice_get (map (λ file. file.items) self.now.contents.now) index) ≡ Some
+            (cow_slice_items bytes)) }
+        ensures stop { IfErr result (IsBadSection
+            (section_bytes self.now.hex
+            (slice_get (map (λ file. file.items) self.now.contents.now) index)) index
+            (length self.now.contents.now)) }
+    {
+        let Some(file) = self.contents.get(index) else {
+            return Ok(CowSlice::Borrowed(&[]));
+        };
+        if !self.hex {
+            return Ok(CowSlice::Borrowed(file.as_slice()));
+        }
+        match hex::decode(alloc, drop_blanks(alloc, file.as_slice())?.as_slice()) {
+            Ok(bytes) => Ok(CowSlice::Owned(bytes)),
+            Err(FromHexError::OutOfMemory) => Err(RunFault::Memory),
+            Err(_) => Err(RunFault::BadHex(index)),
+        }
     }
-    match hex::decode(alloc, drop_blanks(alloc, file.as_slice())?.as_slice()) {
-        Ok(bytes) => Ok(CowSlice::Owned(bytes)),
-        Err(FromHexError::OutOfMemory) => Err(RunFault::Memory),
-        Err(_) => Err(RunFault::BadHex(place)),
-    }
-}
 
-/// What the state file at a place says; nothing where no file is there.
-pub(crate) fn state_at(
-    alloc: Global,
-    target: Target,
-    files: &[Vec<u8>],
-    place: usize,
-) -> Result<MachineState, RunFault>
-    ensures state { IfOk result (IsStateOf
-        (state_facts target (slice_get (map (λ file. file.items) files.now) place))) }
-    ensures stop { IfErr result (IsBadState
-        (state_facts target (slice_get (map (λ file. file.items) files.now) place))) }
-{
-    match files.get(place) {
-        Some(file) => read_state(alloc, target, file.as_slice()),
-        None => Ok(MachineState::new(alloc)),
+    /// What the state file with an index says; nothing where no file is there.
+    pub fn state(&self, alloc: Global, index: usize) -> Result<MachineState, RunFault>
+        ensures state { IfOk result (IsStateOf (state_facts self.now.target
+            (slice_get (map (λ file. file.items) self.now.contents.now) index))) }
+        ensures stop { IfErr result (IsBadState (state_facts self.now.target
+            (slice_get (map (λ file. file.items) self.now.contents.now) index))) }
+    {
+        match self.contents.get(index) {
+            Some(file) => read_state(alloc, self.target, file.as_slice()),
+            None => Ok(MachineState::new(alloc)),
+        }
     }
 }

@@ -12,10 +12,11 @@ ghost use Rattle.dw_rows.specs.Rules.{Row};
 ghost use Rattle.dw_rows.specs.Section.{FrameSection};
 ghost use Rattle.dw_rows.specs.Section as rows;
 ghost use Rattle.dw_rows.specs.Abi.{Abi};
-ghost use Rattle.dw_check.specs.Caller.{Caller, IsCaller, Unwinds};
+ghost use Rattle.dw_check.specs.Caller.{Caller, IsCaller, Unwinds, UnwindsBy};
+ghost use Rattle.dw_rows.specs.UnwindTables.{IsFoundAt, IsTableOf, RowTable, row_at};
 ghost use Rattle.dw_check.specs.declared.frames.Stop.{Stop};
 ghost use Rattle.dw_check.specs.declared.unwinding.TheConstants.{MAX_FOUND};
-ghost use Rattle.dw_check.specs.Walks.{Surroundings, Place, WalkedFrame, Walks};
+ghost use Rattle.dw_check.specs.Walks.{Place, WalkedFrame, Walks, over_rows, over_section, over_table};
 ghost use Rattle.dw_check.specs.LongFiles.{needed_parts};
 ghost use Rattle.dw_check.specs.Requests.{Asked};
 ghost use Rattle.dw_check.specs.Runs.{Reply, IsReply};
@@ -84,6 +85,16 @@ pub fn one_caller()
     dw_eval::laws::evaluations_are_determined();
 }
 
+/// An unwinding by what is found at an address of a section is one over the section. So is one over a table of the section.
+pub fn unwinding_by_what_is_found()
+    ensures found { (e : World) (abi : Abi) (frame : FrameSection) (address : ℕ)
+        (found : Option (Row × ℕ)) (c : Option Caller) → IsFoundAt frame address found
+        → UnwindsBy e abi found c → Unwinds e abi frame address c }
+    ensures table { (e : World) (abi : Abi) (frame : FrameSection) (table : RowTable) (address : ℕ)
+        (c : Option Caller) → IsTableOf frame table
+        → UnwindsBy e abi (row_at table address) c → Unwinds e abi frame address c }
+{}
+
 /// Over each row of a section that is accepted there is a caller.
 pub fn each_row_has_a_caller()
     ensures { (e : World) (abi : Abi) (column : ℕ) (frame : FrameSection) (fde : Fde) (row : Row)
@@ -108,29 +119,50 @@ pub fn each_address_has_an_unwinding()
 
 /// Over a section that is accepted a walk is determined by where it begins and by its limit.
 pub fn one_walk()
-    ensures { (s : Surroundings) (first : Place) (limit : ℕ) (xs ys : List WalkedFrame)
-        (a b : Stop) → rows.IsChecked s.frame → Walks s first limit xs a
-        → Walks s first limit ys b → (xs ≡ ys) × (a ≡ b) }
+    ensures { (frame : FrameSection) (abi : Abi) (memory : ℕ → Option ℕ) (first : Place) (limit : ℕ)
+        (xs ys : List WalkedFrame) (a b : Stop) → rows.IsChecked frame
+        → Walks (over_section frame abi memory) first limit xs a
+        → Walks (over_section frame abi memory) first limit ys b → (xs ≡ ys) × (a ≡ b) }
 {
     one_caller();
 }
 
 /// And there is one.
 pub fn each_has_a_walk()
-    ensures { (s : Surroundings) (first : Place) (limit : ℕ) → rows.IsChecked s.frame
-        → (xs : List WalkedFrame) × (stop : Stop) × Walks s first limit xs stop }
+    ensures { (frame : FrameSection) (abi : Abi) (memory : ℕ → Option ℕ) (first : Place) (limit : ℕ)
+        → rows.IsChecked frame → (xs : List WalkedFrame) × (stop : Stop)
+        × Walks (over_section frame abi memory) first limit xs stop }
 {
     each_address_has_an_unwinding();
 }
 
 /// A walk with a smaller limit is the beginning of the one with a greater.
 pub fn longer_walks_begin_so()
-    ensures { (s : Surroundings) (first : Place) (m n : ℕ) (xs ys : List WalkedFrame)
-        (a b : Stop) → rows.IsChecked s.frame → Walks s first m xs a
-        → Walks s first n ys b → m ≤ n → xs ≡ take m ys }
+    ensures { (frame : FrameSection) (abi : Abi) (memory : ℕ → Option ℕ) (first : Place) (m n : ℕ)
+        (xs ys : List WalkedFrame) (a b : Stop) → rows.IsChecked frame
+        → Walks (over_section frame abi memory) first m xs a
+        → Walks (over_section frame abi memory) first n ys b → m ≤ n → xs ≡ take m ys }
 {
     one_walk();
 }
+
+/// A walk by what is found at addresses of a section is one over the section; one by what a table gives is one over the table; and
+/// one over a table of the section is one over the section.
+pub fn walks_over_what_is_found()
+    ensures found { (frame : FrameSection) (abi : Abi) (memory : ℕ → Option ℕ) (first : Place)
+        (limit : ℕ) (xs : List WalkedFrame) (stop : Stop)
+        → Walks (over_rows frame.target (IsFoundAt frame) abi memory) first limit xs stop
+        → Walks (over_section frame abi memory) first limit xs stop }
+    ensures rows { (table : RowTable) (abi : Abi) (memory : ℕ → Option ℕ) (first : Place)
+        (limit : ℕ) (xs : List WalkedFrame) (stop : Stop)
+        → Walks (over_rows table.target (λ address found. found ≡ row_at table address) abi memory)
+        first limit xs stop
+        → Walks (over_table table abi memory) first limit xs stop }
+    ensures table { (frame : FrameSection) (table : RowTable) (abi : Abi) (memory : ℕ → Option ℕ)
+        (first : Place) (limit : ℕ) (xs : List WalkedFrame) (stop : Stop) → IsTableOf frame table
+        → Walks (over_table table abi memory) first limit xs stop
+        → Walks (over_section frame abi memory) first limit xs stop }
+{}
 
 /// There is one report on two sections.
 pub fn one_report()
@@ -150,7 +182,7 @@ pub fn each_has_a_report()
     dw_stack::laws::each_has_a_depth();
 }
 
-/// At most so many registers of a caller are named.
+/// The number of registers of a caller that are named at most.
 pub fn walk_limits()
     ensures { MAX_FOUND ≡ 256 }
 {}

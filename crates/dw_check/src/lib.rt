@@ -14,7 +14,6 @@ pub mod laws;
 mod lines;
 mod locations;
 mod machine_state;
-mod names;
 mod numbers;
 mod outcomes;
 mod output;
@@ -41,6 +40,8 @@ pub use runs::run;
 pub use sink::{Sink, Stopped, Through};
 pub use source::{LoadFault, Reading, Reads, Source, load};
 pub use stop::{ReportFault, Section};
-pub use unwinding::{Answer, Caller, FoundRegisters, MAX_FOUND, unwind, unwind_with};
-pub use walk::backtrace;
+pub use unwinding::{
+    Answer, Caller, FoundRegisters, MAX_FOUND, unwind, unwind_by, unwind_by_section, unwind_with,
+};
+pub use walk::{backtrace, backtrace_by, backtrace_by_section};
 pub use whole_check::{CheckFault, Checked, check};

@@ -6,10 +6,10 @@ ghost use Rattle.std.specs.String.{string_bytes};
 ghost use Rattle.dw_frame.specs.Views.{cie_of, fde_of};
 ghost use Rattle.dw_stack.specs.Certificates.{checked_of};
 ghost use Rattle.dw_rows.specs.Views.{rule_of, cfa_rule_of};
-ghost use Rattle.dw_check.specs.Text.{kind_text, refused_line, expression_text, expression_offset_line, records_text, fde_line, cfa_text};
+ghost use Rattle.dw_bytes.specs.Text.{kind_text};
+ghost use Rattle.dw_check.specs.Text.{refused_line, expression_text, expression_offset_line, records_text, fde_line, cfa_text};
 ghost use Rattle.dw_check.specs.Text.{rule_text, register_text, row_line, digits_of, Fits};
 
-use crate::names::fault_name;
 use crate::numbers::{push_decimal, push_offset, push_range, push_signed};
 use crate::stop::Section;
 use dw_bytes::{AddressSize, Fault, FaultKind};
@@ -18,13 +18,13 @@ use dw_rows::{CfaRule, RegisterRule, RegisterRules, UnwindTableRow};
 use dw_stack::CheckedExpression;
 use std::alloc::AllocError;
 
-#[tactic(auto, unfolding(crate::specs::Text::kind_text))]
+#[tactic(auto, unfolding(dw_bytes::specs::Text::kind_text))]
 fn push_fault_kind(line: &mut String, kind: FaultKind) -> Result<(), AllocError>
     ensures { OnOk result (string_bytes line.new ≡ string_bytes line.old ++ kind_text kind) }
 {
     push_decimal(line, kind.number())?;
     line.push_str(" ")?;
-    line.push_str(fault_name(kind))
+    line.push_str(kind.name())
 }
 
 /// The line of a refusal.
@@ -84,7 +84,7 @@ pub(crate) fn push_fde(
     ensures { OnOk result (string_bytes line.new ≡ string_bytes line.old
         ++ fde_line size (cie_of cie.now) (fde_of fde.now)) }
 {
-    let end = fde.initial_location + fde.address_range;
+    let end = fde.end_address();
     push_fde_and_cie(line, cie, fde)?;
     line.push_str(" ")?;
     push_range(line, size, fde.initial_location, end)?;

@@ -2,7 +2,8 @@
 
 ghost use Rattle.std.specs.Prelude.{◌≡◌, ◌++◌, ◌^◌, ◌<◌, OnOk, codes};
 ghost use Rattle.std.specs.String.{string_bytes};
-ghost use Rattle.dw_check.specs.Text.{hex_number, offset_text, digits_of, address_text, range_text, signed_text};
+ghost use Rattle.dw_bytes.specs.Text.{hex_number, offset_text};
+ghost use Rattle.dw_check.specs.Text.{digits_of, address_text, range_text, signed_text};
 
 use dw_bytes::AddressSize;
 use itoa::{Buffer, Integer};
@@ -28,7 +29,7 @@ fn push_long_address(line: &mut String, address: u64) -> Result<(), AllocError>
     write!(line, "0x{address:016x}")
 }
 
-/// An address. Of a number that is none, as many of the last digits as an address has.
+/// An address. Larger numbers keep their low digits.
 pub(crate) fn push_address(
     line: &mut String,
     size: AddressSize,

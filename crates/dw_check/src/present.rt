@@ -1,7 +1,6 @@
 //! What registers and memory have, and what rules make of it.
 
-ghost use Rattle.std.specs.Prelude.{◌≡◌, ◌≤◌, ◌+ℤ◌, ℕ, All, Some, length, map, pos};
-ghost use Rattle.dw_eval.specs.Numbers.{wrap, width_of};
+ghost use Rattle.std.specs.Prelude.{◌≡◌, ◌≤◌, ℕ, All, Some, length, map};
 ghost use Rattle.dw_rows.specs.Views.{cfa_rule_of, rule_of};
 ghost use Rattle.dw_rows.specs.GivenRows.{IsCfaOfKind, IsEntryOfKind, IsRuleOfKind};
 ghost use Rattle.dw_stack.specs.Certificates.{checked_of};
@@ -11,8 +10,8 @@ ghost use Rattle.dw_check.specs.CallerViews.{answer_in, found_in, machine_in, wi
 
 use crate::unwinding::{Answer, FoundRegisters, MAX_FOUND};
 use arrayvec::ArrayVec;
-use dw_bytes::{AddressSize, Target};
-use dw_eval::{Context, Memory, Outcome, Registers, evaluate};
+use dw_bytes::Target;
+use dw_eval::{Context, Memory, Outcome, Registers, Width, evaluate};
 use dw_rows::{CfaRule, RegisterRule, RegisterRules};
 use dw_stack::CheckedExpression;
 
@@ -24,29 +23,15 @@ pub(crate) struct Present<'m, R: Registers, M: Memory> {
     pub memory: &'m M,
 }
 
-/// The number modulo 2^w, w being the size of an address in bits.
-fn reduce_to_size(size: AddressSize, number: u64) -> u64
-    ensures { result ≡ wrap (width_of size) (pos number) }
-{
-    match size {
-        AddressSize::Four => number % 0x1_0000_0000,
-        AddressSize::Eight => number,
-    }
-}
-
-/// The sum of a number and an offset, modulo 2^w.
-fn plus_offset(size: AddressSize, number: u64, offset: i64) -> u64
-    ensures { result ≡ wrap (width_of size) (pos number +ℤ offset) }
-{
-    reduce_to_size(size, number.wrapping_add(offset.cast_unsigned()))
-}
-
 impl<'m, R: Registers, M: Memory> Present<'m, R, M> {
     /// A number and an offset, modulo 2^w.
     fn number_plus(&self, number: u64, offset: i64) -> u64
         ensures { result ≡ number_plus (machine_in R.contents M.bytes self.now) offset number }
     {
-        plus_offset(self.target.address_size, number, offset)
+        let width = Width {
+            size: self.target.address_size,
+        };
+        width.offset(number, offset)
     }
 
     /// A content and an offset, modulo 2^w.
@@ -143,7 +128,8 @@ impl<'m, R: Registers, M: Memory> Present<'m, R, M> {
         }
     }
 
-    /// The registers of these rules, in their order.
+    /// The registers of these rules, in their order. It is inlined, so that they are written where the caller has them.
+    #[inline(always)]
     pub fn registers(&self, cfa: Answer, rules: RegisterRules<'_, '_>) -> FoundRegisters
         requires few { length rules ≤ MAX_FOUND }
         requires kinds { All IsEntryOfKind rules }

@@ -10,6 +10,8 @@ ghost use Rattle.dw_check.specs.declared.requests.Usage.TheVariants.{Memory};
 use dw_bytes::Target;
 use dw_stack::Kind;
 use std::alloc::{AllocError, AllocFailed};
+use std::error::Error;
+use std::fmt;
 use std::marker::Model;
 
 /// What is looked up in a section of location lists.
@@ -92,9 +94,9 @@ impl Request {
 /// Why a command line asks for nothing.
 #[derive(Debug, Drop)]
 pub enum Usage {
-    /// The words are no command line, or ask for help. This is clap's text.
+    /// The words aren't a command line, or ask for help. This is clap's text.
     Line(String),
-    /// A word is none of those that its place takes.
+    /// An argument is malformed.
     BadArgument,
     /// Memory ran out.
     Memory,
@@ -111,6 +113,24 @@ impl Usage {
         }
     }
 }
+
+/// clap's text, or what is wrong in a few words.
+impl fmt::Display for Usage {
+    ghost use Rattle.std.specs.Prelude.{Some};
+    ghost use Rattle.dw_check.specs.Statuses.{usage_text};
+
+    ghost output = { λ usage. Some (usage_text usage) };
+
+    fn fmt<W: fmt::Write>(&self, f: &mut fmt::Formatter<W>) -> fmt::Result {
+        match self {
+            Usage::Line(text) => f.write_str(text.as_str()),
+            Usage::BadArgument => f.write_str("bad argument"),
+            Usage::Memory => f.write_str("out of memory"),
+        }
+    }
+}
+
+impl Error for Usage {}
 
 impl From<AllocError> for Usage {
     ghost from_gives = { λ _ e. e ≡ Memory };
@@ -137,7 +157,7 @@ pub enum End {
     Refused,
     /// The file at this place of `Request::files` is to be hex text and isn't.
     BadHex(usize),
-    /// This line of the state file is none, or can't stand with those before it; lines are counted from 1.
+    /// This line of the state file is malformed, or contradicts those before it; lines are counted from 1.
     StateLine(u64),
     /// Memory ran out.
     Memory,

@@ -16,7 +16,7 @@ ghost use Rattle.dw_check.specs.declared.stop.Section.TheVariants as sections;
 
 use crate::caller_text::write_caller;
 use crate::evaluations::write_outcome;
-use crate::files::{Files, section_at, state_at};
+use crate::files::Files;
 use crate::laws::{each_has_a_walk, one_caller, one_report, one_walk};
 use crate::locations::write_list_lookup;
 use crate::machine_state::MachineState;
@@ -25,8 +25,8 @@ use crate::reports::write_report;
 use crate::requests::{End, ListLookup, Request, Task};
 use crate::sink::Sink;
 use crate::stop::{ReportFault, RunFault, Section};
-use crate::unwinding::unwind_with;
-use crate::walk::backtrace;
+use crate::unwinding::unwind_by_section;
+use crate::walk::backtrace_by_section;
 use crate::walk_text::write_walk;
 use crate::whole_check::{Checked, SECTION_LIMIT, TOO_LONG, check};
 use crate::writer::Writer;
@@ -145,8 +145,8 @@ fn show_report<S: Sink>(
     ensures stops { S.has_stopped out.new.sink.now ≡ is_output result }
 {
     one_report();
-    let frame = section_at(alloc, files.hex, files.contents, 0)?;
-    let lists = section_at(alloc, files.hex, files.contents, 1)?;
+    let frame = files.section(alloc, 0)?;
+    let lists = files.section(alloc, 1)?;
     let checked = sections_or_refusal(alloc, files.target, frame.as_slice(), lists.as_slice())?;
     run_result(write_report(out, &checked))
 }
@@ -166,7 +166,7 @@ fn show_rows<S: Sink>(
         (S.taken out.old.sink.now) (S.taken out.new.sink.now) result }
     ensures stops { S.has_stopped out.new.sink.now ≡ is_output result }
 {
-    let section = section_at(alloc, files.hex, files.contents, 0)?;
+    let section = files.section(alloc, 0)?;
     let frame = frame_or_refusal(alloc, files.target, section.as_slice())?;
     run_result(write_frame_section(out, &frame))
 }
@@ -187,7 +187,7 @@ fn show_row<S: Sink>(
         (S.taken out.old.sink.now) (S.taken out.new.sink.now) result }
     ensures stops { S.has_stopped out.new.sink.now ≡ is_output result }
 {
-    let section = section_at(alloc, files.hex, files.contents, 0)?;
+    let section = files.section(alloc, 0)?;
     let frame = frame_or_refusal(alloc, files.target, section.as_slice())?;
     run_result(write_row_lookup(out, &frame, address))
 }
@@ -208,8 +208,8 @@ fn show_locations<S: Sink>(
         (S.taken out.old.sink.now) (S.taken out.new.sink.now) result }
     ensures stops { S.has_stopped out.new.sink.now ≡ is_output result }
 {
-    let section = section_at(alloc, files.hex, files.contents, 0)?;
-    let state = state_at(alloc, files.target, files.contents, 1)?;
+    let section = files.section(alloc, 0)?;
+    let state = files.state(alloc, 1)?;
     let lists = lists_or_refusal(alloc, files.target, section.as_slice())?;
     run_result(write_list_lookup(out, &lists, lookup, &state))
 }
@@ -230,8 +230,8 @@ fn show_outcome<S: Sink>(
         (S.taken out.old.sink.now) (S.taken out.new.sink.now) result }
     ensures stops { S.has_stopped out.new.sink.now ≡ is_output result }
 {
-    let bytes = section_at(alloc, files.hex, files.contents, 0)?;
-    let state = state_at(alloc, files.target, files.contents, 1)?;
+    let bytes = files.section(alloc, 0)?;
+    let state = files.state(alloc, 1)?;
     let checked = expression_or_refusal(alloc, kind, files.target, bytes.as_slice())?;
     run_result(write_outcome(out, &checked, &state))
 }
@@ -239,19 +239,19 @@ fn show_outcome<S: Sink>(
 /// Writes the caller of the frame at an address over what is known, or that no FDE covers the address.
 fn unwind_and_write<S: Sink>(
     out: &mut Writer<'_, S>,
-    checked: &Checked<'_>,
+    frame: &CheckedFrame<'_>,
     address: u64,
     state: &MachineState,
 ) -> Result<(), ReportFault>
-    requires size { out.old.size ≡ checked.now.frame.target.address_size }
+    requires size { out.old.size ≡ frame.now.target.address_size }
     requires runs { S.has_stopped out.old.sink.now ≡ false }
     ensures same { IsSame out.old out.new }
     ensures written { (facts : List StateFact) → IsGivenBy (known_state_of state.now) facts
-        → (text : List ℕ) × ShowsCaller address facts checked.now.frame checked.now.lists text
+        → (text : List ℕ) × ShowsCaller address facts frame.now text
         × Writes (S.taken out.old.sink.now) (S.taken out.new.sink.now) result text }
     ensures stops { S.has_stopped out.new.sink.now ≡ is_write result }
 {
-    let caller = unwind_with(checked, &state.abi(), address, state, state);
+    let caller = unwind_by_section(frame, &state.abi(), address, state, state);
     write_caller(out, caller.as_ref())
 }
 
@@ -259,23 +259,23 @@ fn unwind_and_write<S: Sink>(
 fn backtrace_and_write<S: Sink>(
     alloc: Global,
     out: &mut Writer<'_, S>,
-    checked: &Checked<'_>,
+    frame: &CheckedFrame<'_>,
     address: u64,
     limit: u32,
     state: &MachineState,
 ) -> Result<(), ReportFault>
-    requires size { out.old.size ≡ checked.now.frame.target.address_size }
+    requires size { out.old.size ≡ frame.now.target.address_size }
     requires runs { S.has_stopped out.old.sink.now ≡ false }
     ensures same { IsSame out.old out.new }
     ensures written { (facts : List StateFact) → IsGivenBy (known_state_of state.now) facts
-        → (text : List ℕ) × ShowsWalk address limit facts checked.now.frame checked.now.lists text
+        → (text : List ℕ) × ShowsWalk address limit facts frame.now text
         × Writes (S.taken out.old.sink.now) (S.taken out.new.sink.now) result text }
     ensures stops { S.has_stopped out.new.sink.now ≡ is_write result }
 {
-    // There is a walk to be shown, even where memory lacks to make it.
-    let _ = checked.frame().section();
+    // Proof only: the contract needs a text even if allocation fails.
+    let _ = frame.section();
     each_has_a_walk();
-    match backtrace(alloc, checked, &state.abi(), address, state, state, limit) {
+    match backtrace_by_section(alloc, frame, &state.abi(), address, state, state, limit) {
         Ok(walk) => write_walk(out, &walk),
         Err(_) => Err(ReportFault::Memory),
     }
@@ -298,10 +298,10 @@ fn show_caller<S: Sink>(
     ensures stops { S.has_stopped out.new.sink.now ≡ is_output result }
 {
     one_caller();
-    let section = section_at(alloc, files.hex, files.contents, 0)?;
-    let state = state_at(alloc, files.target, files.contents, 1)?;
-    let checked = sections_or_refusal(alloc, files.target, section.as_slice(), &[])?;
-    run_result(unwind_and_write(out, &checked, address, &state))
+    let section = files.section(alloc, 0)?;
+    let state = files.state(alloc, 1)?;
+    let frame = frame_or_refusal(alloc, files.target, section.as_slice())?;
+    run_result(unwind_and_write(out, &frame, address, &state))
 }
 
 /// Shows the walk from the frame at an address, on a machine of which a state file says something.
@@ -322,10 +322,10 @@ fn show_walk<S: Sink>(
     ensures stops { S.has_stopped out.new.sink.now ≡ is_output result }
 {
     one_walk();
-    let section = section_at(alloc, files.hex, files.contents, 0)?;
-    let state = state_at(alloc, files.target, files.contents, 1)?;
-    let checked = sections_or_refusal(alloc, files.target, section.as_slice(), &[])?;
-    run_result(backtrace_and_write(alloc, out, &checked, address, limit, &state))
+    let section = files.section(alloc, 0)?;
+    let state = files.state(alloc, 1)?;
+    let frame = frame_or_refusal(alloc, files.target, section.as_slice())?;
+    run_result(backtrace_and_write(alloc, out, &frame, address, limit, &state))
 }
 
 /// Does a task with these files.
@@ -359,8 +359,8 @@ fn show_reply<S: Sink>(
 ///
 /// The files are judged in that order: BadHex for the first that is to be hex text and isn't; then StateLine for a state file's first
 /// bad line; then the first fault, whose line is written (Refused); else the whole text is written (Done). With BadHex and StateLine
-/// nothing is written. Memory ends it where memory was refused, and Output where the sink stopped: a beginning of the text is
-/// written, and for want of memory nothing of a refusal's line.
+/// nothing is written. If an allocation fails before any of these is found, the end is Memory: a beginning of the text is written,
+/// and nothing of a refusal's line. If the sink stops, the end is Output: a beginning of the text or of the refusal is written.
 pub fn run<S: Sink>(alloc: Global, request: &Request, files: &[Vec<u8>], sink: &mut S) -> End
     requires files { length files.now ≡ length request.now.files }
     requires runs { S.has_stopped sink.old ≡ false }

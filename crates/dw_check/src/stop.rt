@@ -42,7 +42,7 @@ pub(crate) enum RunFault {
     Refused(Section, Fault),
     /// The file at this place is to be hex text and isn't.
     BadHex(usize),
-    /// This line of the state file is none, or can't stand with those before it; lines are counted from 1.
+    /// This line of the state file is malformed, or contradicts those before it; lines are counted from 1.
     StateLine(u64),
     /// Memory ran out.
     Memory,

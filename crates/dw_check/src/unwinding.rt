@@ -2,9 +2,10 @@
 
 ghost use Rattle.std.specs.Prelude.{◌≡◌, ◌^◌, ℕ, IfSome, Option, option_map};
 ghost use Rattle.dw_eval.specs.Numbers.{width_of};
-ghost use Rattle.dw_rows.specs.Abi.{Abi as OfAbi, no_abi};
+ghost use Rattle.dw_rows.specs.Abi.{no_abi};
 ghost use Rattle.dw_rows.specs.AbiViews.{roles_of};
-ghost use Rattle.dw_check.specs.Caller.{Caller as OfCaller, Unwinds, machine};
+ghost use Rattle.dw_rows.specs.Rules.{Row};
+ghost use Rattle.dw_check.specs.Caller.{Unwinds, UnwindsBy, machine};
 ghost use Rattle.dw_check.specs.CallerFits.{CallerFits};
 ghost use Rattle.dw_check.specs.CallerViews.{caller_in};
 
@@ -12,7 +13,7 @@ use crate::present::Present;
 use crate::whole_check::Checked;
 use arrayvec::ArrayVec;
 use dw_eval::{Memory, Registers};
-use dw_rows::{Abi, CheckedFrame, MAX_RULES, UnwindTableRow};
+use dw_rows::{Abi, CheckedFrame, MAX_RULES, UnwindRows};
 
 /// What is known of a register of the caller, of its CFA or of its return address.
 #[derive(Clone, Copy, Debug, PartialEq, Eq)]
@@ -53,22 +54,58 @@ pub struct Caller {
     pub return_address: Answer,
 }
 
-/// All numbers of the callers in a checked section are below 2^w. It does nothing.
-fn callers_fit(frame: &CheckedFrame<'_>)
-    ensures { (registers memory : ℕ → Option ℕ) (abi : OfAbi) (address : ℕ)
-        (caller : Option OfCaller)
-        → Unwinds (machine frame.now.target registers memory) abi frame.now address caller
-        → IfSome caller (CallerFits (2 ^ width_of frame.now.target.address_size)) }
+/// The caller of the frame at an address, over the frame's registers and memory, by the row that a checked section or a compiled
+/// table gives there, or none where it gives none (DWARF 5, section 6.4.1). The ABI says what a register is that no instruction has
+/// given a rule.
+///
+/// Contents and sums are taken modulo 2^w, and what is saved is an address-sized word. A rule that needs the CFA has the CFA's
+/// answer where that has no value. It costs the look-up and one evaluation for each expression of the row.
+///
+/// ```rust
+/// let Some(table) = frame.compile(alloc, 1 << 20)? else {
+///     return Ok(()); // its rows take more than that
+/// };
+/// let caller = unwind_by(&table, &abi, address, &registers, &memory);
+/// ```
+pub fn unwind_by<T: UnwindRows, R: Registers, M: Memory>(
+    rows: &T,
+    abi: &Abi,
+    address: u64,
+    registers: &R,
+    memory: &M,
+) -> Option<Caller>
+    ensures unwinds { (found : Option (Row × ℕ)) × T.finds rows.now address found
+        × UnwindsBy (machine (T.target_of rows.now) (R.contents registers.now) (M.bytes memory.now))
+        (roles_of abi.now) found (option_map caller_in result) }
+
+    // All its numbers are below 2^w, w being the size of an address in bits.
+    ensures fits { IfSome (option_map caller_in result)
+        (CallerFits (2 ^ width_of (T.target_of rows.now).address_size)) }
 {
-    // A section without a fault has expressions of its own target alone.
-    let _ = frame.section();
-    dw_rows::laws::checked_frame_sections();
+    // What is said of ABIs and of evaluations gives that numbers fit.
     dw_rows::laws::rules_under_abis();
     dw_eval::laws::numbers_of_evaluations_fit();
+    let mut slot = rows.slot();
+    match rows.find_row(address, &mut slot) {
+        Some((row, number)) => {
+            let present = Present {
+                target: rows.rows_target(),
+                registers,
+                memory,
+            };
+            let cfa = present.cfa(row.cfa());
+            Some(Caller {
+                cfa,
+                registers: present.registers(cfa, row.rules_with(abi)),
+                return_address: present.register(cfa, number, row.register_with(abi, number)),
+            })
+        }
+        None => None,
+    }
 }
 
-/// The caller of the frame that stands at an address, over the frame's registers and memory, or none where no FDE covers the
-/// address (DWARF 5, section 6.4.1). A register that no instruction has given a rule is undefined.
+/// The caller of the frame at an address, over the frame's registers and memory, or none where no FDE covers the address (DWARF 5,
+/// section 6.4.1). A register that no instruction has given a rule is undefined.
 ///
 /// It is `unwind_with` under an ABI that says nothing.
 pub fn unwind<R: Registers, M: Memory>(
@@ -87,12 +124,11 @@ pub fn unwind<R: Registers, M: Memory>(
     unwind_with(checked, &Abi::none(), address, registers, memory)
 }
 
-/// The caller of the frame that stands at an address, over the frame's registers and memory, or none where no FDE covers the
-/// address (DWARF 5, section 6.4.1). The ABI says what a register is that no instruction has given a rule.
+/// The caller of the frame at an address, over the frame's registers and memory, or none where no FDE covers the address (DWARF 5,
+/// section 6.4.1). The ABI says what a register is that no instruction has given a rule.
 ///
-/// Contents and sums are taken modulo 2^w, and what is saved is an address-sized word. A rule that needs the CFA has the CFA's
-/// answer where that has no value. One halving finds the FDE and one its CIE, its program is run once, up to the row of the
-/// address, and nothing is allocated.
+/// It is `unwind_by` the section: one binary search finds the FDE and one its CIE, and its program is run once, up to the row of the
+/// address.
 pub fn unwind_with<R: Registers, M: Memory>(
     checked: &Checked<'_>,
     abi: &Abi,
@@ -108,24 +144,24 @@ pub fn unwind_with<R: Registers, M: Memory>(
     ensures fits { IfSome (option_map caller_in result)
         (CallerFits (2 ^ width_of checked.now.frame.target.address_size)) }
 {
-    let frame = checked.frame();
-    callers_fit(frame);
-    let mut row = UnwindTableRow::empty();
-    match frame.row_for_address_into(address, &mut row) {
-        Some((cie, _)) => {
-            let present = Present {
-                target: frame.target(),
-                registers,
-                memory,
-            };
-            let cfa = present.cfa(row.cfa());
-            let number = cie.return_address_register;
-            Some(Caller {
-                cfa,
-                registers: present.registers(cfa, row.rules_with(abi)),
-                return_address: present.register(cfa, number, row.register_with(abi, number)),
-            })
-        }
-        None => None,
-    }
+    unwind_by_section(checked.frame(), abi, address, registers, memory)
+}
+
+/// The same over a checked frame section, for a caller that has no location lists.
+pub fn unwind_by_section<R: Registers, M: Memory>(
+    frame: &CheckedFrame<'_>,
+    abi: &Abi,
+    address: u64,
+    registers: &R,
+    memory: &M,
+) -> Option<Caller>
+    ensures unwinds { Unwinds
+        (machine frame.now.target (R.contents registers.now) (M.bytes memory.now))
+        (roles_of abi.now) frame.now address (option_map caller_in result) }
+
+    // All its numbers are below 2^w, w being the size of an address in bits.
+    ensures fits { IfSome (option_map caller_in result)
+        (CallerFits (2 ^ width_of frame.now.target.address_size)) }
+{
+    unwind_by(&frame, abi, address, registers, memory)
 }

@@ -11,6 +11,8 @@ use dw_bytes::{Fault, FaultKind, Target};
 use dw_loclists::{CheckedLists, check_lists};
 use dw_rows::{CheckedFrame, check_frame};
 use std::alloc::Global;
+use std::error::Error;
+use std::fmt;
 
 /// Sections and expressions of this many bytes or more are refused.
 pub(crate) const SECTION_LIMIT: usize = 1 << 32;
@@ -24,18 +26,33 @@ pub(crate) const TOO_LONG: Fault = Fault {
 /// The first fault of two sections.
 #[derive(Clone, Copy, Debug, PartialEq, Eq)]
 pub struct CheckFault {
-    /// The section that it stands in: never an expression. Where memory ran out it says nothing.
+    /// The section that it is in: never an expression. Where memory ran out it says nothing.
     pub section: Section,
     /// What is wrong, and where in the section.
     pub fault: Fault,
 }
+
+/// The section, then the fault: `frame: 9 NoSuchCie at 0x0000001c`.
+impl fmt::Display for CheckFault {
+    ghost use Rattle.std.specs.Prelude.{Some};
+    ghost use Rattle.dw_check.specs.Text.{check_fault_text};
+
+    ghost output = { λ found. Some (check_fault_text found) };
+
+    #[tactic(auto, unfolding(crate::specs::Text::check_fault_text))]
+    fn fmt<W: fmt::Write>(&self, f: &mut fmt::Formatter<W>) -> fmt::Result {
+        write!(f, "{}: {}", self.section.text(), self.fault)
+    }
+}
+
+impl Error for CheckFault {}
 
 /// A `.debug_frame` and a `.debug_loclists` section that were checked, under one target.
 ///
 /// ```rust
 /// match check(alloc, frame, lists, target) {
 ///     Ok(checked) => println!(rt; "{} FDEs", checked.frame().fdes().len())?,
-///     Err(found) => println!(rt; "fault {} at {:#x}", found.fault.kind.number(), found.fault.at)?,
+///     Err(found) => println!(rt; "{found}")?,
 /// }
 /// ```
 #[derive(Drop)]

@@ -1,6 +1,6 @@
 use Rattle.std.proofs.Common.{◌≡◌, ◌%◌, ◌^◌, refl}
-use Rattle.dw_check.specs.Text.{hex_digits}
-use Rattle.dw_check.proofs.Padded.{hex_last}
+use Rattle.dw_bytes.specs.Text.{hex_digits}
+use Rattle.dw_bytes.proofs.Padded.{hex_last}
 use Rattle.dw_check.proofs.numbers.push_address.Goals as goal
 
 pub returns-in-Four : goal.returns-in-Four

@@ -1,5 +1,5 @@
 use Rattle.std.proofs.Common.{rules, arith, ◌<◌, ◌^◌}
-use Rattle.dw_check.proofs.Padded.{hex_padded}
+use Rattle.dw_bytes.proofs.Padded.{hex_padded}
 use Rattle.dw_check.proofs.numbers.push_offset.Goals as goal
 
 pub returns : goal.returns

@@ -15,7 +15,7 @@ use Rattle.dw_check.proofs.runs.backtrace_and_write.Goals as goal
 
 pub returns-in-Ok-clause-written : goal.returns-in-Ok-clause-written
 returns-in-Ok-clause-written g c = λ gs given.
-    let frame = c.args.checked.now.frame in
+    let frame = c.args.frame.now in
     let size = frame.target.address_size in
     let old = g.S.Sink.taken c.args.out.now.sink.now in
     let new = g.S.Sink.taken c.write_walk.new.out.sink.now in
@@ -31,10 +31,10 @@ returns-in-Ok-clause-written g c = λ gs given.
 
 pub returns-in-Err-clause-written : goal.returns-in-Err-clause-written
 returns-in-Err-clause-written g c = λ gs given.
-    let frame = c.args.checked.now.frame in
+    let frame = c.args.frame.now in
     let old = g.S.Sink.taken c.args.out.now.sink.now in
-    let some = c.each_has_a_walk.ensures (record { frame = frame; abi = abi_given gs; memory = λ a. first_that (byte_in a) gs })
+    let some = c.each_has_a_walk.ensures frame (abi_given gs) (λ a. first_that (byte_in a) gs)
     (first_place c.args.address (λ n. first_that (content_in n) gs)) c.args.limit
-    (rw c.frame.ensures at c.section.ensures.checked) in
+    c.section.ensures.checked in
     let text = walk_text frame.target.address_size some.0 some.1 in
     (text, (some.0, some.1, some.2, refl), front_none old old text (appends_nothing old))

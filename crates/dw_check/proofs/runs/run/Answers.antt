@@ -17,7 +17,7 @@ returns-in-Err-Refused-clause-ends g c =
     let is : IsReply c.args.request.now (map (λ file. file.items) c.args.files.now) reply = search (rules, c.in-Err-Refused.ensures.goes) in
     let front : AppendsFront mid new line = search (rules, c.in-Err-Write.ensures.written) in
     let all : AppendsFront old new line = front_more old mid new [] line none front in
-    (reply, is, search (rules, all), search rules)
+    (reply, is, tt, search (rules, all), search rules)
 
 pub returns-in-Err-Memory-clause-ends : goal.returns-in-Err-Memory-clause-ends
 returns-in-Err-Memory-clause-ends g c =

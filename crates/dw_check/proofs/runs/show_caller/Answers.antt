@@ -20,8 +20,8 @@ returns-in_err-state-clause-goes g c =
     (goes_without_state shows asked.target (cow_slice_items c.in_ok-section.section) count asked.hex files a e
     c.in_ok-section.ensures.bytes c.in_err-state.ensures.stop)
 
-pub returns-in_err-checked-clause-goes : goal.returns-in_err-checked-clause-goes
-returns-in_err-checked-clause-goes g c =
+pub returns-in_err-frame-clause-goes : goal.returns-in_err-frame-clause-goes
+returns-in_err-frame-clause-goes g c =
     let asked = c.args.files.now in
     let count = length asked.contents.now in
     let files = map (λ file. file.items) asked.contents.now in
@@ -29,11 +29,11 @@ returns-in_err-checked-clause-goes g c =
     let is = IsUnwindReply c.args.address in
     let shows = ShowsCaller c.args.address in
     let section = c.as_slice.result.now in
-    let e = c.in_err-checked.field-0.0 in
+    let e = c.in_err-frame.field-0.0 in
     let given = c.in_ok-state.ensures.state in
     let bytes = c.in_ok-section.ensures.bytes ∙ ap Some (sym c.as_slice.ensures.value) in
-    handed_on (Goes count (is asked.target asked.hex files) a a) _ e c.from_residual-in_err-checked.ensures
-    (goes_faulty shows asked.target section count asked.hex files given.0 a e bytes given.1 c.in_err-checked.ensures.stop)
+    handed_on (Goes count (is asked.target asked.hex files) a a) _ e c.from_residual-in_err-frame.ensures
+    (goes_faulty shows asked.target section count asked.hex files given.0 a e bytes given.1 c.in_err-frame.ensures.stop)
 
 pub returns-clause-goes : goal.returns-clause-goes
 returns-clause-goes g c =
@@ -44,11 +44,11 @@ returns-clause-goes g c =
     let new = g.S.Sink.taken c.unwind_and_write.new.out.sink.now in
     let given = c.in_ok-state.ensures.state in
     let bytes = c.in_ok-section.ensures.bytes ∙ ap Some (sym c.as_slice.ensures.value) in
-    let checked = c.in_ok-checked.ensures in
+    let checked = c.in_ok-frame.ensures in
     let shows = ShowsCaller c.args.address in
     let section = c.as_slice.result.now in
     let written = c.unwind_and_write.ensures.written given.0 given.2 in
     rw c.run_result.ensures
-    (goes_shown shows asked.target section count asked.hex files given.0 c.in_ok-checked.checked.frame c.in_ok-checked.checked.lists
+    (goes_shown shows asked.target section count asked.hex files given.0 c.in_ok-frame.frame
     old new c.unwind_and_write.result written.0 (one_caller_shown c.one_caller.ensures c.args.address) bytes given.1
-    checked.whole checked.frame checked.lists written.1 written.2)
+    checked.whole checked.frame written.1 written.2)
