@@ -1,6 +1,8 @@
-//! Cases made of real sections: a few records or lists, encoded for a target, and changed in some bytes.
+//! Cases made of real sections: a few records or lists, encoded for a target, and changed in some bytes. Some programs begin
+//! with instructions that come near a limit.
 
 use crate::encoded::{Encoded, little, push_uleb, uleb};
+use crate::limits;
 use crate::random::Random;
 use crate::target::Target;
 
@@ -167,7 +169,9 @@ fn push_fde(case: &mut Case, random: &mut Random, target: Target, fde: &Fde) {
     let mut head = target.number(0, if wide { 8 } else { 4 });
     head.extend(target.number(fde.start, target.size().into()));
     head.extend(target.number(fde.range, target.size().into()));
-    push_record(case, wide, target, &head, &fde.program.bytes(target));
+    let mut program = if random.one_of(12) { limits::program(random) } else { Vec::new() };
+    program.extend(fde.program.bytes(target));
+    push_record(case, wide, target, &head, &program);
 }
 
 struct Entry {

@@ -4,6 +4,7 @@
 //! reads is no difference: gimli judges little.
 
 use crate::cases::{Case, Frames, Lists, made_expression};
+use crate::limits;
 use crate::meaning::{self, Kind};
 use crate::ours;
 use crate::random::Random;
@@ -58,11 +59,26 @@ impl Counts {
     }
 }
 
-fn frame_case(frames: &Frames, random: &mut Random, target: Target, counts: &mut Counts) {
+/// A section of frames, and where that is accepted the rows of some addresses by its compiled table.
+fn frame_case(frames: &Frames, random: &mut Random, target: Target, counts: &mut Counts, tables: &mut Counts) {
     let mut case = frames.case(random, target);
     let changed = case.change(random);
     let ours = ours::frame_answer(&case.bytes, target.big, target.small);
     counts.add("frames", &case, target, changed, ours, meaning::frame_answer(&case.bytes, target));
+    if ours >> 63 == 1 {
+        table_case(&case, random, target, changed, tables);
+    }
+}
+
+/// The rows that the compiled table of an accepted section gives, at both ends of FDEs and elsewhere.
+fn table_case(case: &Case, random: &mut Random, target: Target, changed: bool, counts: &mut Counts) {
+    let read = meaning::Rows::read(&case.bytes, target);
+    let mut addresses = vec![0, random.next() & target.greatest(), target.greatest()];
+    if let Ok(rows) = &read {
+        addresses.extend(rows.addresses(random));
+    }
+    let ours = ours::table_answer(&case.bytes, target.big, target.small, &addresses);
+    counts.add("tables", case, target, changed, ours, read.and_then(|rows| rows.answer(&addresses)));
 }
 
 fn lists_case(lists: &Lists, random: &mut Random, target: Target, counts: &mut Counts) {
@@ -82,7 +98,11 @@ fn lists_case(lists: &Lists, random: &mut Random, target: Target, counts: &mut C
 }
 
 fn expression_case(lists: &Lists, random: &mut Random, target: Target, counts: &mut Counts) {
-    let bytes = if random.one_of(3) { lists.expression(random, target) } else { made_expression(random, target) };
+    let bytes = match random.below(6) {
+        0 | 1 => lists.expression(random, target),
+        2 => limits::expression(random, target),
+        _ => made_expression(random, target),
+    };
     let mut case = Case::of(bytes);
     let changed = case.change(random);
     let location = !random.one_of(3);
@@ -103,8 +123,12 @@ pub fn run(sections: &[(String, Vec<u8>)], frame_count: u64, list_count: u64, ex
     }
     let mut random = Random::new(seed);
     let mut counts: [Counts; 3] = Default::default();
+    let mut tables = Counts::default();
+    for (_, section) in sections.iter().filter(|(name, _)| !name.ends_with(".lists")) {
+        table_case(&Case::of(section.clone()), &mut random, TARGETS[0], false, &mut tables);
+    }
     for number in 0..frame_count {
-        frame_case(&frames, &mut random, TARGETS[number as usize % 4], &mut counts[0]);
+        frame_case(&frames, &mut random, TARGETS[number as usize % 4], &mut counts[0], &mut tables);
     }
     for number in 0..list_count {
         lists_case(&lists, &mut random, TARGETS[number as usize % 4], &mut counts[1]);
@@ -115,5 +139,6 @@ pub fn run(sections: &[(String, Vec<u8>)], frame_count: u64, list_count: u64, ex
     for (what, counts) in ["frames", "lists", "expressions"].iter().zip(&counts) {
         counts.print(what);
     }
-    counts.iter().all(|counts| counts.differences == 0)
+    tables.print("tables");
+    counts.iter().all(|counts| counts.differences == 0) && tables.differences == 0
 }

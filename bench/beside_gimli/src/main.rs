@@ -8,6 +8,7 @@
 mod cases;
 mod differ;
 mod encoded;
+mod limits;
 mod meaning;
 mod ours;
 mod random;

@@ -1,5 +1,6 @@
 //! What gimli reads of a section or an expression, mixed into a number as crates/dw_times mixes what it reads.
 
+use crate::random::Random;
 use crate::target::Target;
 use gimli::{
     BaseAddresses, CfaRule, CieOrFde, CommonInformationEntry, DebugFrame, DebugLoc, DebugLocLists, EndianSlice, Error,
@@ -336,6 +337,86 @@ pub fn frame_answer(bytes: &[u8], target: Target) -> Result<u64, Error> {
         add_expression(&mut mixed, section, expression, kind, target)?;
     }
     Ok(mixed.answer())
+}
+
+/// The FDEs that cover an address, in order of address.
+fn covering<'a>(frame: &Frame<'a>) -> Result<Vec<FrameDescriptionEntry<Bytes<'a>>>, Error> {
+    let bases = BaseAddresses::default();
+    let mut fdes = Vec::new();
+    let mut entries = frame.entries(&bases);
+    while let Some(entry) = entries.next()? {
+        if let CieOrFde::Fde(partial) = entry {
+            let fde = partial.parse(DebugFrame::cie_from_offset)?;
+            if fde.len() > 0 {
+                fdes.push(fde);
+            }
+        }
+    }
+    fdes.sort_by_key(|fde| fde.initial_address());
+    Ok(fdes)
+}
+
+/// The row of an address, with the return address register of its CIE, or that there is none.
+fn add_found(
+    mixed: &mut Mixed,
+    frame: &Frame<'_>,
+    section: Bytes<'_>,
+    fdes: &[FrameDescriptionEntry<Bytes<'_>>],
+    address: u64,
+) -> Result<(), Error> {
+    mixed.add(address);
+    let place = fdes.partition_point(|fde| fde.initial_address() <= address);
+    let fde = place.checked_sub(1).map(|place| &fdes[place]).filter(|fde| fde.contains(address));
+    let Some(fde) = fde else {
+        mixed.add(u64::MAX);
+        return Ok(());
+    };
+    let bases = BaseAddresses::default();
+    let mut context = UnwindContext::<_, Places>::new_in();
+    let mut table = fde.rows(frame, &bases, &mut context)?;
+    while let Some(row) = table.next_row()? {
+        if row.contains(address) {
+            mixed.add(u64::from(fde.cie().return_address_register().0));
+            add_row(mixed, section, row);
+            return Ok(());
+        }
+    }
+    Err(Error::NoUnwindInfoForAddress)
+}
+
+/// The rows of a section, if gimli can read it.
+pub struct Rows<'a> {
+    section: Bytes<'a>,
+    frame: Frame<'a>,
+    fdes: Vec<FrameDescriptionEntry<Bytes<'a>>>,
+}
+
+impl<'a> Rows<'a> {
+    pub fn read(bytes: &'a [u8], target: Target) -> Result<Self, Error> {
+        let section = EndianSlice::new(bytes, target.order());
+        let mut frame = DebugFrame::from(section);
+        frame.set_address_size(target.size());
+        let fdes = covering(&frame)?;
+        Ok(Rows { section, frame, fdes })
+    }
+
+    /// Where FDEs begin and end, each with its neighbour, and an address inside each.
+    pub fn addresses(&self, random: &mut Random) -> Vec<u64> {
+        let around = |fde: &FrameDescriptionEntry<Bytes<'_>>| {
+            let (start, end) = (fde.initial_address(), fde.initial_address().wrapping_add(fde.len()));
+            [start.wrapping_sub(1), start, start.wrapping_add(random.next() % fde.len()), end.wrapping_sub(1), end]
+        };
+        self.fdes.iter().flat_map(around).collect()
+    }
+
+    /// What the rows of these addresses say.
+    pub fn answer(&self, addresses: &[u64]) -> Result<u64, Error> {
+        let mut mixed = Mixed::default();
+        for &address in addresses {
+            add_found(&mut mixed, &self.frame, self.section, &self.fdes, address)?;
+        }
+        Ok(mixed.answer())
+    }
 }
 
 /// An entry of a location list that has an expression.

@@ -7,9 +7,13 @@ unsafe extern "C" {
     fn bench_check(section: Start, n: usize) -> usize;
     fn bench_check_lists(section: Start, n: usize) -> usize;
     fn bench_rows(section: Start, n: usize) -> u64;
+    fn bench_rows_again(section: Start, n: usize) -> u64;
     fn bench_rows_into(section: Start, n: usize) -> u64;
     fn bench_look_up(section: Start, n: usize, addresses: *const u64, m: usize, times: u32) -> u64;
     fn bench_unwind(section: Start, n: usize, addresses: *const u64, m: usize, times: u32) -> u64;
+    fn bench_look_up_by_table(section: Start, n: usize, addresses: *const u64, m: usize, times: u32) -> u64;
+    fn bench_unwind_by_table(section: Start, n: usize, addresses: *const u64, m: usize, times: u32) -> u64;
+    fn bench_table_answer(section: Start, n: usize, big: bool, small: bool, addresses: *const u64, m: usize) -> u64;
     fn bench_evaluate(bytes: Start, n: usize, times: u32) -> u64;
     fn bench_check_expression(bytes: Start, n: usize, times: u32) -> u64;
     fn bench_certify(bytes: Start, n: usize, times: u32) -> u64;
@@ -41,6 +45,11 @@ pub fn rows(section: &[u8]) -> u64 {
     unsafe { bench_rows(section.as_ptr(), section.len()) }
 }
 
+/// The check, and all rows by the iterator, which begins again in one place for each FDE.
+pub fn rows_again(section: &[u8]) -> u64 {
+    unsafe { bench_rows_again(section.as_ptr(), section.len()) }
+}
+
 /// The check, and all rows into one place.
 pub fn rows_into(section: &[u8]) -> u64 {
     unsafe { bench_rows_into(section.as_ptr(), section.len()) }
@@ -54,6 +63,21 @@ pub fn look_up(section: &[u8], addresses: &[u64], times: u32) -> u64 {
 /// The check, and so many times the callers at all addresses.
 pub fn unwind(section: &[u8], addresses: &[u64], times: u32) -> u64 {
     unsafe { bench_unwind(section.as_ptr(), section.len(), addresses.as_ptr(), addresses.len(), times) }
+}
+
+/// The check, the compiled table, and so many times the rows of all addresses.
+pub fn look_up_by_table(section: &[u8], addresses: &[u64], times: u32) -> u64 {
+    unsafe { bench_look_up_by_table(section.as_ptr(), section.len(), addresses.as_ptr(), addresses.len(), times) }
+}
+
+/// The check, the compiled table, and so many times the callers at all addresses.
+pub fn unwind_by_table(section: &[u8], addresses: &[u64], times: u32) -> u64 {
+    unsafe { bench_unwind_by_table(section.as_ptr(), section.len(), addresses.as_ptr(), addresses.len(), times) }
+}
+
+/// What the compiled table of a section gives at these addresses, 0 where it is refused.
+pub fn table_answer(section: &[u8], big: bool, small: bool, addresses: &[u64]) -> u64 {
+    unsafe { bench_table_answer(section.as_ptr(), section.len(), big, small, addresses.as_ptr(), addresses.len()) }
 }
 
 /// One judgement of a register's expression, and so many evaluations.

@@ -1,13 +1,32 @@
 //! The times of dwcheck's libraries and of gimli, in nanoseconds, with their ratio.
 
 use crate::{ours, theirs};
+use std::collections::HashMap;
 use std::hint::black_box;
-use std::time::Instant;
+use std::sync::atomic::{AtomicBool, Ordering};
+use std::time::Duration;
+
+unsafe extern "C" {
+    fn clock_gettime(clock: i32, time: &mut Time) -> i32;
+}
+
+/// Seconds and nanoseconds.
+#[repr(C)]
+#[derive(Default)]
+struct Time(i64, i64);
+
+/// The processor time of this thread: what else the machine does adds little to it.
+fn now() -> f64 {
+    const THREAD: i32 = 3;
+    let mut time = Time::default();
+    assert_eq!(unsafe { clock_gettime(THREAD, &mut time) }, 0);
+    time.0 as f64 * 1e9 + time.1 as f64
+}
 
 fn time_of<T>(work: impl FnOnce() -> T) -> f64 {
-    let start = Instant::now();
+    let start = now();
     black_box(work());
-    start.elapsed().as_nanos() as f64
+    now() - start
 }
 
 /// The least of so many runs of each, which take turns, so that whatever else the machine does meets both.
@@ -23,8 +42,8 @@ fn least<T>(runs: usize, mut work: impl FnMut() -> T) -> f64 {
 
 fn line(name: &str, ours: f64, theirs: Option<f64>) {
     match theirs {
-        Some(theirs) => println!("{name:<52} {ours:14.1} {theirs:14.1} {:6.2}", ours / theirs),
-        None => println!("{name:<52} {ours:14.1}"),
+        Some(theirs) => println!("{name:<60} {ours:14.1} {theirs:14.1} {:6.2}", ours / theirs),
+        None => println!("{name:<60} {ours:14.1}"),
     }
 }
 
@@ -40,6 +59,8 @@ fn frame(name: &str, bytes: &[u8]) {
     line(&format!("{name}: all rows into one place"), into - check, Some(rows));
     let (iterated, rows) = least_of_both(9, || ours::rows(bytes), || section.rows());
     line(&format!("{name}: all rows by the iterator"), iterated - check, Some(rows));
+    let (again, rows) = least_of_both(9, || ours::rows_again(bytes), || section.rows());
+    line(&format!("{name}: all rows by the iterator in one place"), again - check, Some(rows));
     let addresses = section.addresses();
     let each = |many: f64, once: f64| (many - once) / 4.0 / addresses.len() as f64;
     let (many, found) = least_of_both(9, || ours::look_up(bytes, &addresses, 5), || section.look_up(&addresses));
@@ -49,6 +70,61 @@ fn frame(name: &str, bytes: &[u8]) {
     let many = least(9, || ours::unwind(bytes, &addresses, 5));
     let once = least(9, || ours::unwind(bytes, &addresses, 1));
     line(&format!("{name}: unwind"), each(many, once), None);
+    table(name, bytes, &section, &addresses, check);
+}
+
+/// As the C library has it: the fifth number is what is mapped by itself, the eighth what else is allocated.
+#[repr(C)]
+struct MallocInfo([usize; 10]);
+
+unsafe extern "C" {
+    fn mallinfo2() -> MallocInfo;
+}
+
+/// The bytes that are allocated, by the first thread.
+fn allocated() -> usize {
+    let found = unsafe { mallinfo2() };
+    found.0[4] + found.0[7]
+}
+
+/// How many bytes are allocated most of the time while something is done, beyond those before.
+fn held_by<T>(work: impl FnOnce() -> T) -> usize {
+    let before = allocated();
+    let done = AtomicBool::new(false);
+    std::thread::scope(|scope| {
+        let samples = scope.spawn(|| {
+            let mut samples: HashMap<usize, usize> = HashMap::new();
+            while !done.load(Ordering::Relaxed) {
+                *samples.entry(allocated()).or_default() += 1;
+                std::thread::sleep(Duration::from_micros(200));
+            }
+            samples
+        });
+        black_box(work());
+        done.store(true, Ordering::Relaxed);
+        let samples = samples.join().expect("samples");
+        let most = samples.into_iter().max_by_key(|sample| sample.1).expect("a sample").0;
+        most.saturating_sub(before)
+    })
+}
+
+/// The compiled table of a section. Its section is let go before a look-up.
+fn table(name: &str, bytes: &[u8], section: &theirs::Section<'_>, addresses: &[u64], check: f64) {
+    const TIMES: u32 = 40;
+    let each = |many: f64, once: f64| (many - once) / f64::from(TIMES) / addresses.len() as f64;
+    let compile = |count| ours::look_up_by_table(bytes, &addresses[..count], 1);
+    let (compiled, rows) = least_of_both(25, || compile(0), || section.rows());
+    line(&format!("{name}: compile; gimli runs all rows"), compiled - check, Some(rows));
+    let (many, found) =
+        least_of_both(15, || ours::look_up_by_table(bytes, addresses, TIMES + 1), || section.look_up(addresses));
+    let once = least(15, || ours::look_up_by_table(bytes, addresses, 1));
+    let found = found / addresses.len() as f64;
+    line(&format!("{name}: look-up by table; gimli with an index of its user's"), each(many, once), Some(found));
+    let many = least(15, || ours::unwind_by_table(bytes, addresses, TIMES + 1));
+    let once = least(15, || ours::unwind_by_table(bytes, addresses, 1));
+    line(&format!("{name}: unwind by table"), each(many, once), None);
+    let held = held_by(|| ours::look_up_by_table(bytes, addresses, 1000));
+    println!("{name}: a table of {held} bytes, {:.2} of its section's {}", held as f64 / bytes.len() as f64, bytes.len());
 }
 
 fn lists(name: &str, bytes: &[u8]) {
@@ -87,7 +163,7 @@ fn expressions() {
 }
 
 pub fn run(sections: &[(String, Vec<u8>)]) {
-    println!("{:<52} {:>14} {:>14} {:>6}", "nanoseconds", "dwcheck", "gimli", "ratio");
+    println!("{:<60} {:>14} {:>14} {:>6}", "nanoseconds", "dwcheck", "gimli", "ratio");
     for (name, bytes) in sections {
         if name.ends_with(".lists") {
             lists(name, bytes);

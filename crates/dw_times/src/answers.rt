@@ -9,7 +9,7 @@ use dw_rows::{CfaRule, CheckedFrame, RegisterRule, Rows, UnwindTableRow, check_f
 use dw_stack::{CheckedExpression, Kind, check_expression};
 use std::alloc::Global;
 
-fn target_of(big: bool, small: bool) -> Target {
+pub(crate) fn target_of(big: bool, small: bool) -> Target {
     Target {
         order: if big { Order::Big } else { Order::Little },
         address_size: if small {
@@ -49,7 +49,7 @@ fn add_named(mixed: &mut Mixed, offset: u32, expression: &CheckedExpression<'_>)
     mixed.add(expression.expression().bytes().len() as u64);
 }
 
-fn add_cfa(mixed: &mut Mixed, cfa: CfaRule<'_>) {
+pub(crate) fn add_cfa(mixed: &mut Mixed, cfa: CfaRule<'_>) {
     match cfa {
         CfaRule::RegisterAndOffset { register, offset } => {
             mixed.add_three(1, u64::from(register), offset.cast_unsigned())
@@ -62,7 +62,7 @@ fn add_cfa(mixed: &mut Mixed, cfa: CfaRule<'_>) {
 }
 
 /// Mixes in a register's rule, but for one that says that it can't be had.
-fn add_rule(mixed: &mut Mixed, register: u16, rule: RegisterRule<'_>) {
+pub(crate) fn add_rule(mixed: &mut Mixed, register: u16, rule: RegisterRule<'_>) {
     let number = u64::from(register);
     match rule {
         RegisterRule::Default => {}

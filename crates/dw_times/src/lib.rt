@@ -6,6 +6,7 @@ mod answers;
 mod machine;
 mod meaning;
 mod mixed;
+mod tables;
 
 ghost use Rattle.std.specs.Prelude.{◌<◌, ◌^◌, length, Some, None};
 
@@ -131,6 +132,31 @@ fn streamed_sum(frame: &CheckedFrame<'_>) -> u64 {
 pub extern "C" fn bench_rows_into(alloc: Global, section: &[u8]) -> u64 {
     match checked(alloc, section) {
         Some(frame) => streamed_sum(&frame),
+        None => 0,
+    }
+}
+
+/// The ends of all rows by the iterator, which begins again in one place for each FDE, added up.
+fn iterated_again_sum(frame: &CheckedFrame<'_>) -> u64 {
+    let Some(first) = frame.fdes().first() else {
+        return 0;
+    };
+    let mut rows = frame.rows(first);
+    let mut sum = 0u64;
+    for fde in frame.fdes() {
+        frame.rows_into(fde, &mut rows);
+        for row in &mut rows {
+            sum = sum.wrapping_add(row.end_address());
+        }
+    }
+    sum
+}
+
+/// The check, and all rows by the iterator in one place.
+#[unsafe(no_mangle)]
+pub extern "C" fn bench_rows_again(alloc: Global, section: &[u8]) -> u64 {
+    match checked(alloc, section) {
+        Some(frame) => iterated_again_sum(&frame),
         None => 0,
     }
 }

@@ -1,0 +1,120 @@
+//! Compiled tables, as `bench/beside_gimli` times them and compares what they give.
+
+use crate::answers::{add_cfa, add_rule, target_of};
+use crate::machine::Known;
+use crate::mixed::Mixed;
+use crate::{TARGET, number_of};
+use dw_bytes::Target;
+use dw_check::unwind_by;
+use dw_rows::{Abi, UnwindRow, UnwindTable, check_frame};
+use std::alloc::Global;
+
+/// Room for any table.
+const AMPLE: usize = 1 << 40;
+
+/// The table of a section, where that is short enough and accepted. The checked section is gone.
+fn compiled(alloc: Global, section: &[u8], target: Target) -> Option<UnwindTable> {
+    if section.len() >= 1 << 32 {
+        return None;
+    }
+    let frame = check_frame(alloc, section, target).ok()?;
+    frame.compile(alloc, AMPLE).ok()?
+}
+
+/// The ends of the rows of all these addresses so many times, added up.
+fn found_sum(table: &UnwindTable, addresses: &[u64], times: u32) -> u64 {
+    let mut sum = 0u64;
+    for _ in 0..times {
+        for address in addresses {
+            if let Some(row) = table.row_for_address(*address) {
+                sum = sum.wrapping_add(row.end_address());
+            }
+        }
+    }
+    sum
+}
+
+/// The check, the table, and so many times the rows of all these addresses.
+#[unsafe(no_mangle)]
+pub extern "C" fn bench_look_up_by_table(
+    alloc: Global,
+    section: &[u8],
+    addresses: &[u64],
+    times: u32,
+) -> u64 {
+    match compiled(alloc, section, TARGET) {
+        Some(table) => found_sum(&table, addresses, times),
+        None => 0,
+    }
+}
+
+/// The callers of the frames that stand at all these addresses, so many times, each as a number, added up.
+fn callers_sum(table: &UnwindTable, addresses: &[u64], times: u32) -> u64 {
+    let abi = Abi::none();
+    let mut sum = 0u64;
+    for _ in 0..times {
+        for address in addresses {
+            if let Some(caller) = unwind_by(table, &abi, *address, &Known {}, &Known {}) {
+                sum = sum
+                    .wrapping_add(number_of(caller.cfa))
+                    .wrapping_add(number_of(caller.return_address))
+                    .wrapping_add(caller.registers.len() as u64);
+            }
+        }
+    }
+    sum
+}
+
+/// The check, the table, and so many times the callers of the frames that stand at all these addresses.
+#[unsafe(no_mangle)]
+pub extern "C" fn bench_unwind_by_table(
+    alloc: Global,
+    section: &[u8],
+    addresses: &[u64],
+    times: u32,
+) -> u64 {
+    match compiled(alloc, section, TARGET) {
+        Some(table) => callers_sum(&table, addresses, times),
+        None => 0,
+    }
+}
+
+fn add_row(mixed: &mut Mixed, row: &UnwindRow<'_, '_>) {
+    mixed.add(row.start_address());
+    mixed.add(row.end_address());
+    add_cfa(mixed, row.cfa());
+    for (register, rule) in row.rules() {
+        add_rule(mixed, register, rule);
+    }
+}
+
+/// Mixes in the row of an address with its return address register, or that there is none.
+fn add_found(mixed: &mut Mixed, table: &UnwindTable, address: u64) {
+    mixed.add(address);
+    match table.row_and_return_register(address) {
+        Some((row, register)) => {
+            mixed.add(u64::from(register));
+            add_row(mixed, &row);
+        }
+        None => mixed.add(u64::MAX),
+    }
+}
+
+/// What the table of a section gives at these addresses, 0 where the section is refused.
+#[unsafe(no_mangle)]
+pub extern "C" fn bench_table_answer(
+    alloc: Global,
+    section: &[u8],
+    big: bool,
+    small: bool,
+    addresses: &[u64],
+) -> u64 {
+    let Some(table) = compiled(alloc, section, target_of(big, small)) else {
+        return 0;
+    };
+    let mut mixed = Mixed::new();
+    for address in addresses {
+        add_found(&mut mixed, &table, *address);
+    }
+    mixed.answer()
+}
