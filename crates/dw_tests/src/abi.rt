@@ -52,7 +52,7 @@ const COUNTED: [(usize, Option<u16>, Option<(u8, u32)>); 4] = [
 ];
 
 #[test]
-fn keeps_so_many_registers(rt: HostRuntime) {
+fn keeps_127_registers_and_a_stack_pointer(rt: HostRuntime) {
     for (count, stack_pointer, fault) in &COUNTED {
         assert_eq!(rt;
             refused_from_zero(*count, *stack_pointer),

@@ -94,7 +94,7 @@ fn in_frame(kind: FaultKind, at: u32) -> CheckFault {
 }
 
 #[test]
-fn bad_expressions_of_rules(rt: HostRuntime) {
+fn names_the_fault_of_an_expression_in_a_rule(rt: HostRuntime) {
     for &(expression, kind, at) in &BAD {
         let common = in_frame(kind, at.saturating_add(24));
         let own = in_frame(kind, at.saturating_add(48));
@@ -124,7 +124,7 @@ const BEFORE: [(&[u8], &[u8], FaultKind, u32); 3] = [
 ];
 
 #[test]
-fn faults_before_expressions(rt: HostRuntime) {
+fn names_the_fault_that_comes_before_an_expressions(rt: HostRuntime) {
     for &(common, own, kind, at) in &BEFORE {
         let found = first_fault(rt.alloc(), common, own);
         assert_eq!(rt; found, Some(in_frame(kind, at)), "{own:?}");
@@ -149,7 +149,7 @@ const ONE_TOO_MANY: [(&[u8], FaultKind, u32); 2] = [
 
 /// The expression of the rule that is one too many is judged before their number.
 #[test]
-fn too_many_rules_behind_expressions(rt: HostRuntime) -> Result<(), AllocError> {
+fn names_an_expressions_fault_before_too_many_rules(rt: HostRuntime) -> Result<(), AllocError> {
     for &(rule, kind, at) in &ONE_TOO_MANY {
         let program = behind_most(rt.alloc(), rule)?;
         let found = first_fault(rt.alloc(), &[], &program);

@@ -31,7 +31,7 @@ const ACCEPTED: [(&[u8], Kind, u8, u32); 5] = [
 ];
 
 #[test]
-fn accepts(rt: HostRuntime) {
+fn gives_the_depth_and_count_of_what_is_good(rt: HostRuntime) {
     for &(bytes, kind, depth, count) in &ACCEPTED {
         let found = judged(&rt, rt.alloc(), bytes, kind);
         assert_eq!(rt; found, Ok((depth, count)), "{bytes:?}");
@@ -46,7 +46,7 @@ const REFUSED: [(&[u8], Kind, FaultKind, u32); 3] = [
 ];
 
 #[test]
-fn refuses(rt: HostRuntime) {
+fn names_the_first_fault_of_what_is_bad(rt: HostRuntime) {
     for &(bytes, kind, fault, at) in &REFUSED {
         let found = judged(&rt, rt.alloc(), bytes, kind);
         assert_eq!(rt; found, refusal(fault, at), "{bytes:?}");
@@ -62,7 +62,7 @@ pub(crate) fn push_times(bytes: &mut Vec<u8>, part: &[u8], count: usize) -> Resu
 }
 
 #[test]
-fn what_was_handed_in(rt: HostRuntime) {
+fn keeps_what_was_handed_in(rt: HostRuntime) {
     let bytes = [0x12, 0x22];
     let expression = Expression::new(&bytes, LITTLE);
     let Ok(certificate) = certify(rt.alloc(), expression, Kind::FrameRegister) else {

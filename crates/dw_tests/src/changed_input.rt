@@ -180,17 +180,17 @@ fn each_change_answers(
 }
 
 #[test]
-fn changes_of_a_function(rt: HostRuntime) -> Result<(), AllocError> {
+fn answers_each_change_of_a_function(rt: HostRuntime) -> Result<(), AllocError> {
     each_change_answers(&rt, rt.alloc(), Section::Frame, &FUNCTION)
 }
 
 #[test]
-fn changes_of_rules_with_expressions(rt: HostRuntime) -> Result<(), AllocError> {
+fn answers_each_change_of_rules_with_expressions(rt: HostRuntime) -> Result<(), AllocError> {
     each_change_answers(&rt, rt.alloc(), Section::Frame, &EXPRESSIONS)
 }
 
 #[test]
-fn changes_of_lists(rt: HostRuntime) -> Result<(), AllocError> {
+fn answers_each_change_of_lists(rt: HostRuntime) -> Result<(), AllocError> {
     each_change_answers(&rt, rt.alloc(), Section::Lists, &PAIR_AND_DEFAULT)?;
     each_change_answers(&rt, rt.alloc(), Section::Lists, &OVERLAPPING)
 }
@@ -250,7 +250,7 @@ fn fault_in(section: Section, kind: FaultKind, at: u32) -> Option<CheckFault> {
 }
 
 #[test]
-fn faults_of_chosen_changes(rt: HostRuntime) -> Result<(), AllocError> {
+fn names_the_fault_of_chosen_changes(rt: HostRuntime) -> Result<(), AllocError> {
     let alloc = rt.alloc();
     for &(at, byte, kind, stands) in &FUNCTION_CHANGES {
         let section = changed(&rt, alloc, &FUNCTION, at, byte)?;
@@ -289,7 +289,7 @@ fn row_at(alloc: Global, section: &[u8], address: u64) -> Option<String> {
 }
 
 #[test]
-fn rows_of_chosen_changes(rt: HostRuntime) -> Result<(), AllocError> {
+fn gives_the_row_of_chosen_changes(rt: HostRuntime) -> Result<(), AllocError> {
     for &(at, byte, address, text) in &ROW_CHANGES {
         let section = changed(&rt, rt.alloc(), &FUNCTION, at, byte)?;
         let Some(found) = row_at(rt.alloc(), section.as_slice(), address) else {

@@ -1,32 +1,11 @@
-//! Evaluations by the library's own call, over what is handed in, whose numbers may be greater than any address.
+//! Evaluations by the library's own call, over numbers that may be greater than any address.
 
-ghost use Rattle.std.specs.Prelude.{◌==◌, if◌then◌else◌, Some, None};
-
-use crate::inputs::{LITTLE, LITTLE_SHORT, Unknown};
+use crate::inputs::{LITTLE, LITTLE_SHORT, OneRegister, Unknown};
 use dw_bytes::Target;
-use dw_eval::{Context, Evaluation, Location, Outcome, Registers, evaluate};
+use dw_eval::{Context, Evaluation, Location, Outcome, evaluate};
 use dw_ops::Expression;
 use dw_stack::{Kind, certify};
 use std::alloc::Global;
-
-/// One register that is known.
-#[derive(Clone, Copy)]
-struct OneRegister {
-    known: u16,
-    content: u64,
-}
-
-impl Registers for OneRegister {
-    ghost contents = { λ r n. if n == r.known then Some r.content else None };
-
-    fn register(&self, number: u16) -> Option<u64> {
-        if number == self.known {
-            Some(self.content)
-        } else {
-            None
-        }
-    }
-}
 
 const REGISTER: OneRegister = OneRegister {
     known: 7,
@@ -69,7 +48,7 @@ const HANDED_IN: [(&[u8], u64, u64); 5] = [
 ];
 
 #[test]
-fn what_is_handed_in(rt: HostRuntime) {
+fn gives_what_it_is_passed_modulo_the_address_size(rt: HostRuntime) {
     let kind = Kind::Location;
     for &(bytes, wide, narrow) in &HANDED_IN {
         let found = evaluated(rt.alloc(), bytes, LITTLE, kind);
@@ -80,13 +59,13 @@ fn what_is_handed_in(rt: HostRuntime) {
 }
 
 #[test]
-fn a_cfa_that_is_pushed(rt: HostRuntime) {
+fn an_empty_register_expression_gives_the_pushed_cfa(rt: HostRuntime) {
     let found = evaluated(rt.alloc(), &[], LITTLE_SHORT, Kind::FrameRegister);
     assert_eq!(rt; found, Some((Outcome::Value(0x20), 0)));
 }
 
 #[test]
-fn copies(rt: HostRuntime) {
+fn a_copy_of_a_checked_expression_evaluates_alike(rt: HostRuntime) {
     let bytes = [0x32, 0x33, 0x22];
     let expression = Expression::new(&bytes, LITTLE);
     let certificate = certify(rt.alloc(), expression, Kind::Location).expect(&rt, "good");

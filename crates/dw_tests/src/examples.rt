@@ -1,14 +1,19 @@
-//! Callers that are proved: what a caller learns from the contracts of `dw_rows` and `dw_eval`.
+//! Callers that are proved: what a caller learns from the contracts of `dw_rows`, `dw_eval` and `dw_check`.
 
-ghost use Rattle.std.specs.Prelude.{◌≡◌, ◌<◌, ◌^◌, ℕ, None, Some, IfSome};
+ghost use Rattle.std.specs.Prelude.{◌≡◌, ◌<◌, ◌^◌, ℕ, None, Some, IfSome, option_map};
+ghost use Rattle.dw_check.specs.Caller.{Unwinds, machine};
+ghost use Rattle.dw_check.specs.CallerViews.{caller_in};
 ghost use Rattle.dw_eval.specs.Numbers.{width_of};
 ghost use Rattle.dw_eval.specs.Results.{IsEvaluation, value};
 ghost use Rattle.dw_rows.specs.Rules.{Row, offset, rule_in};
-ghost use Rattle.dw_rows.specs.Section.{row_of};
+ghost use Rattle.dw_rows.specs.AbiViews.{roles_of};
+ghost use Rattle.dw_rows.specs.Section.{FrameSection, row_of};
+ghost use Rattle.dw_rows.specs.UnwindTables.{IsTableOf};
 ghost use Rattle.dw_stack.specs.Certificates.{checked_of};
 
+use dw_check::{Caller, unwind_by};
 use dw_eval::{Context, Memory, Outcome, Registers, evaluate};
-use dw_rows::{CheckedFrame, RegisterRule};
+use dw_rows::{Abi, CheckedFrame, RegisterRule, UnwindTable};
 use dw_stack::CheckedExpression;
 
 /// Where a function has saved a register at an address: so many bytes from the CFA.
@@ -56,4 +61,21 @@ pub fn computed_value<R: Registers, M: Memory>(
         Outcome::Value(value) => Some(value),
         _ => None,
     }
+}
+
+/// The caller of a frame by a table that was compiled before: of whichever section it is a table, it is the caller by that section,
+/// the bytes of which may be gone.
+pub fn caller_by_table<R: Registers, M: Memory>(
+    table: &UnwindTable,
+    abi: &Abi,
+    address: u64,
+    registers: &R,
+    memory: &M,
+) -> Option<Caller>
+    ensures { (frame : FrameSection) → IsTableOf frame table.now → Unwinds
+        (machine table.now.target (R.contents registers.now) (M.bytes memory.now))
+        (roles_of abi.now) frame address (option_map caller_in result) }
+{
+    dw_check::laws::unwinding_by_what_is_found();
+    unwind_by(table, abi, address, registers, memory)
 }

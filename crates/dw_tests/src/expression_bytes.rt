@@ -97,7 +97,7 @@ fn shown(alloc: Global, digits: &str) -> Option<String> {
 }
 
 #[test]
-fn every_operation(rt: HostRuntime) {
+fn decodes_every_operation(rt: HostRuntime) {
     for case in OPERATIONS.lines() {
         let (digits, wanted) = parts_of(&rt, case);
         assert_eq!(rt;
@@ -109,7 +109,7 @@ fn every_operation(rt: HostRuntime) {
 }
 
 #[test]
-fn each_fault(rt: HostRuntime) {
+fn names_each_fault_of_decoding(rt: HostRuntime) {
     for case in FAULTS.lines() {
         let (digits, wanted) = parts_of(&rt, case);
         assert_eq!(rt;
@@ -120,9 +120,8 @@ fn each_fault(rt: HostRuntime) {
     }
 }
 
-/// An address has the target's size and order.
 #[test]
-fn an_address(rt: HostRuntime) {
+fn an_address_has_the_size_and_order_of_the_target(rt: HostRuntime) {
     let bytes = [0x03, 1, 2, 3, 4];
     let address = Operation::Addr {
         address: 0x0102_0304,
@@ -131,9 +130,8 @@ fn an_address(rt: HostRuntime) {
     assert_eq!(rt; found, Ok((address, 5)));
 }
 
-/// More bytes are read than an address has.
 #[test]
-fn a_wide_read(rt: HostRuntime) {
+fn refuses_a_read_that_is_wider_than_an_address(rt: HostRuntime) {
     let fault = decode_one(&Expression::new(&[0x94, 8], BIG_SHORT), 0).err();
     assert_eq!(rt;
         fault.map(|fault| (fault.kind, fault.at)),
@@ -143,7 +141,7 @@ fn a_wide_read(rt: HostRuntime) {
 
 /// Seventeen operations take memory: with ample memory all are read.
 #[test]
-fn a_list_of_seventeen(rt: HostRuntime) -> Result<(), Fault> {
+fn lists_seventeen_operations(rt: HostRuntime) -> Result<(), Fault> {
     let list = operations(rt.alloc(), &Expression::new(&[0x31; 17], LITTLE))?;
     assert_eq!(rt; list.len(), 17);
     for (at, item) in list.iter().enumerate() {
@@ -154,7 +152,7 @@ fn a_list_of_seventeen(rt: HostRuntime) -> Result<(), Fault> {
 }
 
 #[test]
-fn a_list_with_an_unknown_code(rt: HostRuntime) {
+fn refuses_a_list_with_an_unknown_code(rt: HostRuntime) {
     let refused = operations(rt.alloc(), &Expression::new(&[0x31, 0x18], LITTLE));
     assert_eq!(rt;
         refused.err(),

@@ -1,7 +1,7 @@
 ghost use Rattle.std.specs.Prelude.{◌<◌, ◌^◌, length};
 
-use crate::inputs::{BIG_FUNCTION, BIG_SHORT, FUNCTION, LITTLE};
-use dw_bytes::{AddressSize, Fault, FaultKind, Format, Target};
+use crate::inputs::{BIG_FUNCTION, BIG_SHORT, FUNCTION, LITTLE, bytes_of};
+use dw_bytes::{AddressSize, Fault, FaultKind, Format, Order, Target};
 use dw_frame::{CallFrameInstruction, Entry, cie_at, entries};
 
 /// The first fault of the records of a section, and where it stands.
@@ -54,7 +54,7 @@ const WITH_EXPRESSIONS: [([u8; 8], u32); 2] = [
 ];
 
 #[test]
-fn where_expressions_stand(rt: HostRuntime) {
+fn an_expression_begins_after_its_count(rt: HostRuntime) {
     for (program, offset) in &WITH_EXPRESSIONS {
         let mut section = FUNCTION;
         section[48..].copy_from_slice(program);
@@ -74,7 +74,10 @@ const LONG: [u8; 80] = [
 ];
 
 /// What a record's header says, and where its program begins and ends.
-fn header_of(entry: &Entry<'_>) -> (u32, Format, u64, i64, u64, u32, u32) {
+type Header = (u32, Format, u64, i64, u64, u32, u32);
+
+/// The header of a record.
+fn header_of(entry: &Entry<'_>) -> Header {
     match entry {
         Entry::Cie(cie) => (
             cie.offset,
@@ -98,7 +101,7 @@ fn header_of(entry: &Entry<'_>) -> (u32, Format, u64, i64, u64, u32, u32) {
 }
 
 #[test]
-fn records_of_both_formats_and_orders(rt: HostRuntime) {
+fn reads_records_of_both_formats_and_orders(rt: HostRuntime) {
     let cases: [(&[u8], Target, Format, [(u32, u64, i64, u64, u32, u32); 2]); 3] = [
         (
             &FUNCTION,
@@ -134,7 +137,7 @@ fn records_of_both_formats_and_orders(rt: HostRuntime) {
 }
 
 #[test]
-fn a_register_above_the_last(rt: HostRuntime) {
+fn refuses_a_register_above_the_last(rt: HostRuntime) {
     let mut section = FUNCTION;
     section[48..].copy_from_slice(&[5, 0x80, 0x80, 4, 1, 0, 0, 0]);
     assert_eq!(rt; first_fault(&section, LITTLE), None);
@@ -145,7 +148,7 @@ fn a_register_above_the_last(rt: HostRuntime) {
 }
 
 #[test]
-fn sizes_of_any_number_of_bytes(rt: HostRuntime) {
+fn takes_a_record_of_any_length(rt: HostRuntime) {
     let mut section = [0; 25];
     section[..24].copy_from_slice(&FUNCTION[..24]);
     section[0] = 0x15;
@@ -156,7 +159,7 @@ fn sizes_of_any_number_of_bytes(rt: HostRuntime) {
 
 /// An FDE in the 32-bit format behind a CIE in the 64-bit one.
 #[test]
-fn formats_side_by_side(rt: HostRuntime) {
+fn reads_both_formats_in_one_section(rt: HostRuntime) {
     let mut section = [0; 64];
     section[..32].copy_from_slice(&LONG[..32]);
     section[32..].copy_from_slice(&FUNCTION[24..]);
@@ -170,7 +173,7 @@ fn formats_side_by_side(rt: HostRuntime) {
 }
 
 #[test]
-fn sections_cut_short(rt: HostRuntime) {
+fn names_the_field_that_is_cut_off(rt: HostRuntime) {
     for end in 0..=FUNCTION.len() {
         let wanted = match end {
             0 | 24 | 56 => None,
@@ -190,120 +193,73 @@ const LONG_BIG: [u8; 55] = [
     0, 0, 0, 0, 0, 0, 0x80, 0, 0, 0, 0, 0x10,
 ];
 
-/// CIEs of versions 1 and 3 in both formats and orders: the column of their return address, where the last byte of their length
-/// stands, and where the length and each field of the header end. The column has a byte more in version 3.
-const OLDER: [(&[u8], Target, u16, usize, &[usize]); 8] = [
+/// CIEs of versions 1 and 3 in both formats, in little-endian order of return address column 144, in big-endian order of 14. The
+/// column has a byte more in version 3.
+const OLDER: [(Target, &str); 8] = [
+    (LITTLE, "14000000ffffffff01000178900c07089001000000000000"),
+    (LITTLE, "14000000ffffffff0300017890010c070890010000000000"),
     (
-        &[
-            0x14, 0, 0, 0, 0xff, 0xff, 0xff, 0xff, 1, 0, 1, 0x78, 0x90, 0x0c, 7, 8, 0x90, 1, 0, 0,
-            0, 0, 0, 0,
-        ],
         LITTLE,
-        144,
-        0,
-        &[4, 8, 9, 10, 11, 12, 13],
+        "ffffffff1400000000000000ffffffffffffffff01000178900c070890010000",
     ),
     (
-        &[
-            0x14, 0, 0, 0, 0xff, 0xff, 0xff, 0xff, 3, 0, 1, 0x78, 0x90, 1, 0x0c, 7, 8, 0x90, 1, 0,
-            0, 0, 0, 0,
-        ],
         LITTLE,
-        144,
-        0,
-        &[4, 8, 9, 10, 11, 12, 14],
+        "ffffffff1400000000000000ffffffffffffffff0300017890010c0708900100",
     ),
+    (BIG_SHORT, "00000010ffffffff010001780e0c0d0000000000"),
+    (BIG_SHORT, "00000010ffffffff030001788e000c0d00000000"),
     (
-        &[
-            0xff, 0xff, 0xff, 0xff, 0x14, 0, 0, 0, 0, 0, 0, 0, 0xff, 0xff, 0xff, 0xff, 0xff, 0xff,
-            0xff, 0xff, 1, 0, 1, 0x78, 0x90, 0x0c, 7, 8, 0x90, 1, 0, 0,
-        ],
-        LITTLE,
-        144,
-        4,
-        &[12, 20, 21, 22, 23, 24, 25],
-    ),
-    (
-        &[
-            0xff, 0xff, 0xff, 0xff, 0x14, 0, 0, 0, 0, 0, 0, 0, 0xff, 0xff, 0xff, 0xff, 0xff, 0xff,
-            0xff, 0xff, 3, 0, 1, 0x78, 0x90, 1, 0x0c, 7, 8, 0x90, 1, 0,
-        ],
-        LITTLE,
-        144,
-        4,
-        &[12, 20, 21, 22, 23, 24, 26],
-    ),
-    (
-        &[
-            0, 0, 0, 0x10, 0xff, 0xff, 0xff, 0xff, 1, 0, 1, 0x78, 0x0e, 0x0c, 0x0d, 0, 0, 0, 0, 0,
-        ],
         BIG_SHORT,
-        14,
-        3,
-        &[4, 8, 9, 10, 11, 12, 13],
+        "ffffffff000000000000000fffffffffffffffff010001780e0000",
     ),
     (
-        &[
-            0, 0, 0, 0x10, 0xff, 0xff, 0xff, 0xff, 3, 0, 1, 0x78, 0x8e, 0, 0x0c, 0x0d, 0, 0, 0, 0,
-        ],
         BIG_SHORT,
-        14,
-        3,
-        &[4, 8, 9, 10, 11, 12, 14],
-    ),
-    (
-        &[
-            0xff, 0xff, 0xff, 0xff, 0, 0, 0, 0, 0, 0, 0, 0x0f, 0xff, 0xff, 0xff, 0xff, 0xff, 0xff,
-            0xff, 0xff, 1, 0, 1, 0x78, 0x0e, 0, 0,
-        ],
-        BIG_SHORT,
-        14,
-        11,
-        &[12, 20, 21, 22, 23, 24, 25],
-    ),
-    (
-        &[
-            0xff, 0xff, 0xff, 0xff, 0, 0, 0, 0, 0, 0, 0, 0x0f, 0xff, 0xff, 0xff, 0xff, 0xff, 0xff,
-            0xff, 0xff, 3, 0, 1, 0x78, 0x8e, 0, 0,
-        ],
-        BIG_SHORT,
-        14,
-        11,
-        &[12, 20, 21, 22, 23, 24, 26],
+        "ffffffff000000000000000fffffffffffffffff030001788e0000",
     ),
 ];
 
+/// Where the length and each field of the header of such a CIE end.
+fn older_fields(section: &[u8]) -> Option<[usize; 7]> {
+    let (head, id) = if *section.first()? == 0xff {
+        (12, 20)
+    } else {
+        (4, 8)
+    };
+    let column = if *section.get(id)? == 1 { 1 } else { 2 };
+    Some([head, id, id + 1, id + 2, id + 3, id + 4, id + 4 + column])
+}
+
 /// Of the first CIE of a section: its version, and what its header says.
-fn first_cie(section: &[u8], target: Target) -> Option<(u8, (u32, Format, u64, i64, u64, u32, u32))>
-    requires { length section.now < 2 ^ 32 }
-{
+fn first_cie(section: &[u8], target: Target) -> Option<(u8, Header)> {
+    u32::try_from(section.len()).ok()?;
     let cie = cie_at(section, target, 0).ok().flatten()?;
     Some((cie.version(), header_of(&Entry::Cie(cie))))
 }
 
-/// What such a CIE says, of which every second one has version 1: its code alignment factor is 1, and its data alignment factor -8.
-fn older_cie(
-    place: usize,
-    size: usize,
-    column: u16,
-    fields: &[usize],
-) -> Option<(u8, (u32, Format, u64, i64, u64, u32, u32))> {
-    let version = if place % 2 == 0 { 1 } else { 3 };
-    let format = match fields.first()? {
+/// What such a CIE says: its code alignment factor is 1, and its data alignment factor -8.
+fn older_cie(section: &[u8], target: Target) -> Option<(u8, Header)> {
+    let fields = older_fields(section)?;
+    let format = match fields[0] {
         12 => Format::Dwarf64,
         _ => Format::Dwarf32,
     };
-    let start = u32::try_from(*fields.last()?).ok()?;
-    let end = u32::try_from(size).ok()?;
-    Some((version, (0, format, 1, -8, u64::from(column), start, end)))
+    let column = match target.order {
+        Order::Little => 144,
+        Order::Big => 14,
+    };
+    let start = u32::try_from(fields[6]).ok()?;
+    let end = u32::try_from(section.len()).ok()?;
+    let version = *section.get(fields[1])?;
+    Some((version, (0, format, 1, -8, column, start, end)))
 }
 
 #[test]
-fn cies_of_older_versions(rt: HostRuntime) {
-    for (place, (section, target, column, _, fields)) in OLDER.iter().enumerate() {
-        let wanted = older_cie(place, section.len(), *column, fields);
+fn reads_cies_of_older_versions(rt: HostRuntime) {
+    for (target, digits) in &OLDER {
+        let section = bytes_of(rt.alloc(), digits).expect(&rt, "hex digits");
+        let wanted = older_cie(&section, *target);
         assert!(rt; wanted.is_some());
-        assert_eq!(rt; first_cie(section, *target), wanted);
+        assert_eq!(rt; first_cie(&section, *target), wanted, "{digits}");
     }
     assert_eq!(rt; first_cie(&FUNCTION, LITTLE).map(|found| found.0), Some(4));
 }
@@ -340,7 +296,7 @@ fn misjudged(
 }
 
 #[test]
-fn bodies_cut_short(rt: HostRuntime) {
+fn names_the_field_that_a_body_cuts_off(rt: HostRuntime) {
     // The section, its target, where the record begins, where the last byte of its length stands in
     // it, and where the length and each field of its header end.
     let headers: [(&[u8], Target, usize, usize, &[usize]); 8] = [
@@ -368,13 +324,27 @@ fn bodies_cut_short(rt: HostRuntime) {
     for (section, target, start, low, fields) in headers {
         assert_eq!(rt; misjudged(section, target, start, low, fields), None);
     }
-    for &(section, target, _, low, fields) in &OLDER {
-        assert_eq!(rt; misjudged(section, target, 0, low, fields), None);
+}
+
+#[test]
+fn names_the_field_that_an_older_body_cuts_off(rt: HostRuntime) {
+    for (target, digits) in &OLDER {
+        let section = bytes_of(rt.alloc(), digits).expect(&rt, "hex digits");
+        let Some(fields) = older_fields(&section) else {
+            panic!(rt; "{digits} is no CIE")
+        };
+        // The last byte of the length that isn't 0.
+        let low = match target.order {
+            Order::Little if fields[0] == 4 => 0,
+            Order::Little => 4,
+            Order::Big => fields[0].saturating_sub(1),
+        };
+        assert_eq!(rt; misjudged(&section, *target, 0, low, &fields), None);
     }
 }
 
 #[test]
-fn versions_out_of_range(rt: HostRuntime) {
+fn refuses_other_versions(rt: HostRuntime) {
     for version in [0, 2, 5, 255] {
         let mut bytes = FUNCTION;
         bytes[8] = version;
@@ -388,7 +358,7 @@ fn versions_out_of_range(rt: HostRuntime) {
 }
 
 #[test]
-fn columns_out_of_range(rt: HostRuntime) {
+fn a_column_has_a_byte_or_is_at_most_65535(rt: HostRuntime) {
     // The version, three bytes from the column's first on, and the column or its fault.
     let columns: [(u8, [u8; 3], Result<u16, FaultKind>); 6] = [
         (1, [0xff, 0, 0], Ok(255)),
@@ -411,7 +381,7 @@ fn columns_out_of_range(rt: HostRuntime) {
 }
 
 #[test]
-fn headers_out_of_range(rt: HostRuntime) {
+fn names_the_fault_of_a_changed_header(rt: HostRuntime) {
     let changes: [(usize, u8, FaultKind, u32); 8] = [
         (0, 0x15, FaultKind::Truncated, 29),
         (0, 0xff, FaultKind::Truncated, 4),
@@ -427,52 +397,47 @@ fn headers_out_of_range(rt: HostRuntime) {
         bytes[place] = value;
         assert_eq!(rt; first_fault(&bytes, LITTLE), Some((kind, at)), "{place}");
     }
-    let sections: [(&[u8], Target, FaultKind, u32); 5] = [
-        (
-            &[0xf0, 0xff, 0xff, 0xff],
-            LITTLE,
-            FaultKind::ReservedLength,
-            0,
-        ),
-        (
-            &[0xff, 0xff, 0xff, 0xfe],
-            BIG_SHORT,
-            FaultKind::ReservedLength,
-            0,
-        ),
-        (
-            &[
-                13, 0, 0, 0, 0xff, 0xff, 0xff, 0xff, 4, 0, 8, 0, 1, 0x78, 0x80, 0x80, 4,
-            ],
-            LITTLE,
-            FaultKind::RegisterNumber,
-            14,
-        ),
-        (
-            &[
-                0, 0, 0, 12, 0, 0, 0, 0, 0xff, 0xff, 0xff, 0xf0, 0, 0, 0, 0x10,
-            ],
-            BIG_SHORT,
-            FaultKind::RangePastTop,
-            12,
-        ),
-        (
-            &[
-                20, 0, 0, 0, 0, 0, 0, 0, 0xf0, 0xff, 0xff, 0xff, 0xff, 0xff, 0xff, 0xff, 0x10, 0,
-                0, 0, 0, 0, 0, 0,
-            ],
-            LITTLE,
-            FaultKind::RangePastTop,
-            16,
-        ),
-    ];
-    for (section, target, kind, at) in sections {
-        assert_eq!(rt; first_fault(section, target), Some((kind, at)));
+}
+
+/// Headers that are bad in themselves, and where.
+const BAD_HEADERS: [(&str, Target, FaultKind, u32); 5] = [
+    ("f0ffffff", LITTLE, FaultKind::ReservedLength, 0),
+    ("fffffffe", BIG_SHORT, FaultKind::ReservedLength, 0),
+    (
+        "0d000000ffffffff040008000178808004",
+        LITTLE,
+        FaultKind::RegisterNumber,
+        14,
+    ),
+    (
+        "0000000c00000000fffffff000000010",
+        BIG_SHORT,
+        FaultKind::RangePastTop,
+        12,
+    ),
+    (
+        "1400000000000000f0ffffffffffffff1000000000000000",
+        LITTLE,
+        FaultKind::RangePastTop,
+        16,
+    ),
+];
+
+#[test]
+fn names_the_fault_of_a_bad_header(rt: HostRuntime) {
+    for (digits, target, kind, at) in &BAD_HEADERS {
+        let section = bytes_of(rt.alloc(), digits).expect(&rt, "hex digits");
+        assert!(rt; section.len() < 0x1_0000);
+        assert_eq!(rt;
+            first_fault(&section, *target),
+            Some((*kind, *at)),
+            "{digits}"
+        );
     }
 }
 
 #[test]
-fn the_last_address(rt: HostRuntime) {
+fn takes_a_range_up_to_the_last_address(rt: HostRuntime) {
     let section = [
         0, 0, 0, 12, 0, 0, 0, 0, 0xff, 0xff, 0xff, 0xf0, 0, 0, 0, 0x0f,
     ];
@@ -480,7 +445,7 @@ fn the_last_address(rt: HostRuntime) {
 }
 
 #[test]
-fn cies_by_offset(rt: HostRuntime) {
+fn finds_cies_by_their_offset(rt: HostRuntime) {
     // What has the CIE's offset, no CIE, or where the fault stands.
     let cases: [(usize, u64, Result<Option<u32>, u32>); 5] = [
         (56, 0, Ok(Some(0))),

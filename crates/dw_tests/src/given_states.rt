@@ -94,7 +94,7 @@ const REFUSED: [(&[u8], Kind, &[(u32, u8)], FaultKind, u32); 7] = [
 ];
 
 #[test]
-fn other_states(rt: HostRuntime) -> Result<(), AllocError> {
+fn refuses_other_states(rt: HostRuntime) -> Result<(), AllocError> {
     for (bytes, kind, numbers, fault, at) in &REFUSED {
         let states = states_of(rt.alloc(), numbers)?;
         let found = rechecked(&rt, rt.alloc(), bytes, *kind, &states);
@@ -110,7 +110,7 @@ const ACCEPTED: [(&[u8], Kind, &[(u32, u8)], u8, u32); 2] = [
 ];
 
 #[test]
-fn their_own_states(rt: HostRuntime) -> Result<(), AllocError> {
+fn takes_the_states_of_an_expression(rt: HostRuntime) -> Result<(), AllocError> {
     for (bytes, kind, numbers, depth, count) in &ACCEPTED {
         let states = states_of(rt.alloc(), numbers)?;
         let found = rechecked(&rt, rt.alloc(), bytes, *kind, &states);
@@ -120,7 +120,7 @@ fn their_own_states(rt: HostRuntime) -> Result<(), AllocError> {
 }
 
 #[test]
-fn states_of_a_sum(rt: HostRuntime) -> Result<(), AllocError> {
+fn certifies_a_sum_with_its_states(rt: HostRuntime) -> Result<(), AllocError> {
     let right = states_of(rt.alloc(), &STATES_OF_SUM)?;
     let expression = Expression::new(&SUM, LITTLE);
     let Ok(certificate) = certify(rt.alloc(), expression, Kind::Location) else {
@@ -258,7 +258,7 @@ fn takes_only_its_own(
 }
 
 #[test]
-fn forged_states(rt: HostRuntime) -> Result<(), AllocError> {
+fn takes_no_state_that_differs_in_one_place(rt: HostRuntime) -> Result<(), AllocError> {
     let alloc = rt.alloc();
     takes_only_its_own(&rt, alloc, &[0x32, 0x33, 0x22], Kind::Location)?;
     takes_only_its_own(&rt, alloc, &[0x31, 0x32, 0x28, 0x00, 0x00], Kind::Location)?;

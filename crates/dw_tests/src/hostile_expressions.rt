@@ -6,7 +6,7 @@ use dw_stack::Kind;
 use std::alloc::{AllocError, Global};
 
 #[test]
-fn many_branches_to_one_target(rt: HostRuntime) -> Result<(), AllocError> {
+fn judges_a_thousand_branches_to_one_target(rt: HostRuntime) -> Result<(), AllocError> {
     let mut bytes = Vec::new(rt.alloc());
     for i in 1..=1_000u16 {
         let [low, high] = (4_000 - 4 * i).to_le_bytes();
@@ -21,7 +21,7 @@ fn many_branches_to_one_target(rt: HostRuntime) -> Result<(), AllocError> {
 }
 
 #[test]
-fn diamonds_in_a_row(rt: HostRuntime) -> Result<(), AllocError> {
+fn judges_ten_thousand_diamonds_in_a_row(rt: HostRuntime) -> Result<(), AllocError> {
     let mut bytes = Vec::new(rt.alloc());
     // Each doubles the number of paths.
     push_times(&mut bytes, &[0x30, 0x28, 0x01, 0x00, 0x96], 10_000)?;
@@ -34,7 +34,7 @@ fn diamonds_in_a_row(rt: HostRuntime) -> Result<(), AllocError> {
 }
 
 #[test]
-fn many_operations(rt: HostRuntime) -> Result<(), AllocError> {
+fn judges_65000_operations(rt: HostRuntime) -> Result<(), AllocError> {
     let mut bytes = Vec::new(rt.alloc());
     bytes.push(0x30)?;
     push_times(&mut bytes, &[0x12, 0x13], 32_499)?;
@@ -47,7 +47,7 @@ fn many_operations(rt: HostRuntime) -> Result<(), AllocError> {
 }
 
 #[test]
-fn far_target(rt: HostRuntime) -> Result<(), AllocError> {
+fn judges_the_farthest_branch(rt: HostRuntime) -> Result<(), AllocError> {
     let mut bytes = Vec::new(rt.alloc());
     push_times(&mut bytes, &[0x30, 0x28, 0xff, 0x7f], 1)?;
     push_times(&mut bytes, &[0x96], 32_767)?;
@@ -71,7 +71,7 @@ fn one_high_way(alloc: Global, count: u8) -> Result<Vec<u8>, AllocError> {
 }
 
 #[test]
-fn limit_on_one_path(rt: HostRuntime) -> Result<(), AllocError> {
+fn names_too_deep_on_the_one_path_that_is(rt: HostRuntime) -> Result<(), AllocError> {
     for (count, verdict) in [
         (128, Ok((128, 259))),
         (129, refusal(FaultKind::TooDeep, 132)),

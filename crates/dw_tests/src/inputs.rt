@@ -1,6 +1,6 @@
 //! Targets, sections, a machine and the spelling of cases that several tests use.
 
-ghost use Rattle.std.specs.Prelude.{None};
+ghost use Rattle.std.specs.Prelude.{◌==◌, if◌then◌else◌, Some, None};
 
 use dw_bytes::{AddressSize, Order, Target};
 use dw_eval::{Memory, Registers};
@@ -81,6 +81,25 @@ impl Memory for Unknown {
     #[tactic(auto, unfolding(dw_eval::specs::World::bytes_from))]
     fn read(&self, _address: u64, _size: u8, _order: Order) -> Option<u64> {
         None
+    }
+}
+
+/// One register that is known.
+#[derive(Clone, Copy)]
+pub(crate) struct OneRegister {
+    pub(crate) known: u16,
+    pub(crate) content: u64,
+}
+
+impl Registers for OneRegister {
+    ghost contents = { λ r n. if n == r.known then Some r.content else None };
+
+    fn register(&self, number: u16) -> Option<u64> {
+        if number == self.known {
+            Some(self.content)
+        } else {
+            None
+        }
     }
 }
 

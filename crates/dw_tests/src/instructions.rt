@@ -87,7 +87,7 @@ fn is_instruction(rt: &(impl Abort + AllocGlobal), digits: &str, last: &str, wan
 }
 
 #[test]
-fn every_instruction(rt: HostRuntime) {
+fn decodes_every_instruction(rt: HostRuntime) {
     for case in INSTRUCTIONS.lines() {
         let (bytes, wanted) = parts_of(&rt, case);
         let Some((digits, last)) = bytes.split_once(" | ") else {

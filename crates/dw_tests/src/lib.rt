@@ -9,9 +9,13 @@ mod bad_rules;
 #[cfg(test)]
 mod bytes;
 #[cfg(test)]
+mod callers;
+#[cfg(test)]
 mod certificates;
 #[cfg(test)]
 mod changed_input;
+#[cfg(test)]
+mod errors;
 #[cfg(test)]
 mod evaluation;
 pub mod examples;
@@ -33,6 +37,10 @@ mod lists;
 mod refused_memory;
 #[cfg(test)]
 mod rows;
+#[cfg(test)]
+mod standard;
+#[cfg(test)]
+mod tables;
 #[cfg(test)]
 mod texts;
 #[cfg(test)]

@@ -2,9 +2,10 @@
 //! call gives its worked answer when it is made again. `bench/refused_memory.py` runs each test with its Nth request refused,
 //! for every N; with ample memory the worked answers alone are compared.
 
-ghost use Rattle.std.specs.Prelude.{◌≡◌, ◌≤◌, length};
+ghost use Rattle.std.specs.Prelude.{◌≡◌, ◌≤◌, ◌<◌, ◌^◌, length};
 
 use crate::inputs::{EXPRESSIONS, FUNCTION, LITTLE, PAIR_AND_DEFAULT, ROUND, Unknown};
+use crate::rows::descending;
 use dw_bytes::OUT_OF_MEMORY;
 use dw_check::{
     Checked, End, LoadFault, Reading, Reads, ReportFault, Request, Source, Stop, Through, Usage,
@@ -13,7 +14,7 @@ use dw_check::{
 use dw_eval::{Context, evaluate};
 use dw_loclists::CheckedLists;
 use dw_ops::{Expression, operations};
-use dw_rows::{Abi, CheckedFrame};
+use dw_rows::{Abi, CheckedFrame, check_frame};
 use dw_stack::{Kind, Mode, State, certify, recheck};
 use std::alloc::{AllocError, Global};
 use std::io;
@@ -102,6 +103,8 @@ enum Call {
     RunOfRefused,
     Load,
     Backtrace,
+    Compile,
+    CompileOfMany,
     LookUps,
 }
 
@@ -130,6 +133,8 @@ impl Call {
             }
             Call::Load => loads(rt, alloc),
             Call::Backtrace => walks(rt, alloc),
+            Call::Compile => compiles(rt, alloc, &EXPRESSIONS, 0x1000, 0x1020),
+            Call::CompileOfMany => compiles_many(rt, alloc),
             Call::LookUps => looks_up(rt, alloc),
         }
     }
@@ -343,6 +348,38 @@ fn walks(rt: &impl Abort, alloc: Global) -> bool {
     }
 }
 
+/// A table of a section, in which the row of an address ends so.
+fn compiles(rt: &impl Abort, alloc: Global, section: &[u8], address: u64, end: u64) -> bool
+    requires { length section.now < 2 ^ 32 }
+{
+    let Ok(frame) = check_frame(alloc, section, LITTLE) else {
+        return false;
+    };
+    match frame.compile(alloc, 1 << 20) {
+        Ok(made) => {
+            let Some(table) = made else {
+                panic!(rt; "there is room")
+            };
+            let found = table.row_for_address(address).map(|row| row.end_address());
+            assert_eq!(rt; found, Some(end));
+            true
+        }
+        Err(fault) => {
+            assert_eq!(rt; fault, OUT_OF_MEMORY);
+            false
+        }
+    }
+}
+
+/// A table of a thousand rows with as many gaps: its lists grow again and again.
+fn compiles_many(rt: &impl Abort, alloc: Global) -> bool {
+    let Ok(section) = descending(alloc) else {
+        return false;
+    };
+    assert_eq!(rt; section.len(), 32_024);
+    compiles(rt, alloc, &section, 0x8cef, 0x8cf0)
+}
+
 /// Each expression of a frame section is evaluated.
 fn evaluates(rt: &impl Abort, frame: &CheckedFrame<'_>) {
     let context = Context {
@@ -455,6 +492,16 @@ fn load_lacks_memory(rt: HostRuntime) {
 #[test]
 fn backtrace_lacks_memory(rt: HostRuntime) {
     is_made(&rt, Call::Backtrace);
+}
+
+#[test]
+fn compile_lacks_memory(rt: HostRuntime) {
+    is_made(&rt, Call::Compile);
+}
+
+#[test]
+fn compile_of_many_lacks_memory(rt: HostRuntime) {
+    is_made(&rt, Call::CompileOfMany);
 }
 
 /// These ask for as many requests as the check of the same sections alone.

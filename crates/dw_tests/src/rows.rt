@@ -54,7 +54,7 @@ fn has_ranges(rt: &impl Abort, frame: &CheckedFrame<'_>, ranges: &Ranges) {
 }
 
 /// The CIE of `FUNCTION`, and 1,000 FDEs of eight nops, the highest addresses first. Each covers 16 addresses of 32.
-fn descending(alloc: Global) -> Result<Vec<u8>, AllocError> {
+pub(crate) fn descending(alloc: Global) -> Result<Vec<u8>, AllocError> {
     let mut section = FUNCTION[..24].to_vec(alloc)?;
     for i in (0..1000u64).rev() {
         push_fde(&mut section, 0x1000 + 0x20 * i, 0x10)?;
@@ -63,7 +63,7 @@ fn descending(alloc: Global) -> Result<Vec<u8>, AllocError> {
 }
 
 /// One more FDE of eight nops, of the first CIE.
-fn push_fde(section: &mut Vec<u8>, initial: u64, range: u64) -> Result<(), AllocError> {
+pub(crate) fn push_fde(section: &mut Vec<u8>, initial: u64, range: u64) -> Result<(), AllocError> {
     section.extend_from_slice(&[0x1c, 0, 0, 0, 0, 0, 0, 0])?;
     section.extend_from_slice(&initial.to_le_bytes())?;
     section.extend_from_slice(&range.to_le_bytes())?;

@@ -2,7 +2,7 @@
 
 mod abi_lines;
 mod callers;
-mod cases;
+pub(crate) mod cases;
 mod cie_versions;
 mod expressions;
 mod lists;
@@ -10,6 +10,7 @@ mod operations;
 mod parts;
 mod reads;
 mod sections;
+mod standard;
 mod walks;
 mod whole_checks;
 mod words;

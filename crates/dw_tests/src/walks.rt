@@ -1,18 +1,51 @@
 //! Walks up the stack by what is checked.
 
 use crate::inputs::{LITTLE, ROUND, Unknown};
-use dw_check::{Stop, backtrace, check};
-use dw_rows::Abi;
+use dw_check::{Backtrace, Stop, backtrace, backtrace_by, backtrace_by_section, check};
+use dw_rows::{Abi, check_frame};
 use std::alloc::Global;
 
-/// How many frames a walk round and round has, and how it ends.
+/// The number of frames of a walk round and round, and how it ends.
 fn walked(alloc: Global, limit: u32) -> Option<(usize, Stop)> {
     let checked = check(alloc, &ROUND, &[], LITTLE).ok()?;
     let walk = backtrace(alloc, &checked, &Abi::none(), 3, &Unknown, &Unknown, limit).ok()?;
     Some((walk.frames.len(), walk.stop))
 }
 
+/// The same walk over the frame section alone.
+fn walk_by_section(alloc: Global, limit: u32) -> Option<Backtrace> {
+    let frame = check_frame(alloc, &ROUND, LITTLE).ok()?;
+    backtrace_by_section(alloc, &frame, &Abi::none(), 3, &Unknown, &Unknown, limit).ok()
+}
+
+/// The same walk over the table of the section.
+fn walk_by_table(alloc: Global, limit: u32) -> Option<Backtrace> {
+    let frame = check_frame(alloc, &ROUND, LITTLE).ok()?;
+    let table = frame.compile(alloc, 1 << 20).ok()??;
+    backtrace_by(alloc, &table, &Abi::none(), 3, &Unknown, &Unknown, limit).ok()
+}
+
+/// Whether these are the first two frames of the walk round and round.
+fn are_worked(walk: &Backtrace) -> bool {
+    walk.stop == Stop::Limit
+        && walk.frames.len() == 2
+        && walk.frames[0].address == 3
+        && walk.frames[1].address == 7
+}
+
 #[test]
 fn walks_up_to_the_greatest_limit(rt: HostRuntime) {
     assert_eq!(rt; walked(rt.alloc(), 65535), Some((65535, Stop::Limit)));
+}
+
+#[test]
+fn walks_over_a_section_without_lists(rt: HostRuntime) {
+    let walk = walk_by_section(rt.alloc(), 2).expect(&rt, "there is memory");
+    assert!(rt; are_worked(&walk));
+}
+
+#[test]
+fn walks_over_a_table(rt: HostRuntime) {
+    let walk = walk_by_table(rt.alloc(), 2).expect(&rt, "there is memory");
+    assert!(rt; are_worked(&walk));
 }

@@ -78,7 +78,7 @@ keep 6/sp 7/keep 6/sp 6/reg 6 0x5/reg 7 0x6/: taken
 ";
 
 #[test]
-fn lines_are_judged(rt: HostRuntime) -> Result<(), AllocError> {
+fn takes_or_refuses_each_line(rt: HostRuntime) -> Result<(), AllocError> {
     end_so(&rt, REFUSED)?;
     end_so(&rt, TAKEN)
 }
@@ -103,7 +103,7 @@ const MANY: &str = "\
 ";
 
 #[test]
-fn most_are_kept(rt: HostRuntime) -> Result<(), AllocError> {
+fn takes_127_kept_registers_and_no_more(rt: HostRuntime) -> Result<(), AllocError> {
     let most = most_lines(rt.alloc())?;
     end_so(&rt, &MANY.replace(rt.alloc(), "{MOST}", &most)?)
 }
@@ -117,6 +117,6 @@ const UNUSED: &str = "\
 ";
 
 #[test]
-fn unused_by_expressions(rt: HostRuntime) -> Result<(), AllocError> {
+fn an_abi_changes_no_expression(rt: HostRuntime) -> Result<(), AllocError> {
     evaluate_to(&rt, LOCATION, UNUSED)
 }

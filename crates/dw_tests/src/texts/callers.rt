@@ -93,7 +93,7 @@ return unreadable
 ";
 
 #[test]
-fn callers(rt: HostRuntime) -> Result<(), AllocError> {
+fn shows_what_is_known_of_a_caller(rt: HostRuntime) -> Result<(), AllocError> {
     cases_come_to(&rt, CALLERS)
 }
 
@@ -107,6 +107,6 @@ f0ffffff | -: refused 3 ReservedLength frame 0x00000000
 ";
 
 #[test]
-fn ends_in_their_order(rt: HostRuntime) -> Result<(), AllocError> {
+fn judges_hex_text_then_the_state_file_then_the_section(rt: HostRuntime) -> Result<(), AllocError> {
     lines_come_to(&rt, "dwcheck unwind --hex f 0x0 s", IN_THEIR_ORDER)
 }

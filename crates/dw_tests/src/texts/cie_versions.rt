@@ -43,7 +43,7 @@ row 0x0000000000001021..0x0000000000001022 cfa=r7+8 r16=[c-8]
 ";
 
 #[test]
-fn rows_under_older_cies(rt: HostRuntime) -> Result<(), AllocError> {
+fn shows_rows_under_older_cies(rt: HostRuntime) -> Result<(), AllocError> {
     cases_come_to(&rt, SHOWN)
 }
 
@@ -58,6 +58,6 @@ const OTHER_VERSIONS: &str = "\
 ";
 
 #[test]
-fn another_version(rt: HostRuntime) -> Result<(), AllocError> {
+fn names_the_fault_of_another_version(rt: HostRuntime) -> Result<(), AllocError> {
     lines_come_to(&rt, ROWS, OTHER_VERSIONS)
 }

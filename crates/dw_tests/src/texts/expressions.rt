@@ -12,7 +12,7 @@ pub(crate) const SHORT_LOCATION: &str = "dwcheck eval --addr4 location --hex e";
 
 const BIG_LOCATION: &str = "dwcheck eval --big location --hex e";
 
-const REGISTER: &str = "dwcheck eval register --hex e";
+pub(crate) const REGISTER: &str = "dwcheck eval register --hex e";
 
 const CFA: &str = "dwcheck eval cfa --hex e";
 
@@ -83,7 +83,7 @@ const LOCATIONS: &str = "\
 ";
 
 #[test]
-fn locations(rt: HostRuntime) -> Result<(), AllocError> {
+fn shows_what_locations_come_to(rt: HostRuntime) -> Result<(), AllocError> {
     evaluate_to(&rt, LOCATION, LOCATIONS)
 }
 
@@ -96,18 +96,17 @@ fn repeated(alloc: Global, part: &str, count: u32) -> Result<String, AllocError>
     Ok(text)
 }
 
-/// As many pieces as there may be.
+/// There may be no more.
 #[test]
-fn many_pieces(rt: HostRuntime) -> Result<(), AllocError> {
+fn takes_32_pieces(rt: HostRuntime) -> Result<(), AllocError> {
     let pieces = repeated(rt.alloc(), "9300", 32)?;
     let lines = repeated(rt.alloc(), "piece empty bytes 0/", 32)?;
     let outcome = format!(in rt.alloc(); "pieces 32/{lines}steps 32 depth 0")?;
     comes_to(&rt, LOCATION, &pieces, &outcome)
 }
 
-/// High stacks, as high as they may be, and one more.
 #[test]
-fn heights(rt: HostRuntime) -> Result<(), AllocError> {
+fn takes_a_height_of_128_and_no_more(rt: HostRuntime) -> Result<(), AllocError> {
     for count in [65u32, 128] {
         let literals = repeated(rt.alloc(), "30", count)?;
         let outcome = format!(in rt.alloc();
@@ -178,7 +177,7 @@ const CFA_STATES: &str = "\
 ";
 
 #[test]
-fn states(rt: HostRuntime) -> Result<(), AllocError> {
+fn shows_what_expressions_come_to_over_a_state(rt: HostRuntime) -> Result<(), AllocError> {
     evaluate_to(&rt, LOCATION, STATES)?;
     evaluate_to(&rt, BIG_LOCATION, BIG_STATES)?;
     evaluate_to(&rt, SHORT_LOCATION, SHORT_STATES)?;
@@ -228,7 +227,7 @@ const REFUSED_WHEN_SHORT: &str = "\
 ";
 
 #[test]
-fn refusals(rt: HostRuntime) -> Result<(), AllocError> {
+fn names_the_first_fault_of_an_expression(rt: HostRuntime) -> Result<(), AllocError> {
     lines_come_to(&rt, LOCATION, REFUSED)?;
     lines_come_to(&rt, CFA, REFUSED_FOR_A_CFA)?;
     lines_come_to(&rt, SHORT_LOCATION, REFUSED_WHEN_SHORT)?;
@@ -280,14 +279,13 @@ const LONG_LINES: &str = "\
 ";
 
 #[test]
-fn bad_lines(rt: HostRuntime) -> Result<(), AllocError> {
+fn names_the_first_bad_line_of_a_state_file(rt: HostRuntime) -> Result<(), AllocError> {
     lines_come_to(&rt, LOCATION_WITH_STATE, BAD_LINES)?;
     lines_come_to(&rt, SHORT_LOCATION_WITH_STATE, LONG_LINES)
 }
 
-/// Bytes that are no text are no line.
 #[test]
-fn state_of_other_bytes(rt: HostRuntime) -> Result<(), AllocError> {
+fn bytes_that_are_no_text_are_no_line(rt: HostRuntime) -> Result<(), AllocError> {
     let state: [u8; 9] = [b'c', b'f', b'a', b' ', b'0', b'x', b'1', 0xff, b'\n'];
     let files = vec![in rt.alloc();
         Vec::from_slice(rt.alloc(), b"30")?,

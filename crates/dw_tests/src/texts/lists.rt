@@ -94,7 +94,7 @@ steps 1 depth 1
 ";
 
 #[test]
-fn what_holds(rt: HostRuntime) -> Result<(), AllocError> {
+fn shows_what_holds_at_an_address(rt: HostRuntime) -> Result<(), AllocError> {
     cases_come_to(&rt, FOUND)
 }
 
@@ -112,7 +112,7 @@ const REFUSED: &str = "\
 ";
 
 #[test]
-fn refusals(rt: HostRuntime) -> Result<(), AllocError> {
+fn names_the_first_fault_of_lists(rt: HostRuntime) -> Result<(), AllocError> {
     lines_come_to(&rt, "dwcheck locs --hex l 0xc 0x0 0x0", REFUSED)
 }
 
@@ -123,7 +123,7 @@ const IN_THEIR_ORDER: &str = "\
 ";
 
 #[test]
-fn ends_in_their_order(rt: HostRuntime) -> Result<(), AllocError> {
+fn judges_hex_text_then_the_state_file_then_the_lists(rt: HostRuntime) -> Result<(), AllocError> {
     lines_come_to(
         &rt,
         "dwcheck locs --hex l 0xc 0x0 0x0 --state s",

@@ -164,7 +164,7 @@ fn gives_both(
 }
 
 #[test]
-fn in_both_widths(rt: HostRuntime) -> Result<(), AllocError> {
+fn operations_give_their_values_in_both_widths(rt: HostRuntime) -> Result<(), AllocError> {
     for case in BOTH.lines() {
         let (contents, addresses) = parts_of(&rt, case);
         gives_both(&rt, contents, addresses)?;
@@ -173,11 +173,11 @@ fn in_both_widths(rt: HostRuntime) -> Result<(), AllocError> {
 }
 
 #[test]
-fn operations(rt: HostRuntime) -> Result<(), AllocError> {
+fn operations_give_their_values_in_eight_bytes(rt: HostRuntime) -> Result<(), AllocError> {
     evaluate_to(&rt, LOCATION, LONG)
 }
 
 #[test]
-fn short_operations(rt: HostRuntime) -> Result<(), AllocError> {
+fn operations_give_their_values_in_four_bytes(rt: HostRuntime) -> Result<(), AllocError> {
     evaluate_to(&rt, SHORT_LOCATION, SHORT)
 }

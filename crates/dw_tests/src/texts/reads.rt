@@ -47,7 +47,7 @@ fn reads(rt: &impl Abort, alloc: Global, bytes: &[u8], most: usize, calls: usize
 }
 
 #[test]
-fn failing_reads(rt: HostRuntime) -> Result<(), AllocError> {
+fn a_read_that_fails_ends_a_load(rt: HostRuntime) -> Result<(), AllocError> {
     let alloc = rt.alloc();
     let digits = first_row_digits(alloc)?;
     for calls in 0..=113usize {
@@ -63,7 +63,7 @@ fn failing_reads(rt: HostRuntime) -> Result<(), AllocError> {
 
 /// More than one read asks for at once.
 #[test]
-fn long_files(rt: HostRuntime) -> Result<(), AllocError> {
+fn loads_files_of_several_reads(rt: HostRuntime) -> Result<(), AllocError> {
     let mut bytes = Vec::new(rt.alloc());
     for i in 0..200_000u32 {
         let [low, middle, _, _] = i.to_le_bytes();

@@ -123,7 +123,7 @@ row 0x00008008..0x00008010 cfa=r13+8 r14=[c-4]
 ";
 
 #[test]
-fn rows_of_sections(rt: HostRuntime) -> Result<(), AllocError> {
+fn shows_the_rows_of_sections(rt: HostRuntime) -> Result<(), AllocError> {
     cases_come_to(&rt, SHOWN)
 }
 
@@ -147,7 +147,7 @@ none
 ";
 
 #[test]
-fn rows_by_address(rt: HostRuntime) -> Result<(), AllocError> {
+fn shows_the_row_of_an_address(rt: HostRuntime) -> Result<(), AllocError> {
     cases_come_to(&rt, BY_ADDRESS)
 }
 
@@ -184,14 +184,13 @@ f0ffffff: refused 3 ReservedLength frame 0x00000000
 ";
 
 #[test]
-fn refusals(rt: HostRuntime) -> Result<(), AllocError> {
+fn names_the_first_fault_of_a_section(rt: HostRuntime) -> Result<(), AllocError> {
     lines_come_to(&rt, ROWS, REFUSED)?;
     lines_come_to(&rt, "dwcheck row --hex f 0x1000", REFUSED)
 }
 
-/// The rules of 129 registers.
 #[test]
-fn too_many_rules(rt: HostRuntime) -> Result<(), AllocError> {
+fn refuses_the_rules_of_129_registers(rt: HostRuntime) -> Result<(), AllocError> {
     let mut rules = String::new(rt.alloc());
     for register in 0..128u8 {
         rules.push_str(&format!(in rt.alloc(); "07{register:02x}")?)?;
@@ -236,7 +235,7 @@ pub(crate) fn is_truncated(
 
 /// The first row's section, cut at each length.
 #[test]
-fn cut_sections(rt: HostRuntime) -> Result<(), AllocError> {
+fn names_where_a_section_is_cut_off(rt: HostRuntime) -> Result<(), AllocError> {
     let digits = first_row_digits(rt.alloc())?;
     assert_eq!(rt; digits.len(), 112);
     for n in 0..57usize {
@@ -257,13 +256,12 @@ const BAD_HEX: &str = "\
 ";
 
 #[test]
-fn bad_hex_text(rt: HostRuntime) -> Result<(), AllocError> {
+fn refuses_what_is_no_hex_text(rt: HostRuntime) -> Result<(), AllocError> {
     lines_come_to(&rt, ROWS, BAD_HEX)
 }
 
-/// A section of bytes that are no text.
 #[test]
-fn other_bytes(rt: HostRuntime) -> Result<(), AllocError> {
+fn reads_raw_bytes_without_hex(rt: HostRuntime) -> Result<(), AllocError> {
     let bytes: [u8; 4] = [0xf0, 0xff, 0xff, 0xff];
     let files = vec![in rt.alloc(); Vec::from_slice(rt.alloc(), &bytes)?]?;
     let outcome = "refused 3 ReservedLength frame 0x00000000";

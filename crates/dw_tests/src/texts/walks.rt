@@ -96,11 +96,11 @@ stop return division by zero
 ";
 
 #[test]
-fn texts_of_a_walk(rt: HostRuntime) -> Result<(), AllocError> {
+fn shows_the_frames_of_a_walk(rt: HostRuntime) -> Result<(), AllocError> {
     cases_come_to(&rt, WALKS)
 }
 
 #[test]
-fn walks_from_three(rt: HostRuntime) -> Result<(), AllocError> {
+fn shows_why_walks_from_three_stop(rt: HostRuntime) -> Result<(), AllocError> {
     cases_come_to(&rt, FROM_THREE)
 }

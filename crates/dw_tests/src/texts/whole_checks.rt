@@ -100,7 +100,7 @@ tables 1 lists 1 expressions 0
 ";
 
 #[test]
-fn reports(rt: HostRuntime) -> Result<(), AllocError> {
+fn reports_on_two_sections(rt: HostRuntime) -> Result<(), AllocError> {
     cases_come_to(&rt, ACCEPTED)
 }
 
@@ -124,13 +124,13 @@ f0ffffff | 0: bad hex 1
 ";
 
 #[test]
-fn refusals(rt: HostRuntime) -> Result<(), AllocError> {
+fn names_the_first_fault_of_two_sections(rt: HostRuntime) -> Result<(), AllocError> {
     lines_come_to(&rt, CHECK, REFUSED)
 }
 
 /// The first row's section, cut at each length.
 #[test]
-fn cut_sections(rt: HostRuntime) -> Result<(), AllocError> {
+fn names_where_the_frame_section_is_cut_off(rt: HostRuntime) -> Result<(), AllocError> {
     let digits = first_row_digits(rt.alloc())?;
     assert_eq!(rt; digits.len(), 112);
     for n in 0..57usize {

@@ -45,7 +45,7 @@ dwcheck backtrace f 0x1000 s a
 ";
 
 #[test]
-fn bad_words(rt: HostRuntime) -> Result<(), AllocError> {
+fn refuses_words_that_are_none(rt: HostRuntime) -> Result<(), AllocError> {
     for line in BAD_WORDS.lines() {
         let answer = asked(rt.alloc(), line)?;
         assert!(rt; matches!(answer, Err(Usage::BadArgument)), "{line}");
@@ -89,7 +89,7 @@ dwcheck backtrace f 0x1000 s -1
 ";
 
 #[test]
-fn lines_that_are_no_command(rt: HostRuntime) -> Result<(), AllocError> {
+fn shows_the_usage_for_lines_that_are_no_command(rt: HostRuntime) -> Result<(), AllocError> {
     for line in NO_COMMANDS.lines() {
         let Err(Usage::Line(text)) = asked(rt.alloc(), line)? else {
             panic!(rt; "{line}")
@@ -106,7 +106,7 @@ dwcheck locs l 0xc 0x0 0x0 --state
 ";
 
 #[test]
-fn options_without_a_value(rt: HostRuntime) -> Result<(), AllocError> {
+fn asks_for_the_value_of_an_option(rt: HostRuntime) -> Result<(), AllocError> {
     for line in NO_VALUES.lines() {
         let Err(Usage::Line(text)) = asked(rt.alloc(), line)? else {
             panic!(rt; "{line}")
@@ -149,7 +149,7 @@ fn names_of(rt: &(impl Abort + AllocGlobal), line: &str) -> Result<String, Alloc
 }
 
 #[test]
-fn names_of_files(rt: HostRuntime) -> Result<(), AllocError> {
+fn asks_for_the_files_of_a_line(rt: HostRuntime) -> Result<(), AllocError> {
     for case in GOOD.lines() {
         let (line, names) = parts_of(&rt, case);
         assert_eq!(rt; names_of(&rt, line)?.as_str(), names, "{line}");
@@ -165,7 +165,7 @@ const NEEDED: [(&str, Option<u64>, Option<u64>); 3] = [
 ];
 
 #[test]
-fn needed_lengths(rt: HostRuntime) -> Result<(), AllocError> {
+fn needs_no_more_of_a_file_than_decides(rt: HostRuntime) -> Result<(), AllocError> {
     for (line, first, second) in &NEEDED {
         let Ok(request) = asked(rt.alloc(), line)? else {
             panic!(rt; "{line}")
@@ -176,9 +176,8 @@ fn needed_lengths(rt: HostRuntime) -> Result<(), AllocError> {
     Ok(())
 }
 
-/// The exit statuses.
 #[test]
-fn statuses(rt: HostRuntime) {
+fn each_end_has_its_status(rt: HostRuntime) {
     for (end, status) in [
         (End::Done, 0),
         (End::Refused, 1),

@@ -83,7 +83,7 @@ const EMPTY_SECTIONS: [((usize, usize), End, usize); 4] = [
 ];
 
 #[test]
-fn empty_sections(rt: HostRuntime) -> Result<(), AllocError> {
+fn writes_a_beginning_of_the_report_on_empty_sections(rt: HostRuntime) -> Result<(), AllocError> {
     let files = files_of(rt.alloc(), "- | -")?;
     let line = "dwcheck check --hex f l";
     let text = "accepted\ncies 0 fdes 0 rows 0\ntables 0 lists 0 expressions 0\n";
@@ -167,7 +167,7 @@ refused 1 Truncated lists 0x00000000
 ";
 
 #[test]
-fn failing_writes(rt: HostRuntime) -> Result<(), AllocError> {
+fn writes_a_beginning_where_a_write_fails(rt: HostRuntime) -> Result<(), AllocError> {
     for case in RUNS.split("\n\n") {
         let (contents, line, outcome) = case_of(&rt, case);
         let files = files_of(rt.alloc(), contents)?;

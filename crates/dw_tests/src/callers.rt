@@ -1,0 +1,51 @@
+//! Callers of frames by the library's own calls.
+
+use crate::inputs::{FUNCTION, LITTLE, OneRegister, Unknown};
+use dw_check::{Answer, Caller, check, unwind, unwind_by, unwind_by_section};
+use dw_rows::{Abi, check_frame};
+use std::alloc::Global;
+
+/// All that is known of the frame: register 6, as in the worked unwinding of the function.
+const REGISTERS: OneRegister = OneRegister {
+    known: 6,
+    content: 0x7f00,
+};
+
+/// Whether it is the worked caller at 0x1010: the CFA is 16 above register 6, and all that is saved below it can't be read.
+fn is_worked(caller: &Option<Caller>) -> bool {
+    let Some(caller) = caller else {
+        return false;
+    };
+    caller.cfa == Answer::Value(0x7f10)
+        && caller.registers.as_slice()
+            == [(6, Answer::Unreadable), (16, Answer::Unreadable)].as_slice()
+        && caller.return_address == Answer::Unreadable
+}
+
+/// The callers at an address, without an ABI or under one that says nothing: over both sections, the frame section and its table.
+fn callers(alloc: Global, address: u64) -> Option<[Option<Caller>; 3]> {
+    let checked = check(alloc, &FUNCTION, &[], LITTLE).ok()?;
+    let frame = check_frame(alloc, &FUNCTION, LITTLE).ok()?;
+    let table = frame.compile(alloc, 1 << 20).ok()??;
+    Some([
+        unwind(&checked, address, &REGISTERS, &Unknown),
+        unwind_by_section(&frame, &Abi::none(), address, &REGISTERS, &Unknown),
+        unwind_by(&table, &Abi::none(), address, &REGISTERS, &Unknown),
+    ])
+}
+
+#[test]
+fn unwinding_gives_the_worked_caller(rt: HostRuntime) {
+    let found = callers(rt.alloc(), 0x1010).expect(&rt, "the section is good");
+    for caller in &found {
+        assert!(rt; is_worked(caller));
+    }
+}
+
+#[test]
+fn unwinding_gives_none_after_the_last_covered_address(rt: HostRuntime) {
+    let found = callers(rt.alloc(), 0x1020).expect(&rt, "the section is good");
+    for caller in &found {
+        assert!(rt; caller.is_none());
+    }
+}

@@ -1,0 +1,401 @@
+//! Compiled tables: the rows that they give are the section's.
+
+ghost use Rattle.std.specs.Prelude.{◌<◌, ◌^◌, length};
+
+use crate::inputs::{BIG_FUNCTION, BIG_SHORT, EXPRESSIONS, FUNCTION, LITTLE};
+use crate::rows::{descending, push_fde};
+use dw_bytes::{Fault, Target};
+use dw_rows::{CfaRule, CheckedFrame, RegisterRule, UnwindTable, check_frame};
+use std::alloc::{AllocError, Global};
+use std::process::Abort;
+
+/// Room for any table of these tests.
+const AMPLE: usize = 1 << 20;
+
+/// The table of a section. The checked section is gone when it is looked at.
+fn compiled(alloc: Global, section: &[u8]) -> Result<Option<UnwindTable>, Fault>
+    requires { length section.now < 2 ^ 32 }
+{
+    check_frame(alloc, section, LITTLE)?.compile(alloc, AMPLE)
+}
+
+/// Where the row of an address begins and ends, and its return address register.
+fn range_at(table: &UnwindTable, address: u64) -> Option<(u64, u64, u16)> {
+    let (row, register) = table.row_and_return_register(address)?;
+    Some((row.start_address(), row.end_address(), register))
+}
+
+/// The same by the checked section.
+fn range_in(frame: &CheckedFrame<'_>, address: u64) -> Option<(u64, u64, u16)> {
+    let row = frame.row_for_address(address)?;
+    let cie = frame.cie_of(&frame.fde_for_address(address)?);
+    Some((
+        row.start_address(),
+        row.end_address(),
+        cie.return_address_register,
+    ))
+}
+
+/// The rows of the function, each by its last address, and the addresses beside it.
+const ROWS: [(u64, Option<(u64, u64, u16)>); 5] = [
+    (0xfff, None),
+    (0x1000, Some((0x1000, 0x1001, 16))),
+    (0x1003, Some((0x1001, 0x1004, 16))),
+    (0x101f, Some((0x1004, 0x1020, 16))),
+    (0x1020, None),
+];
+
+/// The CFA of the last row, and the rules of registers 6, 16 and 7 there.
+const RULES: &str = "RegisterAndOffset { register: 6, offset: 16 } Offset(-16) Offset(-8) Default";
+
+#[test]
+fn a_table_gives_the_worked_rows(rt: HostRuntime) -> Result<(), Fault> {
+    let Some(table) = compiled(rt.alloc(), &FUNCTION)? else {
+        panic!(rt; "there is room")
+    };
+    for (address, row) in &ROWS {
+        assert_eq!(rt; range_at(&table, *address), *row, "{address:#x}");
+    }
+    let row = table.row_for_address(0x1010).expect(&rt, "covered");
+    let text = format!(in rt.alloc();
+        "{:?} {:?} {:?} {:?}",
+        row.cfa(),
+        row.register(6),
+        row.register(16),
+        row.register(7)
+    )?;
+    assert_eq!(rt; text.as_str(), RULES);
+    Ok(())
+}
+
+#[test]
+fn a_table_keeps_the_bytes_of_its_expressions(rt: HostRuntime) -> Result<(), Fault> {
+    let bytes = EXPRESSIONS.to_vec(rt.alloc())?;
+    let Some(table) = compiled(rt.alloc(), &bytes)? else {
+        panic!(rt; "there is room")
+    };
+    drop(bytes);
+    let row = table.row_for_address(0x1000).expect(&rt, "covered");
+    match row.register(6) {
+        RegisterRule::Expression { expression, .. } => {
+            assert_eq!(rt; expression.expression().bytes(), [0x23, 8].as_slice());
+        }
+        rule => panic!(rt; "{rule:?}"),
+    }
+    Ok(())
+}
+
+/// At each of these addresses a table gives what the section gives.
+fn agrees(rt: &impl Abort, alloc: Global, section: &[u8], from: u64, count: u64) -> Option<()>
+    requires { length section.now < 2 ^ 32 }
+{
+    let frame = check_frame(alloc, section, LITTLE).ok()?;
+    let table = frame.compile(alloc, AMPLE).ok()??;
+    for step in 0..count {
+        let address = from.wrapping_add(step);
+        assert_eq!(rt;
+            range_at(&table, address),
+            range_in(&frame, address),
+            "{address:#x}"
+        );
+    }
+    Some(())
+}
+
+#[test]
+fn a_table_agrees_with_its_section_among_many(rt: HostRuntime) -> Result<(), AllocError> {
+    let section = descending(rt.alloc())?;
+    assert_eq!(rt; section.len(), 32_024);
+    assert!(rt; agrees(&rt, rt.alloc(), &section, 0xff0, 0x7d20).is_some());
+    Ok(())
+}
+
+/// FDEs without a gap, one of no address, and those of the first and of the last addresses.
+fn edges(alloc: Global) -> Result<Vec<u8>, AllocError> {
+    let mut section = FUNCTION[..24].to_vec(alloc)?;
+    for (initial, range) in [(0, 16), (16, 16), (40, 0), (48, 1), (u64::MAX - 8, 8)] {
+        push_fde(&mut section, initial, range)?;
+    }
+    Ok(section)
+}
+
+#[test]
+fn a_table_agrees_with_its_section_at_edges(rt: HostRuntime) -> Result<(), AllocError> {
+    let section = edges(rt.alloc())?;
+    assert_eq!(rt; section.len(), 184);
+    assert!(rt; agrees(&rt, rt.alloc(), &section, u64::MAX - 32, 128).is_some());
+    Ok(())
+}
+
+#[test]
+fn a_table_of_an_empty_section_has_no_row(rt: HostRuntime) -> Result<(), Fault> {
+    let Some(table) = compiled(rt.alloc(), &[])? else {
+        panic!(rt; "there is room")
+    };
+    assert!(rt; table.row_for_address(0).is_none());
+    assert!(rt; table.row_for_address(u64::MAX).is_none());
+    Ok(())
+}
+
+#[test]
+fn rows_that_take_more_than_their_room_are_not_kept(rt: HostRuntime) -> Result<(), Fault> {
+    let frame = check_frame(rt.alloc(), &FUNCTION, LITTLE)?;
+    assert!(rt; frame.compile(rt.alloc(), 47)?.is_none());
+    Ok(())
+}
+
+/// An address, and where its row begins and ends, with its return address register.
+type Found = (u64, Option<(u64, u64, u16)>);
+
+/// The table of a section gives these rows.
+fn has_rows(rt: &impl Abort, alloc: Global, section: &[u8], target: Target, rows: &[Found])
+    requires { length section.now < 2 ^ 32 }
+{
+    let Ok(frame) = check_frame(alloc, section, target) else {
+        panic!(rt; "it is good")
+    };
+    let Ok(Some(table)) = frame.compile(alloc, AMPLE) else {
+        panic!(rt; "there is room")
+    };
+    for (address, row) in rows {
+        assert_eq!(rt; range_at(&table, *address), *row, "{address:#x}");
+    }
+}
+
+/// The CIE of `FUNCTION`, and an FDE of one row for each of these initial locations and ranges.
+fn with_ranges(alloc: Global, ranges: &[(u64, u64)]) -> Result<Vec<u8>, AllocError> {
+    let mut section = FUNCTION[..24].to_vec(alloc)?;
+    for (initial, range) in ranges {
+        push_fde(&mut section, *initial, *range)?;
+    }
+    Ok(section)
+}
+
+#[test]
+fn an_fde_of_no_address_has_no_row_in_a_table(rt: HostRuntime) -> Result<(), AllocError> {
+    let section = with_ranges(rt.alloc(), &[(0x10, 0), (0x10, 0), (0x20, 0)])?;
+    assert_eq!(rt; section.len(), 120);
+    let rows = [
+        (0, None),
+        (0x10, None),
+        (0x18, None),
+        (0x20, None),
+        (u64::MAX, None),
+    ];
+    has_rows(&rt, rt.alloc(), &section, LITTLE, &rows);
+    Ok(())
+}
+
+/// FDEs on either side of 2^32, one right behind the other, and one a little further.
+const ABOUT_2_TO_THE_32: [Found; 7] = [
+    (0xffff_fffe, None),
+    (0xffff_ffff, Some((0xffff_ffff, 0x1_0000_0000, 16))),
+    (0x1_0000_0000, Some((0x1_0000_0000, 0x1_0000_0001, 16))),
+    (0x1_0000_0001, None),
+    (0x1_0000_0002, Some((0x1_0000_0002, 0x1_0000_0004, 16))),
+    (0x1_0000_0003, Some((0x1_0000_0002, 0x1_0000_0004, 16))),
+    (0x1_0000_0004, None),
+];
+
+#[test]
+fn a_table_gives_rows_on_either_side_of_2_to_the_32(rt: HostRuntime) -> Result<(), AllocError> {
+    let ranges = [
+        (0, 1),
+        (0xffff_ffff, 1),
+        (0x1_0000_0000, 1),
+        (0x1_0000_0002, 2),
+    ];
+    let section = with_ranges(rt.alloc(), &ranges)?;
+    assert_eq!(rt; section.len(), 152);
+    has_rows(&rt, rt.alloc(), &section, LITTLE, &ABOUT_2_TO_THE_32);
+    Ok(())
+}
+
+/// FDEs of the first address, of some in the middle, and of the last that can be covered.
+const FAR_APART: [Found; 8] = [
+    (0, Some((0, 1, 16))),
+    (1, None),
+    (0x7fff_ffff_ffff_ffff, None),
+    (
+        0x8000_0000_0000_0000,
+        Some((0x8000_0000_0000_0000, 0x8000_0000_0000_0010, 16)),
+    ),
+    (
+        0x8000_0000_0000_000f,
+        Some((0x8000_0000_0000_0000, 0x8000_0000_0000_0010, 16)),
+    ),
+    (0x8000_0000_0000_0010, None),
+    (u64::MAX - 1, Some((u64::MAX - 1, u64::MAX, 16))),
+    (u64::MAX, None),
+];
+
+#[test]
+fn a_table_gives_rows_that_are_far_apart(rt: HostRuntime) -> Result<(), AllocError> {
+    let ranges = [(0, 1), (0x8000_0000_0000_0000, 0x10), (u64::MAX - 1, 1)];
+    let section = with_ranges(rt.alloc(), &ranges)?;
+    assert_eq!(rt; section.len(), 120);
+    has_rows(&rt, rt.alloc(), &section, LITTLE, &FAR_APART);
+    Ok(())
+}
+
+#[test]
+fn a_table_of_all_addresses_has_one_row(rt: HostRuntime) -> Result<(), AllocError> {
+    let section = with_ranges(rt.alloc(), &[(0, u64::MAX)])?;
+    assert_eq!(rt; section.len(), 56);
+    let all = Some((0, u64::MAX, 16));
+    let rows = [
+        (0, all),
+        (0xffff_ffff, all),
+        (1 << 63, all),
+        (u64::MAX - 1, all),
+        (u64::MAX, None),
+    ];
+    has_rows(&rt, rt.alloc(), &section, LITTLE, &rows);
+    Ok(())
+}
+
+/// The CIE of `BIG_FUNCTION`, and an FDE of the first address and one of the last that can be covered in four bytes.
+fn short_ends(alloc: Global) -> Result<Vec<u8>, AllocError> {
+    let mut section = BIG_FUNCTION[..20].to_vec(alloc)?;
+    section.extend_from_slice(&[0, 0, 0, 0x14, 0, 0, 0, 0, 0, 0, 0, 0, 0, 0, 0, 1])?;
+    section.extend_from_slice(&[0; 8])?;
+    section.extend_from_slice(&[
+        0, 0, 0, 0x14, 0, 0, 0, 0, 0xff, 0xff, 0xff, 0xf0, 0, 0, 0, 0x0f,
+    ])?;
+    section.extend_from_slice(&[0; 8])?;
+    Ok(section)
+}
+
+const AT_SHORT_ENDS: [Found; 7] = [
+    (0, Some((0, 1, 14))),
+    (1, None),
+    (0xffff_ffef, None),
+    (0xffff_fff0, Some((0xffff_fff0, 0xffff_ffff, 14))),
+    (0xffff_fffe, Some((0xffff_fff0, 0xffff_ffff, 14))),
+    (0xffff_ffff, None),
+    (0x1_0000_0000, None),
+];
+
+#[test]
+fn a_table_gives_the_first_and_last_short_addresses(rt: HostRuntime) -> Result<(), AllocError> {
+    let section = short_ends(rt.alloc())?;
+    assert_eq!(rt; section.len(), 68);
+    has_rows(&rt, rt.alloc(), &section, BIG_SHORT, &AT_SHORT_ENDS);
+    Ok(())
+}
+
+/// How many CIEs there are, each with a return address register of its own.
+const CIES: u8 = 100;
+
+/// CIEs as that of `FUNCTION`, the return address registers of which are 0, 1 and so on.
+fn push_cies(section: &mut Vec<u8>) -> Result<(), AllocError> {
+    for register in 0..CIES {
+        let mut cie = FUNCTION;
+        cie[14] = register;
+        section.extend_from_slice(&cie[..24])?;
+    }
+    Ok(())
+}
+
+/// For each of these CIEs an FDE of four addresses from 0x1000 on, one right behind the other.
+fn with_return_registers(alloc: Global) -> Result<Vec<u8>, AllocError> {
+    let mut section = Vec::new(alloc);
+    push_cies(&mut section)?;
+    for register in 0..CIES {
+        section.extend_from_slice(&[0x1c, 0, 0, 0])?;
+        section.extend_from_slice(&(24 * u32::from(register)).to_le_bytes())?;
+        section.extend_from_slice(&(0x1000 + 4 * u64::from(register)).to_le_bytes())?;
+        section.extend_from_slice(&[4, 0, 0, 0, 0, 0, 0, 0, 0, 0, 0, 0, 0, 0, 0, 0])?;
+    }
+    Ok(section)
+}
+
+#[test]
+fn each_row_of_a_table_has_the_return_register_of_its_cie(rt: HostRuntime) -> Result<(), Fault> {
+    let section = with_return_registers(rt.alloc())?;
+    assert_eq!(rt; section.len(), 5600);
+    let Some(table) = compiled(rt.alloc(), &section)? else {
+        panic!(rt; "there is room")
+    };
+    for register in 0..CIES {
+        let start = 0x1000 + 4 * u64::from(register);
+        let row = Some((start, start + 4, u16::from(register)));
+        assert_eq!(rt; range_at(&table, start), row);
+        assert_eq!(rt; range_at(&table, start + 3), row);
+    }
+    Ok(())
+}
+
+/// 128 times: one address further the CFA is register 7 and as many bytes as 128 times a number, and 0 to 127 more.
+fn push_cfas(section: &mut Vec<u8>, high: u8) -> Result<(), AllocError> {
+    for low in 0x80..=0xffu8 {
+        section.extend_from_slice(&[0x41, 0x0e, low, high])?;
+    }
+    Ok(())
+}
+
+/// The CIE of `FUNCTION`, and two FDEs of 385 rows, each of one address: that of the address i behind the first has its CFA at
+/// register 7 and 127 + i. Both have the same rules.
+fn with_many_rules(alloc: Global) -> Result<Vec<u8>, AllocError> {
+    let mut section = FUNCTION[..24].to_vec(alloc)?;
+    for high in [0x10, 0x20] {
+        section.extend_from_slice(&[0x14, 6, 0, 0, 0, 0, 0, 0])?;
+        section.extend_from_slice(&[0, high, 0, 0, 0, 0, 0, 0, 0x81, 1, 0, 0, 0, 0, 0, 0])?;
+        push_cfas(&mut section, 1)?;
+        push_cfas(&mut section, 2)?;
+        push_cfas(&mut section, 3)?;
+    }
+    Ok(section)
+}
+
+/// How far from register 7 the CFA of an address is.
+fn cfa_offset(table: &UnwindTable, address: u64) -> Option<i64> {
+    match table.row_for_address(address)?.cfa() {
+        CfaRule::RegisterAndOffset {
+            register: 7,
+            offset,
+        } => Some(offset),
+        _ => None,
+    }
+}
+
+#[test]
+fn a_table_keeps_hundreds_of_rules_apart(rt: HostRuntime) -> Result<(), Fault> {
+    let section = with_many_rules(rt.alloc())?;
+    assert_eq!(rt; section.len(), 3144);
+    let Some(table) = compiled(rt.alloc(), &section)? else {
+        panic!(rt; "there is room")
+    };
+    assert_eq!(rt; cfa_offset(&table, 0x1000), Some(8));
+    assert_eq!(rt; cfa_offset(&table, 0x2000), Some(8));
+    for i in 1..385u16 {
+        let (far, offset) = (u64::from(i), Some(127 + i64::from(i)));
+        assert_eq!(rt; cfa_offset(&table, 0x1000 + far), offset);
+        assert_eq!(rt; cfa_offset(&table, 0x2000 + far), offset);
+    }
+    Ok(())
+}
+
+/// In how many of these rooms, from none on, the table of a section is not made.
+fn refusals(rt: &impl Abort, alloc: Global, frame: &CheckedFrame<'_>, rooms: usize) -> usize {
+    let mut refused = 0usize;
+    for room in 0..rooms {
+        match frame.compile(alloc, room) {
+            Ok(Some(_)) => {}
+            Ok(None) => refused = refused.saturating_add(1),
+            Err(fault) => panic!(rt; "{fault:?}"),
+        }
+    }
+    refused
+}
+
+#[test]
+fn a_table_is_made_from_its_exact_room_on(rt: HostRuntime) -> Result<(), Fault> {
+    let frame = check_frame(rt.alloc(), &FUNCTION, LITTLE)?;
+    let least = refusals(&rt, rt.alloc(), &frame, 600);
+    // Its three rows alone take 48.
+    assert!(rt; least >= 48 && least < 600);
+    assert!(rt; frame.compile(rt.alloc(), least - 1)?.is_none());
+    assert!(rt; frame.compile(rt.alloc(), least)?.is_some());
+    Ok(())
+}
