@@ -27,7 +27,7 @@ struct Blocks {
 }
 
 /// A block has about so many starts.
-const USUAL_BLOCK: usize = 4;
+const USUAL_BLOCK: usize = 16;
 
 /// Into how many blocks, at most, so many addresses are cut, and by how many bits: each block has as many addresses as the
 /// others.
