@@ -6,7 +6,9 @@
 TESTS is the tests' program that `rt test` leaves in crates/dw_tests/out, DWCHECK the program. It needs cc and glibc.
 
 A library that is loaded before the C library's refuses the Nth request. Each test of `refused_memory` then has to pass for every N from 1
-until none is refused. Each run of the program has to end with its text, or with status 3, the line of want of memory, and a beginning
+until none is refused: the call answers that memory ran out, or it does without that request and its answer is right. So does the check
+of lists where a short way lacks memory for an expression: the general way then reads the entry. Each line says how many requests were
+done without. Each run of the program has to end with its text, or with status 3, the line of want of memory, and a beginning
 of its text; and with nothing written where its text is a refusal's line.
 """
 import os
@@ -45,6 +47,7 @@ RUNS = [
     "backtrace --hex frame 0x1010 round 20", "rows frame", "check frame lists", "eval foo sum", "rows",
 ]
 WANT = "dwcheck: out of memory\n"
+WITHOUT = "done without"
 
 
 def run(library, words, number, folder):
@@ -58,20 +61,23 @@ def run(library, words, number, folder):
 
 
 def each(library, words, folder, judge):
-    """Refuses each request of a command in turn, and gives how many there are."""
-    number = 1
+    """Refuses each request of a command in turn, and gives how many there are, and how many of them were done without."""
+    number, without = 1, 0
     while True:
         *ended, refused = run(library, words, number, folder)
         if not refused:
-            return number - 1
+            return number - 1, without
         said = judge(*ended)
-        if said:
+        if said not in (None, WITHOUT):
             raise SystemExit(f"{' '.join(words[1:])}, request {number}: {said}\n{ended}")
+        without += said == WITHOUT
         number += 1
 
 
 def judge_test(out, err, status):
-    return None if status == 0 and b"test result: ok" in out and b"refused" in out else "the test fails, or answers no want of memory"
+    if status != 0 or b"test result: ok" not in out:
+        return "the test fails"
+    return None if b"refused" in out else WITHOUT
 
 
 def judge_program(whole):
@@ -79,12 +85,16 @@ def judge_program(whole):
 
     def judge(out, err, status):
         if (out, err, status) == (wanted, text, ample):
-            return None
+            return WITHOUT
         if status != 3 or err.decode() != WANT:
             return "another end"
         return None if wanted.startswith(out) and (not out or not out.startswith(b"refused")) else "another text"
 
     return judge
+
+
+def done(without):
+    return f", {without} of them done without" if without else ""
 
 
 def main():
@@ -102,13 +112,14 @@ def main():
         for line in listed.splitlines():
             if line.startswith("refused_memory::"):
                 name = line.removesuffix(": test")
-                counts[name] = each(library, [tests, name], folder, judge_test)
-                print(f"{counts[name]:6} {name}")
+                counts[name], without = each(library, [tests, name], folder, judge_test)
+                print(f"{counts[name]:6} {name}{done(without)}")
         if counts["refused_memory::look_ups_take_no_memory"] != counts["refused_memory::check_of_expressions_lacks_memory"]:
             raise SystemExit("look-ups take memory")
         for words in RUNS:
             *whole, _ = run(library, [program, *words.split()], 0, folder)
-            print(f"{each(library, [program, *words.split()], folder, judge_program(whole)):6} {words}")
+            count, without = each(library, [program, *words.split()], folder, judge_program(whole))
+            print(f"{count:6} {words}{done(without)}")
 
 
 main()
