@@ -1,6 +1,6 @@
 -- The caller by a row, and its registers, one after the other.
 use Rattle.std.proofs.Common.{◌≡◌, ℕ, suc, ◌+◌, ◌<◌, ◌≤◌, List, [], ◌∷◌, ◌++◌, length, map, refl, ap, sym, subst, ◌∙◌, arith, length-append}
-use Rattle.std.specs.Prelude.{All, Option, Some, None}
+use Rattle.std.specs.Prelude.{All, Option, Some, None, zero, slice_get}
 use Rattle.std.specs.List.{AllByRecursion}
 use Rattle.std.proofs.lemmas.List.{append_assoc, map-append}
 use Rattle.std.proofs.lemmas.List.Elements.{recursion_from_All}
@@ -67,7 +67,7 @@ as_kind e kind x answer is gives = subst (λ k. Gives e k x answer) is gives
 -- ---- the caller by the row of an address
 
 -- a register without a rule is undefined
-by_default : (e : World) (cfa : Answer) (r : ℕ) (x : Rule) (answer : Answer) → IsRegister e cfa r (or_rule x undefined) answer
+pub by_default : (e : World) (cfa : Answer) (r : ℕ) (x : Rule) (answer : Answer) → IsRegister e cfa r (or_rule x undefined) answer
     → IsRegister e cfa r x answer
 by_default e cfa r default answer h = h
 by_default e cfa r undefined answer h = h
@@ -97,14 +97,26 @@ unwinds-found e abi s address (Some found) (Some caller) is by =
     }
 
 -- the caller by the rules of a row
-pub by_rules : (e : World) (abi : Abi) (number : ℕ) (row : Row) (rule : Cfa) (rules : List (ℕ × Rule)) (back : Rule)
-    (cfa returned : Answer) (answers : List (ℕ × Answer)) → row.cfa ≡ Some rule → IsCfa e (Some rule) cfa
-    → rules ≡ rules_under abi row.rules → AreRegisters e cfa rules answers
-    → back ≡ or_rule (rule_under abi row.rules number) undefined → IsRegister e cfa number back returned
+pub by_rules : (e : World) (abi : Abi) (number : ℕ) (row : Row) (rule : Cfa) (rules : List (ℕ × Rule)) (cfa returned : Answer)
+    (answers : List (ℕ × Answer)) → row.cfa ≡ Some rule → IsCfa e (Some rule) cfa → rules ≡ rules_under abi row.rules
+    → AreRegisters e cfa rules answers → IsRegister e cfa number (rule_under abi row.rules number) returned
     → IsCaller e abi number row (record { cfa = cfa; registers = answers; return_address = returned })
-by_rules e abi number row rule rules back cfa returned answers cfa_is has_cfa rules_are has_registers back_is returns = record {
+by_rules e abi number row rule rules cfa returned answers cfa_is has_cfa rules_are has_registers returns = record {
   cfa = subst (λ c. IsCfa e c cfa) (sym cfa_is) has_cfa;
   registers = subst (λ rs. AreRegisters e cfa rs answers) rules_are has_registers;
-  return_address = by_default e cfa number (rule_under abi row.rules number) returned
-      (subst (λ b. IsRegister e cfa number b returned) back_is returns);
+  return_address = returns;
 }
+
+-- an answer among those of rules that are each its register's is that register's
+pub found_register : (e : World) (cfa : Answer) (of : ℕ → Rule) (rules : List (ℕ × Rule)) (answers : List (ℕ × Answer)) (k r : ℕ)
+    (a : Answer) → AllByRecursion (λ (entry : ℕ × Rule). entry.1 ≡ of entry.0) rules → AreRegisters e cfa rules answers
+    → slice_get answers k ≡ Some (r, a) → IsRegister e cfa r (of r) a
+found_register e cfa of [] [] k r a each are is = absurd (cc)
+found_register e cfa of [] (y ∷ answers) k r a each are is = absurd are
+found_register e cfa of (x ∷ rules) [] k r a each are is = absurd are
+found_register e cfa of (x ∷ rules) (y ∷ answers) zero r a each are is =
+    let same : y ≡ (r, a) = cc in
+    subst (λ (z : ℕ × Answer). IsRegister e cfa z.0 (of z.0) z.1) same
+    (subst (λ (n : ℕ). IsRegister e cfa n (of n) y.1) (sym are.0)
+    (subst (λ (rule : Rule). IsRegister e cfa x.0 rule y.1) each.0 are.1))
+found_register e cfa of (x ∷ rules) (y ∷ answers) (suc k) r a each are is = found_register e cfa of rules answers k r a each.1 are.2 is

@@ -1,3 +1,4 @@
+pub mod Ascending
 pub mod Assembled
 pub mod BothSections
 pub mod Callers
@@ -16,6 +17,7 @@ pub mod Lengths
 pub mod Lined
 pub mod Loading
 pub mod LongFiles
+pub mod ModuleWalks
 pub mod OneCaller
 pub mod OneReply
 pub mod Digits

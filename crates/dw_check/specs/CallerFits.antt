@@ -2,6 +2,7 @@
 use Rattle.std.specs.Prelude.{ℕ, ◌<◌, All, IfSome}
 use Rattle.dw_check.specs.Caller.{Answer, value, Caller}
 use Rattle.dw_check.specs.Walks.{WalkedFrame}
+use Rattle.dw_check.specs.WalkSteps.{Progress, frame_at}
 
 -- its number, if it is one, is below m
 abbrev pub AnswerFits : ℕ → Answer → Type 0
@@ -18,3 +19,7 @@ pub record CallerFits (m : ℕ) (caller : Caller) : Type 0 where
 pub record FrameFits (m : ℕ) (frame : WalkedFrame) : Type 0 where
   pub address : frame.address < m
   pub caller : IfSome frame.caller (CallerFits m)
+
+-- those of the frame that a walk has come to
+abbrev pub ProgressFits : ℕ → Progress → Type 0
+ProgressFits m progress = FrameFits m (frame_at progress)

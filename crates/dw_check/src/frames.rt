@@ -1,16 +1,25 @@
 //! What a walk up the stack gives.
 
-use crate::unwinding::Caller;
+use crate::unwinding::{Answer, Caller};
 
 /// A frame of a walk up the stack.
 #[derive(Clone, Debug, Drop, PartialEq, Eq)]
 pub struct Frame {
-    /// Where it stands: the first one's is handed in, that of each other is where it goes on behind a call.
+    /// Where it is: the first one's address is handed in, and that of each other is where it goes on after a call.
     pub address: u64,
     /// Its caller, none exactly where no FDE covers the address that is looked up. That is the first frame's own, and the address
     /// before that of each other, since a call may be the last instruction that an FDE covers (DWARF 5, section 6.4.4). There is none
     /// before 0, and no FDE covers it.
     pub caller: Option<Caller>,
+}
+
+/// A frame of a walk in brief.
+#[derive(Clone, Copy, Debug, PartialEq, Eq)]
+pub struct BriefFrame {
+    /// Where it is, as in `Frame`.
+    pub address: u64,
+    /// Its canonical frame address, none exactly where no FDE covers the address that is looked up.
+    pub cfa: Option<Answer>,
 }
 
 /// Why a walk ends.

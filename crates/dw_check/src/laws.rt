@@ -1,6 +1,7 @@
 //! Laws of checks and of requests: functions that do nothing, each with the law as its contract.
 
-ghost use Rattle.std.specs.Prelude.{◌≡◌, ◌↔◌, ℕ, List, Option, None, Contains, ◌≤◌, take};
+ghost use Rattle.std.specs.Prelude.{◌≡◌, ◌↔◌, ℕ, ◌<◌, ◌^◌, All, List, Option, None, Some, Contains, ◌≤◌, length, take};
+ghost use Rattle.std.specs.Borrow.{Bor};
 ghost use Rattle.dw_bytes.specs.declared.target.Target.{Target};
 ghost use Rattle.dw_check.specs.Checked.{AreWellFormed, check_fault};
 ghost use Rattle.dw_check.specs.Headline.{AreSound};
@@ -16,7 +17,11 @@ ghost use Rattle.dw_check.specs.Caller.{Caller, IsCaller, Unwinds, UnwindsBy};
 ghost use Rattle.dw_rows.specs.UnwindTables.{IsFoundAt, IsTableOf, RowTable, row_at};
 ghost use Rattle.dw_check.specs.declared.frames.Stop.{Stop};
 ghost use Rattle.dw_check.specs.declared.unwinding.TheConstants.{MAX_FOUND};
-ghost use Rattle.dw_check.specs.Walks.{Place, WalkedFrame, Walks, over_rows, over_section, over_table};
+ghost use Rattle.dw_check.specs.declared.modules.Module.{Module};
+ghost use Rattle.dw_check.specs.Modules.{AreTablesOf, over_modules_of_rows, over_sections, over_tables, sections_of, where_linked};
+ghost use Rattle.dw_check.specs.Walks.{IsFrameAt, Place, WalkedFrame, Walks, first_place, over_rows, over_section, over_table};
+ghost use Rattle.dw_check.specs.WalkSteps.{GivesFrames, about_to_give, after, stop_of};
+ghost use Rattle.dw_eval.specs.Numbers.{width_of};
 ghost use Rattle.dw_check.specs.LongFiles.{needed_parts};
 ghost use Rattle.dw_check.specs.Requests.{Asked};
 ghost use Rattle.dw_check.specs.Runs.{Reply, IsReply};
@@ -145,6 +150,106 @@ pub fn longer_walks_begin_so()
 {
     one_walk();
 }
+
+/// Through the modules of a process whose sections are accepted an unwinding has one answer: none, or one caller.
+pub fn one_caller_through_modules()
+    ensures { (sections : List (Module FrameSection)) (abi : Abi) (memory registers : ℕ → Option ℕ)
+        (address : ℕ) (c d : Option Caller) → All (λ m. rows.IsChecked m.rows) sections
+        → over_sections abi memory sections registers address c
+        → over_sections abi memory sections registers address d → c ≡ d }
+{
+    one_caller();
+}
+
+/// And it has one.
+pub fn each_address_has_an_unwinding_through_modules()
+    ensures { (sections : List (Module FrameSection)) (abi : Abi) (memory registers : ℕ → Option ℕ)
+        (address : ℕ) → All (λ m. rows.IsChecked m.rows) sections
+        → (c : Option Caller) × over_sections abi memory sections registers address c }
+{
+    each_address_has_an_unwinding();
+}
+
+/// Through such modules a walk is determined by where it begins and by its limit.
+pub fn one_walk_through_modules()
+    ensures { (sections : List (Module FrameSection)) (abi : Abi) (memory : ℕ → Option ℕ)
+        (first : Place) (limit : ℕ) (xs ys : List WalkedFrame) (a b : Stop)
+        → All (λ m. rows.IsChecked m.rows) sections
+        → Walks (over_sections abi memory sections) first limit xs a
+        → Walks (over_sections abi memory sections) first limit ys b → (xs ≡ ys) × (a ≡ b) }
+{
+    one_caller_through_modules();
+}
+
+/// And there is one.
+pub fn each_has_a_walk_through_modules()
+    ensures { (sections : List (Module FrameSection)) (abi : Abi) (memory : ℕ → Option ℕ)
+        (first : Place) (limit : ℕ) → All (λ m. rows.IsChecked m.rows) sections
+        → (xs : List WalkedFrame) × (stop : Stop)
+        × Walks (over_sections abi memory sections) first limit xs stop }
+{
+    each_address_has_an_unwinding_through_modules();
+}
+
+/// A walk through modules with a smaller limit is the beginning of the one with a greater.
+pub fn longer_walks_through_modules_begin_so()
+    ensures { (sections : List (Module FrameSection)) (abi : Abi) (memory : ℕ → Option ℕ)
+        (first : Place) (m n : ℕ) (xs ys : List WalkedFrame) (a b : Stop)
+        → All (λ m. rows.IsChecked m.rows) sections
+        → Walks (over_sections abi memory sections) first m xs a
+        → Walks (over_sections abi memory sections) first n ys b → m ≤ n → xs ≡ take m ys }
+{
+    one_walk_through_modules();
+}
+
+/// One module that is loaded where it is linked is as its section: an unwinding or a walk through it is one over the section, and the
+/// other way round, at addresses below 2^w, w being the size of an address in bits.
+pub fn one_module_is_its_section()
+    ensures unwindings { (frame : FrameSection) (abi : Abi) (memory registers : ℕ → Option ℕ)
+        (address : ℕ) (c : Option Caller) → address < 2 ^ width_of frame.target.address_size
+        → over_sections abi memory (where_linked frame) registers address c
+        ↔ over_section frame abi memory registers address c }
+    ensures walks { (frame : FrameSection) (abi : Abi) (memory registers : ℕ → Option ℕ)
+        (address limit : ℕ) (xs : List WalkedFrame) (stop : Stop) → rows.IsChecked frame
+        → address < 2 ^ width_of frame.target.address_size
+        → Walks (over_sections abi memory (where_linked frame)) (first_place address registers)
+        limit xs stop
+        ↔ Walks (over_section frame abi memory) (first_place address registers) limit xs stop }
+{
+    dw_rows::laws::rows_have_good_expressions();
+    dw_rows::laws::rules_under_abis();
+    dw_eval::laws::numbers_of_evaluations_fit();
+}
+
+/// A walk through modules by what is found in each is one through their sections or through their tables, and one through tables of
+/// sections is one through the sections.
+pub fn walks_through_what_is_found()
+    ensures found { (modules : List (Module (Bor FrameSection))) (abi : Abi)
+        (memory : ℕ → Option ℕ) (first : Place) (limit : ℕ) (xs : List WalkedFrame) (stop : Stop)
+        → Walks (over_modules_of_rows (λ s. s.now.target) (λ s. IsFoundAt s.now) abi memory modules)
+        first limit xs stop
+        → Walks (over_sections abi memory (sections_of modules)) first limit xs stop }
+    ensures rows { (tables : List (Module RowTable)) (abi : Abi) (memory : ℕ → Option ℕ)
+        (first : Place) (limit : ℕ) (xs : List WalkedFrame) (stop : Stop)
+        → Walks (over_modules_of_rows (λ t. t.target)
+        (λ t address found. found ≡ row_at t address) abi memory tables) first limit xs stop
+        → Walks (over_tables abi memory tables) first limit xs stop }
+    ensures tables { (sections : List (Module FrameSection)) (tables : List (Module RowTable))
+        (abi : Abi) (memory : ℕ → Option ℕ) (first : Place) (limit : ℕ) (xs : List WalkedFrame)
+        (stop : Stop) → AreTablesOf sections tables
+        → Walks (over_tables abi memory tables) first limit xs stop
+        → Walks (over_sections abi memory sections) first limit xs stop }
+{}
+
+/// What a walk gives frame after frame, until it gives none, is what a walk through the modules gives with any limit above their number.
+pub fn frames_that_are_given_are_a_walk()
+    ensures { (sections : List (Module FrameSection)) (abi : Abi) (memory : ℕ → Option ℕ)
+        (first : Place) (begin : WalkedFrame) (limit : ℕ) (xs : List WalkedFrame) (stop : Stop)
+        → IsFrameAt (over_sections abi memory sections) first begin
+        → GivesFrames (over_sections abi memory sections) (about_to_give begin) xs
+        → stop_of (after (about_to_give begin) xs) ≡ Some stop → length xs < limit
+        → Walks (over_sections abi memory sections) first limit xs stop }
+{}
 
 /// A walk by what is found at addresses of a section is one over the section; one by what a table gives is one over the table; and
 /// one over a table of the section is one over the section.

@@ -1,15 +1,15 @@
 //! What registers and memory have, and what rules make of it.
 
-ghost use Rattle.std.specs.Prelude.{◌≡◌, ◌≤◌, ℕ, All, Some, length, map};
+ghost use Rattle.std.specs.Prelude.{◌≡◌, ◌≤◌, ℕ, All, Some, length};
 ghost use Rattle.dw_rows.specs.Views.{cfa_rule_of, rule_of};
 ghost use Rattle.dw_rows.specs.GivenRows.{IsCfaOfKind, IsEntryOfKind, IsRuleOfKind};
 ghost use Rattle.dw_stack.specs.Certificates.{checked_of};
 ghost use Rattle.dw_stack.specs.Located.{located_of};
 ghost use Rattle.dw_check.specs.Caller.{Gives, IsCfa, IsRegister, AreRegisters, number_plus, content_plus, content, word};
-ghost use Rattle.dw_check.specs.CallerViews.{answer_in, found_in, machine_in, with_optional_cfa};
+ghost use Rattle.dw_check.specs.CallerViews.{answer_in, machine_in, with_optional_cfa};
 
-use crate::unwinding::{Answer, FoundRegisters, MAX_FOUND};
-use arrayvec::ArrayVec;
+use crate::register_list::RegisterList;
+use crate::unwinding::{Answer, MAX_FOUND};
 use dw_bytes::Target;
 use dw_eval::{Context, Memory, Outcome, Registers, Width, evaluate};
 use dw_rows::{CfaRule, RegisterRule, RegisterRules};
@@ -25,6 +25,7 @@ pub(crate) struct Present<'m, R: Registers, M: Memory> {
 
 impl<'m, R: Registers, M: Memory> Present<'m, R, M> {
     /// A number and an offset, modulo 2^w.
+    #[inline(always)]
     fn number_plus(&self, number: u64, offset: i64) -> u64
         ensures { result ≡ number_plus (machine_in R.contents M.bytes self.now) offset number }
     {
@@ -35,6 +36,7 @@ impl<'m, R: Registers, M: Memory> Present<'m, R, M> {
     }
 
     /// A content and an offset, modulo 2^w.
+    #[inline(always)]
     fn content_plus(&self, content: Option<u64>, offset: i64) -> Answer
         ensures { answer_in result
             ≡ content_plus (machine_in R.contents M.bytes self.now) offset content }
@@ -46,6 +48,7 @@ impl<'m, R: Registers, M: Memory> Present<'m, R, M> {
     }
 
     /// The content of a register, modulo 2^w.
+    #[inline(always)]
     fn content(&self, number: u16) -> Answer
         ensures { answer_in result ≡ content (machine_in R.contents M.bytes self.now) number }
     {
@@ -53,6 +56,7 @@ impl<'m, R: Registers, M: Memory> Present<'m, R, M> {
     }
 
     /// The address-sized word at an address.
+    #[inline(always)]
     fn word(&self, address: u64) -> Answer
         ensures { answer_in result ≡ word (machine_in R.contents M.bytes self.now) address }
     {
@@ -63,7 +67,9 @@ impl<'m, R: Registers, M: Memory> Present<'m, R, M> {
         self.content_plus(self.memory.read(address, size, self.target.order), 0)
     }
 
-    /// What an expression of a row gives, which begins with the CFA where that is handed in.
+    /// What an expression of a row gives, which begins with the CFA where that is handed in. Few rules have one, and an evaluation in
+    /// the midst of the others would slow them down.
+    #[inline(never)]
     fn outcome(&self, expression: &CheckedExpression<'_>, cfa: Option<u64>) -> Answer
         ensures { (at : ℕ) → Gives (with_optional_cfa (machine_in R.contents M.bytes self.now) cfa)
             (checked_of expression.now).kind (located_of (at, expression.now))
@@ -82,6 +88,7 @@ impl<'m, R: Registers, M: Memory> Present<'m, R, M> {
     }
 
     /// The CFA by its rule.
+    #[inline(always)]
     pub fn cfa(&self, rule: CfaRule<'_>) -> Answer
         requires { IsCfaOfKind (cfa_rule_of rule) }
         ensures { IsCfa (machine_in R.contents M.bytes self.now) (Some (cfa_rule_of rule.entry))
@@ -96,6 +103,7 @@ impl<'m, R: Registers, M: Memory> Present<'m, R, M> {
     }
 
     /// A register of the caller by its rule and the CFA.
+    #[inline(always)]
     pub fn register(&self, cfa: Answer, number: u16, rule: RegisterRule<'_>) -> Answer
         requires { IsRuleOfKind (rule_of rule) }
         ensures { IsRegister (machine_in R.contents M.bytes self.now) (answer_in cfa) number
@@ -128,18 +136,22 @@ impl<'m, R: Registers, M: Memory> Present<'m, R, M> {
         }
     }
 
-    /// The registers of these rules, in their order. It is inlined, so that they are written where the caller has them.
+    /// Writes the registers of these rules, in their order, in the place of those that are in the list.
     #[inline(always)]
-    pub fn registers(&self, cfa: Answer, rules: RegisterRules<'_, '_>) -> FoundRegisters
+    pub fn registers_into<L: RegisterList>(
+        &self,
+        cfa: Answer,
+        rules: RegisterRules<'_, '_>,
+        registers: &mut L,
+    )
         requires few { length rules ≤ MAX_FOUND }
         requires kinds { All IsEntryOfKind rules }
         ensures { AreRegisters (machine_in R.contents M.bytes self.now) (answer_in cfa) rules.entry
-            (map found_in result.items) }
+            (L.registers registers.new) }
     {
-        let mut registers = ArrayVec::new();
+        registers.clear();
         for (number, rule) in rules {
-            registers.push((number, self.register(cfa, number, rule)));
+            registers.push(number, self.register(cfa, number, rule));
         }
-        registers
     }
 }

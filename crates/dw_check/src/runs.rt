@@ -14,6 +14,7 @@ ghost use Rattle.dw_check.specs.Stops.{RefusesBoth, IsRefusal, ended_by, is_outp
 ghost use Rattle.dw_check.specs.WriteResults.{IsSame, Writes, WritesWhole, is_write};
 ghost use Rattle.dw_check.specs.declared.stop.Section.TheVariants as sections;
 
+use crate::backtraces::backtrace_by_section;
 use crate::caller_text::write_caller;
 use crate::evaluations::write_outcome;
 use crate::files::Files;
@@ -26,7 +27,6 @@ use crate::requests::{End, ListLookup, Request, Task};
 use crate::sink::Sink;
 use crate::stop::{ReportFault, RunFault, Section};
 use crate::unwinding::unwind_by_section;
-use crate::walk::backtrace_by_section;
 use crate::walk_text::write_walk;
 use crate::whole_check::{Checked, SECTION_LIMIT, TOO_LONG, check};
 use crate::writer::Writer;

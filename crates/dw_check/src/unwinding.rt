@@ -2,18 +2,22 @@
 
 ghost use Rattle.std.specs.Prelude.{◌≡◌, ◌^◌, ℕ, IfSome, Option, option_map};
 ghost use Rattle.dw_eval.specs.Numbers.{width_of};
-ghost use Rattle.dw_rows.specs.Abi.{no_abi};
+ghost use Rattle.dw_rows.specs.Abi.{no_abi, rule_under, rules_under};
 ghost use Rattle.dw_rows.specs.AbiViews.{roles_of};
 ghost use Rattle.dw_rows.specs.Rules.{Row};
-ghost use Rattle.dw_check.specs.Caller.{Unwinds, UnwindsBy, machine};
+ghost use Rattle.dw_check.specs.Caller.{AreRegisters, IsRegister, Unwinds, UnwindsBy, machine};
 ghost use Rattle.dw_check.specs.CallerFits.{CallerFits};
-ghost use Rattle.dw_check.specs.CallerViews.{caller_in};
+ghost use Rattle.dw_check.specs.CallerViews.{answer_in, caller_in, machine_in};
+ghost use Rattle.dw_check.specs.UnwoundViews.{caller_with};
+ghost use Rattle.dw_check.specs.Walks.{over_rows};
 
 use crate::present::Present;
+use crate::register_list::RegisterList;
+use crate::unwinder::Unwinder;
 use crate::whole_check::Checked;
 use arrayvec::ArrayVec;
 use dw_eval::{Memory, Registers};
-use dw_rows::{Abi, CheckedFrame, MAX_RULES, UnwindRows};
+use dw_rows::{Abi, CheckedFrame, MAX_RULES, UnwindRow, UnwindRows};
 
 /// What is known of a register of the caller, of its CFA or of its return address.
 #[derive(Clone, Copy, Debug, PartialEq, Eq)]
@@ -54,6 +58,98 @@ pub struct Caller {
     pub return_address: Answer,
 }
 
+/// What an unwinding gives beside the registers of the caller.
+#[derive(Clone, Copy, Debug)]
+pub struct Unwound {
+    /// The canonical frame address.
+    pub cfa: Answer,
+    /// Where the caller goes on.
+    pub return_address: Answer,
+}
+
+/// Where the caller goes on, which may be among its registers.
+#[inline(always)]
+fn return_address<R: Registers, M: Memory, L: RegisterList>(
+    present: &Present<'_, R, M>,
+    row: &UnwindRow<'_, '_>,
+    abi: &Abi,
+    cfa: Answer,
+    number: u16,
+    found: &L,
+) -> Answer
+    requires { AreRegisters (machine_in R.contents M.bytes present.now) (answer_in cfa)
+        (rules_under (roles_of abi.now) row.now.rules) (L.registers found.now) }
+    ensures { IsRegister (machine_in R.contents M.bytes present.now) (answer_in cfa) number
+        (rule_under (roles_of abi.now) row.now.rules number) (answer_in result) }
+{
+    dw_rows::laws::rules_under_abis();
+    match found.answer(number) {
+        Some(answer) => answer,
+        None => present.register(cfa, number, row.register_with(abi, number)),
+    }
+}
+
+/// Unwinds as `unwind_by` does, and writes the registers of the caller in the place of those that are in a list. Where there is no
+/// caller, nothing is said of what the list has then.
+#[inline(always)]
+pub(crate) fn unwind_into<T: UnwindRows, R: Registers, M: Memory, L: RegisterList>(
+    rows: &T,
+    abi: &Abi,
+    address: u64,
+    registers: &R,
+    memory: &M,
+    into: &mut L,
+) -> Option<Unwound>
+    ensures unwinds { over_rows (T.target_of rows.now) (T.finds rows.now) (roles_of abi.now)
+        (M.bytes memory.now) (R.contents registers.now) address
+        (option_map (caller_with (L.registers into.new)) result) }
+    ensures fits { IfSome (option_map (caller_with (L.registers into.new)) result)
+        (CallerFits (2 ^ width_of (T.target_of rows.now).address_size)) }
+{
+    // What is said of ABIs and of evaluations gives that numbers fit.
+    dw_rows::laws::rules_under_abis();
+    dw_eval::laws::numbers_of_evaluations_fit();
+    let mut slot = rows.slot();
+    let Some((row, number)) = rows.find_row(address, &mut slot) else {
+        return None;
+    };
+    let present = Present {
+        target: rows.rows_target(),
+        registers,
+        memory,
+    };
+    let cfa = present.cfa(row.cfa());
+    present.registers_into(cfa, row.rules_with(abi), into);
+    Some(Unwound {
+        cfa,
+        return_address: return_address(&present, &row, abi, cfa, number, into),
+    })
+}
+
+/// The caller of the frame at an address, by whatever unwinds.
+pub(crate) fn unwind_over<U: Unwinder, R: Registers, M: Memory>(
+    unwinder: &U,
+    abi: &Abi,
+    address: u64,
+    registers: &R,
+    memory: &M,
+) -> Option<Caller>
+    ensures unwinds { U.unwinds unwinder.now (roles_of abi.now) (M.bytes memory.now)
+        (R.contents registers.now) address (option_map caller_in result) }
+    ensures fits { (bound : ℕ) → U.is_below unwinder.now bound
+        → IfSome (option_map caller_in result) (CallerFits bound) }
+{
+    let mut caller = Caller {
+        cfa: Answer::Undefined,
+        registers: FoundRegisters::new(),
+        return_address: Answer::Undefined,
+    };
+    let unwound = unwinder.unwind_into(abi, address, registers, memory, &mut caller.registers)?;
+    caller.cfa = unwound.cfa;
+    caller.return_address = unwound.return_address;
+    Some(caller)
+}
+
 /// The caller of the frame at an address, over the frame's registers and memory, by the row that a checked section or a compiled
 /// table gives there, or none where it gives none (DWARF 5, section 6.4.1). The ABI says what a register is that no instruction has
 /// given a rule.
@@ -82,26 +178,7 @@ pub fn unwind_by<T: UnwindRows, R: Registers, M: Memory>(
     ensures fits { IfSome (option_map caller_in result)
         (CallerFits (2 ^ width_of (T.target_of rows.now).address_size)) }
 {
-    // What is said of ABIs and of evaluations gives that numbers fit.
-    dw_rows::laws::rules_under_abis();
-    dw_eval::laws::numbers_of_evaluations_fit();
-    let mut slot = rows.slot();
-    match rows.find_row(address, &mut slot) {
-        Some((row, number)) => {
-            let present = Present {
-                target: rows.rows_target(),
-                registers,
-                memory,
-            };
-            let cfa = present.cfa(row.cfa());
-            Some(Caller {
-                cfa,
-                registers: present.registers(cfa, row.rules_with(abi)),
-                return_address: present.register(cfa, number, row.register_with(abi, number)),
-            })
-        }
-        None => None,
-    }
+    unwind_over(&rows, abi, address, registers, memory)
 }
 
 /// The caller of the frame at an address, over the frame's registers and memory, or none where no FDE covers the address (DWARF 5,

@@ -1,218 +1,272 @@
-//! A walk up the stack: frames, one the caller of the other.
+//! A walk up the stack, frame after frame.
 
-ghost use Rattle.std.specs.Prelude.{◌≡◌, ◌<◌, ◌^◌, ◌∷◌, [], All, IfErr, IfOk, IsOk, IfSome, MatchResult, Some, map};
-ghost use Rattle.dw_bytes.specs.Answers.{memory as want_of_memory};
-ghost use Rattle.dw_eval.specs.Numbers.{width_of};
+ghost use Rattle.std.specs.Prelude.{◌≡◌, ℕ, IfOk, IfSome, MatchOption, MatchResult, Some, option_map};
+ghost use Rattle.std.specs.Option.{IsSomeAnd};
 ghost use Rattle.dw_rows.specs.AbiViews.{roles_of};
-ghost use Rattle.dw_check.specs.CallerFits.{CallerFits, FrameFits};
-ghost use Rattle.dw_check.specs.CallerViews.{caller_in, found_in};
-ghost use Rattle.dw_check.specs.Walks.{Walks, AreFrames, IsFrameAt, over_rows, over_section, contents_of, first_place, next_place, place_of_caller, stop_of_caller};
-ghost use Rattle.dw_check.specs.WalkViews.{frame_in, frames_in};
+ghost use Rattle.dw_check.specs.Caller.{value};
+ghost use Rattle.dw_check.specs.CallerFits.{CallerFits, ProgressFits};
+ghost use Rattle.dw_check.specs.CallerViews.{answer_in, caller_in};
+ghost use Rattle.dw_check.specs.UnwoundViews.{caller_with, stop_of_unwound};
+ghost use Rattle.dw_check.specs.Walks.{IsFrameAt, UnwindsAt, address_before, contents_of, first_place};
+ghost use Rattle.dw_check.specs.WalkSteps.{Gives, UnwindsFrom, about_to_give, frame_at, has_given, having_given, stop_of};
+ghost use Rattle.dw_check.specs.WalkViews.{brief_in, brief_of, frame_in};
 
-use crate::frames::{Backtrace, Frame, Stop};
-use crate::unwinding::{Answer, Caller, unwind_by};
-use crate::whole_check::Checked;
-use dw_bytes::{Fault, OUT_OF_MEMORY};
+use crate::frame_registers::FrameRegisters;
+use crate::frames::{BriefFrame, Frame, Stop};
+use crate::unwinder::Unwinder;
+use crate::unwinding::{Answer, Caller, Unwound};
 use dw_eval::{Memory, Registers};
-use dw_rows::{Abi, CheckedFrame, UnwindRows};
-use std::alloc::Global;
+use dw_rows::Abi;
+use std::marker::Model;
 
-/// Register values recovered from the frame before: those of a caller that are values. A row and an ABI name about ten, so a linear
-/// search costs less than a binary search; they can't name more than 256.
+/// A walk up the stack, frame after frame: from a frame at an address, with its registers, over memory, to its caller, that one's
+/// caller and so on (DWARF 5, sections 6.4.1 and 6.4.4). It goes over the modules of a process, a checked section or a compiled table.
+///
+/// It takes no memory: it has room for the registers of two frames, some 12 KB, a step reads those of one and writes those of the
+/// other, and it writes no more than a frame's rules and the ABI name. It is slow to move, so keep it where it is.
+///
+/// ```rust
+/// let mut walk = Walk::new(modules.as_slice(), &abi, address, &registers, &memory);
+/// while let Some(frame) = walk.next() {
+///     println!(rt; "{:#x}", frame.address)?;
+/// }
+/// if walk.stop() == Some(Stop::ReturnUndefined) {
+///     println!(rt; "that is all of them")?;
+/// }
+/// ```
 #[derive(Drop)]
-struct CallerRegisters<'c> {
-    found: &'c [(u16, Answer)],
-}
-
-/// The content of a register by what was found of a caller.
-fn content_in_caller(found: &[(u16, Answer)], number: u16) -> Option<u64>
-    ensures { result ≡ contents_of (map found_in found.now) number }
-{
-    for register in found {
-        if register.0 == number {
-            return match register.1 {
-                Answer::Value(content) => Some(content),
-                _ => None,
-            };
-        }
-    }
-    None
-}
-
-impl<'c> Registers for CallerRegisters<'c> {
-    ghost use Rattle.dw_check.specs.CallerViews.{found_in};
-    ghost use Rattle.dw_check.specs.Walks.{contents_of};
-
-    ghost contents = { λ c. contents_of (map found_in c.found.now) };
-
-    fn register(&self, number: u16) -> Option<u64> {
-        content_in_caller(self.found, number)
-    }
-}
-
-/// The frame of a caller that goes on at an address. It is looked up at the address before, since that of a call is there.
-fn frame_of_caller<T: UnwindRows, M: Memory>(
-    rows: &T,
-    abi: &Abi,
-    caller: &Caller,
+pub struct Walk<'w, U: Unwinder, M: Memory> {
+    unwinder: U,
+    abi: &'w Abi,
+    memory: &'w M,
+    /// The frame that it has come to, and whether that has been given.
     address: u64,
-    memory: &M,
-) -> Frame
-    ensures frame { IsFrameAt (over_rows (T.target_of rows.now) (T.finds rows.now)
-        (roles_of abi.now) (M.bytes memory.now))
-        (place_of_caller (caller_in caller.now) address) (frame_in result) }
-    ensures fits { IfSome (frame_in result).caller
-        (CallerFits (2 ^ width_of (T.target_of rows.now).address_size)) }
-{
-    let registers = CallerRegisters {
-        found: caller.registers.as_slice(),
-    };
-    let caller = match address.checked_sub(1) {
-        Some(before) => unwind_by(rows, abi, before, &registers, memory),
-        None => None,
-    };
-    Frame { address, caller }
+    unwound: Option<Unwound>,
+    is_given: bool,
+    /// Which of the two has the registers of the frame's caller.
+    is_other: bool,
+    one: FrameRegisters,
+    other: FrameRegisters,
 }
 
-/// The frame after one, or why there is none.
-fn next_frame<T: UnwindRows, M: Memory>(
-    rows: &T,
+impl<'w, U: Unwinder, M: Memory> Model for Walk<'w, U, M> {
+    ghost use Rattle.dw_check.specs.WalkSteps.{WalkState};
+
+    ghost Value = { WalkState U M };
+
+    ghost use Rattle.dw_check.specs.WalkViews.{frame_with, progress_with};
+
+    ghost view = { λ w. record {
+      unwinder = w.unwinder;
+      abi = w.abi.now;
+      memory = w.memory.now;
+      progress = progress_with w.is_given (frame_with w.address w.is_other w.one w.other w.unwound);
+    } };
+}
+
+/// The caller of a frame that is itself a caller and goes on at an address, over its registers. It is looked up at the address before,
+/// since that of a call is there.
+#[inline(always)]
+fn unwind_caller<U: Unwinder, M: Memory>(
+    unwinder: &U,
     abi: &Abi,
-    frame: &Frame,
+    address: u64,
+    registers: &FrameRegisters,
     memory: &M,
-) -> Result<Frame, Stop>
-    ensures next { MatchResult result
-        (λ next. AreFrames (over_rows (T.target_of rows.now) (T.finds rows.now)
-        (roles_of abi.now) (M.bytes memory.now))
-        (next_place (frame_in frame.now).caller) (frame_in next ∷ []))
-        (λ stop. stop_of_caller (frame_in frame.now).caller ≡ Some stop) }
-    ensures fits { IfOk result (λ next. IfSome (frame_in frame.now).caller
-        (CallerFits (2 ^ width_of (T.target_of rows.now).address_size))
-        → FrameFits (2 ^ width_of (T.target_of rows.now).address_size) (frame_in next)) }
+    into: &mut FrameRegisters,
+) -> Option<Unwound>
+    ensures unwinds { UnwindsAt (U.unwinds unwinder.now (roles_of abi.now) (M.bytes memory.now))
+        (contents_of registers.now) (address_before address)
+        (option_map (caller_with into.new) result) }
+    ensures fits { (bound : ℕ) → U.is_below unwinder.now bound
+        → IfSome (option_map (caller_with into.new) result) (CallerFits bound) }
 {
-    let Some(caller) = &frame.caller else {
+    match address.checked_sub(1) {
+        Some(before) => unwinder.unwind_into(abi, before, registers, memory, into),
+        None => None,
+    }
+}
+
+/// Where a caller goes on, or why that isn't known.
+#[inline(always)]
+fn return_address(unwound: Option<Unwound>) -> Result<u64, Stop>
+    ensures { MatchResult result
+        (λ address. IsSomeAnd unwound (λ u. answer_in u.return_address ≡ value address))
+        (λ stop. stop_of_unwound unwound ≡ Some stop) }
+{
+    let Some(unwound) = unwound else {
         return Err(Stop::NotCovered);
     };
-    let address = match caller.return_address {
-        Answer::Value(address) => address,
-        Answer::Undefined => return Err(Stop::ReturnUndefined),
-        Answer::Unreadable => return Err(Stop::ReturnUnreadable),
-        Answer::DivisionByZero => return Err(Stop::ReturnDivisionByZero),
-    };
-    Ok(frame_of_caller(rows, abi, caller, address, memory))
+    match unwound.return_address {
+        Answer::Value(address) => Ok(address),
+        Answer::Undefined => Err(Stop::ReturnUndefined),
+        Answer::Unreadable => Err(Stop::ReturnUnreadable),
+        Answer::DivisionByZero => Err(Stop::ReturnDivisionByZero),
+    }
 }
 
-/// Walks up the stack over whatever gives rows, a checked section or a compiled table: from a frame at an address, with its
-/// registers, over memory, to its caller, that one's caller and so on, at most `limit` frames, and why there are no more (DWARF 5,
-/// sections 6.4.1 and 6.4.4).
-///
-/// The first frame is looked up at its own address, each other at the address before its own. After the first frame a register has a
-/// value only where the answer for it was one. Each frame costs what `unwind_by` costs, and takes some 6 KB, since a caller has
-/// room for all registers that a row and an ABI can name. The one fault is `Memory`, at 0.
-pub fn backtrace_by<T: UnwindRows, R: Registers, M: Memory>(
-    alloc: Global,
-    rows: &T,
-    abi: &Abi,
-    address: u64,
-    registers: &R,
-    memory: &M,
-    limit: u32,
-) -> Result<Backtrace, Fault>
-    ensures walks { IfOk result (λ walk.
-        Walks (over_rows (T.target_of rows.now) (T.finds rows.now)
-        (roles_of abi.now) (M.bytes memory.now))
-        (first_place address (R.contents registers.now)) limit
-        (frames_in walk.frames.items) walk.stop) }
-    ensures lacks { IfErr result (λ fault. fault ≡ want_of_memory) }
-    ensures none { limit ≡ 0 → IsOk result }
-
-    // All numbers are below 2^w, w being the size of an address in bits, where the first frame's address is.
-    ensures fits { IfOk result (λ walk.
-        address < 2 ^ width_of (T.target_of rows.now).address_size
-        → All (FrameFits (2 ^ width_of (T.target_of rows.now).address_size))
-        (frames_in walk.frames.items)) }
-{
-    let mut frames = Vec::new(alloc);
-    if limit > 0 {
-        let caller = unwind_by(rows, abi, address, registers, memory);
-        if frames.push(Frame { address, caller }).is_err() {
-            return Err(OUT_OF_MEMORY);
+impl<'w, U: Unwinder, M: Memory> Walk<'w, U, M> {
+    /// A walk that begins at the frame at an address, with its registers, and has given no frame yet. The frame is looked up at its
+    /// own address.
+    pub fn new<R: Registers>(
+        unwinder: U,
+        abi: &'w Abi,
+        address: u64,
+        registers: &R,
+        memory: &'w M,
+    ) -> Self
+        ensures over { result.unwinder ≡ unwinder }
+        ensures abi { result.abi ≡ abi.now }
+        ensures memory { result.memory ≡ memory.now }
+        ensures begins { result.progress ≡ about_to_give (frame_at result.progress) }
+        ensures first { IsFrameAt (U.unwinds unwinder (roles_of abi.now) (M.bytes memory.now))
+            (first_place address (R.contents registers.now)) (frame_at result.progress) }
+        ensures fits { (bound : ℕ) → U.is_below unwinder bound
+            → IfSome (frame_at result.progress).caller (CallerFits bound) }
+    {
+        let mut one = FrameRegisters::none();
+        let unwound = unwinder.unwind_into(abi, address, registers, memory, &mut one);
+        Walk {
+            unwinder,
+            abi,
+            memory,
+            address,
+            unwound,
+            is_given: false,
+            is_other: false,
+            one,
+            other: FrameRegisters::none(),
         }
     }
-    while (frames.len() as u64) < u64::from(limit) {
-        let frame = match next_frame(rows, abi, &frames[frames.len() - 1], memory) {
-            Ok(frame) => frame,
-            Err(stop) => return Ok(Backtrace { frames, stop }),
+
+    /// Goes to the caller of the frame that was given last, which goes on at this address.
+    #[inline(always)]
+    fn go_to(&mut self, address: u64)
+        requires { self.old.progress ≡ has_given (frame_at self.old.progress) }
+        ensures goes { self.new ≡ having_given (record {
+          address = address;
+          caller = (frame_at self.new.progress).caller;
+        }) self.old }
+        ensures unwinds { UnwindsFrom
+            (U.unwinds self.old.unwinder (roles_of self.old.abi) (M.bytes self.old.memory))
+            (frame_at self.old.progress).caller address (frame_at self.new.progress).caller }
+        ensures fits { (bound : ℕ) → U.is_below self.old.unwinder bound
+            → IfSome (frame_at self.new.progress).caller (CallerFits bound) }
+    {
+        self.address = address;
+        if self.is_other {
+            self.unwound = unwind_caller(
+                &self.unwinder,
+                self.abi,
+                address,
+                &self.other,
+                self.memory,
+                &mut self.one,
+            );
+            self.is_other = false;
+        } else {
+            self.unwound = unwind_caller(
+                &self.unwinder,
+                self.abi,
+                address,
+                &self.one,
+                self.memory,
+                &mut self.other,
+            );
+            self.is_other = true;
+        }
+    }
+
+    /// Gives the next frame, or says why there is none.
+    #[inline(always)]
+    pub(crate) fn advance(&mut self) -> Result<(), Stop>
+        ensures gives { MatchResult result
+            (λ _. Gives (U.unwinds self.old.unwinder (roles_of self.old.abi) (M.bytes self.old.memory))
+            self.old self.new)
+            (λ stop. (stop_of self.old.progress ≡ Some stop) × (self.new ≡ self.old)) }
+        ensures fits { IfOk result (λ _. (bound : ℕ) → U.is_below self.old.unwinder bound
+            → ProgressFits bound self.old.progress → ProgressFits bound self.new.progress) }
+    {
+        if !self.is_given {
+            self.is_given = true;
+            return Ok(());
+        }
+        let address = return_address(self.unwound)?;
+        self.go_to(address);
+        Ok(())
+    }
+
+    /// The next frame: the one that the walk begins at, and then each time the caller of the one before; or none, where there is
+    /// none, and then nothing changes. `stop` says why.
+    #[inline(always)]
+    pub fn next(&mut self) -> Option<BriefFrame>
+        ensures gives { MatchOption result
+            (((stop : Stop) × (stop_of self.old.progress ≡ Some stop)) × (self.new ≡ self.old))
+            (λ _. Gives (U.unwinds self.old.unwinder (roles_of self.old.abi) (M.bytes self.old.memory))
+            self.old self.new) }
+        ensures brief { IfSome result (λ brief.
+            brief_in brief ≡ brief_of (frame_at self.new.progress)) }
+        ensures fits { IfSome result (λ _. (bound : ℕ) → U.is_below self.old.unwinder bound
+            → ProgressFits bound self.old.progress → ProgressFits bound self.new.progress) }
+    {
+        match self.advance() {
+            Ok(()) => Some(BriefFrame {
+                address: self.address,
+                cfa: match self.unwound {
+                    Some(unwound) => Some(unwound.cfa),
+                    None => None,
+                },
+            }),
+            Err(_) => None,
+        }
+    }
+
+    /// Why there is no frame after the one that was given last: none where there is one, and before the first is given.
+    #[inline(always)]
+    pub fn stop(&self) -> Option<Stop>
+        ensures { result ≡ stop_of self.now.progress }
+    {
+        if self.is_given {
+            return_address(self.unwound).err()
+        } else {
+            None
+        }
+    }
+
+    /// The registers of the caller of the frame that was given last, or of the first one before that is given: each that has a rule,
+    /// with what is known of it. None where no FDE covers the address that is looked up.
+    pub fn registers(&self) -> Option<&FrameRegisters>
+        ensures { option_map (λ r. r.now) result
+            ≡ option_map (λ c. c.registers) (frame_at self.now.progress).caller }
+    {
+        match self.unwound {
+            Some(_) if self.is_other => Some(&self.other),
+            Some(_) => Some(&self.one),
+            None => None,
+        }
+    }
+
+    /// The caller of the frame that was given last, or of the first one before that is given.
+    pub fn caller(&self) -> Option<Caller>
+        ensures { option_map caller_in result ≡ (frame_at self.now.progress).caller }
+    {
+        let (Some(unwound), Some(registers)) = (self.unwound, self.registers()) else {
+            return None;
         };
-        if frames.push(frame).is_err() {
-            return Err(OUT_OF_MEMORY);
+        Some(Caller {
+            cfa: unwound.cfa,
+            registers: registers.to_list(),
+            return_address: unwound.return_address,
+        })
+    }
+
+    /// The frame that was given last, or the first one before that is given, with all that is known of its caller: some 6 KB.
+    pub fn frame(&self) -> Frame
+        ensures { frame_in result ≡ frame_at self.now.progress }
+    {
+        Frame {
+            address: self.address,
+            caller: self.caller(),
         }
     }
-    Ok(Backtrace {
-        frames,
-        stop: Stop::Limit,
-    })
-}
-
-/// Walks up the stack over a checked frame section: `backtrace_by` it, for a caller that has no location lists.
-pub fn backtrace_by_section<R: Registers, M: Memory>(
-    alloc: Global,
-    frame: &CheckedFrame<'_>,
-    abi: &Abi,
-    address: u64,
-    registers: &R,
-    memory: &M,
-    limit: u32,
-) -> Result<Backtrace, Fault>
-    ensures walks { IfOk result (λ walk.
-        Walks (over_section frame.now (roles_of abi.now) (M.bytes memory.now))
-        (first_place address (R.contents registers.now)) limit
-        (frames_in walk.frames.items) walk.stop) }
-    ensures lacks { IfErr result (λ fault. fault ≡ want_of_memory) }
-    ensures none { limit ≡ 0 → IsOk result }
-
-    // All numbers are below 2^w, w being the size of an address in bits, where the first frame's address is.
-    ensures fits { IfOk result (λ walk.
-        address < 2 ^ width_of frame.now.target.address_size
-        → All (FrameFits (2 ^ width_of frame.now.target.address_size))
-        (frames_in walk.frames.items)) }
-{
-    backtrace_by(alloc, &frame, abi, address, registers, memory, limit)
-}
-
-/// Walks up the stack from a frame at an address, with its registers, over memory: the frame, its caller, that one's caller and so
-/// on, at most `limit` frames, and why there are no more (DWARF 5, sections 6.4.1 and 6.4.4).
-///
-/// It is `backtrace_by_section` over the checked frame section.
-pub fn backtrace<R: Registers, M: Memory>(
-    alloc: Global,
-    checked: &Checked<'_>,
-    abi: &Abi,
-    address: u64,
-    registers: &R,
-    memory: &M,
-    limit: u32,
-) -> Result<Backtrace, Fault>
-    ensures walks { IfOk result (λ walk.
-        Walks (over_section checked.now.frame (roles_of abi.now) (M.bytes memory.now))
-        (first_place address (R.contents registers.now)) limit
-        (frames_in walk.frames.items) walk.stop) }
-    ensures lacks { IfErr result (λ fault. fault ≡ want_of_memory) }
-    ensures none { limit ≡ 0 → IsOk result }
-
-    // All numbers are below 2^w, w being the size of an address in bits, where the first frame's address is.
-    ensures fits { IfOk result (λ walk.
-        address < 2 ^ width_of checked.now.frame.target.address_size
-        → All (FrameFits (2 ^ width_of checked.now.frame.target.address_size))
-        (frames_in walk.frames.items)) }
-{
-    backtrace_by_section(
-        alloc,
-        checked.frame(),
-        abi,
-        address,
-        registers,
-        memory,
-        limit,
-    )
 }

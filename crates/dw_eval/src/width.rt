@@ -88,8 +88,9 @@ impl Width {
         self.reduce(a.wrapping_add(b))
     }
 
+    /// The difference of two numbers, modulo 2^w.
     #[inline(always)]
-    pub(crate) fn minus(self, a: u64, b: u64) -> u64
+    pub fn minus(self, a: u64, b: u64) -> u64
         ensures { result ≡ wrap (width_of self.size) (pos a -ℤ pos b) }
     {
         self.reduce(a.wrapping_sub(b))

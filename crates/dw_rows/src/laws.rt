@@ -5,7 +5,7 @@ ghost use Rattle.std.specs.Prelude.{◌≡◌, ◌⊎◌, false, ℕ, ◌+◌, �
 ghost use Rattle.std.specs.Prelude.{Err, All, Contains, IfSome, map, ◌++◌};
 ghost use Rattle.dw_rows.specs.GivenRows.{given_row};
 ghost use Rattle.dw_frame.specs.Sections.{top_of};
-ghost use Rattle.dw_rows.specs.UnwindTables.{IsTableOf, RowTable, row_at};
+ghost use Rattle.dw_rows.specs.UnwindTables.{IsRowUnder, IsTableOf, RowTable, row_at};
 ghost use Rattle.dw_frame.specs.Records.{Cie, Fde};
 ghost use Rattle.std.specs.Option.{option_to_list};
 ghost use Rattle.dw_bytes.specs.declared.fault.FaultKind.TheVariants.{AbiTwice};
@@ -150,12 +150,14 @@ pub fn checked_frame_sections()
 {}
 
 /// In a section that is accepted each expression of a row is one of the section's, has the kind of its rule, and is good: in the
-/// rows of each FDE, and so in the row of each address.
+/// rows of each FDE, and so in the row of each address. It is read under the section's target.
 pub fn rows_have_good_expressions()
     ensures rows { (s : FrameSection) → IsChecked s → (f : Fde) → Contains s.fdes f → (row : Row)
         → Contains (rows_in s f) row → HasGoodExpressions s.expressions row }
     ensures addresses { (s : FrameSection) (a : ℕ) → IsChecked s → (row : Row)
         → row_of s a ≡ Some row → HasGoodExpressions s.expressions row }
+    ensures under { (s : FrameSection) (a : ℕ) → IsChecked s → (row : Row)
+        → row_of s a ≡ Some row → IsRowUnder s.target row }
 {}
 
 /// A table of a section that is accepted has rows with addresses of the section's target, and two such tables find the same.

@@ -1,5 +1,10 @@
+use Rattle.dw_rows.proofs.CompiledTables.{section-row-under}
 use Rattle.dw_rows.proofs.GoodRows.{row-good, found-good}
 use Rattle.dw_rows.proofs.laws.rows_have_good_expressions.Goals as goal
 
 pub returns : goal.returns
-returns c = record { rows = row-good; addresses = found-good }
+returns c = record {
+  rows = row-good;
+  addresses = found-good;
+  under = λ s a checked row found. section-row-under s a row checked found;
+}
