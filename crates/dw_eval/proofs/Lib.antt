@@ -11,3 +11,4 @@ pub mod Ends
 pub mod Going
 pub mod Loop
 pub mod Determined
+pub mod Windows

@@ -11,6 +11,8 @@ pub mod Needs
 pub mod Meaning
 -- what runs come to (2.6)
 pub mod Results
+-- memory of which one block is known
+pub mod MemoryBlocks
 -- which numbers are below 2^w
 pub mod Fits
 -- ---- What the code's own values stand for, and what its calls answer.
