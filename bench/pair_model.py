@@ -102,7 +102,11 @@ def unwind_text(frame, address, state, big, size):
         _, found, _ = frame_model.checked(frame, big, size)
     except Fault as fault:
         return refused_text(fault, "frame")
-    place = frame_model.row_at(found, address)
+    return caller_text(frame_model.row_at(found, address), state, big, size)
+
+
+def caller_text(place, state, big, size):
+    """What is said of the caller by a row with its CIE, or by none."""
     if place is None:
         return "none\n"
     common, row = place

@@ -4,7 +4,6 @@ A section is made first. Then a walk through it is dreamt: what it asks for and 
 until it has had its frames. What was made up is written into a state file, some of it left out or changed.
 """
 from compare_pairs import PairMaker
-from frame_model import row_at
 from pair_model import MAX_KEPT, Caller
 
 BAD_LINES = [
@@ -158,14 +157,14 @@ class WalkMaker(PairMaker):
         pointer = self.pointer if kind == "whole" else None
         return list(dict.fromkeys(register for register in kept if register != pointer)) * (kind != "none"), pointer
 
-    def dream(self, found):
-        """An address, and the registers and the memory of a walk of some frames from there."""
-        self.rows = [row for *_, rows in found for row in rows]
+    def dream(self, ranges, find):
+        """An address, and the registers and the memory of a walk of some frames from there: where rows lie, and what finds one."""
+        self.rows = ranges
         address = start = self.inside(0) if self.rows and self.chance(0.97) else self.random.choice([0, 1, self.top, self.address()])
         contents, memory = Dreamt(self.new_register), Dreamt(self.new_word)
         first, fuel = contents, self.random.choice([0, 1, 2, 3, 5, 8, 13, 20, 30, 39])
         for number in range(fuel + 1):
-            place = row_at(found, address - (number > 0))
+            place = find(address - (number > 0))
             if place is None:
                 break
             address, contents = self.onward(place, contents, memory, "end" if number == fuel else "return")
@@ -188,7 +187,7 @@ class WalkMaker(PairMaker):
 
     def inside(self, beyond):
         """An address of a row, or so much behind one."""
-        low, high, *_ = self.random.choice(self.rows)
+        low, high = self.random.choice(self.rows)
         return self.random.choice([low, high - 1, self.random.randrange(low, high)]) + beyond
 
     def place(self):

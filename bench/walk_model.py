@@ -1,7 +1,8 @@
 """Walks over frames, by the rules of docs/PROFILE.md alone: nothing here was taken from the program.
 
 backtrace_text(frame, address, state, limit, big, size) gives the text that `dwcheck backtrace` has to write, and limit_of(word) the limit
-that a word names. Sections, rows, expressions, single callers and state files are those of the other models.
+that a word names. Sections, rows, expressions, single callers and state files are those of the other models. A walk takes what finds a row
+with its CIE for an address, or None: rows_in(found) does in one section, and module_model.py has one for several.
 """
 import re
 
@@ -21,10 +22,11 @@ def limit_of(word):
 class Frame:
     """A frame by its number, its address and its registers' contents; of a covered one also its caller, and where that goes on."""
 
-    def __init__(self, found, number, address, state, big, size):
+    def __init__(self, find, number, address, state, big, size):
         self.number, self.address, self.state, self.big, self.size = number, address, state, big, size
         self.caller = self.returns = None
-        place = row_at(found, address if number == 0 else address - 1)
+        looked_up = address if number == 0 else address - 1
+        place = find(looked_up) if looked_up >= 0 else None
         if place is not None:
             common, row = place
             self.caller = Caller(row, state, big, size)
@@ -36,22 +38,27 @@ class Frame:
             return "not covered"
         return f"return {self.returns}" if isinstance(self.returns, str) else None
 
-    def next(self, found):
+    def next(self, find):
         """The frame of the caller. A register has a content there only where the caller answers a number."""
         answers = {register: self.caller.answer(register) for register in self.caller.named()}
         contents = {register: answer for register, answer in answers.items() if not isinstance(answer, str)}
-        return Frame(found, self.number + 1, self.returns, self.state | {"reg": contents}, self.big, self.size)
+        return Frame(find, self.number + 1, self.returns, self.state | {"reg": contents}, self.big, self.size)
 
     def text(self):
         said = "none" if self.caller is None else f"cfa {answer_text(self.caller.cfa, self.size)}"
         return f"frame {self.number} 0x{self.address:0{2 * self.size}x} {said}\n"
 
 
-def walk(found, address, state, limit, big, size):
+def rows_in(found):
+    """What finds a row in a section that is taken as it is."""
+    return lambda address: row_at(found, address)
+
+
+def walk(find, address, state, limit, big, size):
     """The frames, at most as many as the limit says, and why there are no more."""
     frames = []
     while len(frames) < limit:
-        frames.append(frames[-1].next(found) if frames else Frame(found, 0, address, state, big, size))
+        frames.append(frames[-1].next(find) if frames else Frame(find, 0, address, state, big, size))
         why = frames[-1].why_last()
         if why and len(frames) < limit:
             return frames, why
@@ -67,4 +74,4 @@ def backtrace_text(frame, address, state, limit, big, size):
         _, found, _ = checked(frame, big, size)
     except Fault as fault:
         return refused_text(fault, "frame")
-    return walk_text(*walk(found, address, state, limit, big, size))
+    return walk_text(*walk(rows_in(found), address, state, limit, big, size))

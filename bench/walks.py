@@ -18,7 +18,7 @@ from expression_model import answer as expression_text
 from frame_model import checked
 from pair_model import refused_text, state_of, unwind_text
 from walk_maker import WalkMaker
-from walk_model import limit_of, walk, walk_text
+from walk_model import limit_of, rows_in, walk, walk_text
 
 # How far a walk is followed to choose a limit that is near to its length.
 FAR = 60
@@ -57,10 +57,10 @@ def made(maker):
         _, found, _ = checked(section, maker.big, maker.size)
     except Fault as fault:
         return section, None, fault, "0x1000", "9", maker.state_file({}, {})
-    address, contents, memory = maker.dream(found)
+    address, contents, memory = maker.dream([row[:2] for *_, rows in found for row in rows], rows_in(found))
     content = maker.state_file(contents, memory)
     state = state_of(content, maker.size)
-    length = 0 if isinstance(state, int) else len(walk(found, address, state, FAR, maker.big, maker.size)[0])
+    length = 0 if isinstance(state, int) else len(walk(rows_in(found), address, state, FAR, maker.big, maker.size)[0])
     return section, found, None, address_word(maker, address), limit_word(maker, length), content
 
 
@@ -80,7 +80,7 @@ def wanted(maker, case):
     unwound = (unwind_text(section, int(address, 16), state, *target), "", 0)
     if limit_of(limit) is None:
         return bad, unwound
-    return (walk_text(*walk(found, int(address, 16), state, limit_of(limit), *target)), "", 0), unwound
+    return (walk_text(*walk(rows_in(found), int(address, 16), state, limit_of(limit), *target)), "", 0), unwound
 
 
 def others(maker, expression, content):
