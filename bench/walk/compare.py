@@ -1,8 +1,9 @@
 #!/usr/bin/env python3
 """Compares the walks of a stopped program with gdb's.
 
-    bench/walk/compare.py DWCHECK SECTION FOLDER
+    bench/walk/compare.py DWCHECK SECTION FOLDER [NAME=SECTION]..
 
+A NAME is the file of a further module. Where there are some, stops.py has written where each one is loaded, and the program itself.
 The folder has what stops.py wrote. From a whole stack each frame of the program has gdb's address and CFA, and behind them stands the first
 address that is no more the program's; the caller's registers are gdb's too. From the top of a stack the frames are the first of these,
 and where they end early the copy did.
@@ -40,22 +41,33 @@ def differ(path, want, got):
     raise SystemExit("\n".join([path, "gdb:", *want, "dwcheck:", *got]))
 
 
-def compare(program, section, path, counts):
+def options(folder, named):
+    """Those for load addresses."""
+    if not named:
+        return []
+    with open(os.path.join(folder, "loads"), encoding="ascii") as file:
+        loads = [line.split() for line in file]
+    sections = dict(word.split("=", 1) for word in named)
+    others = [f"--module={load}={sections[name]}" for name, load in loads[1:]]
+    return [f"--load={loads[0][1]}", *others]
+
+
+def compare(program, section, path, counts, more):
     """One stop."""
     stem = path.removesuffix(".frames")
     frames, registers = read(path)
     start, want = hex(frames[0][0]), wanted(frames)
-    walk = lines_of(program, ["backtrace", section, start, f"{stem}.state", "1000"])
+    walk = lines_of(program, ["backtrace", *more, section, start, f"{stem}.state", "1000"])
     if walk != want + ["stop not covered"]:
         differ(path, want, walk)
     counts["frames"] += len(want)
-    unwound = lines_of(program, ["unwind", section, start, f"{stem}.state"])
+    unwound = lines_of(program, ["unwind", *more, section, start, f"{stem}.state"])
     caller = dict(line.split(" value ") for line in unwound if " value " in line)
     given = {name: int(caller[name], 16) for name in registers if name in caller}
     if given != registers:
         differ(path, [f"{name} value {content:#x}" for name, content in registers.items()], unwound)
     counts["callers' registers"] += len(registers)
-    *part, stop = lines_of(program, ["backtrace", section, start, f"{stem}.top", "1000"])
+    *part, stop = lines_of(program, ["backtrace", *more, section, start, f"{stem}.top", "1000"])
     known = [line for line in part if not line.endswith("cfa unreadable")]
     why = "stop not covered" if part == want else "stop return unreadable"
     if known != want[:len(known)] or len(part) > len(known) + 1 or stop != why:
@@ -65,11 +77,12 @@ def compare(program, section, path, counts):
 
 
 def main():
-    if len(sys.argv) != 4:
+    if len(sys.argv) < 4:
         raise SystemExit(__doc__)
     counts = collections.Counter()
+    more = options(sys.argv[3], sys.argv[4:])
     for path in sorted(glob.glob(os.path.join(sys.argv[3], "*.frames"))):
-        compare(sys.argv[1], sys.argv[2], path, counts)
+        compare(sys.argv[1], sys.argv[2], path, counts, more)
         counts["stops"] += 1
     counts["stops that gdb can't walk from"] += len(glob.glob(os.path.join(sys.argv[3], "*.failed")))
     if not counts["stops"]:

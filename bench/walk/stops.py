@@ -1,10 +1,13 @@
 """For gdb: stops a program in `innermost` and then behind each further instruction, and writes what it has there.
 
-    STOPS=N FOLDER=F gdb --batch --nx -x stops.py PROGRAM
+    STOPS=N FOLDER=F [MODULES=SYMBOLS] gdb --batch --nx -x stops.py PROGRAM
 
 Of the stop of number I these files are written: I.state, the registers and the whole stack from the red zone on; I.top, the same with the
 first 8,192 bytes of the stack alone; and I.frames, gdb's frames: address, CFA, and 1 where it lies in the program; then, of frame 1, the
 stack pointer and the registers that a call keeps. Where gdb can't read what a frame of its own needs, there is I.failed alone.
+
+SYMBOLS says which files make up the program, where it isn't the executable alone: lines of a file's name, a symbol of it and that one's address
+as linked. Then the file `loads` has each one's name and where it is loaded, by the process's mappings.
 """
 import os
 import re
@@ -57,12 +60,28 @@ def base(frame):
     return re.search("frame at (0x[0-9a-f]+)", gdb.execute("info frame", to_string=True))[1]
 
 
-def written(folder, number):
+def name_at(address):
+    """The name of the file that an address lies in, without its folder."""
+    return os.path.basename(gdb.solib_name(address) or gdb.current_progspace().filename)
+
+
+def loads(symbols):
+    """Where each file is loaded: where its first mapping begins. The addresses of its symbol, as loaded and as linked, have to agree."""
+    mappings = re.findall(r"^\s*(0x[0-9a-f]+) .* /.*/([^/\s]+)$", gdb.execute("info proc mappings", to_string=True), re.MULTILINE)
+    for name, symbol, linked in symbols:
+        load = min(int(start, 16) for start, file in mappings if file == name)
+        as_loaded = int(gdb.parse_and_eval(f"(unsigned long)&{symbol}"))
+        if as_loaded - int(linked, 16) != load:
+            raise ValueError(f"{name}: loaded at {load:#x}, but {symbol}, linked at {linked}, lies at {as_loaded:#x}")
+        yield name, load
+
+
+def written(folder, number, inside):
     all_frames = list(frames())
     registers = contents(all_frames[0], range(len(NAMES)))
     pointer = registers[POINTER]
     held = stack(pointer - RED_ZONE)
-    lines = [f"{frame.pc():#x} {base(frame)} {int(gdb.solib_name(frame.pc()) is None)}" for frame in all_frames]
+    lines = [f"{frame.pc():#x} {base(frame)} {int(name_at(frame.pc()) in inside)}" for frame in all_frames]
     lines += [f"r{register} {content:#x}" for register, content in contents(all_frames[1], [*KEPT, POINTER]).items()]
     all_frames[0].select()
     whole, top = state(registers, pointer - RED_ZONE, held), state(registers, pointer, held[RED_ZONE:RED_ZONE + COPIED])
@@ -76,15 +95,21 @@ def main():
         gdb.execute(f"set {setting}")
     gdb.execute("break *innermost", to_string=True)
     gdb.execute("run", to_string=True)
-    folder = os.environ["FOLDER"]
+    folder, symbols = os.environ["FOLDER"], []
+    if "MODULES" in os.environ:
+        with open(os.environ["MODULES"], encoding="ascii") as file:
+            symbols = [line.split() for line in file]
+        with open(f"{folder}/loads", "w", encoding="ascii") as file:
+            file.writelines(f"{name} {load:#x}\n" for name, load in loads(symbols))
+    inside = {name for name, *_ in symbols} or {name_at(gdb.newest_frame().pc())}
     for number in range(int(os.environ["STOPS"])):
         try:
-            written(folder, number)
+            written(folder, number, inside)
         except gdb.MemoryError as error:
             with open(f"{folder}/{number}.failed", "w", encoding="ascii") as file:
                 file.write(f"{error}\n")
         gdb.execute("stepi", to_string=True)
-        if gdb.solib_name(gdb.newest_frame().pc()) is not None:
+        if name_at(gdb.newest_frame().pc()) not in inside:
             break
     gdb.execute("kill", to_string=True)
 

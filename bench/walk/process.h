@@ -1,0 +1,16 @@
+/* What the two modules of modules.sh share: a program, process.c, and a library that calls back, library.c. */
+#ifndef PROCESS_H
+#define PROCESS_H
+
+#ifdef __clang__
+#define APART __attribute__((noinline))
+#else
+#define APART __attribute__((noinline, noclone))
+#endif
+
+typedef int (*callback)(int);
+
+/* Six levels up to a call of what it is handed. */
+int through_library(int n, callback call);
+
+#endif
