@@ -11,7 +11,7 @@ def numbered(value, size, big):
 
 
 def moved_record(section, at, load, before, big, size):
-    """The record at an offset, moved, and where the next one is. Its section is to come behind this many bytes."""
+    """The record at an offset, moved, and where the next one is. Its section will follow this many bytes."""
     top = 1 << 8 * size
     begin, end, wide = body(section, at, big, size)
     out, fields = bytearray(section[at:end]), reader(section[:end], begin, big, size)

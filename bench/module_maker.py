@@ -81,13 +81,13 @@ class ModuleMaker(WalkMaker):
         return super().fde(known, start, end)
 
     def load(self, number, count, span, process, spans):
-        """A load address, not yet modulo 2^w, for a module of these ranges behind those that there are."""
+        """A load address, not yet modulo 2^w, for a module of these ranges that follows those that there are."""
         low, high = self.random.choice(span)
         if self.is_apart:
             part = (self.top + 1) // count
             room = max(part - (max(end for _, end in span) - min(start for start, _ in span)), 1)
             return part * number - min(start for start, _ in span) + self.random.choice([0, 0x1000 % room, self.random.randrange(room)])
-        kinds = ["zero", "page", "any", "through"] + ["same", "over", "over", "behind", "behind"] * bool(process)
+        kinds = ["zero", "page", "any", "through"] + ["same", "over", "over", "beside", "beside"] * bool(process)
         kind = self.random.choice(kinds)
         if kind == "zero":
             return 0
@@ -113,7 +113,7 @@ class ModuleMaker(WalkMaker):
         return self.dream([some for some in rows if some], rows_in_modules(modules, self.size))
 
     def inside(self, beyond):
-        """An address of a row, or so much behind one, in any module."""
+        """An address of a row of any module, plus what is asked for."""
         low, high = self.random.choice(self.random.choice(self.rows))
         return (self.random.choice([low, high - 1, self.random.randrange(low, high)]) + beyond) % (self.top + 1)
 

@@ -27,7 +27,7 @@ from walk_model import limit_of, walk
 from walks import FAR, address_word, ended, is_address, kinds_of, limit_word
 
 BAD = ("", "dwcheck: bad argument\n", 2)
-# A load address that is none may be refused as a word or as an argument.
+# A bad load address may be refused as a word or as an argument.
 BAD_LOAD = ("", None, 2)
 
 
@@ -200,7 +200,7 @@ def kinds_of_walk(case, text):
     kinds += ["steps from one module to another" for one, other in zip(numbers, numbers[1:]) if one != other]
     for address, hit in zip(look_ups(text), hits):
         if address < 0:
-            kinds += ["frames at 0 behind frame 0"]
+            kinds += ["frames at 0 after frame 0"]
             kinds += ["frames at 0 whose module has the top address"] * (module_of(case.modules, case.top, case.size) is not None)
         elif hit:
             covering = sum(module_of([module], address, case.size) is not None for module in case.modules)
@@ -212,7 +212,7 @@ def kinds_of_walk(case, text):
 def kinds_of_case(case):
     text, errors, _ = case.wanted("backtrace")
     if errors is None:
-        return ["no load address"]
+        return ["bad load address"]
     if errors.startswith("dwcheck: cannot") or errors.startswith("dwcheck: not hex"):
         return [errors.rsplit(" ", 1)[0]]
     kinds = [f"of {len(case.process)} modules", *kinds_of(text, errors)]
@@ -224,7 +224,7 @@ def kinds_of_case(case):
 
 
 def compare(given, first, count, step):
-    """Each so many-th case of a count, from one on: counts, and those that differ."""
+    """Every case of a count, from one on, a step apart: counts, and those that differ."""
     counts, different = collections.Counter(), []
     with tempfile.TemporaryDirectory() as folder:
         for number in range(first, first + count, step):

@@ -1,0 +1,27 @@
+#!/usr/bin/env bash
+# Walks by the libraries' tables beside libunwind, in one process: the same addresses and CFAs, and nanoseconds a frame. The stack is 600 frames
+# deep, a third of them a shared library's that calls back. unw_step keeps what it found for an address; unw_backtrace keeps even where a return
+# address has its frame's registers, and follows no rules. Some seconds, once crates/dw_times is built.
+#   bench/beside_libunwind/run.sh [SECTION]..    each SECTION, a raw .debug_frame, is a module more that every look-up asks first
+# WORK=FOLDER keeps what was built, LIBRARY=FILE is linked in the place of crates/dw_times. It needs x86-64, gcc and Debian's libunwind-dev
+# (apt-get install libunwind-dev).
+set -eu
+here=$(cd "$(dirname "$0")" && pwd)
+checkout=$(cd "$here" && git rev-parse --show-toplevel)
+work=${WORK:-$(mktemp -d)}
+mkdir -p "$work" && work=$(cd "$work" && pwd)
+kit=$(dirname "$(rt doc)")
+
+library=${LIBRARY:-$work/src/crates/dw_times/out/libdw_times.a}
+if [ -z "${LIBRARY:-}" ]; then
+    if [ ! -d "$work/src" ]; then git clone -q "$checkout" "$work/src"; else git -C "$work/src" pull -q; fi
+    (cd "$work/src/crates/dw_times" && rt lib) >"$work/lib.log" 2>&1 </dev/null || { tail -n 5 "$work/lib.log" >&2; exit 1; }
+fi
+
+flags=(-std=gnu11 -Wall -Wextra -O2 -g)
+gcc "${flags[@]}" -shared -fPIC "$here/through.c" -o "$work/libthrough.so"
+gcc "${flags[@]}" -pie -fPIE "$here/walks.c" "$library" "$kit/c/liblibc_c.a" -L"$work" -lthrough -Wl,-rpath,"$work" -lunwind -pthread -o "$work/walks"
+for file in walks libthrough.so; do
+    objcopy --dump-section ".debug_frame=$work/$file.frame" "$work/$file" /dev/null
+done
+exec "$work/walks" "$work/walks.frame" "$work/libthrough.so.frame" "$@"

@@ -1,0 +1,202 @@
+/* Times a walk up a deep stack by bench_walk and by libunwind, in one process, and compares addresses and CFAs of all frames that both have.
+       walks OWN LIBRARY [SECTION]..
+   OWN and LIBRARY are the .debug_frame sections of this program and of libthrough.so. Each further SECTION is a module in front of both that
+   is loaded where nothing of this process is, so that each look-up asks it first. The exit status is 1 where a frame differs. */
+#define _GNU_SOURCE
+#define UNW_LOCAL_ONLY
+#include "walks.h"
+#include <libunwind.h>
+#include <stdio.h>
+#include <stdlib.h>
+#include <string.h>
+#include <time.h>
+
+enum { LEVELS = 400, PLACES = 1024, SECTIONS = 64, ROUNDS = 100, WALKS = 20 };
+
+extern const char __ehdr_start;
+static LoadedSection sections[SECTIONS];
+static WalkFrame frames[PLACES];
+static unw_word_t addresses[PLACES], pointers[PLACES];
+static int status;
+
+static double now(void)
+{
+    struct timespec t;
+    clock_gettime(CLOCK_MONOTONIC, &t);
+    return (double)t.tv_sec * 1e9 + (double)t.tv_nsec;
+}
+
+/* Where the first mapping of a file begins, or the last mapping of a name ends. */
+static uint64_t mapping(const char *name, bool is_end)
+{
+    FILE *maps = fopen("/proc/self/maps", "r");
+    char line[1024];
+    uint64_t at = 0;
+    while (maps && fgets(line, sizeof line, maps)) {
+        if (strstr(line, name) && (is_end || at == 0))
+            at = strtoull(is_end ? strchr(line, '-') + 1 : line, NULL, 16);
+    }
+    if (maps)
+        fclose(maps);
+    return at;
+}
+
+/* libunwind's walk; how many frames it has. */
+static int stepped(unw_context_t *context)
+{
+    unw_cursor_t cursor;
+    int count = 0;
+    unw_init_local(&cursor, context);
+    do {
+        unw_get_reg(&cursor, UNW_REG_IP, &addresses[count]);
+        unw_get_reg(&cursor, UNW_REG_SP, &pointers[count]);
+        count++;
+    } while (count < PLACES && unw_step(&cursor) > 0);
+    return count;
+}
+
+/* How many of ours aren't libunwind's. The CFA of a frame is the stack pointer of its caller's. */
+static uint64_t differing(uint64_t ours, uint64_t theirs)
+{
+    uint64_t different = 0;
+    for (uint64_t i = 0; i < ours; i++) {
+        bool is_same = i < theirs && frames[i].address == addresses[i];
+        if (is_same && frames[i].cfa_kind == CFA_VALUE && i + 1 < theirs)
+            is_same = frames[i].cfa == pointers[i + 1];
+        if (frames[i].cfa_kind != CFA_VALUE && i + 1 < ours)
+            is_same = false;
+        different += !is_same;
+    }
+    return different;
+}
+
+static double least(double one, double other) { return one < other ? one : other; }
+
+/* Nanoseconds a frame: what some more walks take beside one, since each call checks the sections and compiles their tables too. */
+static double time_of_ours(const LoadedSection *first, size_t count, WalkStart *start, WalkEnd *end)
+{
+    double once = 1e30, more = 1e30;
+    for (int round = 0; round < ROUNDS; round++) {
+        double begun = now();
+        start->times = 1;
+        bench_walk(first, count, start, frames, PLACES, end);
+        double middle = now();
+        start->times = 1 + WALKS;
+        bench_walk(first, count, start, frames, PLACES, end);
+        once = least(once, middle - begun);
+        more = least(more, now() - middle);
+    }
+    return (more - once) / WALKS / (double)end->count;
+}
+
+static double time_of_steps(unw_context_t *context, unw_caching_policy_t policy)
+{
+    double time = 1e30;
+    unw_set_caching_policy(unw_local_addr_space, policy);
+    for (int round = 0; round < ROUNDS; round++) {
+        double begun = now();
+        int count = stepped(context);
+        time = least(time, (now() - begun) / count);
+    }
+    return time;
+}
+
+static double time_of_backtrace(void)
+{
+    static void *found[PLACES];
+    double time = 1e30;
+    unw_set_caching_policy(unw_local_addr_space, UNW_CACHE_GLOBAL);
+    for (int round = 0; round < ROUNDS; round++) {
+        double begun = now();
+        int count = unw_backtrace(found, PLACES);
+        time = least(time, (now() - begun) / count);
+    }
+    return time;
+}
+
+static size_t section_count;
+
+/* The numbers that DWARF has for them. */
+static void read_registers(const unw_context_t *context, uint64_t contents[17])
+{
+    static const int order[17] = {REG_RAX, REG_RDX, REG_RCX, REG_RBX, REG_RSI, REG_RDI, REG_RBP, REG_RSP, REG_R8,
+                                  REG_R9,  REG_R10, REG_R11, REG_R12, REG_R13, REG_R14, REG_R15, REG_RIP};
+    for (int i = 0; i < 17; i++)
+        contents[i] = (uint64_t)context->uc_mcontext.gregs[order[i]];
+}
+
+static void compared(const char *said, const LoadedSection *first, size_t count, WalkStart *start, unw_context_t *context)
+{
+    WalkEnd end = {0, 0};
+    if (!bench_walk(first, count, start, frames, PLACES, &end)) {
+        printf("%s: refused\n", said);
+        status = 1;
+        return;
+    }
+    uint64_t theirs = (uint64_t)stepped(context), different = differing(end.count, theirs);
+    if (different || end.count < LEVELS)
+        status = 1;
+    printf("%s: %lu frames, stop %u; libunwind's %lu; %lu differ\n", said, end.count, end.stop, theirs, different);
+    for (int pass = 0; pass < 3; pass++)
+        printf("  ns a frame: %.1f; unw_step %.1f, without its cache %.1f; unw_backtrace %.1f\n", time_of_ours(first, count, start, &end),
+               time_of_steps(context, UNW_CACHE_GLOBAL), time_of_steps(context, UNW_CACHE_NONE), time_of_backtrace());
+}
+
+/* At the innermost frame. The stack is copied, since a walk writes on it. */
+static __attribute__((noinline)) int measured(void)
+{
+    static unw_context_t context;
+    static uint64_t contents[17];
+    unw_getcontext(&context);
+    read_registers(&context, contents);
+    uint64_t base = contents[7], count = mapping("[stack]", true) - base;
+    uint8_t *copy = malloc(count);
+    if (!copy)
+        exit(2);
+    memcpy(copy, (const void *)base, count);
+    WalkStart start = {contents[16], contents, 17, base, copy, count, 1};
+    compared("two modules", sections + section_count - 2, 2, &start, &context);
+    if (section_count > 2)
+        compared("with the others in front", sections, section_count, &start, &context);
+    free(copy);
+    return 1;
+}
+
+static volatile int sink;
+
+static __attribute__((noinline)) int down(int levels)
+{
+    volatile char bytes[256];
+    bytes[levels & 255] = (char)levels;
+    if (levels <= 0)
+        return measured();
+    int below = levels % 2 ? through(levels, down) : down(levels - 1);
+    sink += bytes[levels & 255];
+    return below + sink;
+}
+
+static void add(const char *name, uint64_t load_address)
+{
+    FILE *file = fopen(name, "rb");
+    if (!file || fseek(file, 0, SEEK_END) != 0 || section_count == SECTIONS)
+        exit(2);
+    size_t count = (size_t)ftell(file);
+    uint8_t *bytes = malloc(count + 1);
+    rewind(file);
+    if (!bytes || fread(bytes, 1, count, file) != count)
+        exit(2);
+    fclose(file);
+    sections[section_count++] = (LoadedSection){load_address, bytes, count};
+}
+
+int main(int argc, char **argv)
+{
+    if (argc < 3)
+        return 2;
+    for (int i = 3; i < argc; i++)
+        add(argv[i], (uint64_t)i << 36);
+    add(argv[1], (uint64_t)&__ehdr_start);
+    add(argv[2], mapping("/libthrough.so", false));
+    sink = down(LEVELS);
+    return status;
+}
