@@ -107,20 +107,25 @@ def written(case, folder):
         file.write(case.content)
 
 
+def option(maker, name, value):
+    """The words of an option, which are two or one."""
+    return [name, value] if maker.chance(0.7) else [f"{name}={value}"]
+
+
 def words_of(maker, case, command, folder):
     """The words, options at any place among them, those of modules in their order."""
     first, *others = case.process
     positional = [first.name, case.address] + [f"{folder}/s"] * (command != "row") + [case.limit] * (command == "backtrace")
     options = [["--big"]] * case.big + [["--addr4"]] * (case.size == 4) + [["--hex"]] * first.is_hex
-    options += [["--load", first.load_word]] * (first.load_word != "0x0" or maker.chance(0.5))
+    options += [option(maker, "--load", first.load_word)] * (first.load_word != "0x0" or maker.chance(0.5))
     maker.random.shuffle(options)
-    named = [["--module", f"{module.load_word}={module.name}"] for module in others] if command != "row" else []
+    named = [option(maker, "--module", f"{module.load_word}={module.name}") for module in others] if command != "row" else []
     words = [[word] for word in positional]
-    for option in options:
-        words.insert(maker.random.randrange(len(words) + 1), option)
+    for held in options:
+        words.insert(maker.random.randrange(len(words) + 1), held)
     places = sorted(maker.random.randrange(len(words) + 1) for _ in named)
-    for place, option in reversed(list(zip(places, named))):
-        words.insert(place, option)
+    for place, held in reversed(list(zip(places, named))):
+        words.insert(place, held)
     return [command, *(word for group in words for word in group)]
 
 
