@@ -17,6 +17,7 @@ if [ -z "${LIBRARY:-}" ]; then
     if [ ! -d "$work/src" ]; then git clone -q "$checkout" "$work/src"; else git -C "$work/src" pull -q; fi
     (cd "$work/src/crates/dw_times" && rt lib) >"$work/lib.log" 2>&1 </dev/null || { tail -n 5 "$work/lib.log" >&2; exit 1; }
 fi
+nm "$library" 2> /dev/null | grep -q ' T bench_walk$' || { echo "no bench_walk in $library" >&2; exit 1; }
 
 flags=(-std=gnu11 -Wall -Wextra -O2 -g)
 gcc "${flags[@]}" -shared -fPIC "$here/through.c" -o "$work/libthrough.so"
