@@ -29,7 +29,8 @@ beside_gdb() {
     compiled "$@"
     STOPS=$stops FOLDER=$work/stops MODULES=$work/symbols gdb --batch --nx -x "$here/stops.py" "$work/process" > "$work/log" 2>&1 ||
         { cat "$work/log"; return 1; }
-    echo "$*: $("$here/compare.py" "$program" "$work/process.frame" "$work/stops" "libbeside.so=$work/libbeside.so.frame")"
+    said=$("$here/compare.py" "$program" "$work/process.frame" "$work/stops" "libbeside.so=$work/libbeside.so.frame")
+    echo "$*: $said"
 }
 
 for compiler in gcc clang; do

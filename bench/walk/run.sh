@@ -17,7 +17,8 @@ compiled() { # a compiler and its flags; the section in a file of its own
 beside_gdb() {
     compiled "$@" -fno-asynchronous-unwind-tables
     STOPS=$stops FOLDER=$work/stops gdb --batch --nx -x "$here/stops.py" "$work/walk" > "$work/log" 2>&1 || { cat "$work/log"; return 1; }
-    echo "$*, gdb: $("$here/compare.py" "$program" "$work/walk.frame" "$work/stops")"
+    said=$("$here/compare.py" "$program" "$work/walk.frame" "$work/stops")
+    echo "$*, gdb: $said"
 }
 
 beside_perf() { # perf itself reads .eh_frame
@@ -25,7 +26,8 @@ beside_perf() { # perf itself reads .eh_frame
     perf record -q -F 999 -e cpu-clock:u --call-graph dwarf,16384 -o "$work/data" "$work/walk" 2000000
     read -r start size < <(readelf -SW "$work/walk" | sed -n 's/.* \.text *PROGBITS *\([0-9a-f]*\) [0-9a-f]* \([0-9a-f]*\).*/\1 \2/p')
     end=$(printf %x $((0x$start + 0x$size)))
-    echo "$*, perf: $("$here/perf.py" "$program" "$work/walk.frame" "$work/data" "$start" "$end")"
+    said=$("$here/perf.py" "$program" "$work/walk.frame" "$work/data" "$start" "$end")
+    echo "$*, perf: $said"
 }
 
 for compiler in gcc clang; do
