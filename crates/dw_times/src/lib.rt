@@ -7,6 +7,7 @@ mod machine;
 mod meaning;
 mod mixed;
 mod tables;
+mod walks;
 
 ghost use Rattle.std.specs.Prelude.{◌<◌, ◌^◌, length, Some, None};
 

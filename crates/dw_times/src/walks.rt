@@ -1,0 +1,154 @@
+//! Walks through modules, as `bench/beside_libunwind` times them and compares their frames.
+
+use crate::TARGET;
+use dw_check::{Answer, BriefFrame, Module, Stop, Walk};
+use dw_eval::{MemoryBlock, Registers};
+use dw_rows::{Abi, UnwindTable, check_frame};
+use std::alloc::Global;
+
+/// The content of register n is the one with index n.
+#[derive(Drop)]
+struct Contents<'a> {
+    contents: &'a [u64],
+}
+
+impl<'a> Registers for Contents<'a> {
+    ghost use Rattle.std.specs.Prelude.{slice_get};
+
+    ghost contents = { λ c. slice_get c.contents.now };
+
+    #[inline(always)]
+    fn register(&self, number: u16) -> Option<u64> {
+        self.contents.get(usize::from(number)).copied()
+    }
+}
+
+/// A frame section, and where its module is loaded.
+#[repr(C)]
+#[derive(Drop)]
+pub struct LoadedSection<'a> {
+    pub load_address: u64,
+    pub bytes: &'a [u8],
+}
+
+/// What a walk begins with.
+#[repr(C)]
+#[derive(Drop)]
+pub struct WalkStart<'a> {
+    pub address: u64,
+    pub contents: &'a [u64],
+    /// Where the stack's bytes begin.
+    pub base: u64,
+    pub stack: &'a [u8],
+    /// How often it is walked.
+    pub times: u32,
+}
+
+/// A frame: the kind of its CFA is 1 where that is a value, and 0 where no row is found for it.
+#[repr(C)]
+#[derive(Clone, Copy, Debug)]
+pub struct WalkFrame {
+    pub address: u64,
+    pub cfa: u64,
+    pub cfa_kind: u32,
+}
+
+/// How many frames there are, and why there are no more.
+#[repr(C)]
+#[derive(Clone, Copy, Debug)]
+pub struct WalkEnd {
+    pub count: u64,
+    pub stop: u32,
+}
+
+/// The modules with their sections' tables, where all are accepted. The sections are gone.
+fn modules_of(alloc: Global, sections: &[LoadedSection<'_>]) -> Option<Vec<Module<UnwindTable>>> {
+    let mut modules = Vec::new(alloc);
+    for section in sections {
+        if section.bytes.len() >= 1 << 32 {
+            return None;
+        }
+        let frame = check_frame(alloc, section.bytes, TARGET).ok()?;
+        let table = frame.compile(alloc, 1 << 40).ok()??;
+        modules.push(Module::new(table, section.load_address)).ok()?;
+    }
+    Some(modules)
+}
+
+fn frame_of(frame: BriefFrame) -> WalkFrame {
+    let (cfa, cfa_kind) = match frame.cfa {
+        None => (0, 0),
+        Some(Answer::Value(cfa)) => (cfa, 1),
+        Some(Answer::Undefined) => (0, 2),
+        Some(Answer::Unreadable) => (0, 3),
+        Some(Answer::DivisionByZero) => (0, 4),
+    };
+    WalkFrame {
+        address: frame.address,
+        cfa,
+        cfa_kind,
+    }
+}
+
+fn stop_number(stop: Option<Stop>) -> u32 {
+    match stop {
+        None | Some(Stop::Limit) => 0,
+        Some(Stop::NotCovered) => 1,
+        Some(Stop::ReturnUndefined) => 2,
+        Some(Stop::ReturnUnreadable) => 3,
+        Some(Stop::ReturnDivisionByZero) => 4,
+    }
+}
+
+/// Walks once, and writes the frames, as many as there are places for.
+fn walk_once(
+    modules: &[Module<UnwindTable>],
+    abi: &Abi,
+    start: &WalkStart<'_>,
+    frames: &mut [WalkFrame],
+) -> WalkEnd {
+    let registers = Contents {
+        contents: start.contents,
+    };
+    let memory = MemoryBlock {
+        base: start.base,
+        bytes: start.stack,
+    };
+    let mut walk = Walk::new(modules, abi, start.address, &registers, &memory);
+    for index in 0..frames.len() {
+        match walk.next() {
+            Some(frame) => frames[index] = frame_of(frame),
+            None => {
+                return WalkEnd {
+                    count: index as u64,
+                    stop: stop_number(walk.stop()),
+                };
+            }
+        }
+    }
+    WalkEnd {
+        count: frames.len() as u64,
+        stop: stop_number(None),
+    }
+}
+
+/// The checks, the tables, and so many walks. `false` where a section is refused or memory runs out.
+#[unsafe(no_mangle)]
+pub extern "C" fn bench_walk(
+    alloc: Global,
+    sections: &[LoadedSection<'_>],
+    start: &WalkStart<'_>,
+    frames: &mut [WalkFrame],
+    end: &mut WalkEnd,
+) -> bool {
+    let Some(modules) = modules_of(alloc, sections) else {
+        return false;
+    };
+    let Ok(abi) = Abi::new(&[3, 6, 12, 13, 14, 15], Some(7)) else {
+        return false;
+    };
+    for _ in 0..start.times {
+        *end = walk_once(&modules, &abi, start, frames);
+    }
+    true
+}
