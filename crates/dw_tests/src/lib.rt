@@ -34,6 +34,8 @@ mod instructions;
 #[cfg(test)]
 mod lists;
 #[cfg(test)]
+mod modules;
+#[cfg(test)]
 mod refused_memory;
 #[cfg(test)]
 mod rows;

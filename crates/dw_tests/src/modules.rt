@@ -1,0 +1,139 @@
+//! Unwinding and walks through the modules of a process.
+
+ghost use Rattle.std.specs.Prelude.{◌==◌, if◌then◌else◌, Some, None};
+
+use crate::inputs::{EXPRESSIONS, FUNCTION, LITTLE};
+use dw_check::{Answer, BriefFrame, Module, Stop, Walk, backtrace_in, unwind_in};
+use dw_eval::{MemoryBlock, Registers};
+use dw_rows::{Abi, CheckedFrame, UnwindTable, check_frame};
+use std::alloc::Global;
+
+/// A frame whose register 6 is known alone: its stack begins at 0x7000.
+#[derive(Clone, Copy)]
+struct FramePointer {}
+
+impl Registers for FramePointer {
+    ghost contents = { λ _ n. if n == 6 then Some 0x7000 else None };
+
+    fn register(&self, number: u16) -> Option<u64> {
+        if number == 6 { Some(0x7000) } else { None }
+    }
+}
+
+/// The saved frame pointer and the return address of two frames: the first goes on at 0x101010, the second at 0x5000.
+const STACK: MemoryBlock<'static> = MemoryBlock {
+    base: 0x7000,
+    bytes: &[
+        0x20, 0x70, 0, 0, 0, 0, 0, 0, 0x10, 0x10, 0x10, 0, 0, 0, 0, 0, 0, 0, 0, 0, 0, 0, 0, 0, 0,
+        0, 0, 0, 0, 0, 0, 0, 0, 0, 0, 0, 0, 0, 0, 0, 0, 0x50, 0, 0, 0, 0, 0, 0,
+    ],
+};
+
+/// The function at 0x101000 and at 0x201000, by tables.
+fn program_and_library(alloc: Global) -> Option<[Module<UnwindTable>; 2]> {
+    let program = check_frame(alloc, &FUNCTION, LITTLE).ok()?;
+    let program = program.compile(alloc, 1 << 20).ok()??;
+    let library = check_frame(alloc, &FUNCTION, LITTLE).ok()?;
+    let library = library.compile(alloc, 1 << 20).ok()??;
+    Some([
+        Module::new(program, 0x10_0000),
+        Module::new(library, 0x20_0000),
+    ])
+}
+
+/// From the library to the program, and to where nothing covers.
+const FRAMES: [BriefFrame; 3] = [
+    BriefFrame {
+        address: 0x20_1010,
+        cfa: Some(Answer::Value(0x7010)),
+    },
+    BriefFrame {
+        address: 0x10_1010,
+        cfa: Some(Answer::Value(0x7030)),
+    },
+    BriefFrame {
+        address: 0x5000,
+        cfa: None,
+    },
+];
+
+#[test]
+fn a_walk_goes_from_a_library_to_its_program(rt: HostRuntime) {
+    let modules = program_and_library(rt.alloc()).expect(&rt, "there is memory");
+    let abi = Abi::none();
+    let mut walk = Walk::new(&modules[..], &abi, 0x20_1010, &FramePointer {}, &STACK);
+    assert_eq!(rt; walk.stop(), None);
+    for frame in FRAMES {
+        assert_eq!(rt; walk.stop(), None);
+        assert_eq!(rt; walk.next(), Some(frame));
+    }
+    assert_eq!(rt; walk.next(), None);
+    assert_eq!(rt; walk.stop(), Some(Stop::NotCovered));
+    assert!(rt; walk.registers().is_none());
+}
+
+#[test]
+fn a_walk_lends_the_registers_of_the_caller(rt: HostRuntime) {
+    let modules = program_and_library(rt.alloc()).expect(&rt, "there is memory");
+    let abi = Abi::none();
+    let walk = Walk::new(&modules[..], &abi, 0x20_1010, &FramePointer {}, &STACK);
+    let registers = walk.registers().expect(&rt, "covered");
+    assert_eq!(rt; registers.register(6), Some(0x7020));
+    assert_eq!(rt; registers.register(16), Some(0x10_1010));
+    assert_eq!(rt; registers.register(7), None);
+}
+
+#[test]
+fn a_backtrace_keeps_the_frames_of_the_walk(rt: HostRuntime) {
+    let modules = program_and_library(rt.alloc()).expect(&rt, "there is memory");
+    let abi = Abi::none();
+    let walk = backtrace_in(
+        rt.alloc(),
+        &modules,
+        &abi,
+        0x20_1010,
+        &FramePointer {},
+        &STACK,
+        9,
+    )
+    .expect(&rt, "there is memory");
+    assert_eq!(rt; walk.stop, Stop::NotCovered);
+    assert_eq!(rt; walk.frames.len(), 3);
+    for (index, frame) in walk.frames.iter().enumerate() {
+        assert_eq!(rt; frame.address, FRAMES[index].address);
+        assert_eq!(rt; frame.caller.as_ref().map(|c| c.cfa), FRAMES[index].cfa);
+    }
+}
+
+/// The CFA at an address by these modules, none where no module covers it.
+fn cfa_in(modules: &[Module<&CheckedFrame<'_>>], address: u64) -> Option<Answer> {
+    match unwind_in(modules, &Abi::none(), address, &FramePointer {}, &STACK) {
+        Some(caller) => Some(caller.cfa),
+        None => None,
+    }
+}
+
+#[test]
+fn the_first_module_that_covers_an_address_is_taken(rt: HostRuntime) {
+    let function = check_frame(rt.alloc(), &FUNCTION, LITTLE).expect(&rt, "accepted");
+    let other = check_frame(rt.alloc(), &EXPRESSIONS, LITTLE).expect(&rt, "accepted");
+    let one = [Module::new(&function, 0), Module::new(&other, 0)];
+    assert_eq!(rt; cfa_in(&one, 0x1010), Some(Answer::Value(0x7010)));
+    let two = [Module::new(&other, 0), Module::new(&function, 0)];
+    assert_eq!(rt; cfa_in(&two, 0x1010), Some(Answer::Unreadable));
+    let apart = [Module::new(&other, 0x1000), Module::new(&function, 0)];
+    assert_eq!(rt; cfa_in(&apart, 0x1010), Some(Answer::Value(0x7010)));
+}
+
+#[test]
+fn addresses_wrap_where_a_module_is_loaded(rt: HostRuntime) {
+    let function = check_frame(rt.alloc(), &FUNCTION, LITTLE).expect(&rt, "accepted");
+    let modules = [Module::new(&function, 0xffff_ffff_ffff_f000)];
+    assert_eq!(rt; cfa_in(&modules, 0x10), Some(Answer::Value(0x7010)));
+    assert_eq!(rt; cfa_in(&modules, 0x1010), None);
+}
+
+#[test]
+fn no_module_covers_nothing(rt: HostRuntime) {
+    assert_eq!(rt; cfa_in(&[], 0x1010), None);
+}
