@@ -39,6 +39,8 @@ mod JudgedInPlace
 mod Under
 mod AbiRules
 mod AbiFaults
+pub mod TableRows
+pub mod FilledTables
 pub mod CompiledTables
 pub mod TableEntries
 pub mod RuleSets

@@ -5,7 +5,7 @@ use Rattle.dw_rows.specs.ProgramState.{ProgramState}
 use Rattle.dw_rows.specs.RuleSet.{KeptRules}
 use Rattle.dw_rows.specs.RowCursors.{cursor_at, RowCursor, BeginsRows}
 use Rattle.dw_rows.specs.CompiledTable.{returning, rows_to, IsPushed}
-use Rattle.dw_rows.proofs.CompiledTables.{filling-begins, filling-on, filling-table, filling-lends, filling-end, filling-all, table-further, filled}
+use Rattle.dw_rows.proofs.TableRows.{filling-begins, filling-on, filling-table, filling-lends, filling-end, filling-all, table-further, filled}
 use Rattle.dw_rows.proofs.placed_table.fill.Goals as goal
 
 pub loop-start-init : goal.loop-start-init

@@ -6,7 +6,7 @@ use Rattle.dw_rows.specs.Overlap.{IsAddressIndex, IsIndexOf, fde_at}
 use Rattle.dw_rows.specs.declared.table_entries.TableEntry.{TableEntry}
 use Rattle.dw_rows.specs.CompiledTable.{AreEntries, ArePlacedRows, rows_to}
 use Rattle.dw_rows.proofs.Indexes.{entry-placed}
-use Rattle.dw_rows.proofs.CompiledTables.{IsFillingAll, all-begin, all-on, all-done}
+use Rattle.dw_rows.proofs.FilledTables.{IsFillingAll, all-begin, all-on, all-done}
 use Rattle.dw_rows.proofs.placed_table.fill_all.Goals as goal
 
 pub fill-requires-clause-among : goal.fill-requires-clause-among

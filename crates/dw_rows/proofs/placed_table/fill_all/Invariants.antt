@@ -1,7 +1,7 @@
 use Rattle.std.proofs.Common.{◌+◌, ◌*◌, ◌≤◌, length, map}
 use Rattle.dw_frame.specs.Views.{fde_of}
 use Rattle.dw_rows.specs.Overlap.{fde_at}
-use Rattle.dw_rows.proofs.CompiledTables.{IsFillingAll}
+use Rattle.dw_rows.proofs.FilledTables.{IsFillingAll}
 use Rattle.dw_rows.proofs.placed_table.fill_all.Given as goal
 
 abbrev pub invariant-loop-entry : goal.invariant-loop-entry

@@ -1,4 +1,4 @@
-use Rattle.dw_rows.proofs.CompiledTables.{begun-behind}
+use Rattle.dw_rows.proofs.TableRows.{begun-behind}
 use Rattle.dw_rows.proofs.placed_table.GrowingTable.begin_at.Goals as goal
 
 pub returns-clause-begun : goal.returns-clause-begun

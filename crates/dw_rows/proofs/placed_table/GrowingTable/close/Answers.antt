@@ -1,7 +1,7 @@
 use Rattle.std.proofs.Common.{subst}
 use Rattle.dw_rows.specs.RuleSet.{KeptRules}
 use Rattle.dw_rows.specs.CompiledTable.{no_set, IsPushed}
-use Rattle.dw_rows.proofs.CompiledTables.{closed-pushed}
+use Rattle.dw_rows.proofs.TableRows.{closed-pushed}
 use Rattle.dw_rows.proofs.placed_table.GrowingTable.close.Goals as goal
 
 pub returns-clause-closed : goal.returns-clause-closed

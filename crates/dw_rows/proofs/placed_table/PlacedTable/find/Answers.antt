@@ -11,7 +11,8 @@ use Rattle.dw_rows.specs.ProgramState.{row_between}
 use Rattle.dw_rows.specs.UnwindTables.{has}
 use Rattle.dw_rows.specs.Views.{kept_cfa_of, entries_of}
 use Rattle.dw_rows.specs.CompiledTable.{KeptSet, rows_to, given_found, IsEntryCount}
-use Rattle.dw_rows.proofs.CompiledTables.{placed-below, placed-above, row-read, none-read, cfa-lent, rules-lent}
+use Rattle.dw_rows.proofs.TableRows.{placed-below, placed-above}
+use Rattle.dw_rows.proofs.CompiledTables.{row-read, none-read, cfa-lent, rules-lent}
 use Rattle.dw_rows.proofs.placed_table.PlacedTable.find.Goals.{then-after-eq0-via-then-after-eq0, then-after-eq0-via-else-after-eq0+then-after-count}
 use Rattle.dw_rows.proofs.placed_table.PlacedTable.find.Goals as goal
 
