@@ -41,10 +41,6 @@ pub rise-later : (low other high : ℕ) (xs : List ℕ) → low ≤ other → Ri
 rise-later low other high [] le h = omega arith
 rise-later low other high (x ∷ xs) le h = (omega (arith, h.0), h.1)
 
-pub rise-higher : (low high other : ℕ) (xs : List ℕ) → high ≤ other → RiseWithin low high xs → RiseWithin low other xs
-rise-higher low high other [] le h = omega arith
-rise-higher low high other (x ∷ xs) le h = (h.0, rise-higher (x + 1) high other xs le h.1)
-
 -- ---- expressions
 
 abbrev pub offsets-of : List LocatedExpression → List ℕ

@@ -113,25 +113,6 @@ table-of s target es rows same lent are = record {
       (found-at s a (find (has a) rows) are.checked (are.row a));
 }
 
--- what a section gives by its rows
-pub finds-row : (s : FrameSection) (rows : List (PlacedRow × ℕ)) (a : ℕ) → ArePlacedRows s rows
-    → option_map (λ (found : Row × ℕ). found.0) (option_map (given_found s.expressions) (find (has a) rows)) ≡ row_of s a
-finds-row s rows a are = go (find (has a) rows) (are.row a)
-  where
-    go : (o : Option (PlacedRow × ℕ)) → IsPlacedAt s a o
-        → option_map (λ (found : Row × ℕ). found.0) (option_map (given_found s.expressions) o) ≡ row_of s a
-    go None h = sym h
-    go (Some x) h = sym h.0
-
-pub finds-register : (s : FrameSection) (rows : List (PlacedRow × ℕ)) (a : ℕ) → ArePlacedRows s rows
-    → IfSome (option_map (given_found s.expressions) (find (has a) rows)) (λ found. IsReturnRegister s a found.1)
-finds-register s rows a are = go (find (has a) rows) (are.row a)
-  where
-    go : (o : Option (PlacedRow × ℕ)) → IsPlacedAt s a o
-        → IfSome (option_map (given_found s.expressions) o) (λ found. IsReturnRegister s a found.1)
-    go None h = tt
-    go (Some x) h = h.1
-
 -- what is found names what is lent
 pub found-lends : (es : List LocatedExpression) (a : ℕ) (rows : List (PlacedRow × ℕ)) (x : PlacedRow × ℕ) → All (LendsFound es) rows
     → find (has a) rows ≡ Some x → LendsFound es x
@@ -190,28 +171,6 @@ none-read entries sets rows a after entry k view count some at at_set cfa =
     ap (λ (e : TableEntry). set_numbered sets e.set) is ∙ get_or_from_slice_get sets entry.set k no_set at_set in
     ap (λ (l : List (PlacedRow × ℕ)). find (has a) l) (sym view)
     ∙ placed-none entries sets a n d counted (ap (λ (x : KeptSet). x.rules.cfa) is_set ∙ cfa)
-
--- ---- what else a section's table gives
-
-pub finds-fit : (s : FrameSection) (rows : List (PlacedRow × ℕ)) (a : ℕ) → ArePlacedRows s rows
-    → IfSome (option_map (given_found s.expressions) (find (has a) rows))
-    (λ found. (found.0.start ≤ top_of s.target) × (found.0.end ≤ top_of s.target))
-finds-fit s rows a are = go (find (has a) rows) (are.row a)
-  where
-    go : (o : Option (PlacedRow × ℕ)) → IsPlacedAt s a o
-        → IfSome (option_map (given_found s.expressions) o)
-        (λ found. (found.0.start ≤ top_of s.target) × (found.0.end ≤ top_of s.target))
-    go None h = tt
-    go (Some x) h = row-fits s a (given_row s.expressions x.0) are.checked h.0
-
-pub finds-none : (s : FrameSection) (rows : List (PlacedRow × ℕ)) (a : ℕ) → ArePlacedRows s rows
-    → IfNone (option_map (given_found s.expressions) (find (has a) rows)) ((f : Fde) → Contains s.fdes f → ¬ Covers f a)
-finds-none s rows a are = go (find (has a) rows) (are.row a)
-  where
-    go : (o : Option (PlacedRow × ℕ)) → IsPlacedAt s a o
-        → IfNone (option_map (given_found s.expressions) o) ((f : Fde) → Contains s.fdes f → ¬ Covers f a)
-    go None h = row-missing s a are.checked h
-    go (Some x) h = tt
 
 -- ---- what a row that is found names
 

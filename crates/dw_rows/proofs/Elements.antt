@@ -18,17 +18,6 @@ placed-map f [] i x e = refl
 placed-map f (y ∷ xs) zero x e = ap f e
 placed-map f (y ∷ xs) (suc i) x e = placed-map f xs i x e
 
--- filtering by what elements stand for
-pub filter-map : {X Y : Type 0} (f : X → Y) (p : Y → Bool) (xs : List X) → map f (filter (λ x. p (f x)) xs) ≡ filter p (map f xs)
-filter-map f p [] = refl
-filter-map f p (x ∷ xs) = elim (p (f x)) as
-    (λ b. map f (if b then (x ∷ filter (λ y. p (f y)) xs) else filter (λ y. p (f y)) xs) ≡
-    (if b then (f x ∷ filter p (map f xs)) else filter p (map f xs))) [
-      | true ↦ ap (λ l. f x ∷ l) (filter-map f p xs)
-      | false ↦
-          filter-map f p xs
-    ]
-
 -- an element of the list, to be its default
 pub some-element : {X : Type 0} (xs : List X) (i : ℕ) → i < length xs → X
 some-element [] i h = absurd (omega arith)

@@ -115,11 +115,6 @@ rows-pushed es last entries new sets new_sets start k t p to =
 
 -- ---- the end of a row, where the next doesn't begin
 
-pub closed-empty : (end : ℕ) (entries : List TableEntry) (sets : List KeptSet) → length entries ≡ 0
-    → IsClosedAt end entries sets entries sets
-closed-empty end [] sets none = record { table = λ es t. t; rows = λ es t to. refl }
-closed-empty end (e ∷ rest) sets none = absurd (omega arith)
-
 pub closed-pushed : (end : ℕ) (old new : List TableEntry) (old_sets new_sets : List KeptSet)
     → IsPushed old old_sets end no_set new new_sets → IsClosedAt end old old_sets new new_sets
 closed-pushed end old new old_sets new_sets pushed = record {
@@ -127,9 +122,6 @@ closed-pushed end old new old_sets new_sets pushed = record {
       (record { cfa = tt; rules = λ k d lt. absurd (omega arith) });
   rows = λ es t to. rows-pushed es end old new old_sets new_sets end no_set t pushed to ∙ append-nil (rows_to old_sets old end);
 }
-
-pub begun-here : (at : ℕ) (entries : List TableEntry) (sets : List KeptSet) → IsBegunAt at at entries sets entries sets
-begun-here at entries sets = record { table = λ es t le. t; rows = λ es t. refl }
 
 pub begun-behind : (end start : ℕ) (old new : List TableEntry) (old_sets new_sets : List KeptSet)
     → IsClosedAt end old old_sets new new_sets → IsBegunAt end start old old_sets new new_sets
@@ -195,19 +187,6 @@ filling-table es c f rows w w' entries new sets new_sets start end h step t push
     table-further es start w'.context.location new new_sets
     (table-pushed es w.context.location entries new sets new_sets start
     (record { rules = w'.context.current; register = c.return_address_register }) t pushed (omega arith) lends) (omega arith)
-
-pub filling-nearer : (c : Cie) (f : Fde) (rows : List (PlacedRow × ℕ)) (w w' : RowCursor) (entries : List TableEntry) (sets : List KeptSet)
-    (start end : ℕ) → IsFilling c f rows w entries sets → GivesNextRow w (Some (start, end)) w'
-    → w'.end - w'.context.location < w.end - w.context.location
-filling-nearer c f rows w w' entries sets start end h step =
-    let p = step c f h.before h.is_at in
-    let from : start ≡ w.context.location = p.from in
-    let to : end ≡ w'.context.location = p.to in
-    let on : start < end = p.some in
-    let here : w.end ≡ f.initial_location + f.address_range = h.is_at.end in
-    let there : w'.end ≡ f.initial_location + f.address_range = p.is_at.end in
-    let within : w'.context.location ≤ w'.end = cursor-within c f p.after w' p.is_at in
-    omega arith
 
 -- the rules of the next row name what is lent
 pub filling-lends : (es : List LocatedExpression) (c : Cie) (f : Fde) (rows : List (PlacedRow × ℕ)) (w w' : RowCursor) (entries : List TableEntry)

@@ -149,7 +149,3 @@ row_of s a = option_and_then (λ f. find (has_address a) (rows_in s f)) (find (c
 abbrev pub IsReturnRegister : FrameSection → ℕ → ℕ → Type 0
 IsReturnRegister s a r = (fde : Fde) × (cie : Cie) × IsCoverOf s.fdes a (Some fde) × (cie_in s fde ≡ Some cie)
     × (cie.return_address_register ≡ r)
-
--- all CIEs name this one
-abbrev pub AllReturnIn : List Cie → ℕ → Type 0
-AllReturnIn cies r = (c : Cie) → Contains cies c → c.return_address_register ≡ r
