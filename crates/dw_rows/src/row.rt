@@ -25,8 +25,8 @@ use std::marker::Model;
 /// What a register of the caller is (DWARF 5, section 6.4.1). An offset counts from the CFA.
 #[derive(Clone, Copy, Debug)]
 pub enum RegisterRule<'a> {
-    /// No rule is in force: no instruction has set one, or a restore has given back what the CIE's program left, which is none. It
-    /// means undefined, unless an ABI says more.
+    /// No rule is in force: no instruction has set one, or a restore has given back what the CIE's program left, which was no rule.
+    /// It means undefined, unless an ABI says more.
     Default,
     /// It can't be had.
     Undefined,
@@ -72,6 +72,7 @@ pub enum CfaRule<'a> {
 }
 
 /// The rule of a register, with the expression that it names.
+#[inline(always)]
 pub(crate) fn given_rule<'a>(
     rule: KeptRule,
     expressions: &LentExpressions<'_, 'a>,
@@ -98,6 +99,7 @@ pub(crate) fn given_rule<'a>(
 }
 
 /// The rule of the CFA, likewise.
+#[inline(always)]
 pub(crate) fn given_cfa<'a>(cfa: KeptCfa, expressions: &LentExpressions<'_, 'a>) -> CfaRule<'a>
     requires { LendsCfa (lent_by expressions.now) (kept_cfa_of cfa) }
     ensures { cfa_rule_of result ≡ given_cfa (lent_by expressions.now) (kept_cfa_of cfa) }
@@ -113,7 +115,8 @@ pub(crate) fn given_cfa<'a>(cfa: KeptCfa, expressions: &LentExpressions<'_, 'a>)
     }
 }
 
-/// The expression that a rule names, by halving.
+/// The expression that a rule names, by binary search.
+#[inline(never)]
 fn given_expression<'a>(offset: u32, expressions: &LentExpressions<'_, 'a>) -> CheckedExpression<'a>
     requires { (e : LocatedExpression) × (expression_at (lent_by expressions.now) offset ≡ Some e) }
     ensures { located_of (offset, result) ≡ located_at (lent_by expressions.now) offset }
@@ -234,19 +237,21 @@ impl<'f, 'a> UnwindTableRow<'f, 'a> {
     }
 
     /// How the CFA is found. An expression is lent, as it was checked.
+    #[inline(always)]
     pub fn cfa(&self) -> CfaRule<'a>
         ensures cfa { self.now.cfa ≡ Some (cfa_rule_of result) }
         ensures kind { IsCfaOfKind (cfa_rule_of result) }
     {
-        given_cfa(self.cfa, &self.expressions)
+        self.lend().cfa()
     }
 
     /// The rule of a register: `Default` where none is in force. An expression is lent, as it was checked.
+    #[inline(always)]
     pub fn register(&self, number: u16) -> RegisterRule<'a>
         ensures rule { rule_of result ≡ rule_in self.now.rules number }
         ensures kind { IsRuleOfKind (rule_of result) }
     {
-        given_rule(self.rules.register(number), &self.expressions)
+        self.lend().register(number)
     }
 
     /// The rules other than `Default`, each with its register, in ascending order of registers: at most `MAX_RULES`.
@@ -256,31 +261,22 @@ impl<'f, 'a> UnwindTableRow<'f, 'a> {
         ensures few { length self.now.rules ≤ MAX_RULES }
         ensures kinds { All IsEntryOfKind self.now.rules }
     {
-        let entries = self.rules.as_slice();
-        RegisterRules {
-            entries,
-            others: &[],
-            expressions: self.expressions,
-        }
+        self.lend().rules()
     }
 
     /// The rule of a register under an ABI, which is asked where the row gives it none: `Undefined` where that gives none either.
+    #[inline(always)]
     pub fn register_with(&self, abi: &Abi, number: u16) -> RegisterRule<'a>
         ensures rule { rule_of result
             ≡ or_rule (rule_under (roles_of abi.now) self.now.rules number) RuleOver.undefined }
         ensures kind { IsRuleOfKind (rule_of result) }
     {
-        match self.register(number) {
-            RegisterRule::Default => match abi.register(number) {
-                KeptRule::Default => RegisterRule::Undefined,
-                rule => given_rule(rule, &self.expressions),
-            },
-            rule => rule,
-        }
+        self.lend().register_with(abi, number)
     }
 
     /// The rules under an ABI, which is asked where the row gives none, each with its register, in ascending order of registers: at
     /// most twice `MAX_RULES`.
+    #[inline(always)]
     pub fn rules_with<'r>(&'r self, abi: &'r Abi) -> RegisterRules<'r, 'a>
         ensures rules { result ≡ rules_under (roles_of abi.now) self.now.rules }
         ensures ascending { IsTable 0 (rules_under (roles_of abi.now) self.now.rules) }
@@ -288,11 +284,7 @@ impl<'f, 'a> UnwindTableRow<'f, 'a> {
             ≤ MAX_RULES + MAX_RULES }
         ensures kinds { All IsEntryOfKind (rules_under (roles_of abi.now) self.now.rules) }
     {
-        RegisterRules {
-            entries: self.rules.as_slice(),
-            others: abi.as_slice(),
-            expressions: self.expressions,
-        }
+        self.lend().rules_with(abi)
     }
 }
 
@@ -326,6 +318,7 @@ impl<'f, 'a> Model for RegisterRules<'f, 'a> {
 }
 
 /// The entry of the lowest register, and what is left of both tables. Where both have the register, the entry is the first's.
+#[inline(always)]
 fn lowest<'f>(
     entries: &'f [RuleEntry],
     others: &'f [RuleEntry],
@@ -363,6 +356,7 @@ impl<'f, 'a> Iterator for RegisterRules<'f, 'a> {
 
     ghost remaining = { item_count (λ r. r) };
 
+    #[inline(always)]
     fn next(&mut self) -> Option<(u16, RegisterRule<'a>)> {
         let (entry, entries, others) = lowest(self.entries, self.others)?;
         self.entries = entries;

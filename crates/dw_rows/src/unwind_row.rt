@@ -16,7 +16,17 @@ use crate::map::{MAX_RULES, RuleEntry, rule_of_register};
 use crate::row::{CfaRule, RegisterRule, RegisterRules, given_cfa, given_rule};
 use std::marker::Model;
 
-/// The addresses from a start to before an end, and the rules that hold there, which are lent by a table.
+/// A row of the table that unwinds (DWARF 5, section 6.4.1): the addresses from a start to before an end, and the rules that hold
+/// there, which an `UnwindTable` or an `UnwindTableRow` lends.
+///
+/// ```rust
+/// let Some((row, return_register)) = table.row_and_return_register(0x1004) else {
+///     return Ok(()); // no FDE covers it
+/// };
+/// if let RegisterRule::Offset(offset) = row.register(return_register) {
+///     println!(rt; "the return address is saved at {} from the CFA", offset)?;
+/// }
+/// ```
 #[derive(Debug, Drop)]
 pub struct UnwindRow<'t, 'a> {
     start: u64,
@@ -94,6 +104,7 @@ impl<'t, 'a> UnwindRow<'t, 'a> {
     }
 
     /// How the CFA is found. An expression is lent, as it was checked.
+    #[inline(always)]
     pub fn cfa(&self) -> CfaRule<'a>
         ensures cfa { self.now.cfa ≡ Some (cfa_rule_of result) }
         ensures kind { IsCfaOfKind (cfa_rule_of result) }
@@ -102,6 +113,7 @@ impl<'t, 'a> UnwindRow<'t, 'a> {
     }
 
     /// The rule of a register: `Default` where none is in force. An expression is lent, as it was checked.
+    #[inline(always)]
     pub fn register(&self, number: u16) -> RegisterRule<'a>
         ensures rule { rule_of result ≡ rule_in self.now.rules number }
         ensures kind { IsRuleOfKind (rule_of result) }
@@ -124,6 +136,7 @@ impl<'t, 'a> UnwindRow<'t, 'a> {
     }
 
     /// The rule of a register under an ABI, which is asked where the row gives it none: `Undefined` where that gives none either.
+    #[inline(always)]
     pub fn register_with(&self, abi: &Abi, number: u16) -> RegisterRule<'a>
         ensures rule { rule_of result
             ≡ or_rule (rule_under (roles_of abi.now) self.now.rules number) RuleOver.undefined }
@@ -140,6 +153,7 @@ impl<'t, 'a> UnwindRow<'t, 'a> {
 
     /// The rules under an ABI, which is asked where the row gives none, each with its register, in ascending order of registers: at
     /// most twice `MAX_RULES`.
+    #[inline(always)]
     pub fn rules_with<'r>(&self, abi: &'r Abi) -> RegisterRules<'r, 'a>
     where
         't: 'r,
