@@ -55,22 +55,22 @@ pub fn rows_into(section: &[u8]) -> u64 {
     unsafe { bench_rows_into(section.as_ptr(), section.len()) }
 }
 
-/// The check, and so many times the rows of all addresses.
+/// The check, and the rows of all addresses, a number of times.
 pub fn look_up(section: &[u8], addresses: &[u64], times: u32) -> u64 {
     unsafe { bench_look_up(section.as_ptr(), section.len(), addresses.as_ptr(), addresses.len(), times) }
 }
 
-/// The check, and so many times the callers at all addresses.
+/// The check, and the callers at all addresses, a number of times.
 pub fn unwind(section: &[u8], addresses: &[u64], times: u32) -> u64 {
     unsafe { bench_unwind(section.as_ptr(), section.len(), addresses.as_ptr(), addresses.len(), times) }
 }
 
-/// The check, the compiled table, and so many times the rows of all addresses.
+/// The check, the compiled table, and the rows of all addresses, a number of times.
 pub fn look_up_by_table(section: &[u8], addresses: &[u64], times: u32) -> u64 {
     unsafe { bench_look_up_by_table(section.as_ptr(), section.len(), addresses.as_ptr(), addresses.len(), times) }
 }
 
-/// The check, the compiled table, and so many times the callers at all addresses.
+/// The check, the compiled table, and the callers at all addresses, a number of times.
 pub fn unwind_by_table(section: &[u8], addresses: &[u64], times: u32) -> u64 {
     unsafe { bench_unwind_by_table(section.as_ptr(), section.len(), addresses.as_ptr(), addresses.len(), times) }
 }
@@ -80,17 +80,17 @@ pub fn table_answer(section: &[u8], big: bool, small: bool, addresses: &[u64]) -
     unsafe { bench_table_answer(section.as_ptr(), section.len(), big, small, addresses.as_ptr(), addresses.len()) }
 }
 
-/// One judgement of a register's expression, and so many evaluations.
+/// One judgement of a register's expression, and a number of evaluations.
 pub fn evaluate(bytes: &[u8], times: u32) -> u64 {
     unsafe { bench_evaluate(bytes.as_ptr(), bytes.len(), times) }
 }
 
-/// So many judgements without states.
+/// A number of judgements without states.
 pub fn check_expression(bytes: &[u8], times: u32) -> u64 {
     unsafe { bench_check_expression(bytes.as_ptr(), bytes.len(), times) }
 }
 
-/// So many certificates.
+/// A number of certificates.
 pub fn certify(bytes: &[u8], times: u32) -> u64 {
     unsafe { bench_certify(bytes.as_ptr(), bytes.len(), times) }
 }

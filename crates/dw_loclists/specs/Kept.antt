@@ -26,11 +26,11 @@ pub record IsKeptOf (x : LocatedExpression) (k : KeptExpression) : Type 0 where
 abbrev pub AreKeptOf : List LocatedExpression → List KeptExpression → Type 0
 AreKeptOf = AllZip IsKeptOf
 
--- of these besides, behind what was kept
+-- of these besides, after what was kept
 abbrev pub KeepsMore : List LocatedExpression → List KeptExpression → List KeptExpression → Type 0
 KeepsMore more old new = (xs : List LocatedExpression) → AreKeptOf xs old → AreKeptOf (xs ++ more) new
 
--- An entry, behind a default or not, was read and has no fault, and its expression is kept. Its list ends with it or not, and it
+-- An entry, after a default or not, was read and has no fault, and its expression is kept. Its list ends with it or not, and it
 -- is a default or not.
 pub record Passes (has_default ended default : Bool) (old new : ReadPosition) (before after : List KeptExpression) : Type 0 where
   pub entry : Entry
@@ -72,7 +72,7 @@ kept_of c = record { tables = c.tables.items; lists = map start_of c.lists.items
 abbrev pub nothing_kept : Kept
 nothing_kept = record { tables = []; lists = [] }
 
--- with lists behind what was kept, and with a table behind it
+-- with lists after what was kept, and with a table after it
 abbrev pub with_lists : Kept → List Loclist → Kept
 with_lists k lists = record { tables = k.tables; lists = k.lists ++ starts_of lists }
 

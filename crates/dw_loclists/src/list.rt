@@ -47,7 +47,7 @@ fn check_entry_expression(
     }
 }
 
-/// Judges an entry at an offset, behind a default of its list or not, and keeps its expression.
+/// Judges an entry at an offset, after a default of its list or not, and keeps its expression.
 #[inline(always)]
 fn check_entry(
     alloc: Global,
@@ -88,7 +88,7 @@ struct Passed {
     default: bool,
 }
 
-/// Reads an entry, behind a default of its list or not, judges it, and keeps its expression.
+/// Reads an entry, after a default of its list or not, judges it, and keeps its expression.
 #[inline(never)]
 fn check_next(
     alloc: Global,

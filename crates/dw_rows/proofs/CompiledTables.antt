@@ -1,10 +1,10 @@
 -- What a table of a section gives: the rows that its section gives, what they name, and the laws of tables.
-use Rattle.std.proofs.Common.{◌≡◌, ℕ, zero, suc, ◌+◌, ◌-◌, ◌<◌, ◌≤◌, ◌==◌, Bool, true, false, cond, List, ◌∷◌, length, get_or, refl, sym, ap, ◌∙◌}
+use Rattle.std.proofs.Common.{◌≡◌, ℕ, zero, suc, ◌+◌, ◌-◌, ◌<◌, ◌≤◌, ◌==◌, Bool, true, false, cond, List, [], ◌∷◌, length, get_or, refl, sym, ap, ◌∙◌}
 use Rattle.std.proofs.Common.{Option, Some, None, Contains, map, subst, arith, inl, inr}
 use Rattle.std.proofs.lemmas.List.{length-append}
 use Rattle.std.proofs.lemmas.List.Elements.{All-from_recursion, recursion_from_All}
 use Rattle.std.proofs.lemmas.Option.{get_or_from_slice_get, slice_get-get_or}
-use Rattle.std.specs.Prelude.{All, IfSome, IfNone, find, slice_get}
+use Rattle.std.specs.Prelude.{All, IfSome, find, slice_get}
 use Rattle.std.specs.List.{AllByRecursion}
 use Rattle.std.specs.Option.{option_map}
 use Rattle.dw_bytes.specs.declared.target.Target.{Target}
@@ -22,7 +22,7 @@ use Rattle.dw_rows.specs.ProgramState.{row_between}
 use Rattle.dw_rows.specs.UnwindRows.{has_address, rows_of}
 use Rattle.dw_rows.specs.UnwindTables.{RowTable, has, row_at, IsFoundAt, IsTableOf}
 use Rattle.dw_rows.specs.UnwindTables.{IsUnder, IsRuleUnder, IsCfaUnder, IsEntryUnder, IsRowUnder}
-use Rattle.dw_rows.specs.Section.{FrameSection, Covers, IsCoverOf, IsChecked, rows_behind, covers, row_of, cie_in}
+use Rattle.dw_rows.specs.Section.{FrameSection, Covers, IsCoverOf, IsChecked, rows_behind, row_of, cie_in}
 use Rattle.dw_rows.specs.Section.{IsReturnRegister}
 use Rattle.dw_rows.specs.CompiledTable.{KeptSet, no_set, set_numbered, row_if, row_from, next_start, entry_start, rows_to}
 use Rattle.dw_rows.specs.CompiledTable.{LendsFound, given_found, IsPlacedAt}

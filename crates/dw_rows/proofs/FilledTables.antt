@@ -1,5 +1,5 @@
 -- The table of all FDEs: its rows are those of the section, and what they name is lent.
-use Rattle.std.proofs.Common.{◌≡◌, ℕ, zero, suc, ◌+◌, ◌-◌, ◌<◌, ◌≤◌, Bool, true, false, cond, List, ◌∷◌, ◌++◌, length, get_or, refl, sym, ap, ◌∙◌}
+use Rattle.std.proofs.Common.{◌≡◌, ℕ, zero, suc, ◌+◌, ◌<◌, ◌≤◌, Bool, true, false, cond, List, [], ◌∷◌, ◌++◌, length, get_or, refl, sym, ap, ◌∙◌}
 use Rattle.std.proofs.Common.{Option, Some, None, IsSome, Contains, take, subst, arith, append_assoc, inl, inr, ◌⊎◌}
 use Rattle.std.proofs.lemmas.Bool.{cases_lt}
 use Rattle.std.proofs.lemmas.Bool.Decides.{nat_tests}
@@ -11,7 +11,7 @@ use Rattle.std.specs.Option.{option_map}
 use Rattle.dw_frame.specs.Records.{Cie, Fde}
 use Rattle.dw_stack.specs.Located.{LocatedExpression}
 use Rattle.dw_rows.specs.declared.table_entries.TableEntry.{TableEntry}
-use Rattle.dw_rows.specs.Rules.{PlacedCfa, PlacedRow, offset, register}
+use Rattle.dw_rows.specs.Rules.{PlacedCfa, PlacedRow}
 use Rattle.dw_rows.specs.RuleSet.{LendsRules}
 use Rattle.dw_rows.specs.GivenRows.{given_row}
 use Rattle.dw_rows.specs.UnwindRows.{has_address, rows_of}

@@ -1,5 +1,5 @@
 -- Rows by the entries of a table in order of address: how a table grows by the rows of an FDE, and which row has an address.
-use Rattle.std.proofs.Common.{◌≡◌, ℕ, zero, suc, ◌+◌, ◌-◌, ◌<◌, ◌≤◌, Bool, true, false, cond, List, ◌∷◌, ◌++◌, length, get_or, refl, sym, ap, ◌∙◌}
+use Rattle.std.proofs.Common.{◌≡◌, ℕ, zero, suc, ◌+◌, ◌<◌, ◌≤◌, Bool, true, false, cond, List, [], ◌∷◌, ◌++◌, length, get_or, refl, sym, ap, ◌∙◌}
 use Rattle.std.proofs.Common.{Option, Some, None, subst, arith, append_assoc, inl, inr, ◌⊎◌}
 use Rattle.std.proofs.lemmas.Bool.{cases_lt}
 use Rattle.std.proofs.lemmas.List.{append-nil, length-append, get_or_append_left}
@@ -9,7 +9,7 @@ use Rattle.std.specs.Prelude.{find}
 use Rattle.dw_frame.specs.Records.{Cie, Fde}
 use Rattle.dw_stack.specs.Located.{LocatedExpression}
 use Rattle.dw_rows.specs.declared.table_entries.TableEntry.{TableEntry}
-use Rattle.dw_rows.specs.Rules.{PlacedCfa, PlacedRow, register}
+use Rattle.dw_rows.specs.Rules.{PlacedCfa, PlacedRow}
 use Rattle.dw_rows.specs.InForce.{fde_start, location_of}
 use Rattle.dw_rows.specs.Judgement.{lacks_cfa}
 use Rattle.dw_rows.specs.RuleSet.{LendsRules}
@@ -22,7 +22,6 @@ use Rattle.dw_rows.specs.CompiledTable.{KeptSet, no_set, set_numbered, row_if, r
 use Rattle.dw_rows.specs.CompiledTable.{returning, returning_behind}
 use Rattle.dw_rows.specs.CompiledTable.{IsTableUpTo, IsClosedAt, IsBegunAt, IsPushed, IsFilling, IsFilled, IsEntryCount}
 use Rattle.dw_rows.proofs.Covering.{cover-after, here, not-here-below, not-here-above}
-use Rattle.dw_rows.proofs.RowCursors.{cursor-within}
 use Rattle.dw_rows.proofs.Lending.{lends-kept}
 
 -- ---- one entry more

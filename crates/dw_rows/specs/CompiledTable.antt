@@ -14,7 +14,7 @@ use Rattle.dw_rows.specs.UnwindRows.{rows_of}
 use Rattle.dw_rows.specs.Section.{FrameSection, IsChecked, IsReturnRegister, cie_in, row_of}
 use Rattle.dw_rows.specs.UnwindTables.{has}
 
--- numbers so far from a base
+-- the numbers that lie at these distances from a base
 abbrev pub based : ℕ → List ℕ → List ℕ
 based base offsets = map (λ o. base + o) offsets
 
@@ -116,7 +116,7 @@ pub record IsBegunAt (end start : ℕ) (old : List TableEntry) (old_sets : List 
   pub table : (es : List LocatedExpression) → IsTableUpTo es end old old_sets → end ≤ start → IsTableUpTo es start new new_sets
   pub rows : (es : List LocatedExpression) → IsTableUpTo es end old old_sets → rows_to new_sets new start ≡ rows_to old_sets old end
 
--- rules have a number, behind those that were there or among them
+-- rules have a number, after those that were there or among them
 pub record IsNumbered (old : List KeptSet) (k : KeptSet) (n : ℕ) (new : List KeptSet) : Type 0 where
   pub found : slice_get new n ≡ Some k
   pub inside : n < length new
@@ -138,7 +138,7 @@ pub record IsFilling (c : Cie) (f : Fde) (rows : List (PlacedRow × ℕ)) (w : R
   pub is_at : StandsBehind c f before w
   pub all : rows_to sets entries w.context.location ++ returning c.return_address_register (rows_left c f before w) ≡ rows
 
--- the FDE's rows came behind those that were there, which end at an address
+-- the FDE's rows came after those that were there, which end at an address
 pub record IsFilled (s : FrameSection) (f : Fde) (last : ℕ) (old : List TableEntry) (old_sets : List KeptSet) (new : List TableEntry)
     (new_sets : List KeptSet) : Type 0 where
   pub table : IsTableUpTo s.expressions (f.initial_location + f.address_range) new new_sets
@@ -146,7 +146,7 @@ pub record IsFilled (s : FrameSection) (f : Fde) (last : ℕ) (old : List TableE
 
 -- ---- a whole table
 
--- so many entries begin at or below an address, and no others
+-- this many entries begin at or below an address, and no others
 pub record IsEntryCount (entries : List TableEntry) (a count : ℕ) : Type 0 where
   pub bound : count ≤ length entries
   pub below : (k : ℕ) (d : TableEntry) → k < count → (slice_index_or entries k d).start ≤ a

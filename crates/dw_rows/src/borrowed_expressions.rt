@@ -42,7 +42,7 @@ impl<'f, 'a> BorrowedExpressions<'f, 'a> {
         BorrowedExpressions { cies, fdes }
     }
 
-    /// The expression whose first byte stands at an offset of the section, by halving: those of CIEs, which are few, come first.
+    /// The expression that begins at an offset of the section, by binary search: those of CIEs, which are few, come first.
     pub(crate) fn at(&self, offset: u32) -> Option<CheckedExpression<'a>>
         ensures { MatchOption result
             (expression_at (borrowed_by self.now) offset ≡ None)
@@ -56,7 +56,7 @@ impl<'f, 'a> BorrowedExpressions<'f, 'a> {
     }
 }
 
-/// The expression at an offset, by halving.
+/// The expression at an offset, by binary search.
 fn find_lent<'a>(
     expressions: &[(u32, CheckedExpression<'a>)],
     offset: u32,

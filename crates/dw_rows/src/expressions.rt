@@ -25,7 +25,7 @@ impl<'f, 'a> LentExpressions<'f, 'a> {
         LentExpressions::Borrowed(BorrowedExpressions::empty())
     }
 
-    /// The expression whose first byte stands at an offset of the section.
+    /// The expression that begins at an offset of the section.
     pub(crate) fn at(&self, offset: u32) -> Option<CheckedExpression<'a>>
         ensures { MatchOption result
             (expression_at (lent_by self.now) offset ≡ None)

@@ -86,7 +86,7 @@ impl ExpressionList {
         Ok(())
     }
 
-    /// The expression whose first byte stood at an offset of the section, by halving.
+    /// The expression that began at an offset of the section, by binary search.
     pub fn at(&self, offset: u32) -> Option<CheckedExpression<'_>>
         requires { Ascends expression_offset self.now }
         ensures { MatchOption result (expression_at self.now offset ≡ None)
@@ -155,7 +155,7 @@ impl OwnedExpressions {
         Ok(OwnedExpressions { cies, fdes })
     }
 
-    /// The expression whose first byte stood at an offset of the section, by halving: those of CIEs, which are few, come first.
+    /// The expression that began at an offset of the section, by binary search: those of CIEs, which are few, come first.
     pub fn at(&self, offset: u32) -> Option<CheckedExpression<'_>>
         ensures { MatchOption result (expression_at self.now offset ≡ None)
             (λ checked. expression_at self.now offset ≡ Some (located_of (offset, checked))) }

@@ -22,7 +22,7 @@ use dw_frame::FrameDescriptionEntry;
 use std::alloc::Global;
 use std::marker::Model;
 
-/// A row takes so much room at most, with its share of what leads to it.
+/// How many bytes a row takes at most, with its share of what leads to it.
 pub const ROW_ROOM: usize = 16;
 
 /// A table that grows.
@@ -157,7 +157,7 @@ impl Model for PlacedTable {
 }
 
 impl PlacedTable {
-    /// The rows of a checked section, in so many bytes at most, apart from what growing takes for a while.
+    /// The rows of a checked section, in `room` bytes at most, apart from what growing takes for a while.
     pub fn of(frame: &CheckedFrame<'_>, alloc: Global, room: usize) -> Result<Self, Unmade>
         ensures rows { IfOk result (ArePlacedRows frame.now) }
         ensures room { IfOk result (λ rows. 16 * length rows ≤ room) }

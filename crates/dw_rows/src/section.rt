@@ -20,7 +20,7 @@ use dw_bytes::{Fault, FaultKind};
 use dw_frame::{CommonInformationEntry, FrameDescriptionEntry};
 use std::alloc::Global;
 
-/// The place of the CIE that begins at an offset, by halving the CIEs in order of offset.
+/// The place of the CIE that begins at an offset, by binary search among the CIEs in order of offset.
 fn place_of_cie(cies: &[CommonInformationEntry<'_>], offset: u64) -> Option<usize>
     requires { Ascends cie_offset (map cie_of cies.now) }
     ensures { MatchOption result
@@ -34,7 +34,7 @@ fn place_of_cie(cies: &[CommonInformationEntry<'_>], offset: u64) -> Option<usiz
     }
 }
 
-/// The same. Most FDEs come behind their CIE, so a place and the next one are tried before halving.
+/// The same. Most FDEs come after their CIE, so a place and the next one are tried before a binary search.
 #[inline(always)]
 fn place_near(cies: &[CommonInformationEntry<'_>], near: usize, offset: u64) -> Option<usize>
     requires { Ascends cie_offset (map cie_of cies.now) }
@@ -89,7 +89,7 @@ struct FoundCie<'a> {
     cie: CommonInformationEntry<'a>,
 }
 
-/// As `begin_with_rules_of_cie`, behind the CIE that was found last: where it is that one, its rules are still kept at the state, and
+/// As `begin_with_rules_of_cie`, after the CIE that was found last: where it is that one, its rules are still kept at the state, and
 /// where it is the next one, nothing is looked for.
 #[inline(always)]
 fn begin_with_rules_again<'a>(
@@ -167,7 +167,7 @@ pub fn check_cies<'a>(
     Ok(left)
 }
 
-/// Each FDE's program has to be good behind its CIE's. Its expressions are kept. Each CIE_pointer is the offset of a CIE.
+/// Each FDE's program has to be good after its CIE's. Its expressions are kept. Each CIE_pointer is the offset of a CIE.
 pub fn check_fdes<'a>(
     context: &mut UnwindContext,
     judged: &mut JudgedExpressions<'a>,

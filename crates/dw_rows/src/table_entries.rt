@@ -26,11 +26,11 @@ struct Blocks {
     counts: Vec<u32>,
 }
 
-/// A block has about so many starts.
+/// About how many starts a block has.
 const USUAL_BLOCK: usize = 16;
 
-/// Into how many blocks, at most, so many addresses are cut, and by how many bits: each block has as many addresses as the
-/// others.
+/// By how many bits an offset, `span` at most, is shifted to give its block, where there may be this many blocks. Each block has as
+/// many addresses as the others.
 fn block_shift(span: u64, blocks: u64) -> u32
     ensures { result < 64 }
 {
@@ -76,7 +76,7 @@ fn blocks_of(alloc: Global, offsets: &[u32]) -> Result<Blocks, AllocError> {
     Ok(Blocks { shift, counts })
 }
 
-/// Between two places, how many places lie up to the last start at or below an address, by halving that doesn't branch.
+/// Between two places, how many places lie up to the last start at or below an address, by a binary search that doesn't branch.
 #[inline(always)]
 fn count_between(starts: &[u32], from: usize, to: usize, address: u32) -> usize {
     if from > to || to > starts.len() {
@@ -95,7 +95,7 @@ fn count_between(starts: &[u32], from: usize, to: usize, address: u32) -> usize 
     low
 }
 
-/// Whether the first so many are at or below an address.
+/// Whether the first `count` are at or below an address.
 #[inline(always)]
 fn are_low(starts: &Starts, count: usize, address: u64) -> bool
     requires sorted { IsNonDecreasingBy (λ x. x) starts.now }
@@ -111,7 +111,7 @@ fn are_low(starts: &Starts, count: usize, address: u64) -> bool
     true
 }
 
-/// Whether those behind the first so many are above an address.
+/// Whether those after the first `count` are above an address.
 #[inline(always)]
 fn are_high(starts: &Starts, count: usize, address: u64) -> bool
     requires sorted { IsNonDecreasingBy (λ x. x) starts.now }
@@ -128,7 +128,7 @@ fn are_high(starts: &Starts, count: usize, address: u64) -> bool
     true
 }
 
-/// Whether so many are at or below an address.
+/// Whether `count` are at or below an address, and the others above it.
 #[inline(always)]
 fn is_count(starts: &Starts, count: usize, address: u64) -> bool
     requires { IsNonDecreasingBy (λ x. x) starts.now }
@@ -150,8 +150,11 @@ impl Blocks {
         if self.shift >= 64 {
             return 0;
         }
-        let Ok(offset) = u32::try_from(address.wrapping_sub(base)) else {
+        if address < base {
             return 0;
+        }
+        let Ok(offset) = u32::try_from(address - base) else {
+            return offsets.len();
         };
         let block = block_of(self.shift, offset);
         if block >= self.counts.len() || block + 1 >= self.counts.len() {
@@ -187,7 +190,7 @@ impl Model for TableEntries {
     ghost invariant = { λ t. length t.starts ≡ length t.sets };
 }
 
-/// How many of these are at or below an address, by halving.
+/// How many of these are at or below an address, by binary search.
 fn count_up_to(starts: &Starts, address: u64) -> usize
     requires { IsNonDecreasingBy (λ x. x) starts.now }
     ensures { IsStartCount starts.now address result }

@@ -190,7 +190,7 @@ pub fn branches_lead_ahead()
         → (effect_of x.1).jump ≡ Some z → (n : ℕ) × (z ≡ pos n) }
 {}
 
-/// What is known of a checked expression as a mere proposition can be had.
+/// Where it is known that an expression is checked, but not how, it is: the check can be done again.
 pub fn checked_expressions_are_known()
     ensures { (c : Checked) → ∥ IsChecked c ∥₁ → IsChecked c }
 {}

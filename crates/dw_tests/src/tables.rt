@@ -186,7 +186,7 @@ fn an_fde_of_no_address_has_no_row_in_a_table(rt: HostRuntime) -> Result<(), All
     Ok(())
 }
 
-/// FDEs on either side of 2^32, one right behind the other, and one a little further.
+/// FDEs on either side of 2^32, one right after the other, and one a little further.
 const ABOUT_2_TO_THE_32: [Found; 7] = [
     (0xffff_fffe, None),
     (0xffff_ffff, Some((0xffff_ffff, 0x1_0000_0000, 16))),
@@ -297,7 +297,7 @@ fn push_cies(section: &mut Vec<u8>) -> Result<(), AllocError> {
     Ok(())
 }
 
-/// For each of these CIEs an FDE of four addresses from 0x1000 on, one right behind the other.
+/// For each of these CIEs an FDE of four addresses from 0x1000 on, one right after the other.
 fn with_return_registers(alloc: Global) -> Result<Vec<u8>, AllocError> {
     let mut section = Vec::new(alloc);
     push_cies(&mut section)?;
@@ -334,7 +334,7 @@ fn push_cfas(section: &mut Vec<u8>, high: u8) -> Result<(), AllocError> {
     Ok(())
 }
 
-/// The CIE of `FUNCTION`, and two FDEs of 385 rows, each of one address: that of the address i behind the first has its CFA at
+/// The CIE of `FUNCTION`, and two FDEs of 385 rows, each of one address: that of the address i after the first has its CFA at
 /// register 7 and 127 + i. Both have the same rules.
 fn with_many_rules(alloc: Global) -> Result<Vec<u8>, AllocError> {
     let mut section = FUNCTION[..24].to_vec(alloc)?;

@@ -21,7 +21,7 @@ fn compiled(alloc: Global, section: &[u8], target: Target) -> Option<UnwindTable
     frame.compile(alloc, AMPLE).ok()?
 }
 
-/// The ends of the rows of all these addresses so many times, added up.
+/// The ends of the rows of all these addresses, looked up a number of times and added up.
 fn found_sum(table: &UnwindTable, addresses: &[u64], times: u32) -> u64 {
     let mut sum = 0u64;
     for _ in 0..times {
@@ -34,7 +34,7 @@ fn found_sum(table: &UnwindTable, addresses: &[u64], times: u32) -> u64 {
     sum
 }
 
-/// The check, the table, and so many times the rows of all these addresses.
+/// The check, the table, and the rows of all these addresses, a number of times.
 #[unsafe(no_mangle)]
 pub extern "C" fn bench_look_up_by_table(
     alloc: Global,
@@ -48,7 +48,7 @@ pub extern "C" fn bench_look_up_by_table(
     }
 }
 
-/// The callers of the frames that stand at all these addresses, so many times, each as a number, added up.
+/// The callers of the frames at all these addresses, each as a number, found a number of times and added up.
 fn callers_sum(table: &UnwindTable, addresses: &[u64], times: u32) -> u64 {
     let abi = Abi::none();
     let mut sum = 0u64;
@@ -65,7 +65,7 @@ fn callers_sum(table: &UnwindTable, addresses: &[u64], times: u32) -> u64 {
     sum
 }
 
-/// The check, the table, and so many times the callers of the frames that stand at all these addresses.
+/// The check, the table, and the callers of the frames at all these addresses, a number of times.
 #[unsafe(no_mangle)]
 pub extern "C" fn bench_unwind_by_table(
     alloc: Global,
