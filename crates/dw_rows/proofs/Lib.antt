@@ -40,6 +40,7 @@ mod Under
 mod AbiRules
 mod AbiFaults
 pub mod TableRows
+pub mod TableRoom
 pub mod FilledTables
 pub mod CompiledTables
 pub mod TableEntries

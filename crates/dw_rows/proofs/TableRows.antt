@@ -142,7 +142,7 @@ filling-begins c f rows w entries sets b is =
           ∙ ap (λ (l : List PlacedRow). rows ++ returning r l) b.rows;
     }
 
-with-cfa : (o : Option PlacedCfa) (start to : ℕ) (k : KeptSet) → lacks_cfa o ≡ false
+pub with-cfa : (o : Option PlacedCfa) (start to : ℕ) (k : KeptSet) → lacks_cfa o ≡ false
     → row_if o start to k ≡ (row_between start to k.rules, k.register) ∷ []
 with-cfa None start to k some = cc
 with-cfa (Some c) start to k some = refl

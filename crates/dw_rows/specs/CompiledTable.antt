@@ -1,8 +1,10 @@
 -- All rows of a section in order of address, as a table keeps them. No contract of a public call speaks of this.
-use Rattle.std.specs.Prelude.{map, ◌≡◌, ℕ, ◌+◌, ◌<◌, ◌≤◌, List, [], ◌∷◌, ◌++◌, length, All, IfSome, Option, Some, None, find, slice_get, slice_index_or}
+use Rattle.std.specs.Prelude.{map, ◌≡◌, ℕ, ◌+◌, ◌*◌, ◌<◌, ◌≤◌, List, [], ◌∷◌, ◌++◌, length, All, IfSome, Option, Some, None, find, slice_get, slice_index_or}
 use Rattle.std.specs.List.Sorted.{IsNonDecreasingBy}
 use Rattle.dw_frame.specs.Records.{Cie, Fde}
 use Rattle.dw_stack.specs.Located.{LocatedExpression}
+use Rattle.dw_rows.specs.declared.room.Unmade.{Unmade}
+use Rattle.dw_rows.specs.declared.room.Unmade.TheVariants.{Memory, Room}
 use Rattle.dw_rows.specs.declared.table_entries.TableEntry.{TableEntry}
 use Rattle.dw_rows.specs.Rules.{PlacedCfa, PlacedRow, Row}
 use Rattle.dw_rows.specs.Effects.{Effect}
@@ -143,6 +145,20 @@ pub record IsFilled (s : FrameSection) (f : Fde) (last : ℕ) (old : List TableE
     (new_sets : List KeptSet) : Type 0 where
   pub table : IsTableUpTo s.expressions (f.initial_location + f.address_range) new new_sets
   pub rows : rows_to new_sets new (f.initial_location + f.address_range) ≡ rows_to old_sets old last ++ placed_rows s f
+
+-- ---- the room that is left
+
+-- Where it is room that is lacking, there is less than this.
+abbrev pub LacksRoom : Unmade → ℕ → ℕ → Type 0
+LacksRoom Memory room most = Unit {0}
+LacksRoom Room room most = room < most
+
+-- what rules take beside the entry of a row, and with it
+abbrev pub set_bytes : KeptRules → ℕ
+set_bytes k = 64 + 16 * length k.rules
+
+abbrev pub entry_bytes : KeptRules → ℕ
+entry_bytes k = 80 + 16 * length k.rules
 
 -- ---- a whole table
 

@@ -1,11 +1,12 @@
 -- Tables that keep the rows of a section by themselves: nothing of the section is needed any more.
-use Rattle.std.specs.Prelude.{◌≡◌, ℕ, Bool, List, All, Contains, IfSome, Option, Some, None, find}
+use Rattle.std.specs.Prelude.{◌≡◌, ℕ, ◌+◌, ◌*◌, Bool, List, All, Contains, IfSome, Option, Some, None, find, length}
+use Rattle.std.specs.List.{sum_by}
 use Rattle.dw_bytes.specs.declared.target.Target.{Target}
 use Rattle.dw_frame.specs.Records.{Fde}
 use Rattle.dw_stack.specs.Located.{LocatedExpression}
 use Rattle.dw_rows.specs.Rules.{RowOver, Row, Rule, Cfa, expression, val_expression, cfa_expression}
 use Rattle.dw_rows.specs.UnwindRows.{has_address}
-use Rattle.dw_rows.specs.Section.{FrameSection, Covers, IsReturnRegister, row_of}
+use Rattle.dw_rows.specs.Section.{FrameSection, Covers, IsReturnRegister, row_of, rows_in}
 
 -- Rows, each with the register that names where the caller goes on, and the target that they were read under.
 pub record RowTable : Type 0 where
@@ -29,6 +30,20 @@ IsFoundAt s address (Some found) = (row_of s address ≡ Some found.0) × IsRetu
 pub record IsTableOf (s : FrameSection) (t : RowTable) : Type 0 where
   pub target : t.target ≡ s.target
   pub row : (address : ℕ) → IsFoundAt s address (row_at t address)
+
+-- ---- the bytes that a table takes at most, apart from those of expressions
+
+-- of a row: 80, and 16 for each register that has a rule. Where rows share their rules it is less.
+abbrev pub row_bytes : {E : Type 0} → RowOver E → ℕ
+row_bytes row = 80 + 16 * length row.rules
+
+-- of the rows of an FDE, and of where they end
+abbrev pub fde_bytes : FrameSection → Fde → ℕ
+fde_bytes s f = 80 + sum_by row_bytes (rows_in s f)
+
+-- of those of all FDEs
+abbrev pub table_bytes : FrameSection → ℕ
+table_bytes s = 80 + sum_by (fde_bytes s) s.fdes
 
 -- ---- a row's expressions are read under a target
 

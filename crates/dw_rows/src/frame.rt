@@ -18,7 +18,7 @@ ghost use Rattle.dw_stack.specs.Located.{all_located};
 ghost use Rattle.dw_rows.specs.Expressions.{cie_expressions, frame_expressions};
 ghost use Rattle.dw_rows.specs.BorrowedExpressions.{borrowed_by};
 ghost use Rattle.dw_rows.specs.LentExpressions.{lent_by};
-ghost use Rattle.dw_rows.specs.UnwindTables.{IsTableOf};
+ghost use Rattle.dw_rows.specs.UnwindTables.{IsTableOf, table_bytes};
 ghost use Rattle.dw_rows.specs.RowCursors.{Lends};
 
 use crate::borrowed_expressions::BorrowedExpressions;
@@ -336,12 +336,14 @@ impl<'a> CheckedFrame<'a> {
     /// A table of the rows of all FDEs, for look-ups by the million. It borrows nothing, so the section may go.
     ///
     /// `room` is the number of bytes that its rows and their rules may take: a section of N bytes may have rows that take 700 times
-    /// N. `Ok(None)` says that they take more, and nothing is kept. The one fault is `Memory`, at 0. It runs each program once, and
-    /// takes n log n for n rows at most.
+    /// N. `Ok(None)` says that they take more, and nothing is kept. It never comes where `room` is as much as all rows take if no two
+    /// share their rules: 80 bytes a row and 16 for each rule of a register, 80 an FDE, and 80 more. The one fault is `Memory`, at 0.
+    /// It runs each program once, and takes n log n for n rows at most.
     pub fn compile(&self, alloc: Global, room: usize) -> Result<Option<UnwindTable>, Fault>
         ensures table { IfOk result (λ made. IfSome made (IsTableOf self.now)) }
         ensures room { IfOk result
             (λ made. IfSome made (λ table. 16 * length table.rows ≤ room)) }
+        ensures none { IfOk result (λ made. IfNone made (room < table_bytes self.now)) }
         ensures memory { IfErr result (λ fault. fault ≡ OUT_OF_MEMORY) }
     {
         match UnwindTable::of(self, alloc, room) {

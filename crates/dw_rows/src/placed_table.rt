@@ -1,12 +1,12 @@
 //! Rows in order of address, whose rules name their expressions by offset.
 
-ghost use Rattle.std.specs.Prelude.{◌≡◌, ◌+◌, ◌*◌, ◌≤◌, Contains, IfOk, All, find, length};
+ghost use Rattle.std.specs.Prelude.{◌≡◌, ◌+◌, ◌*◌, ◌≤◌, Contains, IfOk, IfErr, All, find, length};
 ghost use Rattle.std.specs.Option.{option_map};
 ghost use Rattle.dw_frame.specs.Views.{fde_of};
 ghost use Rattle.dw_rows.specs.LentExpressions.{lent_by};
-ghost use Rattle.dw_rows.specs.UnwindTables.{has};
+ghost use Rattle.dw_rows.specs.UnwindTables.{has, fde_bytes, table_bytes};
 ghost use Rattle.dw_rows.specs.CompiledTable.{IsPushed, IsTableUpTo, IsClosedAt, IsBegunAt, IsFilled, ArePlacedRows, AreEntries, rows_to};
-ghost use Rattle.dw_rows.specs.CompiledTable.{LendsFound, given_found};
+ghost use Rattle.dw_rows.specs.CompiledTable.{LendsFound, given_found, LacksRoom, entry_bytes};
 
 use crate::expressions::LentExpressions;
 use crate::frame::CheckedFrame;
@@ -42,6 +42,10 @@ impl GrowingTable {
             self.new.entries self.new.numbers.sets) }
         ensures room { IfOk result (λ _. (self.new.numbers.room + 16 ≤ self.old.numbers.room)
             × (length self.new.entries ≡ length self.old.entries + 1)) }
+        ensures spent { IfOk result (λ _. self.old.numbers.room
+            ≤ self.new.numbers.room + entry_bytes rules.now) }
+        ensures short { IfErr result
+            (λ why. LacksRoom why self.old.numbers.room (entry_bytes rules.now)) }
     {
         self.numbers.room = less_room(self.numbers.room, ROW_ROOM)?;
         let set = self.numbers.number_of(rules, register)?;
@@ -55,6 +59,8 @@ impl GrowingTable {
             self.old.numbers.sets self.new.entries self.new.numbers.sets) }
         ensures room { IfOk result (λ _. 16 * length self.new.entries + self.new.numbers.room
             ≤ 16 * length self.old.entries + self.old.numbers.room) }
+        ensures spent { IfOk result (λ _. self.old.numbers.room ≤ self.new.numbers.room + 80) }
+        ensures short { IfErr result (λ why. LacksRoom why self.old.numbers.room 80) }
     {
         if self.entries.count() == 0 {
             return Ok(());
@@ -70,6 +76,8 @@ impl GrowingTable {
             self.old.numbers.sets self.new.entries self.new.numbers.sets) }
         ensures room { IfOk result (λ _. 16 * length self.new.entries + self.new.numbers.room
             ≤ 16 * length self.old.entries + self.old.numbers.room) }
+        ensures spent { IfOk result (λ _. self.old.numbers.room ≤ self.new.numbers.room + 80) }
+        ensures short { IfErr result (λ why. LacksRoom why self.old.numbers.room 80) }
     {
         if self.end == start {
             return Ok(());
@@ -96,6 +104,10 @@ fn fill(
         ≡ fde.now.initial_location + fde.now.address_range) }
     ensures room { IfOk result (λ _. 16 * length table.new.entries + table.new.numbers.room
         ≤ 16 * length table.old.entries + table.old.numbers.room) }
+    ensures spent { IfOk result (λ _. table.old.numbers.room
+        ≤ table.new.numbers.room + fde_bytes frame.now (fde_of fde.now)) }
+    ensures short { IfErr result (λ why. LacksRoom why table.old.numbers.room
+        (fde_bytes frame.now (fde_of fde.now))) }
 {
     table.begin_at(fde.initial_location)?;
     let cie = frame.begin_with_cie(&mut context.state, fde);
@@ -114,6 +126,7 @@ fn fill_all(alloc: Global, frame: &CheckedFrame<'_>, room: usize) -> Result<Grow
     ensures rows { IfOk result (λ table. ArePlacedRows frame.now
         (rows_to table.numbers.sets table.entries 0)) }
     ensures room { IfOk result (λ table. 16 * length table.entries ≤ room) }
+    ensures short { IfErr result (λ why. LacksRoom why room (table_bytes frame.now)) }
 {
     let base = match frame.index().first() {
         Some(first) => first.start,
@@ -161,6 +174,7 @@ impl PlacedTable {
     pub fn of(frame: &CheckedFrame<'_>, alloc: Global, room: usize) -> Result<Self, Unmade>
         ensures rows { IfOk result (ArePlacedRows frame.now) }
         ensures room { IfOk result (λ rows. 16 * length rows ≤ room) }
+        ensures short { IfErr result (λ why. LacksRoom why room (table_bytes frame.now)) }
     {
         let GrowingTable {
             entries,

@@ -1,6 +1,8 @@
 //! The room that a table may take.
 
-ghost use Rattle.std.specs.Prelude.{◌≡◌, ◌+◌, IfOk};
+ghost use Rattle.std.specs.Prelude.{◌≡◌, ◌+◌, IfOk, IfErr};
+ghost use Rattle.dw_rows.specs.declared.room.Unmade.TheVariants.{Memory};
+ghost use Rattle.dw_rows.specs.CompiledTable.{LacksRoom};
 
 use std::alloc::{AllocError, AllocFailed};
 
@@ -14,12 +16,16 @@ pub(crate) enum Unmade {
 }
 
 impl From<AllocError> for Unmade {
+    ghost from_gives = { λ _ why. why ≡ Memory };
+
     fn from(_: AllocError) -> Self {
         Unmade::Memory
     }
 }
 
 impl<T: Drop> From<AllocFailed<T>> for Unmade {
+    ghost from_gives = { λ _ why. why ≡ Memory };
+
     fn from(_: AllocFailed<T>) -> Self {
         Unmade::Memory
     }
@@ -27,7 +33,8 @@ impl<T: Drop> From<AllocFailed<T>> for Unmade {
 
 /// The room that is left after some is taken.
 pub(crate) fn less_room(room: usize, taken: usize) -> Result<usize, Unmade>
-    ensures { IfOk result (λ left. left + taken ≡ room) }
+    ensures left { IfOk result (λ left. left + taken ≡ room) }
+    ensures short { IfErr result (λ why. LacksRoom why room taken) }
 {
     match room.checked_sub(taken) {
         Some(left) => Ok(left),

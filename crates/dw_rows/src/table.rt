@@ -1,8 +1,9 @@
 //! All rows of a checked section in order of address, compiled for look-ups by the million.
 
-ghost use Rattle.std.specs.Prelude.{◌≡◌, ◌*◌, ◌≤◌, IfOk, IfSome, length};
+ghost use Rattle.std.specs.Prelude.{◌≡◌, ◌*◌, ◌≤◌, IfOk, IfErr, IfSome, length};
 ghost use Rattle.std.specs.Option.{option_map};
-ghost use Rattle.dw_rows.specs.UnwindTables.{row_at, IsTableOf, IsRowUnder};
+ghost use Rattle.dw_rows.specs.UnwindTables.{row_at, table_bytes, IsTableOf, IsRowUnder};
+ghost use Rattle.dw_rows.specs.CompiledTable.{LacksRoom};
 
 use crate::expressions::LentExpressions;
 use crate::frame::CheckedFrame;
@@ -55,6 +56,7 @@ impl UnwindTable {
     pub(crate) fn of(frame: &CheckedFrame<'_>, alloc: Global, room: usize) -> Result<Self, Unmade>
         ensures table { IfOk result (IsTableOf frame.now) }
         ensures room { IfOk result (λ table. 16 * length table.rows ≤ room) }
+        ensures short { IfErr result (λ why. LacksRoom why room (table_bytes frame.now)) }
     {
         let rows = PlacedTable::of(frame, alloc, room)?;
         let expressions = OwnedExpressions::of(alloc, &frame.borrowed())?;

@@ -4,8 +4,10 @@ use Rattle.dw_rows.specs.UnwindRows.{rows_of}
 use Rattle.dw_rows.specs.ProgramState.{ProgramState}
 use Rattle.dw_rows.specs.RuleSet.{KeptRules}
 use Rattle.dw_rows.specs.RowCursors.{cursor_at, RowCursor, BeginsRows}
-use Rattle.dw_rows.specs.CompiledTable.{returning, rows_to, IsPushed}
+use Rattle.dw_rows.specs.CompiledTable.{returning, rows_to, entry_bytes, IsPushed, LacksRoom}
+use Rattle.dw_rows.specs.UnwindTables.{fde_bytes}
 use Rattle.dw_rows.proofs.TableRows.{filling-begins, filling-on, filling-table, filling-lends, filling-end, filling-all, table-further, filled}
+use Rattle.dw_rows.proofs.TableRoom.{cost, cost-on, cost-next, cost-all, cost-both, fde-cost, lacks-more, still-lacks}
 use Rattle.dw_rows.proofs.placed_table.fill.Goals as goal
 
 pub loop-start-init : goal.loop-start-init
@@ -25,6 +27,11 @@ loop-start-init c =
       filling = filling-begins cie fde rows w new sets begins (begun.rows es c.requires.table);
       table = table-further es fde.initial_location w.context.location new sets (begun.table es c.requires.table c.requires.order)
           (omega (arith, begins.location));
+      spent = omega (
+        arith,
+        c.in_ok-begin_at.ensures.spent,
+        ap cost (ap (λ n. rows_to sets new n) begins.location ∙ begun.rows es c.requires.table),
+      );
       room = c.in_ok-begin_at.ensures.room;
     }
 
@@ -57,6 +64,14 @@ loop-start-preserved c =
           c.in-Some.ensures h.table pushed;
       table = filling-table es cie fde rows w new entries more sets more_sets c.in-Some.start c.in-Some.field-0-1 h.filling
           c.in-Some.ensures h.table pushed lends;
+      spent = omega (
+        arith,
+        h.spent,
+        c.in_ok-push.ensures.spent,
+        ap entry_bytes is,
+        cost-on es cie fde rows w new entries more sets
+            more_sets c.in-Some.start c.in-Some.field-0-1 h.filling c.in-Some.ensures h.table pushed,
+      );
       room = omega (arith, h.room, c.in_ok-push.ensures.room.0, c.in_ok-push.ensures.room.1);
     }
 
@@ -81,3 +96,61 @@ returns-clause-filled c =
     filled s cie fde last old entries old_sets sets c.begin_with_cie-cie.ensures.cie
     (filling-all cie fde rows w new entries sets h.filling c.in_default.ensures)
     (table-further s.expressions c.loop-start.context.location limit entries sets h.table (omega arith))
+
+pub returns-in_err-push-clause-short : goal.returns-in_err-push-clause-short
+returns-in_err-push-clause-short c =
+    let cie = cie_of c.begin_with_cie-cie.result in
+    let fde = fde_of c.args.fde.now in
+    let limit = c.args.fde.now.initial_location + c.args.fde.now.address_range in
+    let s = c.args.frame.now in
+    let r = cie.return_address_register in
+    let w : RowCursor =
+    cursor_at cie limit c.loop-start.context c.loop-start.instructions in
+    let new : RowCursor =
+    cursor_at cie limit c.next_range.new.context c.next_range.new.instructions in
+    let old = rows_to c.args.table.now.numbers.sets c.args.table.now.entries c.args.table.now.end in
+    let rows = old ++ returning r (rows_of cie fde) in
+    let entries = c.loop-start.table.entries in
+    let sets = c.loop-start.table.numbers.sets in
+    let h = c.loop-start.invariant in
+    let is : c.rules.result.now ≡ c.next_range.new.context.current =
+    c.rules.ensures ∙ ap (λ (m : ProgramState). m.current) c.context-in-loop-start.view_is in
+    let next = cost-next cie fde rows w new entries sets c.in-Some.start c.in-Some.field-0-1 h.filling c.in-Some.ensures in
+    let why = c.in_err-push.field-0.0 in
+    let short : LacksRoom why c.args.table.now.numbers.room (fde_bytes s fde) =
+    lacks-more why c.loop-start.table.numbers.room c.args.table.now.numbers.room (entry_bytes c.rules.result.now) (fde_bytes s fde)
+    (λ less. omega (
+      arith,
+      less,
+      h.spent,
+      next,
+      ap entry_bytes is,
+      cost-both old (returning r (rows_of cie fde)),
+      fde-cost s cie fde c.begin_with_cie-cie.ensures.cie,
+    )) c.in_err-push.ensures.short in
+    still-lacks c.from_residual-in_err-push.result why c.args.table.now.numbers.room (fde_bytes s fde)
+    c.from_residual-in_err-push.ensures.1 short
+
+pub returns-clause-spent : goal.returns-clause-spent
+returns-clause-spent c =
+    let cie = cie_of c.begin_with_cie-cie.result in
+    let fde = fde_of c.args.fde.now in
+    let limit = c.args.fde.now.initial_location + c.args.fde.now.address_range in
+    let s = c.args.frame.now in
+    let r = cie.return_address_register in
+    let w : RowCursor =
+    cursor_at cie limit c.loop-start.context c.loop-start.instructions in
+    let new : RowCursor =
+    cursor_at cie limit c.next_range.new.context c.next_range.new.instructions in
+    let old = rows_to c.args.table.now.numbers.sets c.args.table.now.entries c.args.table.now.end in
+    let rows = old ++ returning r (rows_of cie fde) in
+    let entries = c.loop-start.table.entries in
+    let sets = c.loop-start.table.numbers.sets in
+    let h = c.loop-start.invariant in
+    omega (
+      arith,
+      h.spent,
+      cost-all cie fde rows w new entries sets h.filling c.in_default.ensures,
+      cost-both old (returning r (rows_of cie fde)),
+      fde-cost s cie fde c.begin_with_cie-cie.ensures.cie,
+    )

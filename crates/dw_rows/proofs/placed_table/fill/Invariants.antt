@@ -3,6 +3,7 @@ use Rattle.dw_frame.specs.Views.{cie_of, fde_of}
 use Rattle.dw_rows.specs.UnwindRows.{rows_of}
 use Rattle.dw_rows.specs.CompiledTable.{IsFilling, IsTableUpTo, returning, rows_to}
 use Rattle.dw_rows.specs.RowCursors.{cursor_at}
+use Rattle.dw_rows.proofs.TableRoom.{cost}
 use Rattle.dw_rows.proofs.placed_table.fill.Given as goal
 
 abbrev pub invariant-loop-start : goal.invariant-loop-start
@@ -11,6 +12,8 @@ invariant-loop-start l = record {
       ++ returning l.cie.return_address_register (rows_of (cie_of l.cie) (fde_of l.fn.fde)))
       (cursor_at (cie_of l.cie) l.limit l.context l.instructions) l.table.entries l.table.numbers.sets;
   table : IsTableUpTo l.fn.frame.expressions l.context.location l.table.entries l.table.numbers.sets;
+  spent : l.fn.table.numbers.room + cost (rows_to l.fn.table.numbers.sets l.fn.table.entries l.fn.table.end)
+      ≤ l.table.numbers.room + 80 + cost (rows_to l.table.numbers.sets l.table.entries l.context.location);
   room : 16 * length l.table.entries + l.table.numbers.room ≤ 16 * length l.fn.table.entries + l.fn.table.numbers.room;
 }
 

@@ -7,6 +7,8 @@ use Rattle.dw_rows.specs.declared.table_entries.TableEntry.{TableEntry}
 use Rattle.dw_rows.specs.CompiledTable.{AreEntries, ArePlacedRows, rows_to}
 use Rattle.dw_rows.proofs.Indexes.{entry-placed}
 use Rattle.dw_rows.proofs.FilledTables.{IsFillingAll, all-begin, all-on, all-done}
+use Rattle.dw_rows.specs.UnwindTables.{fde_bytes, table_bytes}
+use Rattle.dw_rows.proofs.TableRoom.{sum-further, sum-first, lacks-more, still-lacks}
 use Rattle.dw_rows.proofs.placed_table.fill_all.Goals as goal
 
 pub fill-requires-clause-among : goal.fill-requires-clause-among
@@ -59,6 +61,12 @@ loop-entry-preserved c =
           (all-on c.args.frame.now (map view index) k c.loop-entry.table.end (fde_of x) c.loop-entry.table.entries
           c.fill.new.table.entries c.loop-entry.table.numbers.sets c.fill.new.table.numbers.sets c.index-index.ensures.checked index_of
           (omega arith) placed c.loop-entry.invariant.filling c.in_ok-fill.ensures.filled);
+      spent = omega (
+        arith,
+        c.loop-entry.invariant.spent,
+        c.in_ok-fill.ensures.spent,
+        sum-further (fde_bytes c.args.frame.now) (map view index) k (fde_of x) (omega arith) placed,
+      );
       room = omega (arith, c.loop-entry.invariant.room, c.in_ok-fill.ensures.room);
     }
 
@@ -90,9 +98,55 @@ returns-clause-rows c = (both c).1
 pub loop-entry-init : goal.loop-entry-init
 loop-entry-init c = record {
   filling = all-begin c.args.frame.now _ _ _ c.new.ensures c.in_ok-new.ensures.sets;
+  spent = omega (arith, c.in_ok-new.ensures.room);
   room = omega (arith, ap (λ (l : List TableEntry). length l) c.new.ensures, c.in_ok-new.ensures.room);
 }
 
 pub returns-clause-room : goal.returns-clause-room
 returns-clause-room c =
     omega (arith, c.loop-entry.invariant.room, c.in_ok-close.ensures.room, ap (λ (l : List TableEntry). length l) c.in_ok-finish.ensures)
+
+pub returns-in_err-fill-clause-short : goal.returns-in_err-fill-clause-short
+returns-in_err-fill-clause-short c =
+    let s = c.args.frame.now in
+    let fdes = c.fdes-fdes.result.now in
+    let index = c.index-index.result.now in
+    let view = fde_at (map fde_of fdes) in
+    let is : IsAddressIndex (map fde_of fdes) index =
+    subst (λ (l : List Fde). IsAddressIndex l index) (sym c.fdes-fdes.ensures.fdes) c.index-index.ensures.index in
+    let x = c.index-fdes-entry.result in
+    let k = c.loop-entry.entry-index in
+    let long = length-map index view in
+    let placed = entry-placed fdes index k _ x is.each c.loop-entry-test.true c.index-fdes-entry.is in
+    let index_of : IsIndexOf s.fdes (map view index) =
+    subst (λ (l : List Fde). IsIndexOf l (map view index)) c.fdes-fdes.ensures.fdes is.index_of in
+    let why = c.in_err-fill.field-0.0 in
+    still-lacks c.from_residual-in_err-fill.result why c.args.room (table_bytes s) c.from_residual-in_err-fill.ensures.1
+    (lacks-more why c.loop-entry.table.numbers.room c.args.room (fde_bytes s (fde_of x)) (table_bytes s)
+    (λ less. omega (
+      arith,
+      less,
+      c.loop-entry.invariant.spent,
+      sum-further (fde_bytes s) (map view index) k (fde_of x) (omega arith) placed,
+      sum-first (fde_bytes s) s.fdes (map view index) (k + 1) index_of,
+    )) c.in_err-fill.ensures.short)
+
+pub returns-in_err-close-clause-short : goal.returns-in_err-close-clause-short
+returns-in_err-close-clause-short c =
+    let s = c.args.frame.now in
+    let fdes = c.fdes-fdes.result.now in
+    let index = c.index-index.result.now in
+    let view = fde_at (map fde_of fdes) in
+    let is : IsAddressIndex (map fde_of fdes) index =
+    subst (λ (l : List Fde). IsAddressIndex l index) (sym c.fdes-fdes.ensures.fdes) c.index-index.ensures.index in
+    let index_of : IsIndexOf s.fdes (map view index) =
+    subst (λ (l : List Fde). IsIndexOf l (map view index)) c.fdes-fdes.ensures.fdes is.index_of in
+    let why = c.in_err-close.field-0.0 in
+    still-lacks c.from_residual-in_err-close.result why c.args.room (table_bytes s) c.from_residual-in_err-close.ensures.1
+    (lacks-more why c.loop-entry.table.numbers.room c.args.room 80 (table_bytes s)
+    (λ less. omega (
+      arith,
+      less,
+      c.loop-entry.invariant.spent,
+      sum-first (fde_bytes s) s.fdes (map view index) c.loop-entry.entry-index index_of,
+    )) c.in_err-close.ensures.short)
