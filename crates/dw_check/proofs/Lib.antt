@@ -21,6 +21,7 @@ pub mod ModuleWalks
 pub mod OneCaller
 pub mod OneReply
 pub mod Digits
+pub mod NamedTexts
 pub mod Replies
 pub mod Reported
 pub mod Sent

@@ -1,14 +1,16 @@
 -- What the flags and the words of a command say.
-use Rattle.std.specs.Prelude.{◌≡◌, Bool, false, if◌then◌else◌, List, ℕ, Option, Some, None, option_and_then, codes}
+use Rattle.std.specs.Prelude.{◌≡◌, Bool, false, if◌then◌else◌, List, [], ℕ, Option, Some, None, option_and_then, unwrap_or, codes}
 use Rattle.std.specs.Option.{option_map_or, IsSomeAnd}
+use Rattle.std.specs.List.{Any}
 use Rattle.std.specs.Str.{bytes_eq}
-use Rattle.clap.specs.Words.{Row, Text, first_of}
+use Rattle.clap.specs.Words.{Row, Text, all_of, first_of}
 use Rattle.dw_bytes.specs.declared.target.Target.{Target}
 use Rattle.dw_bytes.specs.declared.target.Order.TheVariants.{Little, Big}
 use Rattle.dw_bytes.specs.declared.target.AddressSize.TheVariants.{Four, Eight}
 use Rattle.dw_stack.specs.declared.state.Kind.{Kind}
 use Rattle.dw_stack.specs.declared.state.Kind.TheVariants.{FrameCfa, FrameRegister, Location}
 use Rattle.dw_check.specs.Addresses.{address_of, offset_of, short_number}
+use Rattle.dw_check.specs.NamedModules.{NamedModule, module_of, modules_of}
 
 -- a flag was given
 abbrev pub flag_of : Text → List Row → Bool
@@ -29,14 +31,15 @@ kind_of name =
     else (if bytes_eq name (codes "location") then Some Location
     else None))
 
--- What a word is: the name of a file; an address of the target; an offset in a section; a kind of expressions; or how many frames are
--- shown at most.
+-- What a word or the value of an option is: the name of a file; an address of the target; an offset in a section; a kind of expressions;
+-- how many frames are shown at most; or a further module, of which there may be several.
 pub data Word : Type 0 where
   file : Word
   address : Word
   offset : Word
   kind : Word
   limit : Word
+  named_module : Word
 
 -- the file, the address, the offset, the kind and the limit at the word of this name
 abbrev pub file_at : List Row → Text × Word → Option Text
@@ -55,6 +58,18 @@ kind_at name rows = option_and_then kind_of (first_of name rows)
 abbrev pub limit_at : Text → List Row → Option ℕ
 limit_at name rows = option_and_then short_number (first_of name rows)
 
+-- where the module of FRAME is loaded: at 0 unless `--load` says otherwise
+abbrev pub load_in : List Row → Option ℕ
+load_in rows = option_map_or (address_of (target_by_flags rows)) (first_of (codes "load") rows) (Some 0)
+
+-- all values of an option, in their order
+abbrev pub values_of : Text → List Row → List Text
+values_of name rows = unwrap_or (all_of name rows) []
+
+-- the further modules, in their order
+abbrev pub modules_in : List Row → Option (List NamedModule)
+modules_in rows = modules_of (target_by_flags rows) (values_of (codes "module") rows)
+
 -- a word is there, and is none of those that its place takes
 abbrev pub IsBad : List Row → Text × Word → Type 0
 IsBad rows (name, file) = ⊥
@@ -62,3 +77,4 @@ IsBad rows (name, address) = IsSomeAnd (first_of name rows) (λ text. address_of
 IsBad rows (name, offset) = IsSomeAnd (first_of name rows) (λ text. offset_of text ≡ None)
 IsBad rows (name, kind) = IsSomeAnd (first_of name rows) (λ text. kind_of text ≡ None)
 IsBad rows (name, limit) = IsSomeAnd (first_of name rows) (λ text. short_number text ≡ None)
+IsBad rows (name, named_module) = Any (λ text. module_of (target_by_flags rows) text ≡ None) (values_of name rows)

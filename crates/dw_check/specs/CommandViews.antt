@@ -16,5 +16,7 @@ command_in outline = record {
   name = outline.name.now;
   words = file_words outline.words.now;
   has_state = outline.has_state;
+  has_load = outline.has_load;
+  has_modules = outline.has_modules;
   task = λ rows. None;
 }

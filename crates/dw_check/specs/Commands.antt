@@ -1,19 +1,22 @@
 -- The command line: a table of commands, and the app in clap's words that it makes.
-use Rattle.std.specs.Prelude.{ℕ, Bool, true, false, List, [], ◌∷◌, Option, Some, None, option_map, option_and_then, codes}
-use Rattle.clap.specs.declared.builder.ArgAction.TheVariants.{Set, SetTrue}
+use Rattle.std.specs.Prelude.{ℕ, Bool, true, false, if◌then◌else◌, List, [], ◌∷◌, ◌++◌, Option, Some, None, option_map, option_and_then}
+use Rattle.std.specs.Prelude.{codes}
+use Rattle.clap.specs.declared.builder.ArgAction.TheVariants.{Append, Set, SetTrue}
 use Rattle.clap.specs.Simple.{on_top}
 use Rattle.clap.specs.Words.{App, Row, Rule, Text, new_app, new_rule, with_rule, with_subcommand}
-use Rattle.dw_check.specs.Arguments.{Word, file, address, offset, kind, limit, address_at, offset_at, kind_at, limit_at}
+use Rattle.dw_check.specs.Arguments.{Word, file, address, offset, kind, limit, named_module, address_at, offset_at, kind_at, limit_at}
 use Rattle.dw_check.specs.declared.requests.ListLookup.{ListLookup}
 use Rattle.dw_check.specs.declared.requests.Task.{Task}
 use Rattle.dw_check.specs.declared.requests.Task.TheVariants as tasks
 
--- A command by its name: its words in their order, each with a name of its own, whether it takes the option of a state file, and what it
--- does.
+-- A command by its name: its words in their order, each with a name of its own; whether it takes the option of a state file, that of
+-- where its module is loaded and that of further modules; and what it does.
 pub record Command : Type 0 where
   pub name : Text
   pub words : List (Text × Word)
   pub has_state : Bool
+  pub has_load : Bool
+  pub has_modules : Bool
   pub task : List Row → Option Task
 
 abbrev pub check_command : Command
@@ -21,6 +24,8 @@ check_command = record {
   name = codes "check";
   words = (codes "FRAME", file) ∷ (codes "LISTS", file) ∷ [];
   has_state = false;
+  has_load = false;
+  has_modules = false;
   task = λ rows. Some tasks.Check;
 }
 
@@ -29,6 +34,8 @@ rows_command = record {
   name = codes "rows";
   words = (codes "FRAME", file) ∷ [];
   has_state = false;
+  has_load = false;
+  has_modules = false;
   task = λ rows. Some tasks.Rows;
 }
 
@@ -37,6 +44,8 @@ row_command = record {
   name = codes "row";
   words = (codes "FRAME", file) ∷ (codes "ADDRESS", address) ∷ [];
   has_state = false;
+  has_load = true;
+  has_modules = false;
   task = λ rows. option_map tasks.Row (address_at (codes "ADDRESS") rows);
 }
 
@@ -53,6 +62,8 @@ locs_command = record {
   name = codes "locs";
   words = (codes "LISTS", file) ∷ (codes "LIST", offset) ∷ (codes "BASE", address) ∷ (codes "ADDRESS", address) ∷ [];
   has_state = true;
+  has_load = false;
+  has_modules = false;
   task = λ rows. option_map tasks.Locs (lookup_in rows);
 }
 
@@ -61,6 +72,8 @@ eval_command = record {
   name = codes "eval";
   words = (codes "KIND", kind) ∷ (codes "EXPR", file) ∷ [];
   has_state = true;
+  has_load = false;
+  has_modules = false;
   task = λ rows. option_map tasks.Eval (kind_at (codes "KIND") rows);
 }
 
@@ -69,6 +82,8 @@ unwind_command = record {
   name = codes "unwind";
   words = (codes "FRAME", file) ∷ (codes "ADDRESS", address) ∷ (codes "STATE", file) ∷ [];
   has_state = false;
+  has_load = true;
+  has_modules = true;
   task = λ rows. option_map tasks.Unwind (address_at (codes "ADDRESS") rows);
 }
 
@@ -82,8 +97,15 @@ backtrace_command = record {
   name = codes "backtrace";
   words = (codes "FRAME", file) ∷ (codes "ADDRESS", address) ∷ (codes "STATE", file) ∷ (codes "LIMIT", limit) ∷ [];
   has_state = false;
+  has_load = true;
+  has_modules = true;
   task = backtrace_in;
 }
+
+-- the words of a command, and its options whose values aren't just the names of files
+abbrev pub arguments_of : Command → List (Text × Word)
+arguments_of c = c.words ++ ((if c.has_load then (codes "load", address) ∷ [] else [])
+    ++ (if c.has_modules then (codes "module", named_module) ∷ [] else []))
 
 abbrev pub commands : List Command
 commands = check_command ∷ rows_command ∷ row_command ∷ locs_command ∷ eval_command ∷ unwind_command ∷ backtrace_command ∷ []
@@ -98,6 +120,10 @@ flag_rule name = record (new_rule name) { long = Some name; action = Some SetTru
 abbrev pub option_rule : Text → Rule
 option_rule name = record (new_rule name) { long = Some name; action = Some Set }
 
+-- an option that may be given any number of times, each with a value
+abbrev pub list_rule : Text → Rule
+list_rule name = record (new_rule name) { long = Some name; action = Some Append }
+
 -- a word that has to be there
 abbrev pub word_rule : Text → Rule
 word_rule name = record (new_rule name) { required = true }
@@ -110,12 +136,18 @@ abbrev pub with_words : App → List (Text × Word) → App
 with_words app [] = app
 with_words app (word ∷ words) = with_words (with_rule app (word_rule word.0)) words
 
-abbrev pub with_state : App → Bool → App
-with_state app false = app
-with_state app true = with_rule app (option_rule (codes "state"))
+-- with an option, if it is taken
+abbrev pub with_option : App → Rule → Bool → App
+with_option app rule false = app
+with_option app rule true = with_rule app rule
+
+-- with the options that this command takes
+abbrev pub with_options : App → Command → App
+with_options app c = with_option (with_option (with_option app (option_rule (codes "state")) c.has_state)
+    (option_rule (codes "load")) c.has_load) (list_rule (codes "module")) c.has_modules
 
 abbrev pub app_of_command : Command → App
-app_of_command c = with_state (with_words (with_flags (new_app c.name)) c.words) c.has_state
+app_of_command c = with_options (with_words (with_flags (new_app c.name)) c.words) c
 
 abbrev pub with_commands : App → List Command → App
 with_commands app [] = app

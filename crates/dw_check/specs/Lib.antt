@@ -26,6 +26,8 @@ pub mod CallerText
 pub mod WalkText
 -- the numbers and addresses that digits spell
 pub mod Addresses
+-- modules as the command line names them
+pub mod NamedModules
 -- lines and words
 pub mod Parts
 -- what flags and words say

@@ -1,5 +1,5 @@
 -- What a command line asks for.
-use Rattle.std.specs.Prelude.{◌≡◌, ◌⊎◌, Bool, true, false, List, [], ◌∷◌, ◌++◌, Option, Some, None, option_map, option_and_then, Result}
+use Rattle.std.specs.Prelude.{◌≡◌, ◌⊎◌, ℕ, Bool, true, false, List, [], ◌∷◌, ◌++◌, map, Option, Some, None, option_and_then, Result}
 use Rattle.std.specs.Prelude.{Ok, Err, codes}
 use Rattle.std.specs.Option.{IsSomeAnd, option_to_list}
 use Rattle.std.specs.List.{filter_map, find}
@@ -8,16 +8,20 @@ use Rattle.clap.specs.declared.error.ErrorKind.{ErrorKind}
 use Rattle.clap.specs.declared.error.ErrorKind.TheVariants.{OutOfMemory}
 use Rattle.clap.specs.Words.{Kinds, Row, Text, fault_of, first_of, subcommand_of}
 use Rattle.dw_bytes.specs.declared.target.Target.{Target}
-use Rattle.dw_check.specs.Arguments.{Word, flag_of, target_by_flags, file_at, IsBad}
-use Rattle.dw_check.specs.Commands.{Command, commands, dwcheck}
+use Rattle.dw_check.specs.Arguments.{Word, flag_of, target_by_flags, file_at, load_in, modules_in, IsBad}
+use Rattle.dw_check.specs.NamedModules.{NamedModule}
+use Rattle.dw_check.specs.Commands.{Command, arguments_of, commands, dwcheck}
 use Rattle.dw_check.specs.declared.requests.Task.{Task}
 use Rattle.dw_check.specs.declared.requests.Usage.{Usage}
 use Rattle.dw_check.specs.declared.requests.Usage.TheVariants.{Line, BadArgument, Memory}
 
--- A task, what its numbers are read under, whether its sections and expressions are hex text, and the names of the files.
+-- A task, what its numbers are read under, where the module of a frame section is loaded and where each further module is, whether
+-- sections and expressions are hex text, and the names of the files, those of the further modules last.
 pub record Asked : Type 0 where
   pub task : Task
   pub target : Target
+  pub load : ℕ
+  pub module_loads : List ℕ
   pub hex : Bool
   pub files : List Text
 
@@ -26,15 +30,35 @@ abbrev pub state_at : Bool → List Row → Option Text
 state_at false rows = None
 state_at true rows = first_of (codes "state") rows
 
--- the files that a command's words name, in their order, and the state file behind them
+-- the files that a command's words name, in their order, and then the state file
 abbrev pub files_of : Command → List Row → List Text
 files_of c rows = filter_map (file_at rows) c.words ++ option_to_list (state_at c.has_state rows)
 
+-- where a command's own module is loaded: at 0 unless the option says otherwise
+abbrev pub load_at : Bool → List Row → Option ℕ
+load_at false rows = Some 0
+load_at true rows = load_in rows
+
+-- the further modules of a command
+abbrev pub modules_at : Bool → List Row → Option (List NamedModule)
+modules_at false rows = Some []
+modules_at true rows = modules_in rows
+
+-- the request for a task over these files, with modules that are loaded so
+abbrev pub asked_with : List Row → List Text → Option Task → Option ℕ → Option (List NamedModule) → Option Asked
+asked_with rows files (Some task) (Some load) (Some modules) = Some (record {
+  task = task;
+  target = target_by_flags rows;
+  load = load;
+  module_loads = map (λ m. m.load) modules;
+  hex = flag_of (codes "hex") rows;
+  files = files ++ map (λ m. m.file) modules;
+})
+asked_with rows files _ _ _ = None
+
 -- the request of a command with these arguments
 abbrev pub asked_of : Command → List Row → Option Asked
-asked_of c rows = option_map
-    (λ task. record { task = task; target = target_by_flags rows; hex = flag_of (codes "hex") rows; files = files_of c rows })
-    (c.task rows)
+asked_of c rows = asked_with rows (files_of c rows) (c.task rows) (load_at c.has_load rows) (modules_at c.has_modules rows)
 
 -- the command of a name
 abbrev pub command_of : Text → Option Command
@@ -48,8 +72,9 @@ abbrev pub HasBad : List Row → List (Text × Word) → Type 0
 HasBad rows [] = ⊥
 HasBad rows (word ∷ words) = IsBad rows word ⊎ HasBad rows words
 
+-- a word or the value of an option of this command is bad
 abbrev pub HasBadWord : Text → List Row → Type 0
-HasBadWord name rows = IsSomeAnd (command_of name) (λ c. HasBad rows c.words)
+HasBadWord name rows = IsSomeAnd (command_of name) (λ c. HasBad rows (arguments_of c))
 
 -- ---- what an answer has to be
 

@@ -1,75 +1,48 @@
 //! What a command line asks for.
 
-ghost use Rattle.std.specs.Prelude.{◌≡◌, ◌⊎◌, ◌∷◌, [], IfOk, IfErr, Some, map, option_map, codes};
+ghost use Rattle.std.specs.Prelude.{◌≡◌, ◌⊎◌, ◌∷◌, ◌++◌, [], IfOk, IfErr, Some, map, option_map, codes};
 ghost use Rattle.std.specs.Option.{IsSomeAnd, option_to_list};
 ghost use Rattle.std.specs.String.{string_bytes};
 ghost use Rattle.clap.specs.Words.{found_of, rows_of, first_of, kind_of, subcommand_rows_of};
-ghost use Rattle.dw_check.specs.Arguments.{flag_of, target_by_flags, kind_of as kind_named, address_at, offset_at, limit_at};
-ghost use Rattle.dw_check.specs.Arguments.{IsBad, address, offset, kind, limit};
+ghost use Rattle.dw_check.specs.Arguments.{flag_of, target_by_flags, load_in, modules_in, IsBad, address, kind, named_module};
 ghost use Rattle.dw_check.specs.Commands.{check_command, rows_command, row_command, locs_command, eval_command, unwind_command};
-ghost use Rattle.dw_check.specs.Commands.{backtrace_command, backtrace_in, lookup_in};
-ghost use Rattle.dw_check.specs.Requests.{asked_of, asked_by, HasBad, HasBadWord, IsUsageOf, AsksFor};
+ghost use Rattle.dw_check.specs.Commands.{backtrace_command, backtrace_in, lookup_in, arguments_of};
+ghost use Rattle.dw_check.specs.Requests.{asked_of, asked_by, asked_with, HasBad, HasBadWord, IsUsageOf, AsksFor};
 ghost use Rattle.dw_check.specs.declared.requests.Usage.TheVariants.{Memory, BadArgument};
 
-use crate::addresses::{parse_address, parse_offset, parse_short};
 use crate::command_line::{
-    ADDR4, ADDRESS, BACKTRACE, BASE, BIG, CHECK, EVAL, EXPR, FRAME, HEX, KIND, LIMIT, LIST, LISTS,
-    LOCS, ROW, ROWS, STATE, STATE_FILE, UNWIND, whole_command,
+    ADDRESS, BACKTRACE, BASE, CHECK, EVAL, EXPR, FRAME, HEX, KIND, LIMIT, LIST, LISTS, LOCS, ROW,
+    ROWS, STATE, STATE_FILE, UNWIND, whole_command,
 };
+use crate::found_words::{
+    address_word, has_flag, kind_word, limit_word, load_option, module_options, offset_word,
+    target_by_flags, word_text,
+};
+use crate::named_modules::NamedModule;
 use crate::requests::{ListLookup, Request, Task, Usage};
 use clap::error::ErrorKind;
 use clap::{ArgMatches, Error};
-use dw_bytes::{AddressSize, Order, Target};
-use dw_stack::Kind;
-use std::alloc::Global;
+use std::alloc::{AllocError, Global};
 
-/// The first value of an argument.
-fn word_text<'a>(matches: &ArgMatches<'a>, name: &str) -> Option<&'a str>
-    ensures { option_map (λ s. s.now) result ≡ first_of name.now (rows_of (found_of matches.now)) }
-{
-    matches.get_str(name)
-}
-
-/// Whether a flag was given.
-fn has_flag(matches: &ArgMatches<'_>, name: &str) -> bool
-    ensures { result ≡ flag_of name.now (rows_of (found_of matches.now)) }
-{
-    match word_text(matches, name) {
-        Some(text) => text == "true",
-        None => false,
-    }
-}
-
-/// The target that the flags name.
-fn target_by_flags(matches: &ArgMatches<'_>) -> Target
-    ensures { result ≡ target_by_flags (rows_of (found_of matches.now)) }
-{
-    let order = if has_flag(matches, BIG) {
-        Order::Big
-    } else {
-        Order::Little
-    };
-    let address_size = if has_flag(matches, ADDR4) {
-        AddressSize::Four
-    } else {
-        AddressSize::Eight
-    };
-    Target {
-        order,
-        address_size,
-    }
-}
-
-/// A request with the flags of a subcommand, over these files.
-fn request_with(matches: &ArgMatches<'_>, task: Task, files: Vec<String>) -> Request
+/// A request with the flags of a subcommand, over these files, with its module at 0 and no further ones.
+fn request_with(
+    alloc: Global,
+    matches: &ArgMatches<'_>,
+    task: Task,
+    files: Vec<String>,
+) -> Request
     ensures task { result.task ≡ task }
     ensures target { result.target ≡ target_by_flags (rows_of (found_of matches.now)) }
+    ensures load { result.load ≡ 0 }
+    ensures modules { result.module_loads ≡ [] }
     ensures hex { result.hex ≡ flag_of (codes "hex") (rows_of (found_of matches.now)) }
     ensures files { result.files ≡ map (λ s. string_bytes s) files.items }
 {
     Request {
         task,
         target: target_by_flags(matches),
+        load: 0,
+        module_loads: Vec::new(alloc),
         hex: has_flag(matches, HEX),
         files,
     }
@@ -85,13 +58,15 @@ fn request_over(
     ensures task { IfOk result (λ r. r.task ≡ task) }
     ensures target { IfOk result
         (λ r. r.target ≡ target_by_flags (rows_of (found_of matches.now))) }
+    ensures load { IfOk result (λ r. r.load ≡ 0) }
+    ensures modules { IfOk result (λ r. r.module_loads ≡ []) }
     ensures hex { IfOk result (λ r. r.hex ≡ flag_of (codes "hex")
         (rows_of (found_of matches.now))) }
     ensures files { IfOk result (λ r. r.files ≡ file.now ∷ []) }
     ensures err { IfErr result (λ e. e ≡ Memory) }
 {
     let files = vec![in alloc; String::from_str(alloc, file)?]?;
-    Ok(request_with(matches, task, files))
+    Ok(request_with(alloc, matches, task, files))
 }
 
 /// The names of a file and of a second one, if there is one.
@@ -118,13 +93,15 @@ fn request_over_both(
     ensures task { IfOk result (λ r. r.task ≡ task) }
     ensures target { IfOk result
         (λ r. r.target ≡ target_by_flags (rows_of (found_of matches.now))) }
+    ensures load { IfOk result (λ r. r.load ≡ 0) }
+    ensures modules { IfOk result (λ r. r.module_loads ≡ []) }
     ensures hex { IfOk result (λ r. r.hex ≡ flag_of (codes "hex")
         (rows_of (found_of matches.now))) }
     ensures files { IfOk result (λ r. r.files ≡ first.now ∷ second.now ∷ []) }
     ensures err { IfErr result (λ e. e ≡ Memory) }
 {
     let files = one_or_two_files(alloc, first, Some(second))?;
-    Ok(request_with(matches, task, files))
+    Ok(request_with(alloc, matches, task, files))
 }
 
 /// A request over one file, and over a state file if there is one.
@@ -137,6 +114,8 @@ fn request_with_state(
     ensures task { IfOk result (λ r. r.task ≡ task) }
     ensures target { IfOk result
         (λ r. r.target ≡ target_by_flags (rows_of (found_of matches.now))) }
+    ensures load { IfOk result (λ r. r.load ≡ 0) }
+    ensures modules { IfOk result (λ r. r.module_loads ≡ []) }
     ensures hex { IfOk result (λ r. r.hex ≡ flag_of (codes "hex")
         (rows_of (found_of matches.now))) }
     ensures files { IfOk result (λ r. r.files ≡ file.now
@@ -144,7 +123,50 @@ fn request_with_state(
     ensures err { IfErr result (λ e. e ≡ Memory) }
 {
     let files = one_or_two_files(alloc, file, word_text(matches, STATE))?;
-    Ok(request_with(matches, task, files))
+    Ok(request_with(alloc, matches, task, files))
+}
+
+/// These files, and then those of the modules.
+fn with_module_files(
+    alloc: Global,
+    files: Vec<String>,
+    modules: &[NamedModule<'_>],
+) -> Result<Vec<String>, AllocError>
+    ensures { IfOk result (λ all. map (λ s. string_bytes s) all.items
+        ≡ map (λ s. string_bytes s) files.items ++ map (λ m. m.file) modules.now) }
+{
+    let mut files = files;
+    for module in modules {
+        files.push(String::from_str(alloc, module.file)?)?;
+    }
+    Ok(files)
+}
+
+/// A request over a frame section, a state file and the modules that the options name.
+fn request_over_modules(
+    alloc: Global,
+    matches: &ArgMatches<'_>,
+    task: Task,
+    frame: &str,
+    state: &str,
+) -> Result<Request, Usage>
+    ensures ok { IfOk result (λ r. asked_with (rows_of (found_of matches.now))
+        (frame.now ∷ state.now ∷ []) (Some task) (load_in (rows_of (found_of matches.now)))
+        (modules_in (rows_of (found_of matches.now))) ≡ Some r) }
+    ensures err { IfErr result (λ e. (e ≡ Memory) ⊎ ((e ≡ BadArgument)
+        × HasBad (rows_of (found_of matches.now))
+        ((codes "load", address) ∷ (codes "module", named_module) ∷ []))) }
+{
+    let load = load_option(matches)?;
+    let modules = module_options(alloc, matches)?;
+    let files = one_or_two_files(alloc, frame, Some(state))?;
+    let files = with_module_files(alloc, files, modules.as_slice())?;
+    let module_loads = modules.iter().map(|module| module.load).collect(alloc)?;
+    Ok(Request {
+        load,
+        module_loads,
+        ..request_with(alloc, matches, task, files)
+    })
 }
 
 /// What `check` asks for.
@@ -171,47 +193,19 @@ fn rows_request(alloc: Global, matches: &ArgMatches<'_>) -> Result<Request, Usag
     }
 }
 
-/// The address that a word spells.
-fn address_word(matches: &ArgMatches<'_>, name: &str) -> Result<u64, Usage>
-    ensures ok { IfOk result (λ a. address_at name.now (rows_of (found_of matches.now)) ≡ Some a) }
-    ensures err { IfErr result (λ e. (e ≡ Memory)
-        ⊎ ((e ≡ BadArgument) × IsBad (rows_of (found_of matches.now)) (name.now, address))) }
-{
-    let Some(text) = word_text(matches, name) else {
-        return Err(Usage::Memory);
-    };
-    match parse_address(text.as_bytes(), target_by_flags(matches)) {
-        Some(address) => Ok(address),
-        None => Err(Usage::BadArgument),
-    }
-}
-
-/// The offset in a section that a word spells.
-fn offset_word(matches: &ArgMatches<'_>, name: &str) -> Result<u32, Usage>
-    ensures ok { IfOk result (λ n. offset_at name.now (rows_of (found_of matches.now)) ≡ Some n) }
-    ensures err { IfErr result (λ e. (e ≡ Memory)
-        ⊎ ((e ≡ BadArgument) × IsBad (rows_of (found_of matches.now)) (name.now, offset))) }
-{
-    let Some(text) = word_text(matches, name) else {
-        return Err(Usage::Memory);
-    };
-    match parse_offset(text.as_bytes()) {
-        Some(offset) => Ok(offset),
-        None => Err(Usage::BadArgument),
-    }
-}
-
 /// What `row` asks for.
 fn row_request(alloc: Global, matches: &ArgMatches<'_>) -> Result<Request, Usage>
     ensures ok { IfOk result (λ r. asked_of row_command (rows_of (found_of matches.now)) ≡ Some r) }
     ensures err { IfErr result (λ e. (e ≡ Memory)
-        ⊎ ((e ≡ BadArgument) × IsBad (rows_of (found_of matches.now)) (codes "ADDRESS", address))) }
+        ⊎ ((e ≡ BadArgument) × HasBad (rows_of (found_of matches.now)) (arguments_of row_command))) }
 {
     let Some(file) = word_text(matches, FRAME) else {
         return Err(Usage::Memory);
     };
     let address = address_word(matches, ADDRESS)?;
-    request_over(alloc, matches, Task::Row { address }, file)
+    let load = load_option(matches)?;
+    let request = request_over(alloc, matches, Task::Row { address }, file)?;
+    Ok(Request { load, ..request })
 }
 
 /// What `locs` looks up.
@@ -244,22 +238,6 @@ fn locs_request(alloc: Global, matches: &ArgMatches<'_>) -> Result<Request, Usag
     request_with_state(alloc, matches, Task::Locs { lookup }, file)
 }
 
-/// The kind of expressions that a word names.
-fn kind_word(name: &str) -> Option<Kind>
-    ensures { result ≡ kind_named name.now }
-{
-    if name == "cfa" {
-        return Some(Kind::FrameCfa);
-    }
-    if name == "register" {
-        return Some(Kind::FrameRegister);
-    }
-    if name == "location" {
-        return Some(Kind::Location);
-    }
-    None
-}
-
 /// What `eval` asks for.
 fn eval_request(alloc: Global, matches: &ArgMatches<'_>) -> Result<Request, Usage>
     ensures ok { IfOk result (λ r. asked_of eval_command (rows_of (found_of matches.now))
@@ -281,29 +259,15 @@ fn unwind_request(alloc: Global, matches: &ArgMatches<'_>) -> Result<Request, Us
     ensures ok { IfOk result (λ r. asked_of unwind_command (rows_of (found_of matches.now))
         ≡ Some r) }
     ensures err { IfErr result (λ e. (e ≡ Memory)
-        ⊎ ((e ≡ BadArgument) × IsBad (rows_of (found_of matches.now)) (codes "ADDRESS", address))) }
+        ⊎ ((e ≡ BadArgument) × HasBad (rows_of (found_of matches.now))
+        (arguments_of unwind_command))) }
 {
     let (Some(frame), Some(state)) = (word_text(matches, FRAME), word_text(matches, STATE_FILE))
     else {
         return Err(Usage::Memory);
     };
     let address = address_word(matches, ADDRESS)?;
-    request_over_both(alloc, matches, Task::Unwind { address }, frame, state)
-}
-
-/// How many frames a word says at most.
-fn limit_word(matches: &ArgMatches<'_>, name: &str) -> Result<u32, Usage>
-    ensures ok { IfOk result (λ n. limit_at name.now (rows_of (found_of matches.now)) ≡ Some n) }
-    ensures err { IfErr result (λ e. (e ≡ Memory)
-        ⊎ ((e ≡ BadArgument) × IsBad (rows_of (found_of matches.now)) (name.now, limit))) }
-{
-    let Some(text) = word_text(matches, name) else {
-        return Err(Usage::Memory);
-    };
-    match parse_short(text.as_bytes()) {
-        Some(limit) => Ok(u32::from(limit)),
-        None => Err(Usage::BadArgument),
-    }
+    request_over_modules(alloc, matches, Task::Unwind { address }, frame, state)
 }
 
 /// What `backtrace` does.
@@ -322,14 +286,15 @@ fn backtrace_request(alloc: Global, matches: &ArgMatches<'_>) -> Result<Request,
     ensures ok { IfOk result (λ r. asked_of backtrace_command (rows_of (found_of matches.now))
         ≡ Some r) }
     ensures err { IfErr result (λ e. (e ≡ Memory)
-        ⊎ ((e ≡ BadArgument) × HasBad (rows_of (found_of matches.now)) backtrace_command.words)) }
+        ⊎ ((e ≡ BadArgument) × HasBad (rows_of (found_of matches.now))
+        (arguments_of backtrace_command))) }
 {
     let (Some(frame), Some(state)) = (word_text(matches, FRAME), word_text(matches, STATE_FILE))
     else {
         return Err(Usage::Memory);
     };
     let task = backtrace_task(matches)?;
-    request_over_both(alloc, matches, task, frame, state)
+    request_over_modules(alloc, matches, task, frame, state)
 }
 
 /// The request of a subcommand. The arms that answer `Memory` without asking for any are never reached:
@@ -391,7 +356,8 @@ fn usage_of_clap_error(alloc: Global, error: Error) -> Usage
 }
 
 /// What the words ask for, the program's name first among them. It is `Line` exactly where clap refuses
-/// the words, and `BadArgument` exactly where a word is none of those that its place takes, memory aside.
+/// the words, and `BadArgument` exactly where a word or the value of an option is none of those that its place takes, memory
+/// aside.
 pub fn request(alloc: Global, words: Vec<String>) -> Result<Request, Usage>
     ensures { AsksFor (map (λ w. string_bytes w) words.items) result }
 {

@@ -3,7 +3,8 @@
 ghost use Rattle.std.specs.Prelude.{◌≡◌, IfOk, map, true, false};
 ghost use Rattle.clap.specs.Words.{with_subcommand, app_of, rule_of};
 ghost use Rattle.clap.specs.declared.builder.Command.TheViews.{out-Command as fields_of};
-ghost use Rattle.dw_check.specs.Commands.{flag_rule, option_rule, word_rule, with_flags, with_words, with_state};
+ghost use Rattle.dw_check.specs.Commands.{flag_rule, option_rule, list_rule, word_rule, with_flags, with_words, with_option};
+ghost use Rattle.dw_check.specs.Commands.{with_options};
 ghost use Rattle.dw_check.specs.Commands.{with_commands, app_of_command, dwcheck};
 ghost use Rattle.dw_check.specs.CommandViews.{file_words, command_in};
 
@@ -45,6 +46,10 @@ pub(crate) const LIMIT: &str = "LIMIT";
 
 pub(crate) const STATE: &str = "state";
 
+pub(crate) const LOAD: &str = "load";
+
+pub(crate) const MODULE: &str = "module";
+
 pub(crate) const BIG: &str = "big";
 
 pub(crate) const ADDR4: &str = "addr4";
@@ -57,15 +62,21 @@ const LISTS_HELP: &str = "A file with the raw bytes of a .debug_loclists section
 
 const STATE_HELP: &str = "A file with what registers, memory and the context have";
 
+const LOAD_HELP: &str = "The address where the module of FRAME is loaded; 0x0 if not given";
+
+const MODULE_HELP: &str = "LOAD=FILE: a further module, where it is loaded and its section; may be given again";
+
 const WHERE_IT_STANDS: &str = "The address where the frame stands";
 
 /// A command in outline: its name, what it does, its words in their order, each with what it is, and whether it takes a state
-/// file. Every command has the same flags.
+/// file, where its module is loaded, and further modules. Every command has the same flags.
 struct Outline<'a> {
     name: &'a str,
     about: &'a str,
     words: &'a [(&'a str, &'a str)],
     has_state: bool,
+    has_load: bool,
+    has_modules: bool,
 }
 
 /// The commands, in the order in which the help shows them.
@@ -75,18 +86,24 @@ const COMMANDS: [Outline<'static>; 7] = [
         about: "Check two sections, and report on them",
         words: &[(FRAME, FRAME_HELP), (LISTS, LISTS_HELP)],
         has_state: false,
+        has_load: false,
+        has_modules: false,
     },
     Outline {
         name: ROWS,
         about: "Show each FDE and its rows",
         words: &[(FRAME, FRAME_HELP)],
         has_state: false,
+        has_load: false,
+        has_modules: false,
     },
     Outline {
         name: ROW,
         about: "Show the row of an address",
         words: &[(FRAME, FRAME_HELP), (ADDRESS, "0x and 1 to 16 hex digits")],
         has_state: false,
+        has_load: true,
+        has_modules: false,
     },
     Outline {
         name: LOCS,
@@ -98,6 +115,8 @@ const COMMANDS: [Outline<'static>; 7] = [
             (ADDRESS, "The address to look up"),
         ],
         has_state: true,
+        has_load: false,
+        has_modules: false,
     },
     Outline {
         name: EVAL,
@@ -107,6 +126,8 @@ const COMMANDS: [Outline<'static>; 7] = [
             (EXPR, "A file with the bytes of an expression"),
         ],
         has_state: true,
+        has_load: false,
+        has_modules: false,
     },
     Outline {
         name: UNWIND,
@@ -117,6 +138,8 @@ const COMMANDS: [Outline<'static>; 7] = [
             (STATE_FILE, STATE_HELP),
         ],
         has_state: false,
+        has_load: true,
+        has_modules: true,
     },
     Outline {
         name: BACKTRACE,
@@ -128,6 +151,8 @@ const COMMANDS: [Outline<'static>; 7] = [
             (LIMIT, "The most frames, up to 65535"),
         ],
         has_state: false,
+        has_load: true,
+        has_modules: true,
     },
 ];
 
@@ -187,12 +212,42 @@ fn with_words<'a>(
     Ok(command)
 }
 
-fn with_state<'a>(alloc: Global, command: Command<'a>) -> Result<Command<'a>, AllocError>
-    requires { (fields_of command).has_globals ≡ false }
-    ensures app { IfOk result (λ c. app_of c ≡ with_state (app_of command.entry) true) }
+/// With an option, if it is taken.
+fn with_option<'a>(
+    command: Command<'a>,
+    option: Arg<'a>,
+    is_taken: bool,
+) -> Result<Command<'a>, AllocError>
+    requires locals { (fields_of command).has_globals ≡ false }
+    requires local { option.global ≡ false }
+    ensures app { IfOk result (λ c. app_of c
+        ≡ with_option (app_of command.entry) (rule_of option.entry) is_taken) }
     ensures local { IfOk result (λ c. (fields_of c).has_globals ≡ false) }
 {
-    command.arg(clap_option(alloc, STATE, STATE_HELP))
+    if is_taken {
+        command.arg(option)
+    } else {
+        Ok(command)
+    }
+}
+
+/// With the options that the command of an outline takes.
+fn with_options<'a>(
+    alloc: Global,
+    command: Command<'a>,
+    outline: &Outline<'a>,
+) -> Result<Command<'a>, AllocError>
+    requires { (fields_of command).has_globals ≡ false }
+    ensures app { IfOk result (λ c. app_of c
+        ≡ with_options (app_of command.entry) (command_in outline.now)) }
+    ensures local { IfOk result (λ c. (fields_of c).has_globals ≡ false) }
+{
+    let state = clap_option(alloc, STATE, STATE_HELP);
+    let load = clap_option(alloc, LOAD, LOAD_HELP);
+    let module = clap_option(alloc, MODULE, MODULE_HELP).action(ArgAction::Append);
+    let command = with_option(command, state, outline.has_state)?;
+    let command = with_option(command, load, outline.has_load)?;
+    with_option(command, module, outline.has_modules)
 }
 
 /// The command of an outline.
@@ -205,11 +260,7 @@ fn clap_command<'a>(alloc: Global, outline: &Outline<'a>) -> Result<Command<'a>,
         Command::new(alloc, outline.name).about(outline.about),
     )?;
     let command = with_words(alloc, command, outline.words)?;
-    if outline.has_state {
-        with_state(alloc, command)
-    } else {
-        Ok(command)
-    }
+    with_options(alloc, command, outline)
 }
 
 /// With the command of an outline.

@@ -51,9 +51,13 @@ pub struct Request {
     pub(crate) task: Task,
     /// What the numbers in sections, expressions and state files are read under.
     pub(crate) target: Target,
+    /// The address where the module of the frame section is loaded.
+    pub(crate) load: u64,
+    /// The addresses where the further modules are loaded, in their order.
+    pub(crate) module_loads: Vec<u64>,
     /// Whether sections and the expression are hex text; a state file never is.
     pub(crate) hex: bool,
-    /// The names of the files, in the order in which the command takes them, a state file's last.
+    /// The names of the files: those of the command's words in their order, a state file's, and those of the further modules.
     pub(crate) files: Vec<String>,
 }
 
@@ -63,6 +67,8 @@ impl Model for Request {
     ghost view = { λ r. record {
       task = r.task;
       target = r.target;
+      load = r.load;
+      module_loads = r.module_loads.items;
       hex = r.hex;
       files = map (λ s. string_bytes s) r.files.items;
     } };
@@ -82,7 +88,7 @@ impl Request {
     pub fn needed_length(&self, place: usize) -> Option<u64>
         ensures { result ≡ needed_length self.now.task self.now.hex place }
     {
-        let is_state = !matches!(self.task, Task::Check) && place > 0;
+        let is_state = !matches!(self.task, Task::Check) && place == 1;
         if self.hex || is_state {
             None
         } else {

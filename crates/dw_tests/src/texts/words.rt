@@ -42,6 +42,14 @@ dwcheck backtrace f 0x1000 s 0x1
 dwcheck backtrace f 0x1000 s 1\t
 dwcheck backtrace f 0x1000 s 99999
 dwcheck backtrace f 0x1000 s a
+dwcheck row --load 1000 f 0x0
+dwcheck unwind --load 0x f 0x0 s
+dwcheck backtrace --addr4 --load 0x100000000 f 0x0 s 9
+dwcheck unwind --module 0x10 f 0x0 s
+dwcheck unwind --module 0x10= f 0x0 s
+dwcheck unwind --module =m f 0x0 s
+dwcheck backtrace --module 0x10=m --module 10=n f 0x0 s 9
+dwcheck backtrace --addr4 --module 0x100000000=m f 0x0 s 9
 ";
 
 #[test]
@@ -86,6 +94,9 @@ dwcheck backtrace f 0x1000 s
 dwcheck backtrace f 0x1000 s 9 t
 dwcheck backtrace f 0x1000 9 --state s
 dwcheck backtrace f 0x1000 s -1
+dwcheck rows --load 0x0 a
+dwcheck row --module 0x0=m a 0x0
+dwcheck unwind --load 0x0 --load 0x0 f 0x0 s
 ";
 
 #[test]
@@ -131,6 +142,9 @@ dwcheck backtrace f 0x1000 s 65535: f s
 dwcheck backtrace f 0x1000 s 00009: f s
 dwcheck backtrace f 0x1000 s 9 --hex: f s
 dwcheck backtrace --big --addr4 --hex f 0xffffffff s 9: f s
+dwcheck row --load 0x400000 f 0x400010: f
+dwcheck unwind --load 0x1000 --module 0x2000=m --module 0x3000=n=o f 0x1000 s: f s m n=o
+dwcheck backtrace f 0x1000 s 9 --module=0x2000=m: f s m
 ";
 
 /// The names of the files that the line asks for, one blank between two.
@@ -157,21 +171,26 @@ fn asks_for_the_files_of_a_line(rt: HostRuntime) -> Result<(), AllocError> {
     Ok(())
 }
 
-/// How much of the first file and of the second decides.
-const NEEDED: [(&str, Option<u64>, Option<u64>); 3] = [
-    ("dwcheck check f l", Some(1 << 32), Some(1 << 32)),
-    ("dwcheck unwind f 0x0 s", Some(1 << 32), None),
-    ("dwcheck check --hex f l", None, None),
+/// How much of each file decides.
+const NEEDED: [(&str, &[Option<u64>]); 4] = [
+    ("dwcheck check f l", &[Some(1 << 32), Some(1 << 32)]),
+    ("dwcheck unwind f 0x0 s", &[Some(1 << 32), None]),
+    ("dwcheck check --hex f l", &[None, None]),
+    (
+        "dwcheck unwind f 0x0 s --module 0x10=m",
+        &[Some(1 << 32), None, Some(1 << 32)],
+    ),
 ];
 
 #[test]
 fn needs_no_more_of_a_file_than_decides(rt: HostRuntime) -> Result<(), AllocError> {
-    for (line, first, second) in &NEEDED {
+    for (line, lengths) in &NEEDED {
         let Ok(request) = asked(rt.alloc(), line)? else {
             panic!(rt; "{line}")
         };
-        assert_eq!(rt; request.needed_length(0), *first);
-        assert_eq!(rt; request.needed_length(1), *second);
+        for (place, length) in lengths.iter().enumerate() {
+            assert_eq!(rt; request.needed_length(place), *length);
+        }
     }
     Ok(())
 }

@@ -1,7 +1,7 @@
 use Rattle.std.proofs.Common.{ap, ◌∙◌, codes, false}
 use Rattle.std.specs.Option.{option_map_or}
 use Rattle.std.specs.Str.{bytes_eq}
-use Rattle.dw_check.proofs.arguments.has_flag.Goals as goal
+use Rattle.dw_check.proofs.found_words.has_flag.Goals as goal
 
 pub returns-in-Some : goal.returns-in-Some
 returns-in-Some c = c.eq.ensures ∙ ap (λ t. option_map_or (λ text. bytes_eq text (codes "true")) t false) c.in-Some.ensures

@@ -1,0 +1,12 @@
+-- Texts that spell modules, one after the other.
+use Rattle.std.proofs.Common.{◌≡◌, List, [], ◌∷◌, ◌++◌, refl, ap, sym}
+use Rattle.std.proofs.lemmas.List.{append_assoc}
+use Rattle.std.specs.Prelude.{Option, Some, None, option_map}
+use Rattle.dw_check.specs.NamedModules.{NamedModule}
+
+-- one more module is joined to those before it, whatever follows
+pub joined : (before : List NamedModule) (m : NamedModule) (rest : Option (List NamedModule))
+    → option_map (λ others. before ++ others) (option_map (λ others. m ∷ others) rest)
+    ≡ option_map (λ others. (before ++ m ∷ []) ++ others) rest
+joined before m None = refl
+joined before m (Some others) = ap Some (sym (append_assoc before (m ∷ []) others))

@@ -1,0 +1,61 @@
+//! Modules as the command line names them.
+
+ghost use Rattle.std.specs.Prelude.{◌≡◌, ◌⊎◌, Some, None, map, IfOk, IfErr};
+ghost use Rattle.std.specs.List.{Any};
+ghost use Rattle.dw_check.specs.NamedModules.{module_of, modules_of};
+ghost use Rattle.dw_check.specs.declared.requests.Usage.TheVariants.{Memory, BadArgument};
+
+use crate::addresses::parse_address;
+use crate::requests::Usage;
+use dw_bytes::Target;
+use std::alloc::Global;
+use std::marker::Model;
+
+/// Where a module is loaded, and the name of the file with its frame section.
+#[derive(Debug, Drop)]
+pub(crate) struct NamedModule<'a> {
+    pub(crate) load: u64,
+    pub(crate) file: &'a str,
+}
+
+impl<'a> Model for NamedModule<'a> {
+    ghost use Rattle.dw_check.specs.NamedModules.{NamedModule};
+
+    ghost Value = { NamedModule };
+
+    ghost view = { λ m. record { load = m.load; file = m.file.now } };
+}
+
+/// The module that an address, `=` and the name of a file spell.
+fn parse_module<'a>(text: &'a str, target: Target) -> Option<NamedModule<'a>>
+    ensures { result ≡ module_of target text.entry.now }
+{
+    let (load, file) = text.split_once('=')?;
+    if file.is_empty() {
+        return None;
+    }
+    let load = parse_address(load.as_bytes(), target)?;
+    Some(NamedModule { load, file })
+}
+
+/// The modules that these texts spell, in their order. One that spells none is a bad argument.
+#[tactic(auto, using(crate::proofs::NamedTexts::joined))]
+pub(crate) fn parse_modules<'a>(
+    alloc: Global,
+    texts: &[&'a str],
+    target: Target,
+) -> Result<Vec<NamedModule<'a>>, Usage>
+    ensures ok { IfOk result (λ modules. modules_of target (map (λ t. t.now) texts.now)
+        ≡ Some modules.items) }
+    ensures err { IfErr result (λ e. (e ≡ Memory) ⊎ ((e ≡ BadArgument)
+        × Any (λ text. module_of target text ≡ None) (map (λ t. t.now) texts.now))) }
+{
+    let mut modules = Vec::new(alloc);
+    for text in texts {
+        let Some(module) = parse_module(text, target) else {
+            return Err(Usage::BadArgument);
+        };
+        modules.push(module)?;
+    }
+    Ok(modules)
+}
