@@ -1,12 +1,13 @@
 -- How much of a long file decides what a request comes to.
-use Rattle.std.specs.Prelude.{ℕ, suc, ◌^◌, ◌||◌, ◌==◌, Bool, false, if◌then◌else◌, List, [], ◌∷◌, take, Option, Some, None}
+use Rattle.std.specs.Prelude.{ℕ, zero, suc, ◌^◌, ◌||◌, ◌==◌, Bool, false, if◌then◌else◌, List, [], ◌∷◌, take, Option, Some, None}
 use Rattle.dw_check.specs.declared.requests.Task.{Task}
 use Rattle.dw_check.specs.declared.requests.Task.TheVariants.{Check}
 
 -- the file at this place, if there is one, is a state file; those from place 2 on are sections of further modules
 abbrev pub is_state : Task → ℕ → Bool
-is_state Check place = false
-is_state other place = place == 1
+is_state task zero = false
+is_state Check (suc n) = false
+is_state other (suc n) = n == 0
 
 -- A section or an expression of 2^32 bytes is too long, whatever these are and whatever follows. All of hex text and of a state file
 -- counts.

@@ -25,12 +25,7 @@ use clap::{ArgMatches, Error};
 use std::alloc::{AllocError, Global};
 
 /// A request with the flags of a subcommand, over these files, with its module at 0 and no further ones.
-fn request_with(
-    alloc: Global,
-    matches: &ArgMatches<'_>,
-    task: Task,
-    files: Vec<String>,
-) -> Request
+fn request_with(alloc: Global, matches: &ArgMatches<'_>, task: Task, files: Vec<String>) -> Request
     ensures task { result.task ≡ task }
     ensures target { result.target ≡ target_by_flags (rows_of (found_of matches.now)) }
     ensures load { result.load ≡ 0 }

@@ -64,7 +64,8 @@ const STATE_HELP: &str = "A file with what registers, memory and the context hav
 
 const LOAD_HELP: &str = "The address where the module of FRAME is loaded; 0x0 if not given";
 
-const MODULE_HELP: &str = "LOAD=FILE: a further module, where it is loaded and its section; may be given again";
+const MODULE_HELP: &str =
+    "LOAD=FILE: a further module, where it is loaded and its section; may be given again";
 
 const WHERE_IT_STANDS: &str = "The address where the frame stands";
 

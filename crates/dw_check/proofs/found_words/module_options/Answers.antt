@@ -11,7 +11,7 @@ use Rattle.dw_check.proofs.found_words.module_options.Goals as goal
 pub returns-in-Some-clause-ok : goal.returns-in-Some-clause-ok
 returns-in-Some-clause-ok c =
     let given : Some (map (λ t. t.now) c.in-Some.texts.now) ≡ all_of (codes "module") (rows_of (found_of c.args.matches.now)) =
-        c.in-Some.ensures ∙ raw_values-rows (found_of c.args.matches.now) (codes "module") in
+    c.in-Some.ensures ∙ raw_values-rows (found_of c.args.matches.now) (codes "module") in
     rw (← given, ← c.target_by_flags.ensures) c.parse_modules.ensures.ok
 
 pub returns-in-Some-clause-err : goal.returns-in-Some-clause-err
@@ -19,7 +19,7 @@ returns-in-Some-clause-err c =
     let rows = rows_of (found_of c.args.matches.now) in
     let texts = map (λ t. t.now) c.in-Some.texts.now in
     let given : Some texts ≡ all_of (codes "module") rows =
-        c.in-Some.ensures ∙ raw_values-rows (found_of c.args.matches.now) (codes "module") in
+    c.in-Some.ensures ∙ raw_values-rows (found_of c.args.matches.now) (codes "module") in
     subst (λ o. IfErr c.parse_modules.result (λ e. (e ≡ Memory) ⊎ ((e ≡ BadArgument)
     × Any (λ text. module_of (target_by_flags rows) text ≡ None) (unwrap_or o [])))) given
     (subst (λ t. IfErr c.parse_modules.result (λ e. (e ≡ Memory) ⊎ ((e ≡ BadArgument) × Any (λ text. module_of t text ≡ None) texts)))
