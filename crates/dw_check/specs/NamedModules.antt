@@ -1,5 +1,5 @@
 -- Modules as the command line names them.
-use Rattle.std.specs.Prelude.{◌==◌, ℕ, Bool, nat_lt, if◌then◌else◌, List, [], ◌∷◌, length, Option, Some, None, option_map, option_and_then}
+use Rattle.std.specs.Prelude.{◌==◌, ℕ, Bool, List, [], ◌∷◌, Option, Some, None, option_map, option_and_then}
 use Rattle.std.specs.List.{before_first, after_first}
 use Rattle.dw_bytes.specs.declared.target.Target.{Target}
 use Rattle.dw_check.specs.Addresses.{address_of}
