@@ -20,6 +20,9 @@ remember        one FDE with N pairs of remember_state and restore_state
 remember_full   the same, where 128 rules are remembered
 remembers       one FDE with N times remember_state
 rows            one FDE with N rows of 128 rules
+rule_sets       one FDE with N rows, each with a CFA of its own
+registers       N CIEs with return address registers of their own, and an FDE for each
+ends            FDEs at both ends of the addresses and in the middle, whatever N is
 nops            one FDE with N nops
 expression      one FDE with an expression of N bytes
 cie_expression  10,000 FDEs under a CIE with an expression of N bytes
@@ -79,6 +82,16 @@ def each_cie(n, program):
     return b"".join(cie(program) + fde(size * i, 0x1000 + 64 * i, 64) for i in range(n))
 
 
+def registers(n):
+    """N CIEs with return address registers of their own, each with an FDE."""
+    section = b""
+    for k in range(n):
+        offset = len(section)
+        section += record(b"\xff\xff\xff\xff\x04\x00\x08\x00\x01\x78" + uleb(k % 65536) + CIE_PROGRAM)
+        section += fde(offset, 0x1000 + 64 * k, 64)
+    return section
+
+
 def two_cies(n):
     long = cie(LONG)
     return long + long + b"".join(fde(len(long) * (i % 2), 0x1000 + 64 * i, 64) for i in range(n))
@@ -135,6 +148,9 @@ FRAMES = {
     "remember_full": lambda n: cie(FULL) + fde(0, 0x1000, 64, b"\x0a\x0b" * n),
     "remembers": lambda n: cie() + fde(0, 0x1000, 64, b"\x0a" * n),
     "rows": lambda n: cie(FULL) + fde(0, 0x1000, n + 1, b"\x41" * n),
+    "rule_sets": lambda n: cie() + fde(0, 0x1000, 2 * n, b"".join(b"\x41\x0e" + uleb(16 + k) for k in range(n))),
+    "registers": registers,
+    "ends": lambda n: cie() + b"".join(fde(0, start, 64) for start in (0, 1 << 63, (1 << 64) - 65)),
     "nops": lambda n: cie() + fde(0, 0x1000, 64, bytes(n)),
     "expression": lambda n: cfa_is(sums(n)),
     "cie_expression": lambda n: cie(CIE_PROGRAM + b"\x0f" + uleb(n // 2 * 2) + sums(n)) + functions(range(10000)).replace(
