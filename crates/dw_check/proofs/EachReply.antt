@@ -1,5 +1,5 @@
 -- A request has a reply.
-use Rattle.std.proofs.Common.{◌≡◌, ℕ, ◌^◌, ◌<◌, Bool, true, false, List, length, Option, Some, None, Result, Ok, Err, refl, nat_lt}
+use Rattle.std.proofs.Common.{◌≡◌, ℕ, ◌^◌, ◌<◌, Bool, true, false, List, ◌∷◌, length, Option, Some, None, Result, Ok, Err, refl, nat_lt}
 use Rattle.std.proofs.Common.{arith}
 use Rattle.std.proofs.lemmas.Bool.Decides.{nat_tests}
 use Rattle.dw_bytes.specs.declared.target.Target.{Target}
@@ -10,21 +10,24 @@ use Rattle.dw_stack.specs.FirstFault.{expression_fault}
 use Rattle.dw_stack.proofs.Named.{good_if_none}
 use Rattle.dw_check.specs.Checked.{too_long}
 use Rattle.dw_check.specs.Requests.{Asked}
-use Rattle.dw_check.specs.StateFile.{StateFact, first_that, content_in, byte_in}
-use Rattle.dw_check.specs.Runs.{Reply, text, refusal, not_hex, bad_line, frame_reply, IsOutcome, OfSection, OfState, OfChecked, OfFrameSection}
-use Rattle.dw_check.specs.Runs.{OfFrame, OfFrameAndState, ShowsCaller, ShowsWalk, abi_given, machine_of, IsFound, IsCheckReply, IsLocsReply}
+use Rattle.dw_check.specs.StateFile.{StateFact}
+use Rattle.dw_check.specs.Runs.{Reply, text, refusal, not_hex, bad_line, frame_reply, IsOutcome, OfSection, OfState, OfChecked}
+use Rattle.dw_check.specs.Runs.{OfFrame, OfFurther, OfModules, OfModulesAndState, ShowsCaller, ShowsWalk, IsFound, IsCheckReply, IsLocsReply}
+use Rattle.dw_check.specs.Runs.{abi_given, memory_given, registers_given}
 use Rattle.dw_check.specs.Runs.{IsEvalReply, IsReplyTo, IsReply}
 use Rattle.dw_check.specs.Text.{frame_text, lookup_text}
-use Rattle.dw_check.specs.Files.{section_bytes, state_facts}
+use Rattle.dw_check.specs.Files.{section_bytes, state_facts, further_modules, loaded_at}
+use Rattle.dw_check.specs.Modules.{as_linked, over_sections}
+use Rattle.dw_bytes.specs.declared.target.AddressSize.{AddressSize}
+use Rattle.dw_check.specs.declared.modules.Module.{Module}
 use Rattle.dw_check.specs.Report.{IsReport}
 use Rattle.dw_loclists.specs.Reading.{ListSection, IsChecked}
 use Rattle.dw_rows.specs.Section.{FrameSection, frame_of}
-use Rattle.dw_eval.specs.World.{World}
 use Rattle.dw_rows.specs.Abi.{Abi}
-use Rattle.dw_check.specs.Walks.{Place, WalkedFrame, Walks, first_place, over_section}
+use Rattle.dw_check.specs.Walks.{Place, WalkedFrame, Walks, first_place}
 use Rattle.dw_check.specs.WalkText.{walk_text}
 use Rattle.dw_check.specs.declared.frames.Stop.{Stop}
-use Rattle.dw_check.specs.Caller.{Caller, Unwinds}
+use Rattle.dw_check.specs.Caller.{Caller}
 use Rattle.dw_check.specs.CallerText.{caller_text}
 use Rattle.dw_rows.specs.Section as rows
 use Rattle.std.specs.Prelude.{slice_get}
@@ -35,7 +38,7 @@ use Rattle.dw_check.specs.declared.requests.Task.TheVariants.{Check, Rows, Row, 
 use Rattle.dw_check.proofs.Evaluated.{each_text, refused_short, refused_long}
 use Rattle.dw_check.proofs.Found.{each_found}
 use Rattle.dw_check.proofs.BothSections.{each_of_checked}
-use Rattle.dw_check.proofs.Sections.{each_of_frame_section}
+use Rattle.dw_check.proofs.Processes.{AreChecked, each_of_modules}
 
 module _ (kind : Kind) (target : Target) (bytes : List ℕ) (gs : List StateFact) where
   good_outcome : length bytes < 2 ^ 32 → IsGoodExpression kind target bytes → (r : Reply) × IsOutcome kind target bytes gs r
@@ -90,26 +93,38 @@ abbrev EachReport : Type 0
 EachReport = (frame : FrameSection) (lists : ListSection) → rows.IsChecked frame → IsChecked lists → (t : List ℕ) × IsReport frame lists t
 
 -- and of unwindings
-abbrev EachUnwinding : Type 0
-EachUnwinding = (e : World) (abi : Abi) (frame : FrameSection) (address : ℕ) → rows.IsChecked frame
-    → (c : Option Caller) × Unwinds e abi frame address c
+abbrev pub EachUnwinding : Type 0
+EachUnwinding = (sections : List (Module FrameSection)) (abi : Abi) (memory registers : ℕ → Option ℕ) (address : ℕ)
+    → AreChecked sections → (c : Option Caller) × over_sections abi memory sections registers address c
 
 -- and of walks
-abbrev EachWalk : Type 0
-EachWalk = (frame : FrameSection) (abi : Abi) (memory : ℕ → Option ℕ) (first : Place) (limit : ℕ) → rows.IsChecked frame
-    → (xs : List WalkedFrame) × (stop : Stop) × Walks (over_section frame abi memory) first limit xs stop
+abbrev pub EachWalk : Type 0
+EachWalk = (sections : List (Module FrameSection)) (abi : Abi) (memory : ℕ → Option ℕ) (first : Place) (limit : ℕ)
+    → AreChecked sections → (xs : List WalkedFrame) × (stop : Stop) × Walks (over_sections abi memory sections) first limit xs stop
 
--- of a section that is checked, and of what a state file gives, there is a text
-abbrev EachShown : (List StateFact → FrameSection → List ℕ → Type 0) → Type 0
-EachShown Shows = (gs : List StateFact) (frame : FrameSection) → rows.IsChecked frame → (t : List ℕ) × Shows gs frame t
+-- of modules that are checked, and of what a state file gives, there is a text
+abbrev EachShown : (AddressSize → List StateFact → List (Module FrameSection) → List ℕ → Type 0) → Type 0
+EachShown Shows = (size : AddressSize) (facts : List StateFact) (sections : List (Module FrameSection)) → AreChecked sections
+    → (t : List ℕ) × Shows size facts sections t
 
-each_of_frame_and_state : (Shows : List StateFact → FrameSection → List ℕ → Type 0) → EachShown Shows
-    → (target : Target) (hex : Bool) (files : List (List ℕ)) → (r : Reply) × OfFrameAndState Shows target hex files r
-each_of_frame_and_state Shows each target hex files =
+each_of_further : (given : Result (List (Module (List ℕ))) ℕ) (Is : List (Module (List ℕ)) → Reply → Type 0)
+    → ((modules : List (Module (List ℕ))) → (r : Reply) × Is modules r) → (r : Reply) × OfFurther given Is r
+each_of_further (Err n) Is each = (not_hex n, refl)
+each_of_further (Ok modules) Is each = each modules
+
+each_of_process : (Shows : AddressSize → List StateFact → List (Module FrameSection) → List ℕ → Type 0) → EachShown Shows
+    → (load : ℕ) (loads : List ℕ) (target : Target) (hex : Bool) (files : List (List ℕ))
+    → (r : Reply) × OfModulesAndState Shows load loads target hex files r
+each_of_process Shows each load loads target hex files =
+    let Is = λ (facts : List StateFact) (modules : List (Module (List ℕ))). OfModules target modules (Shows target.address_size facts) in
     each_of_section 0 (section_bytes hex (slice_get files 0))
-    (λ section. OfState (state_facts target (slice_get files 1)) (λ gs. OfFrameSection target section (Shows gs)))
-    (λ section. each_of_state (state_facts target (slice_get files 1)) (λ gs. OfFrameSection target section (Shows gs))
-    (λ gs. each_of_frame_section target section (Shows gs) (each gs (frame_of target section))))
+    (λ section. OfState (state_facts target (slice_get files 1))
+    (λ facts. OfFurther (further_modules hex files 2 loads) (λ others. Is facts (loaded_at load section ∷ others))))
+    (λ section. each_of_state (state_facts target (slice_get files 1))
+    (λ facts. OfFurther (further_modules hex files 2 loads) (λ others. Is facts (loaded_at load section ∷ others)))
+    (λ facts. each_of_further (further_modules hex files 2 loads) (λ others. Is facts (loaded_at load section ∷ others))
+    (λ others. each_of_modules target (loaded_at load section ∷ others) (Shows target.address_size facts)
+    (each target.address_size facts _))))
 
 module _ (report : EachReport) (unwinding : EachUnwinding) (walk : EachWalk) where
   each_check : (target : Target) (hex : Bool) (files : List (List ℕ)) → (r : Reply) × IsCheckReply target hex files r
@@ -121,25 +136,27 @@ module _ (report : EachReport) (unwinding : EachUnwinding) (walk : EachWalk) whe
       (λ checked. report (frame_of target frame) (record { target = target; section = lists }) checked.0 checked.1)))
 
   each_caller : (address : ℕ) → EachShown (ShowsCaller address)
-  each_caller address gs frame checked =
-      let found = unwinding (machine_of frame.target gs) (abi_given gs) frame address checked in
-      (caller_text frame.target.address_size found.0, (found.0, found.1, refl))
+  each_caller address size facts sections checked =
+      let found = unwinding sections (abi_given facts) (memory_given facts) (registers_given facts) address checked in
+      (caller_text size found.0, (found.0, found.1, refl))
 
   each_walk : (address limit : ℕ) → EachShown (ShowsWalk address limit)
-  each_walk address limit gs frame checked =
-      let found = walk frame (abi_given gs) (λ a. first_that (byte_in a) gs)
-      (first_place address (λ n. first_that (content_in n) gs)) limit checked in
-      (walk_text frame.target.address_size found.0 found.1, (found.0, found.1, found.2, refl))
+  each_walk address limit size facts sections checked =
+      let found = walk sections (abi_given facts) (memory_given facts) (first_place address (registers_given facts)) limit checked in
+      (walk_text size found.0 found.1, (found.0, found.1, found.2, refl))
 
-  each_to : (task : Task) (target : Target) (hex : Bool) (files : List (List ℕ)) → (r : Reply) × IsReplyTo task target hex files r
-  each_to Check target hex files = each_check target hex files
-  each_to Rows target hex files = each_of_frame frame_text target hex files
-  each_to (Row address) target hex files = each_of_frame (λ frame. lookup_text frame address) target hex files
-  each_to (Locs lookup) target hex files = each_locs lookup target hex files
-  each_to (Eval kind) target hex files = each_eval kind target hex files
-  each_to (Unwind address) target hex files = each_of_frame_and_state (ShowsCaller address) (each_caller address) target hex files
-  each_to (Backtrace address limit) target hex files =
-      each_of_frame_and_state (ShowsWalk address limit) (each_walk address limit) target hex files
+  each_to : (task : Task) (load : ℕ) (loads : List ℕ) (target : Target) (hex : Bool) (files : List (List ℕ))
+      → (r : Reply) × IsReplyTo task load loads target hex files r
+  each_to Check load loads target hex files = each_check target hex files
+  each_to Rows load loads target hex files = each_of_frame frame_text target hex files
+  each_to (Row address) load loads target hex files =
+      each_of_frame (λ frame. lookup_text frame (as_linked target load address)) target hex files
+  each_to (Locs lookup) load loads target hex files = each_locs lookup target hex files
+  each_to (Eval kind) load loads target hex files = each_eval kind target hex files
+  each_to (Unwind address) load loads target hex files =
+      each_of_process (ShowsCaller address) (each_caller address) load loads target hex files
+  each_to (Backtrace address limit) load loads target hex files =
+      each_of_process (ShowsWalk address limit) (each_walk address limit) load loads target hex files
 
   pub each_reply : (asked : Asked) (files : List (List ℕ)) → (r : Reply) × IsReply asked files r
-  each_reply asked files = each_to asked.task asked.target asked.hex files
+  each_reply asked files = each_to asked.task asked.load asked.module_loads asked.target asked.hex files

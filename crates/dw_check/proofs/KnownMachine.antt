@@ -1,37 +1,42 @@
 -- The registers, the memory and the ABI that are known are those that were given.
-use Rattle.std.proofs.Common.{◌≡◌, ℕ, List, refl, subst, ◌∙◌}
+use Rattle.std.proofs.Common.{◌≡◌, ◌∙◌, ℕ, List, refl, subst}
+use Rattle.std.specs.Prelude.{Option}
 use Rattle.std.proofs.Math.Path.{fun_ext}
-use Rattle.dw_bytes.specs.declared.target.Target.{Target}
-use Rattle.dw_check.specs.Caller.{machine}
 use Rattle.dw_rows.specs.Abi.{Abi, abi_of}
 use Rattle.dw_rows.specs.Section.{FrameSection}
-use Rattle.dw_check.specs.Walks.{WalkedFrame, Walks, first_place, over_section}
+use Rattle.dw_check.specs.Caller.{Caller}
+use Rattle.dw_check.specs.Modules.{over_sections}
+use Rattle.dw_check.specs.Walks.{WalkedFrame, Walks, first_place}
 use Rattle.dw_check.specs.declared.frames.Stop.{Stop}
-use Rattle.dw_check.specs.Runs.{machine_of, abi_given}
-use Rattle.dw_check.specs.StateFile.{StateFact, KnownState, IsGivenBy, first_that, content_in, byte_in}
+use Rattle.dw_check.specs.declared.modules.Module.{Module}
+use Rattle.dw_check.specs.Runs.{abi_given, memory_given, registers_given}
+use Rattle.dw_check.specs.StateFile.{StateFact, KnownState, IsGivenBy}
 
-pub same_machine : (target : Target) (k : KnownState) (gs : List StateFact) → IsGivenBy k gs
-    → machine target k.registers k.memory ≡ machine_of target gs
-same_machine target k gs is =
-    let registers : k.registers ≡ (λ n. first_that (content_in n) gs) = fun_ext is.registers in
-    let memory : k.memory ≡ (λ a. first_that (byte_in a) gs) = fun_ext is.memory in
-    rw (registers, memory) refl
+module _ (sections : List (Module FrameSection)) (abi : Abi) (k : KnownState) (facts : List StateFact) (is : IsGivenBy k facts)
+    (of_abi : abi ≡ abi_of k.kept k.stack_pointer) where
+  same_registers : k.registers ≡ registers_given facts
+  same_registers = fun_ext is.registers
 
-pub same_abi : (k : KnownState) (gs : List StateFact) → IsGivenBy k gs → abi_of k.kept k.stack_pointer ≡ abi_given gs
-same_abi k gs is = rw (is.kept, is.stack_pointer) refl
+  same_memory : k.memory ≡ memory_given facts
+  same_memory = fun_ext is.memory
 
--- so a walk over what is known is one over what was given
-pub same_walk : (frame : FrameSection) (abi : Abi) (k : KnownState) (gs : List StateFact) (address limit : ℕ) (frames : List WalkedFrame)
-    (stop : Stop)
-    → IsGivenBy k gs → abi ≡ abi_of k.kept k.stack_pointer
-    → Walks (over_section frame abi k.memory) (first_place address k.registers) limit frames stop
-    → Walks (over_section frame (abi_given gs) (λ a. first_that (byte_in a) gs))
-    (first_place address (λ n. first_that (content_in n) gs)) limit frames stop
-same_walk frame abi k gs address limit frames stop is of_abi walks =
-    let registers : k.registers ≡ (λ n. first_that (content_in n) gs) = fun_ext is.registers in
-    let memory : k.memory ≡ (λ a. first_that (byte_in a) gs) = fun_ext is.memory in
-    let given : abi ≡ abi_given gs = of_abi ∙ same_abi k gs is in
-    subst (λ r. Walks (over_section frame (abi_given gs) (λ a. first_that (byte_in a) gs)) (first_place address r) limit frames stop)
-    registers
-    (subst (λ m. Walks (over_section frame (abi_given gs) m) (first_place address k.registers) limit frames stop) memory
-    (subst (λ (a : Abi). Walks (over_section frame a k.memory) (first_place address k.registers) limit frames stop) given walks))
+  same_abi : abi ≡ abi_given facts
+  same_abi = of_abi ∙ rw (is.kept, is.stack_pointer) refl
+
+  -- so a caller over what is known is one over what was given
+  pub same_caller : (address : ℕ) (caller : Option Caller) → over_sections abi k.memory sections k.registers address caller
+      → over_sections (abi_given facts) (memory_given facts) sections (registers_given facts) address caller
+  same_caller address caller h =
+      subst (λ r. over_sections (abi_given facts) (memory_given facts) sections r address caller) same_registers
+      (subst (λ m. over_sections (abi_given facts) m sections k.registers address caller) same_memory
+      (subst (λ (a : Abi). over_sections a k.memory sections k.registers address caller) same_abi h))
+
+  -- and a walk likewise
+  pub same_walk : (address limit : ℕ) (frames : List WalkedFrame) (stop : Stop)
+      → Walks (over_sections abi k.memory sections) (first_place address k.registers) limit frames stop
+      → Walks (over_sections (abi_given facts) (memory_given facts) sections) (first_place address (registers_given facts)) limit frames stop
+  same_walk address limit frames stop walks =
+      subst (λ r. Walks (over_sections (abi_given facts) (memory_given facts) sections) (first_place address r) limit frames stop)
+      same_registers
+      (subst (λ m. Walks (over_sections (abi_given facts) m sections) (first_place address k.registers) limit frames stop) same_memory
+      (subst (λ (a : Abi). Walks (over_sections a k.memory sections) (first_place address k.registers) limit frames stop) same_abi walks))

@@ -38,3 +38,8 @@ pub mod Writing
 mod Walking
 mod OneWalk
 mod WalksOver
+pub mod FurtherModules
+mod FoundInModules
+mod Processes
+mod OverModules
+pub mod RestOfWalk

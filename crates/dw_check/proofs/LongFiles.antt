@@ -1,8 +1,8 @@
 -- What follows the needed part of a long file changes no reply.
-use Rattle.std.proofs.Common.{◌≡◌, ◌⊎◌, ℕ, suc, ◌^◌, ◌<◌, ◌≤◌, ◌↔◌, Bool, true, false, List, [], ◌∷◌, length, take, inl, inr}
+use Rattle.std.proofs.Common.{◌≡◌, ◌⊎◌, ℕ, zero, suc, ◌^◌, ◌<◌, ◌≤◌, ◌↔◌, Bool, true, false, List, [], ◌∷◌, length, take, inl, inr}
 use Rattle.std.proofs.Common.{refl, ap, sym, ◌∙◌, subst, arith, take_all, length-take-le}
 use Rattle.std.proofs.lemmas.Bool.{cases_lt}
-use Rattle.std.specs.Prelude.{Option, Some, None, Result, Ok, Err}
+use Rattle.std.specs.Prelude.{◌||◌, if◌then◌else◌, slice_get, Option, Some, None, Result, Ok, Err}
 use Rattle.std.specs.Option.{option_or}
 use Rattle.dw_bytes.specs.declared.target.Target.{Target}
 use Rattle.dw_bytes.specs.declared.fault.Fault.{Fault}
@@ -11,11 +11,16 @@ use Rattle.dw_loclists.specs.Reading.{ListSection, lists_fault}
 use Rattle.dw_stack.specs.declared.state.Kind.{Kind}
 use Rattle.dw_stack.specs.FirstFault.{expression_fault}
 use Rattle.dw_check.specs.Checked.{check_fault, fault_within, length_fault, too_long}
-use Rattle.dw_check.specs.LongFiles.{needed_parts}
+use Rattle.dw_check.specs.Files.{further_modules, loaded_at, module_before, section_bytes, state_facts}
+use Rattle.dw_check.specs.LongFiles.{is_state, needed_length, needed_parts, part_up_to}
+use Rattle.dw_check.specs.Modules.{as_linked}
+use Rattle.dw_bytes.specs.declared.target.AddressSize.{AddressSize}
+use Rattle.dw_check.specs.declared.modules.Module.{Module}
+use Rattle.dw_check.proofs.Processes.{neither}
 use Rattle.dw_check.specs.Report.{IsReport}
 use Rattle.dw_check.specs.StateFile.{StateFact}
-use Rattle.dw_check.specs.Runs.{Reply, text, refusal, not_hex, bad_line, frame_reply, text_unless}
-use Rattle.dw_check.specs.Runs.{ShowsCaller, ShowsWalk, OfFrameAndState, IsOutcome, IsFound, OfChecked, OfFrameSection, OfState}
+use Rattle.dw_check.specs.Runs.{Reply, text, refusal, not_hex, bad_line, frame_reply, frame_refusal, modules_refusal, text_unless}
+use Rattle.dw_check.specs.Runs.{ShowsCaller, ShowsWalk, OfFurther, OfModules, OfModulesAndState, IsOutcome, IsFound, OfChecked, OfSection, OfState}
 use Rattle.dw_check.specs.Runs.{IsReplyTo}
 use Rattle.dw_check.specs.Text.{frame_text, lookup_text}
 use Rattle.dw_check.specs.declared.requests.ListLookup.{ListLookup}
@@ -128,6 +133,109 @@ state_alike : (found : Result (List StateFact) ℕ) (Is Others : List StateFact 
 state_alike (Err n) Is Others each r h = h
 state_alike (Ok gs) Is Others each r h = each gs r h
 
+-- ---- modules
+
+refusal_alike : (target : Target) (xs ys : List ℕ) → Alike xs ys → frame_refusal target xs ≡ frame_refusal target ys
+refusal_alike target xs ys (inl same) = ap (frame_refusal target) same
+refusal_alike target xs ys (inr long) =
+    long_fault xs (section_fault target xs) long.0 ∙ sym (long_fault ys (section_fault target ys) long.1)
+
+-- a section without a fault isn't too long
+same_section : (target : Target) (xs ys : List ℕ) → frame_refusal target xs ≡ None → Alike xs ys → xs ≡ ys
+same_section target xs ys none (inl same) = same
+same_section target xs ys none (inr long) =
+    let both : None ≡ Some too_long = sym none ∙ long_fault xs (section_fault target xs) long.0 in
+    cc
+
+abbrev AreAlike : List (Module (List ℕ)) → List (Module (List ℕ)) → Type 0
+AreAlike [] [] = Unit {0}
+AreAlike (m ∷ modules) (n ∷ others) = (m.load_address ≡ n.load_address) × Alike m.rows n.rows × AreAlike modules others
+AreAlike _ _ = ⊥
+
+same_refusal : (target : Target) (modules others : List (Module (List ℕ))) → AreAlike modules others
+    → modules_refusal target modules ≡ modules_refusal target others
+same_refusal target [] [] are = refl
+same_refusal target [] (n ∷ others) are = absurd are
+same_refusal target (m ∷ modules) [] are = absurd are
+same_refusal target (m ∷ modules) (n ∷ others) are =
+    ap (λ (f : Option Fault). option_or f (modules_refusal target modules)) (refusal_alike target m.rows n.rows are.1)
+    ∙ ap (option_or (frame_refusal target n.rows)) (same_refusal target modules others are.2)
+
+same_modules : (target : Target) (modules others : List (Module (List ℕ))) → modules_refusal target modules ≡ None
+    → AreAlike modules others → modules ≡ others
+same_modules target [] [] none are = refl
+same_modules target [] (n ∷ others) none are = absurd are
+same_modules target (m ∷ modules) [] none are = absurd are
+same_modules target (m ∷ modules) (n ∷ others) none are =
+    let both = neither (frame_refusal target m.rows) (modules_refusal target modules) none in
+    let rest = same_modules target modules others both.1 are.2 in
+    joined_again m.rows n.rows m.load_address n.load_address modules others (same_section target m.rows n.rows both.0 are.1) are.0 rest
+  where
+    joined_again : (xs ys : List ℕ) (a b : ℕ) (ms ns : List (Module (List ℕ))) → xs ≡ ys → a ≡ b → ms ≡ ns
+        → loaded_at a xs ∷ ms ≡ loaded_at b ys ∷ ns
+    joined_again xs ys a b ms ns x y z = rw (x, y, z) refl
+
+modules_alike : (target : Target) (modules others : List (Module (List ℕ))) (Shows : List (Module FrameSection) → List ℕ → Type 0)
+    → AreAlike modules others → (r : Reply) → OfModules target modules Shows r → OfModules target others Shows r
+modules_alike target modules others Shows are (text w) h =
+    subst (λ ms. OfModules target ms Shows (text w)) (same_modules target modules others h.0 are) h
+modules_alike target modules others Shows are (refusal s f) h = (h.0, sym (same_refusal target modules others are) ∙ h.1)
+modules_alike target modules others Shows are (not_hex n) h = absurd h
+modules_alike target modules others Shows are (bad_line n) h = absurd h
+
+-- ---- files
+
+-- the bytes of a file, if it is there
+abbrev bytes_or_none : Option (List ℕ) → List ℕ
+bytes_or_none None = []
+bytes_or_none (Some file) = file
+
+abbrev bytes_at : List (List ℕ) → ℕ → List ℕ
+bytes_at files place = bytes_or_none (slice_get files place)
+
+-- bytes that aren't hex text are a section's
+plain : (file : Option (List ℕ)) → section_bytes false file ≡ Some (bytes_or_none file)
+plain None = refl
+plain (Some file) = refl
+
+section_moves : (place : ℕ) (file other : Option (List ℕ)) (A B : List ℕ → Reply → Type 0)
+    → ((r : Reply) → A (bytes_or_none file) r → B (bytes_or_none other) r) → (r : Reply)
+    → OfSection place (section_bytes false file) A r → OfSection place (section_bytes false other) B r
+section_moves place None None A B each r h = each r h
+section_moves place None (Some y) A B each r h = each r h
+section_moves place (Some x) None A B each r h = each r h
+section_moves place (Some x) (Some y) A B each r h = each r h
+
+-- the further modules, whose files aren't hex text
+plain_modules : List (List ℕ) → ℕ → List ℕ → List (Module (List ℕ))
+plain_modules files place [] = []
+plain_modules files place (load ∷ loads) = loaded_at load (bytes_at files place) ∷ plain_modules files (suc place) loads
+
+further_plain : (files : List (List ℕ)) (place : ℕ) (loads : List ℕ)
+    → further_modules false files place loads ≡ Ok (plain_modules files place loads)
+unfolding plain_modules
+further_plain files place [] = refl
+further_plain files place (load ∷ loads) =
+    ap (λ o. module_before place load o (further_modules false files (suc place) loads)) (plain (slice_get files place))
+    ∙ ap (module_before place load (Some (bytes_at files place))) (further_plain files (suc place) loads)
+
+-- files that are alike, each at its place
+abbrev FilesAlike : List (List ℕ) → List (List ℕ) → Type 0
+FilesAlike files others = (place : ℕ) → Alike (bytes_at files place) (bytes_at others place)
+
+plain_alike : (files others : List (List ℕ)) → FilesAlike files others → (place : ℕ) (loads : List ℕ)
+    → AreAlike (plain_modules files place loads) (plain_modules others place loads)
+unfolding plain_modules
+plain_alike files others alike place [] = tt
+plain_alike files others alike place (load ∷ loads) = (refl, alike place, plain_alike files others alike (suc place) loads)
+
+further_alike : (files others : List (List ℕ)) (loads : List ℕ) (A B : List (Module (List ℕ)) → Reply → Type 0)
+    → ((r : Reply) → A (plain_modules files 2 loads) r → B (plain_modules others 2 loads) r) → (r : Reply)
+    → OfFurther (further_modules false files 2 loads) A r → OfFurther (further_modules false others 2 loads) B r
+further_alike files others loads A B each r h =
+    subst (λ o. OfFurther o B r) (sym (further_plain others 2 loads))
+    (each r (subst (λ o. OfFurther o A r) (further_plain files 2 loads) h))
+
 -- ---- replies
 
 -- hex text is needed whole
@@ -136,82 +244,107 @@ unfolding needed_parts
 whole_hex task place [] = refl
 whole_hex task place (file ∷ files) = ap (λ (more : List (List ℕ)). file ∷ more) (whole_hex task (suc place) files)
 
--- the replies to some files are replies to others
-abbrev Moves : Task → Target → List (List ℕ) → List (List ℕ) → Type 0
-Moves task target files others = (r : Reply) → IsReplyTo task target false files r → IsReplyTo task target false others r
+-- files that say the same of a state, where the task has one
+abbrev SameState : Task → List (List ℕ) → List (List ℕ) → Type 0
+SameState Check files others = Unit {0}
+SameState task files others = slice_get files 1 ≡ slice_get others 1
 
--- a section that is alike, beside a state
-frame_section_alike : (target : Target) (xs ys : List ℕ) (Shows : FrameSection → List ℕ → Type 0) → Alike xs ys → (r : Reply)
-    → OfFrameSection target xs Shows r → OfFrameSection target ys Shows r
-frame_section_alike target xs ys Shows (inl same) r h = subst (λ (b : List ℕ). OfFrameSection target b Shows r) same h
-frame_section_alike target xs ys Shows (inr long) (text w) h =
-    let both : None ≡ Some too_long = sym h.0 ∙ long_fault xs (section_fault target xs) long.0 in
-    cc
-frame_section_alike target xs ys Shows (inr long) (refusal s f) h = (
-  h.0,
-  long_fault ys (section_fault target ys) long.1
-      ∙ sym (long_fault xs (section_fault target xs) long.0) ∙ h.1,
-)
-frame_section_alike target xs ys Shows (inr long) (not_hex n) h = absurd h
-frame_section_alike target xs ys Shows (inr long) (bad_line n) h = absurd h
+-- all modules of a process, and what they come to by what its state file gives
+abbrev all_modules : ℕ → List ℕ → List (List ℕ) → List (Module (List ℕ))
+all_modules load loads files = loaded_at load (bytes_at files 0) ∷ plain_modules files 2 loads
 
-with_state_alike : (Shows : List StateFact → FrameSection → List ℕ → Type 0) (target : Target) (xs ys : List ℕ)
-    (more : List (List ℕ)) → Alike xs ys → (r : Reply) → OfFrameAndState Shows target false (xs ∷ more) r
-    → OfFrameAndState Shows target false (ys ∷ more) r
-with_state_alike Shows target xs ys more alike r h =
-    state_alike _ (λ gs. OfFrameSection target xs (Shows gs)) (λ gs. OfFrameSection target ys (Shows gs))
-    (λ gs s k. frame_section_alike target xs ys (Shows gs) alike s k) r h
+abbrev OfAll : (List StateFact → List (Module FrameSection) → List ℕ → Type 0) → Target → ℕ → List ℕ → List (List ℕ) → List StateFact
+    → Reply → Type 0
+OfAll Shows target load loads files facts =
+    OfFurther (further_modules false files 2 loads) (λ more. OfModules target (loaded_at load (bytes_at files 0) ∷ more) (Shows facts))
 
--- a file that is alike, before the same files
-one_alike : (task : Task) (target : Target) (xs ys : List ℕ) (more : List (List ℕ)) → Alike xs ys
-    → Moves task target (xs ∷ more) (ys ∷ more)
-one_alike Check target xs ys [] alike r h = first_alike target xs ys [] IsReport alike r h
-one_alike Check target xs ys (lists ∷ more) alike r h = first_alike target xs ys lists IsReport alike r h
-one_alike Rows target xs ys more alike r h = h ∙ frame_alike frame_text target xs ys alike
-one_alike (Row address) target xs ys more alike r h = h ∙ frame_alike (λ frame. lookup_text frame address) target xs ys alike
-one_alike (Locs lookup) target xs ys more alike r h =
-    state_alike _ (IsFound lookup target xs) (IsFound lookup target ys) (λ gs s k. found_alike lookup target xs ys gs alike s k) r h
-one_alike (Eval kind) target xs ys more alike r h =
-    state_alike _ (IsOutcome kind target xs) (IsOutcome kind target ys) (λ gs s k. outcome_alike kind target xs ys gs alike s k) r h
-one_alike (Unwind address) target xs ys more alike r h = with_state_alike (ShowsCaller address) target xs ys more alike r h
-one_alike (Backtrace address limit) target xs ys more alike r h = with_state_alike (ShowsWalk address limit) target xs ys more alike r h
+module _ (target : Target) (files others : List (List ℕ)) (alike : FilesAlike files others) where
+  process_alike : (Shows : AddressSize → List StateFact → List (Module FrameSection) → List ℕ → Type 0) (load : ℕ) (loads : List ℕ)
+      → slice_get files 1 ≡ slice_get others 1 → (r : Reply) → OfModulesAndState Shows load loads target false files r
+      → OfModulesAndState Shows load loads target false others r
+  process_alike Shows load loads same =
+      let Mine = OfAll (Shows target.address_size) target load loads files in
+      let Theirs = OfAll (Shows target.address_size) target load loads others in
+      section_moves 0 (slice_get files 0) (slice_get others 0) _ _
+      (λ r h. subst (λ o. OfState (state_facts target o) Theirs r) same
+      (state_alike (state_facts target (slice_get files 1)) Mine Theirs
+      (λ facts. further_alike files others loads _ _
+      (modules_alike target (all_modules load loads files) (all_modules load loads others) (Shows target.address_size facts)
+      (refl, alike 0, plain_alike files others alike 2 loads))) r h))
 
--- a second section that is alike, behind the same
-other_alike : (target : Target) (xs ys zs : List ℕ) (more others : List (List ℕ)) → Alike ys zs
-    → Moves Check target (xs ∷ ys ∷ more) (xs ∷ zs ∷ others)
-other_alike target xs ys zs more others alike r h = second_alike target xs ys zs IsReport alike r h
+  moves : (task : Task) (load : ℕ) (loads : List ℕ) → SameState task files others → (r : Reply)
+      → IsReplyTo task load loads target false files r → IsReplyTo task load loads target false others r
+  moves Check load loads same =
+      section_moves 0 (slice_get files 0) (slice_get others 0) _ _
+      (section_moves 1 (slice_get files 1) (slice_get others 1) _ _
+      (λ r h. second_alike target (bytes_at others 0) (bytes_at files 1) (bytes_at others 1) IsReport (alike 1) r
+      (first_alike target (bytes_at files 0) (bytes_at others 0) (bytes_at files 1) IsReport (alike 0) r h)))
+  moves Rows load loads same =
+      section_moves 0 (slice_get files 0) (slice_get others 0) _ _
+      (λ r h. h ∙ frame_alike frame_text target (bytes_at files 0) (bytes_at others 0) (alike 0))
+  moves (Row address) load loads same =
+      section_moves 0 (slice_get files 0) (slice_get others 0) _ _
+      (λ r h. h ∙ frame_alike (λ frame. lookup_text frame (as_linked target load address)) target (bytes_at files 0) (bytes_at others 0)
+      (alike 0))
+  moves (Locs lookup) load loads same =
+      section_moves 0 (slice_get files 0) (slice_get others 0) _ _
+      (λ r h. subst (λ o. OfState (state_facts target o) (IsFound lookup target (bytes_at others 0)) r) same
+      (state_alike (state_facts target (slice_get files 1)) _ (IsFound lookup target (bytes_at others 0))
+      (λ facts s k. found_alike lookup target (bytes_at files 0) (bytes_at others 0) facts (alike 0) s k) r h))
+  moves (Eval kind) load loads same =
+      section_moves 0 (slice_get files 0) (slice_get others 0) _ _
+      (λ r h. subst (λ o. OfState (state_facts target o) (IsOutcome kind target (bytes_at others 0)) r) same
+      (state_alike (state_facts target (slice_get files 1)) _ (IsOutcome kind target (bytes_at others 0))
+      (λ facts s k. outcome_alike kind target (bytes_at files 0) (bytes_at others 0) facts (alike 0) s k) r h))
+  moves (Unwind address) load loads same = process_alike (ShowsCaller address) load loads same
+  moves (Backtrace address limit) load loads same = process_alike (ShowsWalk address limit) load loads same
 
--- what of the files is needed has their replies, and only those
-abbrev Same : Task → Target → List (List ℕ) → Type 0
-Same task target files = Moves task target files (needed_parts task false 0 files)
-    × Moves task target (needed_parts task false 0 files) files
-
-abbrev part : List ℕ → List ℕ
-part xs = take (2 ^ 32) xs
-
-one_same : (task : Task) (target : Target) (xs : List ℕ) (more : List (List ℕ))
-    → Moves task target (xs ∷ more) (part xs ∷ more) × Moves task target (part xs ∷ more) (xs ∷ more)
-one_same task target xs more =
-    (one_alike task target xs (part xs) more (alike_part xs), one_alike task target (part xs) xs more (turned xs (part xs) (alike_part xs)))
-
-same : (task : Task) (target : Target) (files : List (List ℕ)) → Same task target files
+-- what is needed of each file
+needed_alike : (task : Task) (from : ℕ) (files : List (List ℕ)) (place : ℕ)
+    → Alike (bytes_at files place) (bytes_at (needed_parts task false from files) place)
 unfolding needed_parts
-same task target [] = (λ r h. h, λ r h. h)
-same task target (xs ∷ []) = one_same task target xs []
-same Check target (xs ∷ ys ∷ more) =
-    let first = one_same Check target xs (ys ∷ more) in
-    let others = needed_parts Check false 2 more in (
-      λ r h. other_alike target (part xs) ys (part ys) more others (alike_part ys) r (first.0 r h),
-      λ r h. first.1 r (other_alike target (part xs) (part ys) ys others more (turned ys (part ys) (alike_part ys)) r h),
-    )
-same Rows target (xs ∷ ys ∷ more) = one_same Rows target xs []
-same (Row address) target (xs ∷ ys ∷ more) = one_same (Row address) target xs []
-same (Locs lookup) target (xs ∷ ys ∷ more) = one_same (Locs lookup) target xs (ys ∷ more)
-same (Eval kind) target (xs ∷ ys ∷ more) = one_same (Eval kind) target xs (ys ∷ more)
-same (Unwind address) target (xs ∷ ys ∷ more) = one_same (Unwind address) target xs (ys ∷ more)
-same (Backtrace address limit) target (xs ∷ ys ∷ more) = one_same (Backtrace address limit) target xs (ys ∷ more)
+needed_alike task from [] place = inl refl
+needed_alike task from (file ∷ files) zero = by (is_state task from)
+  where
+    by : (b : Bool) → Alike file (part_up_to (if false || b then None else Some (2 ^ 32)) file)
+    by true = inl refl
+    by false = alike_part file
+needed_alike task from (file ∷ files) (suc place) = needed_alike task (suc from) files place
 
-pub parts_decide : (task : Task) (target : Target) (hex : Bool) (files : List (List ℕ)) (reply : Reply)
-    → IsReplyTo task target hex files reply ↔ IsReplyTo task target hex (needed_parts task hex 0 files) reply
-parts_decide task target true files r = rw (whole_hex task 0 files) (λ h. h, λ h. h)
-parts_decide task target false files r = let both = same task target files in (both.0 r, both.1 r)
+-- and a state file whole
+second_whole : (task : Task) → needed_length task false 1 ≡ None → (files : List (List ℕ))
+    → slice_get files 1 ≡ slice_get (needed_parts task false 0 files) 1
+unfolding needed_parts
+second_whole task all [] = refl
+second_whole task all (x ∷ []) = refl
+second_whole task all (x ∷ y ∷ more) = ap (λ n. Some (part_up_to n y)) (sym all)
+
+whole_state : (task : Task) (files : List (List ℕ)) → SameState task files (needed_parts task false 0 files)
+whole_state Check files = tt
+whole_state Rows files = second_whole Rows refl files
+whole_state (Row address) files = second_whole (Row address) refl files
+whole_state (Locs lookup) files = second_whole (Locs lookup) refl files
+whole_state (Eval kind) files = second_whole (Eval kind) refl files
+whole_state (Unwind address) files = second_whole (Unwind address) refl files
+whole_state (Backtrace address limit) files = second_whole (Backtrace address limit) refl files
+
+back : (task : Task) (files others : List (List ℕ)) → SameState task files others → SameState task others files
+back Check files others same = tt
+back Rows files others same = sym same
+back (Row address) files others same = sym same
+back (Locs lookup) files others same = sym same
+back (Eval kind) files others same = sym same
+back (Unwind address) files others same = sym same
+back (Backtrace address limit) files others same = sym same
+
+pub parts_decide : (task : Task) (load : ℕ) (loads : List ℕ) (target : Target) (hex : Bool) (files : List (List ℕ)) (reply : Reply)
+    → IsReplyTo task load loads target hex files reply ↔ IsReplyTo task load loads target hex (needed_parts task hex 0 files) reply
+parts_decide task load loads target true files r = rw (whole_hex task 0 files) (λ h. h, λ h. h)
+parts_decide task load loads target false files r =
+    let parts = needed_parts task false 0 files in
+    let alike : FilesAlike files parts = needed_alike task 0 files in
+    let again : FilesAlike parts files = λ place. turned (bytes_at files place) (bytes_at parts place) (alike place) in
+    let same = whole_state task files in (
+      moves target files parts alike task load loads same r,
+      moves target parts files again task load loads (back task files parts same) r,
+    )

@@ -1,5 +1,5 @@
 -- A request has one reply.
-use Rattle.std.proofs.Common.{◌≡◌, ℕ, List, Option, Some, None, Result, Ok, Err, ap, sym, ◌∙◌}
+use Rattle.std.proofs.Common.{◌≡◌, ℕ, List, ◌∷◌, Option, Some, None, Result, Ok, Err, ap, sym, ◌∙◌}
 use Rattle.dw_bytes.specs.declared.target.Target.{Target}
 use Rattle.dw_bytes.specs.declared.fault.Fault.{Fault}
 use Rattle.dw_stack.specs.declared.state.Kind.{Kind}
@@ -9,20 +9,22 @@ use Rattle.dw_check.specs.Requests.{Asked}
 use Rattle.dw_check.specs.StateFile.{StateFact}
 use Rattle.dw_check.specs.Evaluations.{Evaluates}
 use Rattle.dw_check.specs.Runs.{Reply, text, refusal, not_hex, bad_line, frame_reply, expression_refusal, IsOutcome, OfSection, OfState}
-use Rattle.dw_check.specs.Runs.{OfChecked, OfFrameSection, OfFrame, OfFrameAndState, ShowsCaller, ShowsWalk, abi_given, machine_of, IsFound, IsCheckReply}
+use Rattle.dw_check.specs.Runs.{OfChecked, OfFrame, OfFurther, OfModules, OfModulesAndState, ShowsCaller, ShowsWalk, IsFound, IsCheckReply}
+use Rattle.dw_check.specs.Runs.{abi_given, memory_given, registers_given}
 use Rattle.dw_check.specs.Runs.{IsLocsReply, IsEvalReply, IsReplyTo, IsReply}
 use Rattle.dw_check.specs.Text.{frame_text, lookup_text}
-use Rattle.dw_check.specs.Files.{section_bytes, state_facts}
+use Rattle.dw_check.specs.Files.{section_bytes, state_facts, further_modules, loaded_at}
+use Rattle.dw_check.specs.Modules.{as_linked, over_sections}
+use Rattle.dw_bytes.specs.declared.target.AddressSize.{AddressSize}
+use Rattle.dw_check.specs.declared.modules.Module.{Module}
 use Rattle.dw_check.specs.Report.{IsReport}
 use Rattle.dw_loclists.specs.Reading.{ListSection}
 use Rattle.dw_rows.specs.Section.{FrameSection, frame_of}
-use Rattle.dw_rows.specs.Section as rows
-use Rattle.dw_eval.specs.World.{World}
 use Rattle.dw_rows.specs.Abi.{Abi}
-use Rattle.dw_check.specs.Walks.{Place, WalkedFrame, Walks, over_section}
+use Rattle.dw_check.specs.Walks.{Place, WalkedFrame, Walks}
 use Rattle.dw_check.specs.WalkText.{walk_text}
 use Rattle.dw_check.specs.declared.frames.Stop.{Stop}
-use Rattle.dw_check.specs.Caller.{Caller, Unwinds}
+use Rattle.dw_check.specs.Caller.{Caller}
 use Rattle.dw_check.specs.CallerText.{caller_text}
 use Rattle.std.specs.Prelude.{slice_get, Bool}
 use Rattle.dw_check.specs.declared.requests.ListLookup.{ListLookup}
@@ -32,7 +34,7 @@ use Rattle.dw_check.proofs.Evaluated.{same_text}
 use Rattle.dw_check.proofs.Lengths.{short_fault}
 use Rattle.dw_check.proofs.Found.{one_found}
 use Rattle.dw_check.proofs.BothSections.{one_of_checked}
-use Rattle.dw_check.proofs.Sections.{OneShown, one_of_frame_section}
+use Rattle.dw_check.proofs.Processes.{AreChecked, OneShown, one_of_modules}
 
 not_both : (kind : Kind) (target : Target) (bytes : List ℕ) (gs : List StateFact) (a : List ℕ) (f : Fault)
     → Evaluates kind target bytes gs a → expression_refusal kind target bytes ≡ Some f → ⊥
@@ -97,36 +99,45 @@ OneReport = (frame : FrameSection) (lists : ListSection) (s t : List ℕ) → Is
 
 -- and of callers
 abbrev pub OneCaller : Type 0
-OneCaller = (e : World) (abi : Abi) (frame : FrameSection) (address : ℕ) (c d : Option Caller) → rows.IsChecked frame
-    → Unwinds e abi frame address c → Unwinds e abi frame address d → c ≡ d
+OneCaller = (sections : List (Module FrameSection)) (abi : Abi) (memory registers : ℕ → Option ℕ) (address : ℕ) (c d : Option Caller)
+    → AreChecked sections → over_sections abi memory sections registers address c → over_sections abi memory sections registers address d
+    → c ≡ d
 
 -- and of walks
 abbrev pub OneWalk : Type 0
-OneWalk = (frame : FrameSection) (abi : Abi) (memory : ℕ → Option ℕ) (first : Place) (limit : ℕ) (xs ys : List WalkedFrame) (a b : Stop)
-    → rows.IsChecked frame → Walks (over_section frame abi memory) first limit xs a
-    → Walks (over_section frame abi memory) first limit ys b → (xs ≡ ys) × (a ≡ b)
+OneWalk = (sections : List (Module FrameSection)) (abi : Abi) (memory : ℕ → Option ℕ) (first : Place) (limit : ℕ)
+    (xs ys : List WalkedFrame) (a b : Stop) → AreChecked sections → Walks (over_sections abi memory sections) first limit xs a
+    → Walks (over_sections abi memory sections) first limit ys b → (xs ≡ ys) × (a ≡ b)
 
 pub one_caller_shown : OneCaller → (address : ℕ) → OneShown (ShowsCaller address)
-one_caller_shown caller address gs frame checked s t (c, h, is) (d, k, same) =
-    is
-    ∙ ap (caller_text frame.target.address_size) (caller (machine_of frame.target gs) (abi_given gs) frame address c d checked h k)
+one_caller_shown caller address size facts sections checked s t (c, h, is) (d, k, same) =
+    is ∙ ap (caller_text size) (caller sections (abi_given facts) (memory_given facts) (registers_given facts) address c d checked h k)
     ∙ sym same
 
 pub one_walk_shown : OneWalk → (address limit : ℕ) → OneShown (ShowsWalk address limit)
-one_walk_shown walk address limit gs frame checked s t (xs, a, h, is) (ys, b, k, same) =
-    let one = walk _ _ _ _ limit xs ys a b checked h k in
-    is
-    ∙ ap (λ l. walk_text frame.target.address_size l a) one.0 ∙ ap (walk_text frame.target.address_size ys) one.1
-    ∙ sym same
+one_walk_shown walk address limit size facts sections checked s t (xs, a, h, is) (ys, b, k, same) =
+    let one = walk sections (abi_given facts) (memory_given facts) _ limit xs ys a b checked h k in
+    is ∙ ap (λ l. walk_text size l a) one.0 ∙ ap (walk_text size ys) one.1 ∙ sym same
 
-one_of_frame_and_state : (Shows : List StateFact → FrameSection → List ℕ → Type 0) → OneShown Shows
-    → (target : Target) (hex : Bool) (files : List (List ℕ)) (r s : Reply)
-    → OfFrameAndState Shows target hex files r → OfFrameAndState Shows target hex files s → r ≡ s
-one_of_frame_and_state Shows one target hex files r s h k =
+one_of_further : (given : Result (List (Module (List ℕ))) ℕ) (Is : List (Module (List ℕ)) → Reply → Type 0)
+    → ((modules : List (Module (List ℕ))) (r s : Reply) → Is modules r → Is modules s → r ≡ s)
+    → (r s : Reply) → OfFurther given Is r → OfFurther given Is s → r ≡ s
+one_of_further (Err n) Is one r s h k = h ∙ sym k
+one_of_further (Ok modules) Is one r s h k = one modules r s h k
+
+one_of_process : (Shows : AddressSize → List StateFact → List (Module FrameSection) → List ℕ → Type 0) → OneShown Shows
+    → (load : ℕ) (loads : List ℕ) (target : Target) (hex : Bool) (files : List (List ℕ)) (r s : Reply)
+    → OfModulesAndState Shows load loads target hex files r → OfModulesAndState Shows load loads target hex files s → r ≡ s
+one_of_process Shows one load loads target hex files r s h k =
+    let Is = λ (facts : List StateFact) (modules : List (Module (List ℕ))). OfModules target modules (Shows target.address_size facts) in
     one_of_section 0 (section_bytes hex (slice_get files 0))
-    (λ section. OfState (state_facts target (slice_get files 1)) (λ gs. OfFrameSection target section (Shows gs)))
-    (λ section. one_of_state (state_facts target (slice_get files 1)) (λ gs. OfFrameSection target section (Shows gs))
-    (λ gs. one_of_frame_section target section (Shows gs) (one gs (frame_of target section)))) r s h k
+    (λ section. OfState (state_facts target (slice_get files 1))
+    (λ facts. OfFurther (further_modules hex files 2 loads) (λ others. Is facts (loaded_at load section ∷ others))))
+    (λ section. one_of_state (state_facts target (slice_get files 1))
+    (λ facts. OfFurther (further_modules hex files 2 loads) (λ others. Is facts (loaded_at load section ∷ others)))
+    (λ facts. one_of_further (further_modules hex files 2 loads) (λ others. Is facts (loaded_at load section ∷ others))
+    (λ others. one_of_modules target (loaded_at load section ∷ others) (Shows target.address_size facts)
+    (one target.address_size facts _)))) r s h k
 
 module _ (report : OneReport) (caller : OneCaller) (walk : OneWalk) where
   one_check : (target : Target) (hex : Bool) (files : List (List ℕ)) (r s : Reply) → IsCheckReply target hex files r
@@ -138,17 +149,18 @@ module _ (report : OneReport) (caller : OneCaller) (walk : OneWalk) where
       (λ lists. one_of_checked target frame lists IsReport
       (λ checked. report (frame_of target frame) (record { target = target; section = lists })))) r s h k
 
-  one_to : (task : Task) (target : Target) (hex : Bool) (files : List (List ℕ)) (r s : Reply) → IsReplyTo task target hex files r
-      → IsReplyTo task target hex files s → r ≡ s
-  one_to Check target hex files r s h k = one_check target hex files r s h k
-  one_to Rows target hex files r s h k = one_of_frame frame_text target hex files r s h k
-  one_to (Row address) target hex files r s h k = one_of_frame (λ frame. lookup_text frame address) target hex files r s h k
-  one_to (Locs lookup) target hex files r s h k = one_locs lookup target hex files r s h k
-  one_to (Eval kind) target hex files r s h k = one_eval kind target hex files r s h k
-  one_to (Unwind address) target hex files r s h k =
-      one_of_frame_and_state (ShowsCaller address) (one_caller_shown caller address) target hex files r s h k
-  one_to (Backtrace address limit) target hex files r s h k =
-      one_of_frame_and_state (ShowsWalk address limit) (one_walk_shown walk address limit) target hex files r s h k
+  one_to : (task : Task) (load : ℕ) (loads : List ℕ) (target : Target) (hex : Bool) (files : List (List ℕ)) (r s : Reply)
+      → IsReplyTo task load loads target hex files r → IsReplyTo task load loads target hex files s → r ≡ s
+  one_to Check load loads target hex files r s h k = one_check target hex files r s h k
+  one_to Rows load loads target hex files r s h k = one_of_frame frame_text target hex files r s h k
+  one_to (Row address) load loads target hex files r s h k =
+      one_of_frame (λ frame. lookup_text frame (as_linked target load address)) target hex files r s h k
+  one_to (Locs lookup) load loads target hex files r s h k = one_locs lookup target hex files r s h k
+  one_to (Eval kind) load loads target hex files r s h k = one_eval kind target hex files r s h k
+  one_to (Unwind address) load loads target hex files r s h k =
+      one_of_process (ShowsCaller address) (one_caller_shown caller address) load loads target hex files r s h k
+  one_to (Backtrace address limit) load loads target hex files r s h k =
+      one_of_process (ShowsWalk address limit) (one_walk_shown walk address limit) load loads target hex files r s h k
 
   pub one_reply : (asked : Asked) (files : List (List ℕ)) (r s : Reply) → IsReply asked files r → IsReply asked files s → r ≡ s
-  one_reply asked files r s h k = one_to asked.task asked.target asked.hex files r s h k
+  one_reply asked files r s h k = one_to asked.task asked.load asked.module_loads asked.target asked.hex files r s h k

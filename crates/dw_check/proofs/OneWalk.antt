@@ -137,7 +137,7 @@ module _ (u : Unwinder)
   some_caller_at registers None = (None, refl)
   some_caller_at registers (Some a) = some registers a
 
-  some_frame_at : (p : Place) → (f : WalkedFrame) × IsFrameAt u p f
+  pub some_frame_at : (p : Place) → (f : WalkedFrame) × IsFrameAt u p f
   some_frame_at p =
       let caller = some_caller_at p.registers p.looked_up in (record { address = p.address; caller = caller.0 }, (refl, caller.1))
 

@@ -1,9 +1,11 @@
 -- What the files of a request contain.
-use Rattle.std.specs.Prelude.{ℕ, ◌==◌, ◌||◌, Bool, not, if◌then◌else◌, List, [], filter, Option, Some, None, Result, Ok}
+use Rattle.std.specs.Prelude.{◌≡◌, ℕ, suc, ◌==◌, ◌||◌, Bool, not, if◌then◌else◌, List, [], ◌∷◌, filter, Option, Some, None}
+use Rattle.std.specs.Prelude.{Result, Ok, Err, slice_get}
 use Rattle.std.specs.Result.{result_ok}
 use Rattle.hex.specs.Hex.{decode_of}
 use Rattle.dw_bytes.specs.declared.target.Target.{Target}
 use Rattle.dw_check.specs.StateFile.{StateFact, facts_of_file}
+use Rattle.dw_check.specs.declared.modules.Module.{Module}
 
 -- a tab, LF, CR or space
 abbrev pub is_blank : ℕ → Bool
@@ -22,3 +24,31 @@ section_bytes hex (Some file) = if hex then result_ok (decode_of (without_blanks
 abbrev pub state_facts : Target → Option (List ℕ) → Result (List StateFact) ℕ
 state_facts target None = Ok []
 state_facts target (Some text) = facts_of_file target text
+
+-- ---- the modules of a process
+
+-- a module that is loaded at an address, with the bytes of its section
+abbrev pub loaded_at : ℕ → List ℕ → Module (List ℕ)
+loaded_at load section = record { rows = section; load_address = load }
+
+-- one whose file is at a place, before others; or that place, if the bytes of the section aren't there
+abbrev pub module_before : ℕ → ℕ → Option (List ℕ) → Result (List (Module (List ℕ))) ℕ → Result (List (Module (List ℕ))) ℕ
+module_before place load None others = Err place
+module_before place load (Some section) (Err n) = Err n
+module_before place load (Some section) (Ok others) = Ok (loaded_at load section ∷ others)
+
+-- Further modules that are loaded so, the file of the first at a place; or the place of the first file that is to be hex text and isn't.
+abbrev pub further_modules : Bool → List (List ℕ) → ℕ → List ℕ → Result (List (Module (List ℕ))) ℕ
+further_modules hex files place [] = Ok []
+further_modules hex files place (load ∷ loads) =
+    module_before place load (section_bytes hex (slice_get files place)) (further_modules hex files (suc place) loads)
+
+-- The files of a process give its modules, FRAME's first, and what the state file says.
+pub record GivesProcess (target : Target) (load : ℕ) (loads : List ℕ) (hex : Bool) (files : List (List ℕ))
+    (modules : List (Module (List ℕ))) (facts : List StateFact) : Type 0 where
+  pub section : List ℕ
+  pub others : List (Module (List ℕ))
+  pub section_is : section_bytes hex (slice_get files 0) ≡ Some section
+  pub facts_are : state_facts target (slice_get files 1) ≡ Ok facts
+  pub others_are : further_modules hex files 2 loads ≡ Ok others
+  pub whole : modules ≡ loaded_at load section ∷ others

@@ -63,6 +63,8 @@ pub mod UnwoundViews
 pub mod FrameRegisters
 -- frames of the code
 pub mod WalkViews
+-- the sections of files
+pub mod FileViews
 -- why a run stops
 pub mod Stops
 -- what a sink has taken

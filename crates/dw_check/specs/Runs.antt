@@ -1,9 +1,10 @@
 -- What a run writes and how it ends, by the request and the contents of its files.
 use Rattle.std.specs.Prelude.{◌≡◌, ℕ, ◌<◌, Bool, true, false, List, [], Option, Some, None, Result, Ok, Err}
-use Rattle.std.specs.Prelude.{slice_get}
+use Rattle.std.specs.Prelude.{◌∷◌, map, slice_get}
 use Rattle.std.specs.Option.{option_or}
 use Rattle.std.specs.Io.KnownBytes.{Appends}
 use Rattle.dw_bytes.specs.declared.target.Target.{Target}
+use Rattle.dw_bytes.specs.declared.target.AddressSize.{AddressSize}
 use Rattle.dw_bytes.specs.declared.fault.Fault.{Fault}
 use Rattle.dw_rows.specs.Abi.{Abi, abi_of}
 use Rattle.dw_rows.specs.Section.{FrameSection, section_fault, frame_of}
@@ -13,14 +14,15 @@ use Rattle.dw_stack.specs.FirstFault.{expression_fault}
 use Rattle.dw_check.specs.Requests.{Asked}
 use Rattle.dw_check.specs.Checked.{check_fault, length_fault}
 use Rattle.dw_check.specs.Report.{IsReport}
-use Rattle.dw_check.specs.Caller.{Caller, Unwinds, machine}
+use Rattle.dw_check.specs.Caller.{Caller}
 use Rattle.dw_check.specs.CallerText.{caller_text}
-use Rattle.dw_check.specs.Walks.{WalkedFrame, Walks, first_place, over_section}
+use Rattle.dw_check.specs.Modules.{as_linked, over_sections}
+use Rattle.dw_check.specs.declared.modules.Module.{Module}
+use Rattle.dw_check.specs.Walks.{WalkedFrame, Walks, first_place}
 use Rattle.dw_check.specs.WalkText.{walk_text}
 use Rattle.dw_check.specs.declared.frames.Stop.{Stop}
-use Rattle.dw_eval.specs.World.{World}
 use Rattle.dw_check.specs.Evaluations.{Evaluates}
-use Rattle.dw_check.specs.Files.{section_bytes, state_facts}
+use Rattle.dw_check.specs.Files.{section_bytes, state_facts, loaded_at, further_modules}
 use Rattle.dw_check.specs.Lookups.{ShowsList, list_that_begins_at}
 use Rattle.dw_check.specs.StateFile.{StateFact, first_that, content_in, byte_in, kept_in, stack_pointer_in}
 use Rattle.dw_check.specs.SinkBytes.{AppendsFront}
@@ -90,12 +92,6 @@ text_unless None section bytes = text bytes
 unfoldable pub frame_reply : (FrameSection → List ℕ) → Target → List ℕ → Reply
 frame_reply text_for target section = text_unless (frame_refusal target section) sections.Frame (text_for (frame_of target section))
 
--- what a frame section comes to: a text of it, or its first fault
-abbrev pub OfFrameSection : Target → List ℕ → (FrameSection → List ℕ → Type 0) → Reply → Type 0
-OfFrameSection target section Shows (text written) = (frame_refusal target section ≡ None) × Shows (frame_of target section) written
-OfFrameSection target section Shows (refusal refused fault) = (refused ≡ sections.Frame) × (frame_refusal target section ≡ Some fault)
-OfFrameSection target section Shows _ = ⊥
-
 -- ---- expressions
 
 -- the first fault of an expression
@@ -133,24 +129,69 @@ OfChecked target frame lists Shows (refusal section fault) =
 OfChecked target frame lists Shows _ = ⊥
 
 -- registers and memory, of which this was given
-abbrev pub machine_of : Target → List StateFact → World
-machine_of target facts = machine target (λ n. first_that (content_in n) facts) (λ a. first_that (byte_in a) facts)
+abbrev pub registers_given : List StateFact → ℕ → Option ℕ
+registers_given facts n = first_that (content_in n) facts
+
+abbrev pub memory_given : List StateFact → ℕ → Option ℕ
+memory_given facts a = first_that (byte_in a) facts
 
 -- the ABI that this was said of
 abbrev pub abi_given : List StateFact → Abi
 abi_given facts = abi_of (kept_in facts) (first_that stack_pointer_in facts)
 
--- the text shows the caller at an address, or that no FDE covers it, on a machine of which this was given
-abbrev pub ShowsCaller : ℕ → List StateFact → FrameSection → List ℕ → Type 0
-ShowsCaller address facts frame written = (caller : Option Caller)
-    × Unwinds (machine_of frame.target facts) (abi_given facts) frame address caller
-    × (written ≡ caller_text frame.target.address_size caller)
+-- the text shows the caller at an address of these modules, or that no FDE covers it, on a machine of which this was given
+abbrev pub ShowsCaller : ℕ → AddressSize → List StateFact → List (Module FrameSection) → List ℕ → Type 0
+ShowsCaller address size facts modules written = (caller : Option Caller)
+    × over_sections (abi_given facts) (memory_given facts) modules (registers_given facts) address caller
+    × (written ≡ caller_text size caller)
 
 -- it shows a walk from an address with a limit
-abbrev pub ShowsWalk : ℕ → ℕ → List StateFact → FrameSection → List ℕ → Type 0
-ShowsWalk address limit facts frame written = (frames : List WalkedFrame) × (stop : Stop)
-    × Walks (over_section frame (abi_given facts) (λ a. first_that (byte_in a) facts)) (first_place address (λ n. first_that (content_in n) facts)) limit frames stop
-    × (written ≡ walk_text frame.target.address_size frames stop)
+abbrev pub ShowsWalk : ℕ → ℕ → AddressSize → List StateFact → List (Module FrameSection) → List ℕ → Type 0
+ShowsWalk address limit size facts modules written = (frames : List WalkedFrame) × (stop : Stop)
+    × Walks (over_sections (abi_given facts) (memory_given facts) modules) (first_place address (registers_given facts)) limit frames stop
+    × (written ≡ walk_text size frames stop)
+
+-- ---- the modules of a process
+
+-- the first fault of their frame sections, in the order of the modules
+abbrev pub modules_refusal : Target → List (Module (List ℕ)) → Option Fault
+modules_refusal target [] = None
+modules_refusal target (m ∷ modules) = option_or (frame_refusal target m.rows) (modules_refusal target modules)
+
+-- the modules with what their frame sections are
+abbrev pub modules_of_sections : Target → List (Module (List ℕ)) → List (Module FrameSection)
+modules_of_sections target modules = map (λ m. record { rows = frame_of target m.rows; load_address = m.load_address }) modules
+
+-- what modules come to: a text of them, or their first fault
+abbrev pub OfModules : Target → List (Module (List ℕ)) → (List (Module FrameSection) → List ℕ → Type 0) → Reply → Type 0
+OfModules target modules Shows (text written) =
+    (modules_refusal target modules ≡ None) × Shows (modules_of_sections target modules) written
+OfModules target modules Shows (refusal refused fault) = (refused ≡ sections.Frame) × (modules_refusal target modules ≡ Some fault)
+OfModules target modules Shows _ = ⊥
+
+-- what further modules come to, if the bytes of each are there
+abbrev pub OfFurther : Result (List (Module (List ℕ))) ℕ → (List (Module (List ℕ)) → Reply → Type 0) → Reply → Type 0
+OfFurther (Err n) Is reply = reply ≡ not_hex n
+OfFurther (Ok modules) Is reply = Is modules reply
+
+-- What the files of a process come to, judged in their order: FRAME, the state file, and those of the further modules.
+abbrev pub OfProcess : Target → ℕ → List ℕ → Bool → List (List ℕ) → (List StateFact → List (Module (List ℕ)) → Reply → Type 0)
+    → Reply → Type 0
+OfProcess target load loads hex files Is reply =
+    OfSection 0 (section_bytes hex (slice_get files 0))
+    (λ section. OfState (state_facts target (slice_get files 1))
+    (λ facts. OfFurther (further_modules hex files 2 loads) (λ others. Is facts (loaded_at load section ∷ others)))) reply
+
+-- no reply but that one of these files can't be read
+abbrev pub IsUnreadProcess : Target → ℕ → List ℕ → Bool → List (List ℕ) → Reply → Type 0
+IsUnreadProcess target load loads hex files reply = OfProcess target load loads hex files (λ facts modules r. ⊥) reply
+
+-- Why the files of a process, of which there are so many in all, aren't read: one of them can't be, or memory ran out.
+abbrev pub IsBadProcess : (Reply → Type 0) → ℕ → RunFault → Type 0
+IsBadProcess Is count (stops.BadHex n) = (n < count) × Is (not_hex n)
+IsBadProcess Is count (stops.StateLine n) = Is (bad_line n)
+IsBadProcess Is count stops.Memory = Unit {0}
+IsBadProcess Is count _ = ⊥
 
 -- ---- what two commands share
 
@@ -159,11 +200,11 @@ abbrev pub OfFrame : (FrameSection → List ℕ) → Target → Bool → List (L
 OfFrame text_for target hex files reply =
     OfSection 0 (section_bytes hex (slice_get files 0)) (λ section r. r ≡ frame_reply text_for target section) reply
 
--- `unwind` and `backtrace`: a text of a frame section, and of what a state file gives
-abbrev pub OfFrameAndState : (List StateFact → FrameSection → List ℕ → Type 0) → Target → Bool → List (List ℕ) → Reply → Type 0
-OfFrameAndState Shows target hex files reply =
-    OfSection 0 (section_bytes hex (slice_get files 0))
-    (λ section. OfState (state_facts target (slice_get files 1)) (λ facts. OfFrameSection target section (Shows facts))) reply
+-- `unwind` and `backtrace`: a text of modules, the first of them FRAME's, and of what a state file gives
+abbrev pub OfModulesAndState : (AddressSize → List StateFact → List (Module FrameSection) → List ℕ → Type 0) → ℕ → List ℕ → Target
+    → Bool → List (List ℕ) → Reply → Type 0
+OfModulesAndState Shows load loads target hex files reply =
+    OfProcess target load loads hex files (λ facts modules. OfModules target modules (Shows target.address_size facts)) reply
 
 -- ---- requests: a definition for each command
 
@@ -177,9 +218,10 @@ IsCheckReply target hex files reply =
 abbrev pub IsRowsReply : Target → Bool → List (List ℕ) → Reply → Type 0
 IsRowsReply target hex files reply = OfFrame frame_text target hex files reply
 
--- `row`
-abbrev pub IsRowReply : ℕ → Target → Bool → List (List ℕ) → Reply → Type 0
-IsRowReply address target hex files reply = OfFrame (λ frame. lookup_text frame address) target hex files reply
+-- `row`, of a module that is loaded at an address: the row is shown as it is linked
+abbrev pub IsRowReply : ℕ → ℕ → Target → Bool → List (List ℕ) → Reply → Type 0
+IsRowReply load address target hex files reply =
+    OfFrame (λ frame. lookup_text frame (as_linked target load address)) target hex files reply
 
 -- `eval`
 abbrev pub IsEvalReply : Kind → Target → Bool → List (List ℕ) → Reply → Type 0
@@ -194,25 +236,27 @@ IsLocsReply lookup target hex files reply =
     (λ section. OfState (state_facts target (slice_get files 1)) (IsFound lookup target section)) reply
 
 -- `unwind`
-abbrev pub IsUnwindReply : ℕ → Target → Bool → List (List ℕ) → Reply → Type 0
-IsUnwindReply address target hex files reply = OfFrameAndState (ShowsCaller address) target hex files reply
+abbrev pub IsUnwindReply : ℕ → ℕ → List ℕ → Target → Bool → List (List ℕ) → Reply → Type 0
+IsUnwindReply address load loads target hex files reply = OfModulesAndState (ShowsCaller address) load loads target hex files reply
 
 -- `backtrace`
-abbrev pub IsBacktraceReply : ℕ → ℕ → Target → Bool → List (List ℕ) → Reply → Type 0
-IsBacktraceReply address limit target hex files reply = OfFrameAndState (ShowsWalk address limit) target hex files reply
+abbrev pub IsBacktraceReply : ℕ → ℕ → ℕ → List ℕ → Target → Bool → List (List ℕ) → Reply → Type 0
+IsBacktraceReply address limit load loads target hex files reply =
+    OfModulesAndState (ShowsWalk address limit) load loads target hex files reply
 
-abbrev pub IsReplyTo : Task → Target → Bool → List (List ℕ) → Reply → Type 0
-IsReplyTo Check target hex files reply = IsCheckReply target hex files reply
-IsReplyTo Rows target hex files reply = IsRowsReply target hex files reply
-IsReplyTo (Row address) target hex files reply = IsRowReply address target hex files reply
-IsReplyTo (Locs lookup) target hex files reply = IsLocsReply lookup target hex files reply
-IsReplyTo (Eval kind) target hex files reply = IsEvalReply kind target hex files reply
-IsReplyTo (Unwind address) target hex files reply = IsUnwindReply address target hex files reply
-IsReplyTo (Backtrace address limit) target hex files reply = IsBacktraceReply address limit target hex files reply
+-- the reply to a task, with FRAME's module and the further ones loaded so
+abbrev pub IsReplyTo : Task → ℕ → List ℕ → Target → Bool → List (List ℕ) → Reply → Type 0
+IsReplyTo Check load loads target hex files reply = IsCheckReply target hex files reply
+IsReplyTo Rows load loads target hex files reply = IsRowsReply target hex files reply
+IsReplyTo (Row address) load loads target hex files reply = IsRowReply load address target hex files reply
+IsReplyTo (Locs lookup) load loads target hex files reply = IsLocsReply lookup target hex files reply
+IsReplyTo (Eval kind) load loads target hex files reply = IsEvalReply kind target hex files reply
+IsReplyTo (Unwind address) load loads target hex files reply = IsUnwindReply address load loads target hex files reply
+IsReplyTo (Backtrace address limit) load loads target hex files reply = IsBacktraceReply address limit load loads target hex files reply
 
 -- The reply to a request with one content for each of its files.
 abbrev pub IsReply : Asked → List (List ℕ) → Reply → Type 0
-IsReply asked files reply = IsReplyTo asked.task asked.target asked.hex files reply
+IsReply asked files reply = IsReplyTo asked.task asked.load asked.module_loads asked.target asked.hex files reply
 
 -- ---- how a run ends
 

@@ -2,6 +2,7 @@
 use Rattle.std.specs.Prelude.{◌≡◌, ℕ, ◌<◌, Bool, true, false, List, Option, Some, None, Result, Ok, Err}
 use Rattle.dw_bytes.specs.declared.fault.Fault.{Fault}
 use Rattle.dw_check.specs.StateFile.{StateFact}
+use Rattle.dw_check.specs.declared.modules.Module.{Module}
 use Rattle.dw_check.specs.declared.stop.Section.{Section}
 use Rattle.dw_check.specs.declared.whole_check.CheckFault.{CheckFault}
 use Rattle.dw_check.specs.declared.stop.ReportFault.{ReportFault}
@@ -48,3 +49,9 @@ abbrev pub RefusesBoth : Option CheckFault → RunFault → Type 0
 RefusesBoth first (Refused section fault) = first ≡ Some (record { section = section; fault = fault })
 RefusesBoth first Memory = Unit {0}
 RefusesBoth first _ = ⊥
+
+-- Why the bytes of further modules, whose files are some of so many, aren't there: one is to be hex text and isn't, or memory ran out.
+abbrev pub AreBadModules : Result (List (Module (List ℕ))) ℕ → ℕ → RunFault → Type 0
+AreBadModules modules count (BadHex n) = (modules ≡ Err n) × (n < count)
+AreBadModules modules count Memory = Unit {0}
+AreBadModules modules count _ = ⊥

@@ -2,22 +2,26 @@
 use Rattle.std.specs.Prelude.{ℕ, List, ◌++◌, Option, Some, None, codes, decimal}
 use Rattle.std.specs.List.{flat_map, enumerate_from}
 use Rattle.dw_bytes.specs.declared.target.AddressSize.{AddressSize}
-use Rattle.dw_check.specs.Caller.{Caller}
+use Rattle.dw_check.specs.Caller.{Answer, Caller}
 use Rattle.dw_check.specs.CallerText.{answer_text}
 use Rattle.dw_check.specs.Text.{address_text}
-use Rattle.dw_check.specs.Walks.{WalkedFrame}
+use Rattle.dw_check.specs.Walks.{Unwinder, WalkedFrame}
+use Rattle.dw_check.specs.WalkViews.{brief_of}
 use Rattle.dw_check.specs.declared.frames.Stop.{Stop}
 use Rattle.dw_check.specs.declared.frames.Stop.TheVariants.{Limit, NotCovered, ReturnUndefined, ReturnUnreadable, ReturnDivisionByZero}
 
--- the CFA of a caller, or that there is no caller
-abbrev pub caller_cfa_text : AddressSize → Option Caller → List ℕ
-caller_cfa_text size (Some caller) = codes "cfa " ++ answer_text size caller.cfa
-caller_cfa_text size None = codes "none"
+-- a CFA, or that there is no caller
+abbrev pub cfa_text : AddressSize → Option Answer → List ℕ
+cfa_text size (Some cfa) = codes "cfa " ++ answer_text size cfa
+cfa_text size None = codes "none"
 
--- a frame with its number
-unfoldable pub walked_line : AddressSize → ℕ × WalkedFrame → List ℕ
-walked_line size (n, frame) = codes "frame " ++ decimal n ++ codes " " ++ address_text size frame.address ++ codes " "
-    ++ caller_cfa_text size frame.caller ++ codes "\n"
+-- a frame in brief, with its number
+unfoldable pub brief_line : AddressSize → ℕ → ℕ × Option Answer → List ℕ
+brief_line size n (address, cfa) =
+    codes "frame " ++ decimal n ++ codes " " ++ address_text size address ++ codes " " ++ cfa_text size cfa ++ codes "\n"
+
+abbrev pub walked_line : AddressSize → ℕ × WalkedFrame → List ℕ
+walked_line size (n, frame) = brief_line size n (brief_of frame)
 
 -- why there are no more frames
 abbrev pub stop_text : Stop → List ℕ
@@ -36,3 +40,9 @@ frames_text size n frames = flat_map (walked_line size) (enumerate_from n frames
 
 unfoldable pub walk_text : AddressSize → List WalkedFrame → Stop → List ℕ
 walk_text size frames stop = frames_text size 0 frames ++ last_line stop
+
+-- ---- a walk that is written as it goes on
+
+-- wherever an unwinder is asked, it has a caller or says that there is none
+abbrev pub AlwaysUnwinds : Unwinder → Type 0
+AlwaysUnwinds u = (registers : ℕ → Option ℕ) (address : ℕ) → (caller : Option Caller) × u registers address caller

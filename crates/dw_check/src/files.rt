@@ -1,12 +1,14 @@
 //! What the files of a request contain, judged in their order.
 
-ghost use Rattle.std.specs.Prelude.{◌≡◌, not, IfOk, IfErr, Some, map, length, slice_get};
+ghost use Rattle.std.specs.Prelude.{◌≡◌, not, IfOk, IfErr, Ok, Some, map, length, slice_get};
 ghost use Rattle.std.specs.Cow.{cow_slice_items};
-ghost use Rattle.dw_check.specs.Files.{is_blank, without_blanks, section_bytes, state_facts};
+ghost use Rattle.dw_check.specs.FileViews.{with_bytes};
+ghost use Rattle.dw_check.specs.Files.{is_blank, without_blanks, section_bytes, state_facts, further_modules};
 ghost use Rattle.dw_check.specs.StateViews.{IsStateOf};
-ghost use Rattle.dw_check.specs.Stops.{IsBadSection, IsBadState};
+ghost use Rattle.dw_check.specs.Stops.{AreBadModules, IsBadSection, IsBadState};
 
 use crate::machine_state::{MachineState, read_state};
+use crate::modules::Module;
 use crate::stop::RunFault;
 use dw_bytes::Target;
 use hex::FromHexError;
@@ -75,5 +77,26 @@ impl<'a> Files<'a> {
             Some(file) => read_state(alloc, self.target, file.as_slice()),
             None => Ok(MachineState::new(alloc)),
         }
+    }
+    /// The further modules, which are loaded at these addresses: their sections are in the files from the third on.
+    #[tactic(auto, using(crate::proofs::FurtherModules::one_more_read))]
+    pub fn further_modules(
+        &self,
+        alloc: Global,
+        loads: &[u64],
+    ) -> Result<Vec<Module<CowSlice<'a, u8, Global>>>, RunFault>
+        ensures modules { IfOk result (λ modules.
+            further_modules self.now.hex (map (λ file. file.items) self.now.contents.now) 2
+            loads.now ≡ Ok (with_bytes modules.items)) }
+        ensures stop { IfErr result (AreBadModules
+            (further_modules self.now.hex (map (λ file. file.items) self.now.contents.now) 2
+            loads.now) (length self.now.contents.now)) }
+    {
+        let mut modules = Vec::new(alloc);
+        for (index, load) in loads.iter().enumerate() {
+            let section = self.section(alloc, index + 2)?;
+            modules.push(Module::new(section, *load))?;
+        }
+        Ok(modules)
     }
 }

@@ -24,6 +24,7 @@ mod outcomes;
 mod output;
 mod parts;
 mod present;
+mod process;
 mod register_list;
 mod reports;
 mod requests;

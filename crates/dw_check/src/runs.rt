@@ -1,61 +1,44 @@
 //! Requests carried out.
 
-ghost use Rattle.std.specs.Prelude.{◌≡◌, ◌<◌, ◌^◌, ℕ, List, false, None, IfOk, IfErr, length, map};
-ghost use Rattle.dw_rows.specs.Section.{frame_of};
+ghost use Rattle.std.specs.Prelude.{◌≡◌, ◌<◌, ◌^◌, ℕ, All, List, false, None, IfOk, IfErr, length, map};
+ghost use Rattle.dw_rows.specs.Section.{IsChecked, frame_of};
 ghost use Rattle.dw_stack.specs.Certificates.{checked_of};
 ghost use Rattle.dw_stack.specs.Expressions.{IsOf};
 ghost use Rattle.dw_check.specs.Runs.{Ends, Goes, IsPlaceIn, IsReply, IsReplyTo, IsCheckReply, IsRowsReply, IsRowReply, IsLocsReply};
 ghost use Rattle.dw_check.specs.Runs.{IsEvalReply, IsUnwindReply, IsBacktraceReply, ShowsCaller, ShowsWalk};
-ghost use Rattle.dw_check.specs.Runs.{frame_refusal, lists_refusal, expression_refusal};
+ghost use Rattle.dw_check.specs.Runs.{lists_refusal, expression_refusal};
 ghost use Rattle.dw_check.specs.Checked.{check_fault};
+ghost use Rattle.dw_check.specs.Modules.{sections_of};
 ghost use Rattle.dw_check.specs.StateFile.{StateFact, IsGivenBy};
 ghost use Rattle.dw_check.specs.StateViews.{known_state_of};
 ghost use Rattle.dw_check.specs.Stops.{RefusesBoth, IsRefusal, ended_by, is_output};
 ghost use Rattle.dw_check.specs.WriteResults.{IsSame, Writes, WritesWhole, is_write};
 ghost use Rattle.dw_check.specs.declared.stop.Section.TheVariants as sections;
 
-use crate::backtraces::backtrace_by_section;
 use crate::caller_text::write_caller;
 use crate::evaluations::write_outcome;
 use crate::files::Files;
-use crate::laws::{each_has_a_walk, one_caller, one_report, one_walk};
+use crate::laws::{each_address_has_an_unwinding_through_modules, one_caller_through_modules};
+use crate::laws::{one_report, one_walk_through_modules, walks_through_what_is_found};
 use crate::locations::write_list_lookup;
 use crate::machine_state::MachineState;
+use crate::modules::{Module, as_linked, unwind_in};
 use crate::output::{write_frame_section, write_refused, write_row_lookup};
+use crate::process::{frame_or_refusal, lent_modules, modules_or_refusal, read_process};
 use crate::reports::write_report;
 use crate::requests::{End, ListLookup, Request, Task};
 use crate::sink::Sink;
 use crate::stop::{ReportFault, RunFault, Section};
-use crate::unwinding::unwind_by_section;
+use crate::walk::Walk;
 use crate::walk_text::write_walk;
 use crate::whole_check::{Checked, SECTION_LIMIT, TOO_LONG, check};
 use crate::writer::Writer;
 use dw_bytes::Target;
 use dw_loclists::{CheckedLists, check_lists};
 use dw_ops::Expression;
-use dw_rows::{CheckedFrame, check_frame};
+use dw_rows::CheckedFrame;
 use dw_stack::{CheckedExpression, Kind, check_expression};
 use std::alloc::Global;
-
-/// The frame section of these bytes, if it has no fault.
-fn frame_or_refusal<'a>(
-    alloc: Global,
-    target: Target,
-    section: &'a [u8],
-) -> Result<CheckedFrame<'a>, RunFault>
-    ensures frame { IfOk result (λ frame. frame ≡ frame_of target section.entry.now) }
-    ensures whole { IfOk result (λ _. frame_refusal target section.entry.now ≡ None) }
-    ensures stop { IfErr result (IsRefusal sections.Frame
-        (frame_refusal target section.entry.now)) }
-{
-    if section.len() >= SECTION_LIMIT {
-        return Err(RunFault::Refused(Section::Frame, TOO_LONG));
-    }
-    match check_frame(alloc, section, target) {
-        Ok(frame) => Ok(frame),
-        Err(fault) => Err(RunFault::of_fault(Section::Frame, fault)),
-    }
-}
 
 /// The section of location lists of these bytes, if it has no fault.
 fn lists_or_refusal<'a>(
@@ -171,10 +154,11 @@ fn show_rows<S: Sink>(
     run_result(write_frame_section(out, &frame))
 }
 
-/// Shows the row of an address in a frame section.
+/// Shows the row of an address in the frame section of a module that is loaded at another.
 fn show_row<S: Sink>(
     alloc: Global,
     address: u64,
+    load: u64,
     files: &Files<'_>,
     out: &mut Writer<'_, S>,
 ) -> Result<(), RunFault>
@@ -182,13 +166,14 @@ fn show_row<S: Sink>(
     requires runs { S.has_stopped out.old.sink.now ≡ false }
     ensures same { IsSame out.old out.new }
     ensures goes { Goes (length files.now.contents.now)
-        (IsRowReply address files.now.target files.now.hex
+        (IsRowReply load address files.now.target files.now.hex
         (map (λ file. file.items) files.now.contents.now))
         (S.taken out.old.sink.now) (S.taken out.new.sink.now) result }
     ensures stops { S.has_stopped out.new.sink.now ≡ is_output result }
 {
     let section = files.section(alloc, 0)?;
     let frame = frame_or_refusal(alloc, files.target, section.as_slice())?;
+    let address = as_linked(files.target, load, address);
     run_result(write_row_lookup(out, &frame, address))
 }
 
@@ -239,52 +224,52 @@ fn show_outcome<S: Sink>(
 /// Writes the caller of the frame at an address over what is known, or that no FDE covers the address.
 fn unwind_and_write<S: Sink>(
     out: &mut Writer<'_, S>,
-    frame: &CheckedFrame<'_>,
+    modules: &[Module<&CheckedFrame<'_>>],
     address: u64,
     state: &MachineState,
 ) -> Result<(), ReportFault>
-    requires size { out.old.size ≡ frame.now.target.address_size }
     requires runs { S.has_stopped out.old.sink.now ≡ false }
     ensures same { IsSame out.old out.new }
     ensures written { (facts : List StateFact) → IsGivenBy (known_state_of state.now) facts
-        → (text : List ℕ) × ShowsCaller address facts frame.now text
+        → (text : List ℕ) × ShowsCaller address out.old.size facts (sections_of modules.now) text
         × Writes (S.taken out.old.sink.now) (S.taken out.new.sink.now) result text }
     ensures stops { S.has_stopped out.new.sink.now ≡ is_write result }
 {
-    let caller = unwind_by_section(frame, &state.abi(), address, state, state);
+    let caller = unwind_in(modules, &state.abi(), address, state, state);
     write_caller(out, caller.as_ref())
 }
 
 /// Writes the walk from a frame at an address over what is known.
-fn backtrace_and_write<S: Sink>(
-    alloc: Global,
+fn walk_and_write<S: Sink>(
     out: &mut Writer<'_, S>,
-    frame: &CheckedFrame<'_>,
+    modules: &[Module<&CheckedFrame<'_>>],
     address: u64,
     limit: u32,
     state: &MachineState,
 ) -> Result<(), ReportFault>
-    requires size { out.old.size ≡ frame.now.target.address_size }
+    requires checked { All (λ m. IsChecked m.rows) (sections_of modules.now) }
     requires runs { S.has_stopped out.old.sink.now ≡ false }
     ensures same { IsSame out.old out.new }
     ensures written { (facts : List StateFact) → IsGivenBy (known_state_of state.now) facts
-        → (text : List ℕ) × ShowsWalk address limit facts frame.now text
+        → (text : List ℕ)
+        × ShowsWalk address limit out.old.size facts (sections_of modules.now) text
         × Writes (S.taken out.old.sink.now) (S.taken out.new.sink.now) result text }
     ensures stops { S.has_stopped out.new.sink.now ≡ is_write result }
 {
-    // Proof only: the contract needs a text even if allocation fails.
-    let _ = frame.section();
-    each_has_a_walk();
-    match backtrace_by_section(alloc, frame, &state.abi(), address, state, state, limit) {
-        Ok(walk) => write_walk(out, &walk),
-        Err(_) => Err(ReportFault::Memory),
-    }
+    // Proof only: the contract needs the rest of the text where writing fails.
+    each_address_has_an_unwinding_through_modules();
+    walks_through_what_is_found();
+    let abi = state.abi();
+    let mut walk = Walk::new(modules, &abi, address, state, state);
+    write_walk(out, &mut walk, limit)
 }
 
-/// Shows the caller of the frame at an address, on a machine of which a state file says something.
+/// Shows the caller of the frame at an address of a process, whose modules are loaded so, in a state that a file says.
 fn show_caller<S: Sink>(
     alloc: Global,
     address: u64,
+    load: u64,
+    module_loads: &[u64],
     files: &Files<'_>,
     out: &mut Writer<'_, S>,
 ) -> Result<(), RunFault>
@@ -292,23 +277,25 @@ fn show_caller<S: Sink>(
     requires runs { S.has_stopped out.old.sink.now ≡ false }
     ensures same { IsSame out.old out.new }
     ensures goes { Goes (length files.now.contents.now)
-        (IsUnwindReply address files.now.target files.now.hex
+        (IsUnwindReply address load module_loads.now files.now.target files.now.hex
         (map (λ file. file.items) files.now.contents.now))
         (S.taken out.old.sink.now) (S.taken out.new.sink.now) result }
     ensures stops { S.has_stopped out.new.sink.now ≡ is_output result }
 {
-    one_caller();
-    let section = files.section(alloc, 0)?;
-    let state = files.state(alloc, 1)?;
-    let frame = frame_or_refusal(alloc, files.target, section.as_slice())?;
-    run_result(unwind_and_write(out, &frame, address, &state))
+    one_caller_through_modules();
+    let process = read_process(alloc, files, load, module_loads)?;
+    let modules = modules_or_refusal(alloc, files.target, process.modules.as_slice())?;
+    let modules = lent_modules(alloc, modules.as_slice())?;
+    run_result(unwind_and_write(out, modules.as_slice(), address, &process.state))
 }
 
-/// Shows the walk from the frame at an address, on a machine of which a state file says something.
+/// Shows the walk from the frame at an address of a process, whose modules are loaded so, in a state that a file says.
 fn show_walk<S: Sink>(
     alloc: Global,
     address: u64,
     limit: u32,
+    load: u64,
+    module_loads: &[u64],
     files: &Files<'_>,
     out: &mut Writer<'_, S>,
 ) -> Result<(), RunFault>
@@ -316,22 +303,22 @@ fn show_walk<S: Sink>(
     requires runs { S.has_stopped out.old.sink.now ≡ false }
     ensures same { IsSame out.old out.new }
     ensures goes { Goes (length files.now.contents.now)
-        (IsBacktraceReply address limit files.now.target files.now.hex
+        (IsBacktraceReply address limit load module_loads.now files.now.target files.now.hex
         (map (λ file. file.items) files.now.contents.now))
         (S.taken out.old.sink.now) (S.taken out.new.sink.now) result }
     ensures stops { S.has_stopped out.new.sink.now ≡ is_output result }
 {
-    one_walk();
-    let section = files.section(alloc, 0)?;
-    let state = files.state(alloc, 1)?;
-    let frame = frame_or_refusal(alloc, files.target, section.as_slice())?;
-    run_result(backtrace_and_write(alloc, out, &frame, address, limit, &state))
+    one_walk_through_modules();
+    let process = read_process(alloc, files, load, module_loads)?;
+    let modules = modules_or_refusal(alloc, files.target, process.modules.as_slice())?;
+    let modules = lent_modules(alloc, modules.as_slice())?;
+    run_result(walk_and_write(out, modules.as_slice(), address, limit, &process.state))
 }
 
-/// Does a task with these files.
+/// Does what a request asks for with these files.
 fn show_reply<S: Sink>(
     alloc: Global,
-    task: Task,
+    request: &Request,
     files: &Files<'_>,
     out: &mut Writer<'_, S>,
 ) -> Result<(), RunFault>
@@ -339,27 +326,31 @@ fn show_reply<S: Sink>(
     requires runs { S.has_stopped out.old.sink.now ≡ false }
     ensures same { IsSame out.old out.new }
     ensures goes { Goes (length files.now.contents.now)
-        (IsReplyTo task files.now.target files.now.hex
-        (map (λ file. file.items) files.now.contents.now))
+        (IsReplyTo request.now.task request.now.load request.now.module_loads files.now.target
+        files.now.hex (map (λ file. file.items) files.now.contents.now))
         (S.taken out.old.sink.now) (S.taken out.new.sink.now) result }
     ensures stops { S.has_stopped out.new.sink.now ≡ is_output result }
 {
-    match task {
+    let load = request.load;
+    let loads = request.module_loads.as_slice();
+    match request.task {
         Task::Check => show_report(alloc, files, out),
         Task::Rows => show_rows(alloc, files, out),
-        Task::Row { address } => show_row(alloc, address, files, out),
+        Task::Row { address } => show_row(alloc, address, load, files, out),
         Task::Locs { lookup } => show_locations(alloc, lookup, files, out),
         Task::Eval { kind } => show_outcome(alloc, kind, files, out),
-        Task::Unwind { address } => show_caller(alloc, address, files, out),
-        Task::Backtrace { address, limit } => show_walk(alloc, address, limit, files, out),
+        Task::Unwind { address } => show_caller(alloc, address, load, loads, files, out),
+        Task::Backtrace { address, limit } => {
+            show_walk(alloc, address, limit, load, loads, files, out)
+        }
     }
 }
 
 /// Does what the request asks for, with one content for each of `Request::files`, in their order.
 ///
-/// The files are judged in that order: BadHex for the first that is to be hex text and isn't; then StateLine for a state file's first
-/// bad line; then the first fault, whose line is written (Refused); else the whole text is written (Done). With BadHex and StateLine
-/// nothing is written. If an allocation fails before any of these is found, the end is Memory: a beginning of the text is written,
+/// The files are judged in that order: BadHex for one that is to be hex text and isn't, StateLine for a state file's first bad line;
+/// then what they hold, the first fault of which has its line written (Refused); else the whole text is written (Done). With BadHex
+/// and StateLine nothing is written. If an allocation fails before any of these is found, the end is Memory: a beginning of the text is written,
 /// and nothing of a refusal's line. If the sink stops, the end is Output: a beginning of the text or of the refusal is written.
 pub fn run<S: Sink>(alloc: Global, request: &Request, files: &[Vec<u8>], sink: &mut S) -> End
     requires files { length files.now ≡ length request.now.files }
@@ -379,7 +370,7 @@ pub fn run<S: Sink>(alloc: Global, request: &Request, files: &[Vec<u8>], sink: &
         size: request.target.address_size,
         sink,
     };
-    match show_reply(alloc, request.task, &files, &mut out) {
+    match show_reply(alloc, request, &files, &mut out) {
         Ok(()) => End::Done,
         Err(RunFault::Refused(section, fault)) => match write_refused(&mut out, section, fault) {
             Ok(()) => End::Refused,

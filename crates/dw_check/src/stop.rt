@@ -10,7 +10,7 @@ ghost use Rattle.dw_check.specs.declared.stop.RunFault.TheVariants as stops;
 
 use crate::sink::Stopped;
 use dw_bytes::{Fault, FaultKind};
-use std::alloc::AllocError;
+use std::alloc::{AllocError, AllocFailed};
 use thiserror::Error;
 
 /// What the offset of a refusal counts in.
@@ -83,6 +83,14 @@ impl From<AllocError> for RunFault {
     ghost from_gives = { λ _ e. e ≡ stops.Memory };
 
     fn from(_: AllocError) -> Self {
+        RunFault::Memory
+    }
+}
+
+impl<T: Drop> From<AllocFailed<T>> for RunFault {
+    ghost from_gives = { λ _ e. e ≡ stops.Memory };
+
+    fn from(_: AllocFailed<T>) -> Self {
         RunFault::Memory
     }
 }

@@ -1,57 +1,59 @@
 //! The text of a walk, written frame by frame.
 
-ghost use Rattle.std.specs.Prelude.{◌≡◌, ◌++◌, false, OnOk, option_copied, option_map};
+ghost use Rattle.std.specs.Prelude.{◌≡◌, ◌++◌, List, false, OnOk, option_map};
 ghost use Rattle.std.specs.String.{string_bytes};
-ghost use Rattle.dw_check.specs.CallerViews.{caller_in};
-ghost use Rattle.dw_check.specs.WalkText.{caller_cfa_text, walked_line, stop_text, last_line, frames_text, walk_text};
-ghost use Rattle.dw_check.specs.WalkViews.{frame_in, frames_in};
+ghost use Rattle.dw_rows.specs.AbiViews.{roles_of};
+ghost use Rattle.dw_check.specs.CallerViews.{answer_in};
+ghost use Rattle.dw_check.specs.Walks.{IsFrameAt, Place, WalkedFrame, Walks};
+ghost use Rattle.dw_check.specs.WalkSteps.{about_to_give, frame_at};
+ghost use Rattle.dw_check.specs.WalkText.{AlwaysUnwinds, brief_line, cfa_text, last_line, stop_text, walk_text};
+ghost use Rattle.dw_check.specs.WalkViews.{brief_in};
 ghost use Rattle.dw_check.specs.WriteResults.{IsSame, Writes, is_write};
 
 use crate::caller_text::push_answer;
-use crate::frames::{Backtrace, Frame, Stop};
+use crate::frames::{BriefFrame, Stop};
 use crate::numbers::{push_address, push_decimal};
 use crate::sink::Sink;
 use crate::stop::ReportFault;
-use crate::unwinding::Caller;
+use crate::unwinder::Unwinder;
+use crate::unwinding::Answer;
+use crate::walk::Walk;
 use crate::writer::{Writer, send_line};
 use dw_bytes::AddressSize;
+use dw_eval::Memory;
 use std::alloc::AllocError;
 
-/// The CFA of a caller, or that there is no caller.
-fn push_walked_cfa(
-    line: &mut String,
-    size: AddressSize,
-    caller: Option<&Caller>,
-) -> Result<(), AllocError>
+/// The CFA of a frame, or that there is no caller.
+fn push_cfa(line: &mut String, size: AddressSize, cfa: Option<Answer>) -> Result<(), AllocError>
     ensures { OnOk result (string_bytes line.new ≡ string_bytes line.old
-        ++ caller_cfa_text size (option_map caller_in (option_copied caller.entry))) }
+        ++ cfa_text size (option_map answer_in cfa)) }
 {
-    match caller {
-        Some(caller) => {
+    match cfa {
+        Some(cfa) => {
             line.push_str("cfa ")?;
-            push_answer(line, size, caller.cfa)
+            push_answer(line, size, cfa)
         }
         None => line.push_str("none"),
     }
 }
 
 /// The line of a frame with its number.
-#[tactic(auto, unfolding(crate::specs::WalkText::walked_line))]
+#[tactic(auto, unfolding(crate::specs::WalkText::brief_line))]
 fn push_walked_frame(
     line: &mut String,
     size: AddressSize,
-    number: usize,
-    frame: &Frame,
+    number: u32,
+    frame: BriefFrame,
 ) -> Result<(), AllocError>
     ensures { OnOk result (string_bytes line.new ≡ string_bytes line.old
-        ++ walked_line size (number, frame_in frame.now)) }
+        ++ brief_line size number (brief_in frame)) }
 {
     line.push_str("frame ")?;
     push_decimal(line, number)?;
     line.push_str(" ")?;
     push_address(line, size, frame.address)?;
     line.push_str(" ")?;
-    push_walked_cfa(line, size, frame.caller.as_ref())?;
+    push_cfa(line, size, frame.cfa)?;
     line.push_str("\n")
 }
 
@@ -81,35 +83,18 @@ fn push_stop(line: &mut String, stop: Stop) -> Result<(), AllocError>
 /// Writes the line of a frame with its number.
 fn write_walked_frame<S: Sink>(
     out: &mut Writer<'_, S>,
-    number: usize,
-    frame: &Frame,
+    number: u32,
+    frame: BriefFrame,
 ) -> Result<(), ReportFault>
     requires { S.has_stopped out.old.sink.now ≡ false }
     ensures same { IsSame out.old out.new }
     ensures written { Writes (S.taken out.old.sink.now) (S.taken out.new.sink.now) result
-        (walked_line out.old.size (number, frame_in frame.now)) }
+        (brief_line out.old.size number (brief_in frame)) }
     ensures stops { S.has_stopped out.new.sink.now ≡ is_write result }
 {
     out.line.clear();
     push_walked_frame(out.line, out.size, number, frame)?;
     send_line(out)
-}
-
-/// Writes the lines of frames, counted from 0.
-fn write_walked_frames<S: Sink>(
-    out: &mut Writer<'_, S>,
-    frames: &[Frame],
-) -> Result<(), ReportFault>
-    requires { S.has_stopped out.old.sink.now ≡ false }
-    ensures same { IsSame out.old out.new }
-    ensures written { Writes (S.taken out.old.sink.now) (S.taken out.new.sink.now) result
-        (frames_text out.old.size 0 (frames_in frames.now)) }
-    ensures stops { S.has_stopped out.new.sink.now ≡ is_write result }
-{
-    for (number, frame) in frames.iter().enumerate() {
-        write_walked_frame(out, number, frame)?;
-    }
-    Ok(())
 }
 
 /// Writes the line that says why there are no more frames.
@@ -125,17 +110,30 @@ fn write_stop<S: Sink>(out: &mut Writer<'_, S>, stop: Stop) -> Result<(), Report
     send_line(out)
 }
 
-/// Writes the lines of a walk, one after the other: no more than one of them is kept.
-pub(crate) fn write_walk<S: Sink>(
+/// Writes the lines of a walk from its first frame on, each as its frame is given: no more than one of them is kept.
+pub(crate) fn write_walk<S: Sink, U: Unwinder, M: Memory>(
     out: &mut Writer<'_, S>,
-    backtrace: &Backtrace,
+    walk: &mut Walk<'_, U, M>,
+    limit: u32,
 ) -> Result<(), ReportFault>
-    requires { S.has_stopped out.old.sink.now ≡ false }
+    requires runs { S.has_stopped out.old.sink.now ≡ false }
+    requires begins { walk.old.progress ≡ about_to_give (frame_at walk.old.progress) }
     ensures same { IsSame out.old out.new }
-    ensures written { Writes (S.taken out.old.sink.now) (S.taken out.new.sink.now) result
-        (walk_text out.old.size (frames_in backtrace.now.frames.items) backtrace.now.stop) }
+    ensures written { let u = U.unwinds walk.old.unwinder (roles_of walk.old.abi)
+        (M.bytes walk.old.memory)
+        in (first : Place) → AlwaysUnwinds u → IsFrameAt u first (frame_at walk.old.progress)
+        → (frames : List WalkedFrame) × (stop : Stop) × Walks u first limit frames stop
+        × Writes (S.taken out.old.sink.now) (S.taken out.new.sink.now) result
+        (walk_text out.old.size frames stop) }
     ensures stops { S.has_stopped out.new.sink.now ≡ is_write result }
 {
-    write_walked_frames(out, backtrace.frames.as_slice())?;
-    write_stop(out, backtrace.stop)
+    let mut number: u32 = 0;
+    while number < limit {
+        let Some(frame) = walk.next() else {
+            return write_stop(out, walk.stop().unwrap());
+        };
+        write_walked_frame(out, number, frame)?;
+        number += 1;
+    }
+    write_stop(out, Stop::Limit)
 }

@@ -6,6 +6,7 @@ pub(crate) mod cases;
 mod cie_versions;
 mod expressions;
 mod lists;
+mod modules;
 mod operations;
 mod parts;
 mod reads;

@@ -1,54 +1,72 @@
-use Rattle.std.proofs.Common.{◌∙◌, ap, length, map, sym}
-use Rattle.std.specs.Prelude.{Some}
-use Rattle.std.specs.Cow.{cow_slice_items}
-use Rattle.dw_check.specs.Runs.{Goes, IsUnwindReply, ShowsCaller}
+use Rattle.std.proofs.Common.{◌∙◌, ap, length, map, subst, sym}
+use Rattle.dw_check.specs.FileViews.{with_bytes}
+use Rattle.dw_check.specs.Files.{GivesProcess}
+use Rattle.dw_check.specs.Modules.{sections_of}
+use Rattle.dw_check.specs.Runs.{Goes, IsUnwindReply, ShowsCaller, OfModules}
+use Rattle.dw_check.specs.declared.stop.RunFault.TheVariants.{Memory}
 use Rattle.dw_check.proofs.OneReply.{one_caller_shown}
+use Rattle.dw_check.proofs.Processes.{AreChecked, accepted, goes_faulty, goes_lacking, goes_shown, goes_unread}
 use Rattle.dw_check.proofs.Replies.{handed_on}
-use Rattle.dw_check.proofs.Sections.{goes_without_state, goes_faulty, goes_shown}
 use Rattle.dw_check.proofs.runs.show_caller.Goals as goal
 
-pub returns-in_err-state-clause-goes : goal.returns-in_err-state-clause-goes
-returns-in_err-state-clause-goes g c =
+pub returns-in_err-process-clause-goes : goal.returns-in_err-process-clause-goes
+returns-in_err-process-clause-goes g c =
     let asked = c.args.files.now in
     let count = length asked.contents.now in
     let files = map (λ file. file.items) asked.contents.now in
+    let loads = c.args.module_loads.now in
     let a = g.S.Sink.taken c.args.out.now.sink.now in
-    let is = IsUnwindReply c.args.address in
-    let shows = ShowsCaller c.args.address in
-    let e = c.in_err-state.field-0.0 in
-    handed_on (Goes count (is asked.target asked.hex files) a a) _ e c.from_residual-in_err-state.ensures
-    (goes_without_state shows asked.target (cow_slice_items c.in_ok-section.section) count asked.hex files a e
-    c.in_ok-section.ensures.bytes c.in_err-state.ensures.stop)
+    let e = c.in_err-process.field-0.0 in
+    handed_on (Goes count (IsUnwindReply c.args.address c.args.load loads asked.target asked.hex files) a a) _ e
+    c.from_residual.ensures
+    (goes_unread asked.target c.args.load loads asked.hex files count
+    (λ facts modules. OfModules asked.target modules (ShowsCaller c.args.address asked.target.address_size facts)) a e c.in_err-process.ensures.stop)
 
-pub returns-in_err-frame-clause-goes : goal.returns-in_err-frame-clause-goes
-returns-in_err-frame-clause-goes g c =
+pub returns-in_err-modules-clause-goes : goal.returns-in_err-modules-clause-goes
+returns-in_err-modules-clause-goes g c =
     let asked = c.args.files.now in
     let count = length asked.contents.now in
     let files = map (λ file. file.items) asked.contents.now in
+    let loads = c.args.module_loads.now in
     let a = g.S.Sink.taken c.args.out.now.sink.now in
-    let is = IsUnwindReply c.args.address in
-    let shows = ShowsCaller c.args.address in
-    let section = c.as_slice.result.now in
-    let e = c.in_err-frame.field-0.0 in
-    let given = c.in_ok-state.ensures.state in
-    let bytes = c.in_ok-section.ensures.bytes ∙ ap Some (sym c.as_slice.ensures.value) in
-    handed_on (Goes count (is asked.target asked.hex files) a a) _ e c.from_residual-in_err-frame.ensures
-    (goes_faulty shows asked.target section count asked.hex files given.0 a e bytes given.1 c.in_err-frame.ensures.stop)
+    let e = c.in_err-modules.field-0.0 in
+    let read = c.in_ok-process.ensures.process in
+    let modules = with_bytes c.as_slice.result.now in
+    let gives = subst (λ l. GivesProcess asked.target c.args.load loads asked.hex files (with_bytes l) read.0)
+    (sym c.as_slice.ensures.value) read.2 in
+    handed_on (Goes count (IsUnwindReply c.args.address c.args.load loads asked.target asked.hex files) a a) _ e
+    c.from_residual-in_err-modules.ensures
+    (goes_faulty (ShowsCaller c.args.address) asked.target c.args.load loads asked.hex files count
+    modules read.0 gives a e c.in_err-modules.ensures.stop)
 
 pub returns-clause-goes : goal.returns-clause-goes
 returns-clause-goes g c =
     let asked = c.args.files.now in
     let count = length asked.contents.now in
     let files = map (λ file. file.items) asked.contents.now in
+    let loads = c.args.module_loads.now in
     let old = g.S.Sink.taken c.args.out.now.sink.now in
     let new = g.S.Sink.taken c.unwind_and_write.new.out.sink.now in
-    let given = c.in_ok-state.ensures.state in
-    let bytes = c.in_ok-section.ensures.bytes ∙ ap Some (sym c.as_slice.ensures.value) in
-    let checked = c.in_ok-frame.ensures in
-    let shows = ShowsCaller c.args.address in
-    let section = c.as_slice.result.now in
-    let written = c.unwind_and_write.ensures.written given.0 given.2 in
+    let read = c.in_ok-process.ensures.process in
+    let modules = with_bytes c.as_slice.result.now in
+    let gives = subst (λ l. GivesProcess asked.target c.args.load loads asked.hex files (with_bytes l) read.0)
+    (sym c.as_slice.ensures.value) read.2 in
+    let checked = c.in_ok-modules.ensures in
+    let sections = sections_of c.as_slice-3.result.now in
+    let are = ap sections_of c.as_slice-3.ensures.value ∙ c.in_ok-modules-2.ensures ∙ c.as_slice-2.ensures.value
+    ∙ checked.modules in
+    let written = c.unwind_and_write.ensures.written read.0 read.1 in
+    let shown = subst (λ z. ShowsCaller c.args.address z read.0 sections written.0) c.requires.size written.1 in
     rw c.run_result.ensures
-    (goes_shown shows asked.target section count asked.hex files given.0 c.in_ok-frame.frame
-    old new c.unwind_and_write.result written.0 (one_caller_shown c.one_caller.ensures c.args.address) bytes given.1
-    checked.whole checked.frame written.1 written.2)
+    (goes_shown (ShowsCaller c.args.address) asked.target c.args.load loads asked.hex files count
+    modules read.0 gives sections old new c.unwind_and_write.result written.0
+    (one_caller_shown c.one_caller_through_modules.ensures c.args.address) checked.whole are shown written.2)
+
+pub returns-in_err-modules-2-clause-goes : goal.returns-in_err-modules-2-clause-goes
+returns-in_err-modules-2-clause-goes g c =
+    let asked = c.args.files.now in
+    let count = length asked.contents.now in
+    let files = map (λ file. file.items) asked.contents.now in
+    let a = g.S.Sink.taken c.args.out.now.sink.now in
+    let is = IsUnwindReply c.args.address c.args.load c.args.module_loads.now asked.target asked.hex files in
+    handed_on (Goes count is a a) _ Memory c.from_residual-in_err-modules-2.ensures (goes_lacking count is a)

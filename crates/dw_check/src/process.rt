@@ -1,0 +1,109 @@
+//! Frame sections of files, judged: one, or those of the modules of a process.
+
+ghost use Rattle.std.specs.Prelude.{◌≡◌, List, None, IfOk, IfErr, length, map};
+ghost use Rattle.dw_rows.specs.Section.{frame_of};
+ghost use Rattle.dw_check.specs.FileViews.{with_bytes};
+ghost use Rattle.dw_check.specs.Files.{GivesProcess};
+ghost use Rattle.dw_check.specs.Modules.{sections_of};
+ghost use Rattle.dw_check.specs.Runs.{IsBadProcess, IsUnreadProcess, frame_refusal, modules_of_sections, modules_refusal};
+ghost use Rattle.dw_check.specs.StateFile.{StateFact, IsGivenBy};
+ghost use Rattle.dw_check.specs.StateViews.{known_state_of};
+ghost use Rattle.dw_check.specs.Stops.{IsRefusal};
+ghost use Rattle.dw_check.specs.declared.stop.Section.TheVariants as sections;
+
+use crate::files::Files;
+use crate::machine_state::MachineState;
+use crate::modules::Module;
+use crate::stop::{RunFault, Section};
+use crate::whole_check::{SECTION_LIMIT, TOO_LONG};
+use dw_bytes::Target;
+use dw_rows::{CheckedFrame, check_frame};
+use std::alloc::{AllocError, Global};
+use std::borrow::CowSlice;
+
+/// The frame section of these bytes, if it has no fault.
+pub(crate) fn frame_or_refusal<'a>(
+    alloc: Global,
+    target: Target,
+    section: &'a [u8],
+) -> Result<CheckedFrame<'a>, RunFault>
+    ensures frame { IfOk result (λ frame. frame ≡ frame_of target section.entry.now) }
+    ensures whole { IfOk result (λ _. frame_refusal target section.entry.now ≡ None) }
+    ensures stop { IfErr result (IsRefusal sections.Frame
+        (frame_refusal target section.entry.now)) }
+{
+    if section.len() >= SECTION_LIMIT {
+        return Err(RunFault::Refused(Section::Frame, TOO_LONG));
+    }
+    match check_frame(alloc, section, target) {
+        Ok(frame) => Ok(frame),
+        Err(fault) => Err(RunFault::of_fault(Section::Frame, fault)),
+    }
+}
+
+/// What the files of a process give.
+#[derive(Drop)]
+pub(crate) struct Process<'a> {
+    /// The frame sections of its modules, each with where it is loaded: FRAME's, and those of the further ones.
+    pub modules: Vec<Module<CowSlice<'a, u8, Global>>>,
+    /// What the state file says.
+    pub state: MachineState,
+}
+
+/// Reads the files of a process: FRAME, whose module is loaded at an address, the state file, and those of further modules.
+pub(crate) fn read_process<'a>(
+    alloc: Global,
+    files: &Files<'a>,
+    load: u64,
+    module_loads: &[u64],
+) -> Result<Process<'a>, RunFault>
+    ensures process { IfOk result (λ process.
+        (facts : List StateFact) × IsGivenBy (known_state_of process.state) facts
+        × GivesProcess files.now.target load module_loads.now files.now.hex
+        (map (λ file. file.items) files.now.contents.now) (with_bytes process.modules.items) facts) }
+    ensures stop { IfErr result (IsBadProcess
+        (IsUnreadProcess files.now.target load module_loads.now files.now.hex
+        (map (λ file. file.items) files.now.contents.now)) (length files.now.contents.now)) }
+{
+    let section = files.section(alloc, 0)?;
+    let state = files.state(alloc, 1)?;
+    let mut modules = files.further_modules(alloc, module_loads)?;
+    modules.insert(0, Module::new(section, load))?;
+    Ok(Process { modules, state })
+}
+
+/// The modules of a process with their sections, if none of these has a fault.
+#[tactic(auto, using(crate::proofs::FurtherModules::one_more_judged))]
+pub(crate) fn modules_or_refusal<'s>(
+    alloc: Global,
+    target: Target,
+    modules: &'s [Module<CowSlice<'_, u8, Global>>],
+) -> Result<Vec<Module<CheckedFrame<'s>>>, RunFault>
+    ensures modules { IfOk result
+        (λ v. v.items ≡ modules_of_sections target (with_bytes modules.entry.now)) }
+    ensures whole { IfOk result
+        (λ _. modules_refusal target (with_bytes modules.entry.now) ≡ None) }
+    ensures stop { IfErr result (IsRefusal sections.Frame
+        (modules_refusal target (with_bytes modules.entry.now))) }
+{
+    let mut checked = Vec::new(alloc);
+    for module in modules {
+        let frame = frame_or_refusal(alloc, target, module.rows().as_slice())?;
+        checked.push(Module::new(frame, module.load_address()))?;
+    }
+    Ok(checked)
+}
+
+/// The same modules, which lend their sections.
+pub(crate) fn lent_modules<'f, 's>(
+    alloc: Global,
+    modules: &'f [Module<CheckedFrame<'s>>],
+) -> Result<Vec<Module<&'f CheckedFrame<'s>>>, AllocError>
+    ensures { IfOk result (λ v. sections_of v.items ≡ modules.entry.now) }
+{
+    let mut lent = Vec::with_capacity(alloc, modules.len())?;
+    for module in modules {
+        lent.push(Module::new(module.rows(), module.load_address()))?;
+    }
+    Ok(lent)
+}

@@ -1,0 +1,120 @@
+//! Modules that are loaded where there is room, through `request` and `run`.
+
+use crate::texts::cases::{cases_come_to, lines_come_to};
+use std::alloc::AllocError;
+
+/// Rows of a module that is loaded elsewhere, as they are linked. Addresses are taken modulo 2^w.
+const LOADED: &str = "\
+{FUNCTION}
+dwcheck row --load 0x400000 --hex f 0x401000
+row 0x0000000000001000..0x0000000000001001 cfa=r7+8 r16=[c-8]
+
+{FUNCTION}
+dwcheck row --load 0x400000 --hex f 0x1000
+none
+
+{FUNCTION}
+dwcheck row --load 0x1 --hex f 0x1000
+none
+
+{FUNCTION}
+dwcheck row --load 0xffffffffffffffff --hex f 0xfff
+row 0x0000000000001000..0x0000000000001001 cfa=r7+8 r16=[c-8]
+
+{BIG_FUNCTION}
+dwcheck row --big --addr4 --load 0xffffffff --hex f 0x7fff
+row 0x00008000..0x00008008 cfa=r13+0
+";
+
+/// Callers in a module that is loaded elsewhere, in a further one, and in the first of two that cover the address.
+const CALLERS: &str = "\
+{FUNCTION} | reg 6 0x7f00/mem 0x7f00 0080000000000000/mem 0x7f08 3412000000000000/
+dwcheck unwind --load 0x400000 --hex f 0x401010 s
+cfa value 0x0000000000007f10
+r6 value 0x0000000000008000
+r16 value 0x0000000000001234
+return value 0x0000000000001234
+
+{FUNCTION} | reg 6 0x7f00
+dwcheck unwind --load 0x400000 --hex f 0x1010 s
+none
+
+{CIE} | reg 6 0x7f00/mem 0x7f00 0080000000000000/mem 0x7f08 3412000000000000/ | {FUNCTION}
+dwcheck unwind --module 0x400000=m --hex f 0x401010 s
+cfa value 0x0000000000007f10
+r6 value 0x0000000000008000
+r16 value 0x0000000000001234
+return value 0x0000000000001234
+
+{CIE} {FDE} 0710 000000000000 | reg 7 0x10 | {FUNCTION}
+dwcheck unwind --module 0x0=m --hex f 0x1010 s
+cfa value 0x0000000000000018
+r16 undefined
+return undefined
+";
+
+/// Walks from a further module into that of the first section, and from this one into a further one.
+const WALKS: &str = "\
+{FUNCTION} | {STACK}{LAST_WORD} | {FUNCTION}
+dwcheck backtrace --module 0x400000=m --hex f 0x401010 s 9
+frame 0 0x0000000000401010 cfa value 0x0000000000007f10
+frame 1 0x0000000000001020 cfa value 0x0000000000007f50
+frame 2 0x0000000000002000 none
+stop not covered
+
+{FUNCTION} | {STACK}{LAST_WORD} | {CIE} | {FUNCTION}
+dwcheck backtrace --load 0x400000 --module 0x800000=l --module 0x0=m --hex f 0x401010 s 9
+frame 0 0x0000000000401010 cfa value 0x0000000000007f10
+frame 1 0x0000000000001020 cfa value 0x0000000000007f50
+frame 2 0x0000000000002000 none
+stop not covered
+
+{FUNCTION} | {STACK} | {FUNCTION}
+dwcheck backtrace --module 0x400000=m --hex f 0x401010 s 2
+frame 0 0x0000000000401010 cfa value 0x0000000000007f10
+frame 1 0x0000000000001020 cfa value 0x0000000000007f50
+stop limit
+
+{FUNCTION} | {STACK} | {CIE}
+dwcheck backtrace --module 0x400000=m --hex f 0x401010 s 9
+frame 0 0x0000000000401010 none
+stop not covered
+";
+
+/// Hex text is judged first, the state file before that of the further module, and then the sections in the order of the modules.
+const IN_THEIR_ORDER: &str = "\
+{FUNCTION} | - | f0ffffff: refused 3 ReservedLength frame 0x00000000
+f0ffff | - | f0ffffff: refused 1 Truncated frame 0x00000000
+f0ffff | - | f0fffff: bad hex 2
+f0ffff | 00 | f0fffff: state line 1
+f0fffff | 00 | f0fffff: bad hex 0
+";
+
+#[test]
+fn shows_the_row_of_an_address_as_loaded(rt: HostRuntime) -> Result<(), AllocError> {
+    cases_come_to(&rt, LOADED)
+}
+
+#[test]
+fn shows_callers_through_modules(rt: HostRuntime) -> Result<(), AllocError> {
+    cases_come_to(&rt, CALLERS)
+}
+
+#[test]
+fn shows_walks_through_modules(rt: HostRuntime) -> Result<(), AllocError> {
+    cases_come_to(&rt, WALKS)
+}
+
+#[test]
+fn judges_the_files_of_modules_in_their_order(rt: HostRuntime) -> Result<(), AllocError> {
+    lines_come_to(
+        &rt,
+        "dwcheck unwind --module 0x400000=m --hex f 0x401010 s",
+        IN_THEIR_ORDER,
+    )?;
+    lines_come_to(
+        &rt,
+        "dwcheck backtrace --module 0x400000=m --hex f 0x401010 s 9",
+        IN_THEIR_ORDER,
+    )
+}
