@@ -177,11 +177,11 @@ module _ (u : Unwinder) (size : AddressSize) (begin : Progress) where
         let way = goes_on u first s.frames p f (under_way p n old mid s) gives in
         let whole = rest_of_walk u first some limit (limit - (n + 1)) longer (has_given f) way (omega (arith, few, count)) in
         let begun : AppendsFront old new (frames_text size 0 longer) =
-            subst (AppendsFront old new) (sym (one_more_line size s.frames n f s.count))
-            (front_more old mid new (frames_text size 0 s.frames) (brief_line size n (brief_of f)) s.text line) in
+        subst (AppendsFront old new) (sym (one_more_line size s.frames n f s.count))
+        (front_more old mid new (frames_text size 0 s.frames) (brief_line size n (brief_of f)) s.text line) in
         let all : AppendsFront old new (frames_text size 0 (longer ++ whole.0)) =
-            subst (AppendsFront old new) (sym (text_of_more size 0 longer whole.0))
-            (front_wider old new (frames_text size 0 longer) (frames_text size (0 + length longer) whole.0) begun) in
+        subst (AppendsFront old new) (sym (text_of_more size 0 longer whole.0))
+        (front_wider old new (frames_text size 0 longer) (frames_text size (0 + length longer) whole.0) begun) in
         let front = front_wider old new (frames_text size 0 (longer ++ whole.0)) (last_line whole.1) all in (
           longer ++ whole.0,
           whole.1,

@@ -18,8 +18,10 @@ ghost use Rattle.dw_check.specs.declared.stop.Section.TheVariants as sections;
 use crate::caller_text::write_caller;
 use crate::evaluations::write_outcome;
 use crate::files::Files;
-use crate::laws::{each_address_has_an_unwinding_through_modules, one_caller_through_modules};
-use crate::laws::{one_report, one_walk_through_modules, walks_through_what_is_found};
+use crate::laws::{
+    each_address_has_an_unwinding_through_modules, one_caller_through_modules, one_report,
+    one_walk_through_modules, walks_through_what_is_found,
+};
 use crate::locations::write_list_lookup;
 use crate::machine_state::MachineState;
 use crate::modules::{Module, as_linked, unwind_in};

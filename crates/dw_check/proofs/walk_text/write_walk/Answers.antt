@@ -14,7 +14,7 @@ returns-in_default-clause-written g c = λ first some at.
     let u = g.U.Unwinder.unwinds walk.unwinder (roles_of walk.abi) (g.M.Memory.bytes walk.memory) in
     let none = c.in_default.ensures.gives in
     let ended : stop_of c.loop-number.walk.progress ≡ Some c.unwrap.result =
-        sym (ap (λ w. stop_of w.progress) none.1) ∙ sym c.stop.ensures ∙ c.unwrap.ensures in
+    sym (ap (λ w. stop_of w.progress) none.1) ∙ sym c.stop.ensures ∙ c.unwrap.ensures in
     ended_written u c.args.out.now.size walk.progress first c.args.limit c.requires.begins at c.loop-number.walk.progress
     c.loop-number.number c.unwrap.result _ _ _ c.write_stop.result c.loop-number.invariant.shown
     (omega (arith, c.loop-number-test.true)) ended c.write_stop.ensures.written
@@ -36,12 +36,12 @@ returns-in_err-write_walked_frame-clause-written g c = λ first some at.
     let keeps = c.loop-number.invariant in
     let gives : GivesFrame u c.loop-number.walk.progress given.0 = rw (keeps.over, keeps.abi, keeps.memory) at given.1 in
     let brief : brief_in c.in-Some.frame ≡ brief_of given.0 =
-        c.in-Some.ensures.brief ∙ ap (λ w. brief_of (frame_at w.progress)) given.2 in
+    c.in-Some.ensures.brief ∙ ap (λ w. brief_of (frame_at w.progress)) given.2 in
     let old = g.S.Sink.taken c.args.out.now.sink.now in
     let mid = g.S.Sink.taken c.loop-number.out.sink.now in
     let new = g.S.Sink.taken c.write_walked_frame.new.out.sink.now in
     let line : AppendsFront mid new (brief_line size c.loop-number.number (brief_of given.0)) =
-        rw (keeps.same.1, brief) at c.in_err-write_walked_frame.ensures.written in
+    rw (keeps.same.1, brief) at c.in_err-write_walked_frame.ensures.written in
     front_written u size walk.progress first c.args.limit c.requires.begins at some c.loop-number.walk.progress c.loop-number.number
     given.0 old mid new c.from_residual.result c.from_residual.ensures.0 keeps.shown (omega (arith, c.loop-number-test.true)) gives line
 
@@ -54,12 +54,12 @@ loop-number-preserved g c =
     let keeps = c.loop-number.invariant in
     let gives : GivesFrame u c.loop-number.walk.progress given.0 = rw (keeps.over, keeps.abi, keeps.memory) at given.1 in
     let brief : brief_in c.in-Some.frame ≡ brief_of given.0 =
-        c.in-Some.ensures.brief ∙ ap (λ w. brief_of (frame_at w.progress)) given.2 in
+    c.in-Some.ensures.brief ∙ ap (λ w. brief_of (frame_at w.progress)) given.2 in
     let old = g.S.Sink.taken c.args.out.now.sink.now in
     let mid = g.S.Sink.taken c.loop-number.out.sink.now in
     let new = g.S.Sink.taken c.write_walked_frame.new.out.sink.now in
     let line : Appends mid new (brief_line size c.loop-number.number (brief_of given.0)) =
-        rw (keeps.same.1, brief) at c.in_ok-write_walked_frame.ensures.written in
+    rw (keeps.same.1, brief) at c.in_ok-write_walked_frame.ensures.written in
     let more = shown_next u size walk.progress c.loop-number.walk.progress c.loop-number.number given.0 old mid new keeps.shown gives line in
     record {
       same = search rules;
