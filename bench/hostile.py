@@ -125,6 +125,30 @@ def try_walks(program):
     judge("the longest walk", (len(lines), lines[-2:], line, status), (65536, wanted, "", 0))
 
 
+def try_modules(program):
+    """Modules that are named wrongly, missing, refused, or many."""
+    for options in (
+        ["--load", ""], ["--load", "1"], ["--load", "0x" + "0" * 17], ["--addr4", "--load", "0x100000000"], ["--module", "0x10"], ["--module", "0x10="],
+        ["--module", "=frame"], ["--module", "10=frame"], ["--addr4", "--module", "0x100000000=frame"], ["--module", "0x0=frame", "--module", "x=frame"],
+    ):
+        judge(f"{options}", run(program, ["backtrace", *options, "missing", "0x0", "missing", "9"]), ("", "dwcheck: bad argument\n", 2))
+    for words in (
+        ["rows", "frame", "--load", "0x0"], ["check", "frame", "empty", "--load", "0x0"], ["row", "frame", "0x0", "--module", "0x0=frame"],
+        [*WALK, "--load", "0x0", "--load", "0x0"], [*WALK, "--load"], [*WALK, "--module"],
+    ):
+        text, line, status = run(program, words)
+        judge(f"{words}", (text, line != "", status), ("", True, 2))
+    judge("no such module", run(program, [*WALK, "--module", "0x0=missing"]), ("", "dwcheck: cannot read missing\n", 3))
+    judge("a module that is cut", run(program, [*WALK, "--module", "0x0=cut"]), ("refused 1 Truncated frame 0x0000001c\n", "", 1))
+    judge("the first module is named", run(program, ["backtrace", "cut", "0x0", "state", "9", "--module", "0x0=frame"])[2], 1)
+    many = [word for place in range(1000) for word in ("--module", f"0x{place:x}000000=frame")]
+    judge("1,000 modules", run(program, [*WALK, *many]), (FRAMES, "", 0))
+    judge("the last of 1,000", run(program, ["row", "--load", "0xffffffffffffff00", "frame", "0xf10"])[0], ROWS.splitlines(True)[3])
+    away = ["backtrace", "--load", "0x1000000", "frame", "0x1010", "state", "9"]
+    judge("a second module where the first isn't", run(program, [*away, "--module", "0x0=frame"]), (FRAMES, "", 0))
+    judge("a walk with no module there", run(program, away), ("frame 0 0x0000000000001010 none\nstop not covered\n", "", 0))
+
+
 def try_changed_sections(program):
     """Walks over a section that is cut at each length, and over one with a byte changed: they end as they may, and each at once."""
     for length in range(len(FRAME) + 1):
@@ -252,6 +276,7 @@ def main():
         try_files(program)
         try_words(program)
         try_walks(program)
+        try_modules(program)
         try_changed_sections(program)
         try_outputs(program, "big")
         try_pipes(program)
