@@ -1,6 +1,6 @@
 -- Registers by ascending numbers.
-use Rattle.std.proofs.Common.{◌≡◌, ℕ, zero, suc, ◌+◌, ◌<◌, ◌≤◌, ◌==◌, List, [], ◌∷◌, ◌++◌, length, map, Option, None, Some, true, false, refl, sym, ap, subst, ◌∙◌, arith}
-use Rattle.std.specs.Prelude.{if◌then◌else◌, slice_get}
+use Rattle.std.proofs.Common.{◌≡◌, ℕ, zero, suc, ◌≤◌, ◌==◌, List, [], ◌∷◌, ◌++◌, map, None, Some, true, false, refl, subst, arith}
+use Rattle.std.specs.Prelude.{slice_get}
 use Rattle.dw_check.specs.declared.unwinding.Answer.TheVariants as answers
 use Rattle.std.proofs.lemmas.Bool.Decides.{nat_tests}
 use Rattle.dw_check.specs.declared.unwinding.Answer as declared

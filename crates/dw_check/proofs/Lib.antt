@@ -41,5 +41,4 @@ mod WalksOver
 pub mod FurtherModules
 mod FoundInModules
 mod Processes
-mod OverModules
 pub mod RestOfWalk

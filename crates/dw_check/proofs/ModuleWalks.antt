@@ -7,7 +7,7 @@ use Rattle.std.proofs.Math.Nat.{mod-eq_of_lt}
 use Rattle.std.proofs.lemmas.Nat.{pow_pos}
 use Rattle.std.proofs.lemmas.Int.{int_rem_euclid_is}
 use Rattle.dw_bytes.specs.declared.target.Target.{Target}
-use Rattle.dw_eval.specs.Numbers.{width_of, wrap}
+use Rattle.dw_eval.specs.Numbers.{width_of}
 use Rattle.dw_rows.specs.Abi.{Abi}
 use Rattle.dw_rows.specs.Section.{FrameSection}
 use Rattle.dw_rows.specs.UnwindTables.{RowTable, IsFoundAt, IsTableOf, row_at}

@@ -182,11 +182,11 @@ OfProcess target load loads hex files Is reply =
     (λ section. OfState (state_facts target (slice_get files 1))
     (λ facts. OfFurther (further_modules hex files 2 loads) (λ others. Is facts (loaded_at load section ∷ others)))) reply
 
--- no reply but that one of these files can't be read
+-- the reply where one of these files can't be read, and else none
 abbrev pub IsUnreadProcess : Target → ℕ → List ℕ → Bool → List (List ℕ) → Reply → Type 0
 IsUnreadProcess target load loads hex files reply = OfProcess target load loads hex files (λ facts modules r. ⊥) reply
 
--- Why the files of a process, of which there are so many in all, aren't read: one of them can't be, or memory ran out.
+-- Why a process isn't read from its files, which are this many: one of them can't be read, or memory ran out.
 abbrev pub IsBadProcess : (Reply → Type 0) → ℕ → RunFault → Type 0
 IsBadProcess Is count (stops.BadHex n) = (n < count) × Is (not_hex n)
 IsBadProcess Is count (stops.StateLine n) = Is (bad_line n)

@@ -50,7 +50,7 @@ RefusesBoth first (Refused section fault) = first ≡ Some (record { section = s
 RefusesBoth first Memory = Unit {0}
 RefusesBoth first _ = ⊥
 
--- Why the bytes of further modules, whose files are some of so many, aren't there: one is to be hex text and isn't, or memory ran out.
+-- Why the bytes of further modules aren't there, the files being this many: one is to be hex text and isn't, or memory ran out.
 abbrev pub AreBadModules : Result (List (Module (List ℕ))) ℕ → ℕ → RunFault → Type 0
 AreBadModules modules count (BadHex n) = (modules ≡ Err n) × (n < count)
 AreBadModules modules count Memory = Unit {0}

@@ -32,8 +32,8 @@ pub fn one_reply()
         → IsReply asked files s → r ≡ s }
 {
     one_report();
-    one_caller();
-    one_walk();
+    one_caller_through_modules();
+    one_walk_through_modules();
 }
 
 /// And it has one.
@@ -41,8 +41,8 @@ pub fn each_has_a_reply()
     ensures { (asked : Asked) (files : List (List ℕ)) → (r : Reply) × IsReply asked files r }
 {
     each_has_a_report();
-    each_address_has_an_unwinding();
-    each_has_a_walk();
+    each_address_has_an_unwinding_through_modules();
+    each_has_a_walk_through_modules();
 }
 
 /// What follows the needed part of a long file changes no reply.

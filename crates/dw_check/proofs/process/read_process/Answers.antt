@@ -1,7 +1,7 @@
-use Rattle.std.proofs.Common.{◌≡◌, ap, length, map, refl, sym, ◌∙◌}
+use Rattle.std.proofs.Common.{length, map}
 use Rattle.std.specs.Prelude.{slice_get}
 use Rattle.std.specs.Cow.{cow_slice_items}
-use Rattle.dw_check.specs.Files.{further_modules, loaded_at, section_bytes, state_facts}
+use Rattle.dw_check.specs.Files.{further_modules, section_bytes, state_facts}
 use Rattle.dw_check.specs.Runs.{IsBadProcess, IsUnreadProcess, OfFurther, OfState}
 use Rattle.dw_check.proofs.Processes.{after_section, after_state, err_from, unread_modules, unread_section, unread_state}
 use Rattle.dw_check.proofs.process.read_process.Goals as goal

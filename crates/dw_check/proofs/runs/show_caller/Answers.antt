@@ -5,7 +5,7 @@ use Rattle.dw_check.specs.Modules.{sections_of}
 use Rattle.dw_check.specs.Runs.{Goes, IsUnwindReply, ShowsCaller, OfModules}
 use Rattle.dw_check.specs.declared.stop.RunFault.TheVariants.{Memory}
 use Rattle.dw_check.proofs.OneReply.{one_caller_shown}
-use Rattle.dw_check.proofs.Processes.{AreChecked, accepted, goes_faulty, goes_lacking, goes_shown, goes_unread}
+use Rattle.dw_check.proofs.Processes.{goes_faulty, goes_lacking, goes_shown, goes_unread}
 use Rattle.dw_check.proofs.Replies.{handed_on}
 use Rattle.dw_check.proofs.runs.show_caller.Goals as goal
 

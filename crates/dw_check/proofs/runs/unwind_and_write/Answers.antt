@@ -1,5 +1,5 @@
 use Rattle.std.proofs.Common.{refl, subst}
-use Rattle.std.specs.Prelude.{option_copied, option_map}
+use Rattle.std.specs.Prelude.{option_map}
 use Rattle.dw_rows.specs.AbiViews.{roles_of}
 use Rattle.dw_check.specs.CallerText.{caller_text}
 use Rattle.dw_check.specs.CallerViews.{caller_in}

@@ -1,4 +1,4 @@
-use Rattle.std.proofs.Common.{◌≡◌, ◌-◌, ◌≤◌, ℕ, false}
+use Rattle.std.proofs.Common.{◌≡◌, ◌-◌, ◌≤◌, false}
 use Rattle.dw_rows.specs.AbiViews.{roles_of}
 use Rattle.dw_check.specs.WriteResults.{IsSame}
 use Rattle.dw_check.proofs.RestOfWalk.{Shown}

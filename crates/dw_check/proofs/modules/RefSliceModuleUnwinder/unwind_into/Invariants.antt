@@ -1,4 +1,4 @@
-use Rattle.std.proofs.Common.{ℕ, Option, drop}
+use Rattle.std.proofs.Common.{Option, drop}
 use Rattle.dw_rows.specs.AbiViews.{roles_of}
 use Rattle.dw_check.specs.Caller.{Caller}
 use Rattle.dw_check.specs.Modules.{over_modules_of_rows}

@@ -1,4 +1,4 @@
-use Rattle.std.proofs.Common.{[], ◌∷◌, arith}
+use Rattle.std.proofs.Common.{[], ◌∷◌}
 use Rattle.std.proofs.lemmas.List.{map-append}
 use Rattle.dw_rows.specs.GivenRows.{IsEntryOfKind}
 use Rattle.dw_rows.specs.Views.{numbered_rule_of}
