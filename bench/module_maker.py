@@ -26,9 +26,10 @@ class ModuleMaker(WalkMaker):
     # The sections.
 
     def ranges(self, count):
+        ranges = super().ranges(count)
         if self.covers_nothing:
-            return [(low, low) for low, _ in self.random.sample(super().ranges(count), self.random.randrange(count + 1))]
-        return super().ranges(count)
+            return [(low, low) for low, _ in self.random.sample(ranges, self.random.randrange(len(ranges) + 1))]
+        return ranges
 
     def block(self, kind):
         """Now and then an address as linked: a place on the stack, or what is added to a register."""
