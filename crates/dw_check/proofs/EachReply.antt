@@ -17,17 +17,17 @@ use Rattle.dw_check.specs.Runs.{abi_given, memory_given, registers_given}
 use Rattle.dw_check.specs.Runs.{IsEvalReply, IsReplyTo, IsReply}
 use Rattle.dw_check.specs.Text.{frame_text, lookup_text}
 use Rattle.dw_check.specs.Files.{section_bytes, state_facts, further_modules, loaded_at}
-use Rattle.dw_check.specs.Modules.{as_linked, over_sections}
+use Rattle.dw_unwind.specs.Modules.{as_linked, over_sections}
 use Rattle.dw_bytes.specs.declared.target.AddressSize.{AddressSize}
-use Rattle.dw_check.specs.declared.modules.Module.{Module}
+use Rattle.dw_unwind.specs.declared.modules.Module.{Module}
 use Rattle.dw_check.specs.Report.{IsReport}
 use Rattle.dw_loclists.specs.Reading.{ListSection, IsChecked}
 use Rattle.dw_rows.specs.Section.{FrameSection, frame_of}
 use Rattle.dw_rows.specs.Abi.{Abi}
-use Rattle.dw_check.specs.Walks.{Place, WalkedFrame, Walks, first_place}
+use Rattle.dw_unwind.specs.Walks.{Place, WalkedFrame, Walks, first_place}
 use Rattle.dw_check.specs.WalkText.{walk_text}
-use Rattle.dw_check.specs.declared.frames.Stop.{Stop}
-use Rattle.dw_check.specs.Caller.{Caller}
+use Rattle.dw_unwind.specs.declared.frames.Stop.{Stop}
+use Rattle.dw_unwind.specs.Caller.{Caller}
 use Rattle.dw_check.specs.CallerText.{caller_text}
 use Rattle.dw_rows.specs.Section as rows
 use Rattle.std.specs.Prelude.{slice_get}

@@ -8,7 +8,7 @@ use Rattle.dw_bytes.specs.declared.fault.Fault.{Fault}
 use Rattle.dw_check.specs.Files.{loaded_at, module_before}
 use Rattle.dw_check.specs.Runs.{frame_refusal, modules_refusal}
 use Rattle.dw_check.specs.Stops.{AreBadModules, IsBadSection}
-use Rattle.dw_check.specs.declared.modules.Module.{Module}
+use Rattle.dw_unwind.specs.declared.modules.Module.{Module}
 use Rattle.dw_check.specs.declared.stop.RunFault.{RunFault}
 use Rattle.dw_check.specs.declared.stop.RunFault.TheVariants.{Refused, BadHex, StateLine, Memory, Output}
 

@@ -4,11 +4,11 @@ use Rattle.std.specs.Prelude.{Option}
 use Rattle.std.proofs.Math.Path.{fun_ext}
 use Rattle.dw_rows.specs.Abi.{Abi, abi_of}
 use Rattle.dw_rows.specs.Section.{FrameSection}
-use Rattle.dw_check.specs.Caller.{Caller}
-use Rattle.dw_check.specs.Modules.{over_sections}
-use Rattle.dw_check.specs.Walks.{WalkedFrame, Walks, first_place}
-use Rattle.dw_check.specs.declared.frames.Stop.{Stop}
-use Rattle.dw_check.specs.declared.modules.Module.{Module}
+use Rattle.dw_unwind.specs.Caller.{Caller}
+use Rattle.dw_unwind.specs.Modules.{over_sections}
+use Rattle.dw_unwind.specs.Walks.{WalkedFrame, Walks, first_place}
+use Rattle.dw_unwind.specs.declared.frames.Stop.{Stop}
+use Rattle.dw_unwind.specs.declared.modules.Module.{Module}
 use Rattle.dw_check.specs.Runs.{abi_given, memory_given, registers_given}
 use Rattle.dw_check.specs.StateFile.{StateFact, KnownState, IsGivenBy}
 

@@ -1,9 +1,5 @@
-pub mod Ascending
 pub mod Assembled
 pub mod BothSections
-pub mod Callers
-pub mod CallersFit
-pub mod EachCaller
 pub mod EachReply
 pub mod EachReport
 pub mod Evaluated
@@ -17,8 +13,6 @@ pub mod Lengths
 pub mod Lined
 pub mod Loading
 pub mod LongFiles
-pub mod ModuleWalks
-pub mod OneCaller
 pub mod OneReply
 pub mod Digits
 pub mod NamedTexts
@@ -35,10 +29,6 @@ pub mod StateLines
 pub mod Within
 pub mod WholeCheck
 pub mod Writing
-mod Walking
-mod OneWalk
-mod WalksOver
 pub mod FurtherModules
-mod FoundInModules
 mod Processes
-pub mod RestOfWalk
+pub mod WrittenWalks

@@ -13,9 +13,9 @@ use Rattle.dw_stack.specs.FirstFault.{expression_fault}
 use Rattle.dw_check.specs.Checked.{check_fault, fault_within, length_fault, too_long}
 use Rattle.dw_check.specs.Files.{further_modules, loaded_at, module_before, section_bytes, state_facts}
 use Rattle.dw_check.specs.LongFiles.{is_state, needed_length, needed_parts, part_up_to}
-use Rattle.dw_check.specs.Modules.{as_linked}
+use Rattle.dw_unwind.specs.Modules.{as_linked}
 use Rattle.dw_bytes.specs.declared.target.AddressSize.{AddressSize}
-use Rattle.dw_check.specs.declared.modules.Module.{Module}
+use Rattle.dw_unwind.specs.declared.modules.Module.{Module}
 use Rattle.dw_check.proofs.Processes.{neither}
 use Rattle.dw_check.specs.Report.{IsReport}
 use Rattle.dw_check.specs.StateFile.{StateFact}

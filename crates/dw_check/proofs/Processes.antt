@@ -16,7 +16,7 @@ use Rattle.dw_check.specs.Runs.{OfSection, OfState, OfFurther, OfProcess, IsUnre
 use Rattle.dw_check.specs.StateFile.{StateFact}
 use Rattle.dw_check.specs.Stops.{AreBadModules, IsBadSection, IsBadState, IsRefusal, ended_by}
 use Rattle.dw_check.specs.WriteResults.{Writes}
-use Rattle.dw_check.specs.declared.modules.Module.{Module}
+use Rattle.dw_unwind.specs.declared.modules.Module.{Module}
 use Rattle.dw_check.specs.declared.stop.ReportFault.{ReportFault}
 use Rattle.dw_check.specs.declared.stop.RunFault.{RunFault}
 use Rattle.dw_check.specs.declared.stop.RunFault.TheVariants.{Refused, BadHex, StateLine, Memory, Output}

@@ -8,7 +8,7 @@ use Rattle.dw_stack.specs.declared.state.Kind.{Kind}
 use Rattle.dw_stack.specs.Expressions.{Checked, IsChecked, IsGoodExpression, IsDepthOf, RunsWellWithin, operations_in}
 use Rattle.dw_eval.specs.World.{World}
 use Rattle.dw_eval.specs.Results.{Outcome, IsEvaluation}
-use Rattle.dw_check.specs.Caller.{under}
+use Rattle.dw_unwind.specs.Caller.{under}
 use Rattle.dw_check.specs.Headline.{IsSafe}
 
 -- what is given without a fault
@@ -21,11 +21,6 @@ pub made_of : {X Y : Type 0} (make : List X → Y) (items : List (Result X Fault
     → make (values_in items) ≡ make xs
 made_of make items xs are = ap (λ its. make (values_in its)) are ∙ ap make (values_given xs)
 
--- a good expression with its depth and its number of operations
-abbrev pub known : Kind → Target → List ℕ → ℕ → Checked
-known kind target bytes depth =
-    record { kind = kind; target = target; bytes = bytes; depth = depth; count = length (operations_in target bytes) }
-
 -- a good expression is safe
 pub safe : ((kind : Kind) (target : Target) (bytes : List ℕ) → IsGoodExpression kind target bytes → (d : ℕ) × IsDepthOf kind target bytes d)
     → ((kind : Kind) (target : Target) (bytes : List ℕ) (depth : ℕ) → IsGoodExpression kind target bytes
@@ -36,7 +31,13 @@ pub safe : ((kind : Kind) (target : Target) (bytes : List ℕ) → IsGoodExpress
     → (kind : Kind) (target : Target) (bytes : List ℕ) → IsGoodExpression kind target bytes → IsSafe kind target bytes
 safe has_depth runs_well has_one only_one kind target bytes good =
     let deepest = has_depth kind target bytes good in
-    let c : Checked = known kind target bytes deepest.0 in
+    let c : Checked = record {
+      kind = kind;
+      target = target;
+      bytes = bytes;
+      depth = deepest.0;
+      count = length (operations_in target bytes);
+    } in
     let checked : IsChecked c = record { good = good; depth = deepest.1; count = refl } in
     record {
       good = good;

@@ -7,7 +7,7 @@ use Rattle.std.specs.Str.Parse.{digits_value}
 use Rattle.dw_bytes.specs.declared.target.Target.{Target}
 use Rattle.dw_frame.specs.Sections.{top_of}
 
--- the number that digits of this radix spell, at least one and at most so many
+-- the number that digits of this radix spell, at least one of them and no more than are allowed
 abbrev pub number_of : ℕ → ℕ → List ℕ → Option ℕ
 number_of radix most ds = if nat_lt 0 (length ds) && nat_le (length ds) most && list_all (λ c. nat_lt (digit_value c) radix) ds
     then Some (digits_value radix ds) else None

@@ -2,7 +2,7 @@
 use Rattle.std.specs.Prelude.{ℕ, List, ◌++◌, Option, Some, None, codes, decimal}
 use Rattle.std.specs.List.{flat_map}
 use Rattle.dw_bytes.specs.declared.target.AddressSize.{AddressSize}
-use Rattle.dw_check.specs.Caller.{Answer, value, undefined, unreadable, division_by_zero, Caller}
+use Rattle.dw_unwind.specs.Caller.{Answer, value, undefined, unreadable, division_by_zero, Caller}
 use Rattle.dw_check.specs.Text.{address_text}
 
 -- what is known of a number; a value is shown as an address is

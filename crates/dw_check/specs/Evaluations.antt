@@ -19,7 +19,7 @@ world_of target facts = record {
   object = first_that object_in facts;
 }
 
--- The expression is good, its run on what was given comes to this outcome after so many steps, and this is its depth.
+-- The expression is good, its run on what was given comes to this outcome after this many steps, and this is its depth.
 pub record ComesTo (kind : Kind) (target : Target) (bytes : List ℕ) (facts : List StateFact) (outcome : Outcome)
     (steps depth : ℕ) : Type 0 where
   pub short : length bytes < 2 ^ 32

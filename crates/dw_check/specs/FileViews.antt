@@ -3,7 +3,7 @@ use Rattle.std.specs.Prelude.{ℕ, List, map}
 use Rattle.std.specs.declared.borrow.CowSlice.{CowSlice}
 use Rattle.std.specs.Cow.{cow_slice_items}
 use Rattle.dw_check.specs.Files.{loaded_at}
-use Rattle.dw_check.specs.declared.modules.Module.{Module}
+use Rattle.dw_unwind.specs.declared.modules.Module.{Module}
 
 -- modules with the bytes of their sections
 abbrev pub with_bytes : {Z : Type 0} → List (Module (CowSlice ℕ Z)) → List (Module (List ℕ))

@@ -15,7 +15,7 @@ use Rattle.dw_loclists.specs.Lists.{Loclist, AreTables}
 use Rattle.dw_loclists.specs.Reading.{ListSection, tables_in, lists_in}
 use Rattle.dw_eval.specs.World.{World}
 use Rattle.dw_eval.specs.Results.{Outcome, IsRun}
-use Rattle.dw_check.specs.Caller.{under}
+use Rattle.dw_unwind.specs.Caller.{under}
 
 -- With what is handed in, the expression comes to one outcome, within its number of operations.
 pub record ComesToOne (kind : Kind) (target : Target) (bytes : List ℕ) (e : World) : Type 0 where

@@ -3,16 +3,6 @@
 pub mod Checked
 -- what holds of sections that are accepted
 pub mod Headline
--- the frame that called (6.4.1)
-pub mod Caller
--- frames, one the caller of the other (6.4.1, 6.4.4)
-pub mod Walks
--- the modules of a process, each where it is loaded
-pub mod Modules
--- a walk that is under way
-pub mod WalkSteps
--- which callers and frames have numbers below 2^w alone
-pub mod CallerFits
 -- ---- To be believed: docs/PROFILE.md's words, of texts, command lines, files and statuses. The headline needs none of these.
 -- the text of a report
 pub mod Report
@@ -55,14 +45,6 @@ pub mod Runs
 pub mod CommandViews
 -- the report's line of an expression of the code
 pub mod ReportViews
--- answers and callers of the code
-pub mod CallerViews
--- a caller whose registers are in a list
-pub mod UnwoundViews
--- registers in a walk's room
-pub mod FrameRegisters
--- frames of the code
-pub mod WalkViews
 -- the sections of files
 pub mod FileViews
 -- why a run stops

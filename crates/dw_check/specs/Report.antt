@@ -18,7 +18,7 @@ use Rattle.dw_check.specs.declared.stop.Section.TheVariants as sections
 abbrev pub row_count : FrameSection → ℕ
 row_count frame = length (flat_map (rows_in frame) frame.fdes)
 
--- a number behind what it counts
+-- a number after what it counts
 unfoldable pub count_text : List ℕ → ℕ → List ℕ
 count_text name number = name ++ decimal number
 

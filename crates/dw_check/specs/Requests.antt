@@ -89,7 +89,7 @@ AsksBy faults matches (Err Memory) = Unit {0}
 abbrev pub AsksFor : List Text → Result Asked Usage → Type 0
 AsksFor words r = AsksBy (fault_of dwcheck words) (subcommand_of dwcheck words) r
 
--- want of memory, or the text of an error of another kind
+-- a lack of memory, or the text of an error of another kind
 abbrev pub IsUsageOf : ErrorKind → Usage → Type 0
 IsUsageOf kind (Line _) = ¬ (kind ≡ OutOfMemory)
 IsUsageOf kind BadArgument = ⊥

@@ -14,13 +14,13 @@ use Rattle.dw_stack.specs.FirstFault.{expression_fault}
 use Rattle.dw_check.specs.Requests.{Asked}
 use Rattle.dw_check.specs.Checked.{check_fault, length_fault}
 use Rattle.dw_check.specs.Report.{IsReport}
-use Rattle.dw_check.specs.Caller.{Caller}
+use Rattle.dw_unwind.specs.Caller.{Caller}
 use Rattle.dw_check.specs.CallerText.{caller_text}
-use Rattle.dw_check.specs.Modules.{as_linked, over_sections}
-use Rattle.dw_check.specs.declared.modules.Module.{Module}
-use Rattle.dw_check.specs.Walks.{WalkedFrame, Walks, first_place}
+use Rattle.dw_unwind.specs.Modules.{as_linked, over_sections}
+use Rattle.dw_unwind.specs.declared.modules.Module.{Module}
+use Rattle.dw_unwind.specs.Walks.{WalkedFrame, Walks, first_place}
 use Rattle.dw_check.specs.WalkText.{walk_text}
-use Rattle.dw_check.specs.declared.frames.Stop.{Stop}
+use Rattle.dw_unwind.specs.declared.frames.Stop.{Stop}
 use Rattle.dw_check.specs.Evaluations.{Evaluates}
 use Rattle.dw_check.specs.Files.{section_bytes, state_facts, loaded_at, further_modules}
 use Rattle.dw_check.specs.Lookups.{ShowsList, list_that_begins_at}

@@ -8,7 +8,7 @@ use Rattle.dw_check.specs.declared.sink.Through.{Through}
 abbrev pub AppendsFront : Option (List ℕ) → Option (List ℕ) → List ℕ → Type 0
 AppendsFront old new text = (front : List ℕ) × (rest : List ℕ) × (front ++ rest ≡ text) × Appends old new front
 
--- A write that answers this of a piece of so many bytes stops the sink: it failed, or took nothing of a piece that isn't empty.
+-- A write that answers this of a piece of this many bytes stops the sink: it failed, or took nothing of a piece that isn't empty.
 abbrev pub stops : Result ℕ Stopped → ℕ → Bool
 stops (Err _) len = true
 stops (Ok n) len = n == 0 && not (len == 0)

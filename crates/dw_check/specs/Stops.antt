@@ -2,7 +2,7 @@
 use Rattle.std.specs.Prelude.{◌≡◌, ℕ, ◌<◌, Bool, true, false, List, Option, Some, None, Result, Ok, Err}
 use Rattle.dw_bytes.specs.declared.fault.Fault.{Fault}
 use Rattle.dw_check.specs.StateFile.{StateFact}
-use Rattle.dw_check.specs.declared.modules.Module.{Module}
+use Rattle.dw_unwind.specs.declared.modules.Module.{Module}
 use Rattle.dw_check.specs.declared.stop.Section.{Section}
 use Rattle.dw_check.specs.declared.whole_check.CheckFault.{CheckFault}
 use Rattle.dw_check.specs.declared.stop.ReportFault.{ReportFault}
@@ -26,7 +26,7 @@ is_output (Ok _) = false
 is_output (Err Output) = true
 is_output (Err _) = false
 
--- Why the bytes of the file at a place, one of so many files, aren't there: it is to be hex text and isn't, or memory ran out.
+-- Why the bytes of the file at a place, one of this many files, aren't there: it is to be hex text and isn't, or memory ran out.
 abbrev pub IsBadSection : Option (List ℕ) → ℕ → ℕ → RunFault → Type 0
 IsBadSection bytes place count (BadHex n) = (n ≡ place) × (place < count) × (bytes ≡ None)
 IsBadSection bytes place count Memory = Unit {0}

@@ -29,7 +29,7 @@ address_text size n = hex_number (digits_of size) n
 unfoldable pub range_text : AddressSize → ℕ → ℕ → List ℕ
 range_text size start end = address_text size start ++ codes ".." ++ address_text size end
 
--- a whole number behind its sign, 0 as well
+-- a whole number after its sign, 0 as well
 abbrev pub signed_text : ℤ → List ℕ
 signed_text (pos n) = codes "+" ++ decimal n
 signed_text (negsuc n) = codes "-" ++ decimal (suc n)

@@ -2,13 +2,13 @@
 use Rattle.std.specs.Prelude.{ℕ, List, ◌++◌, Option, Some, None, codes, decimal}
 use Rattle.std.specs.List.{flat_map, enumerate_from}
 use Rattle.dw_bytes.specs.declared.target.AddressSize.{AddressSize}
-use Rattle.dw_check.specs.Caller.{Answer, Caller}
+use Rattle.dw_unwind.specs.Caller.{Answer}
 use Rattle.dw_check.specs.CallerText.{answer_text}
 use Rattle.dw_check.specs.Text.{address_text}
-use Rattle.dw_check.specs.Walks.{Unwinder, WalkedFrame}
-use Rattle.dw_check.specs.WalkViews.{brief_of}
-use Rattle.dw_check.specs.declared.frames.Stop.{Stop}
-use Rattle.dw_check.specs.declared.frames.Stop.TheVariants.{Limit, NotCovered, ReturnUndefined, ReturnUnreadable, ReturnDivisionByZero}
+use Rattle.dw_unwind.specs.Walks.{WalkedFrame}
+use Rattle.dw_unwind.specs.WalkViews.{brief_of}
+use Rattle.dw_unwind.specs.declared.frames.Stop.{Stop}
+use Rattle.dw_unwind.specs.declared.frames.Stop.TheVariants.{Limit, NotCovered, ReturnUndefined, ReturnUnreadable, ReturnDivisionByZero}
 
 -- a CFA, or that there is no caller
 abbrev pub cfa_text : AddressSize → Option Answer → List ℕ
@@ -40,9 +40,3 @@ frames_text size n frames = flat_map (walked_line size) (enumerate_from n frames
 
 unfoldable pub walk_text : AddressSize → List WalkedFrame → Stop → List ℕ
 walk_text size frames stop = frames_text size 0 frames ++ last_line stop
-
--- ---- a walk that is written as it goes on
-
--- wherever an unwinder is asked, it has a caller or says that there is none
-abbrev pub AlwaysUnwinds : Unwinder → Type 0
-AlwaysUnwinds u = (registers : ℕ → Option ℕ) (address : ℕ) → (caller : Option Caller) × u registers address caller

@@ -15,7 +15,7 @@ abbrev pub Writes : Option (List ℕ) → Option (List ℕ) → Result (Unit {0}
 Writes old new (Ok _) text = Appends old new text
 Writes old new (Err _) text = AppendsFront old new text
 
--- the same of a text that is handed over whole: for want of memory none of it was written
+-- the same of a text that is handed over whole: where memory lacks, none of it is written
 abbrev pub WritesWhole : Option (List ℕ) → Option (List ℕ) → Result (Unit {0}) ReportFault → List ℕ → Type 0
 WritesWhole old new (Ok _) text = Appends old new text
 WritesWhole old new (Err Memory) text = Appends old new []

@@ -6,7 +6,7 @@ ghost use Rattle.dw_check.specs.Addresses.{number_of, at_most, short_number, hex
 
 use dw_bytes::Target;
 
-/// The number that decimal or hex digits spell, at least one and at most so many.
+/// The number that decimal or hex digits spell, at least one of them and no more than are allowed.
 pub(crate) fn parse_number(digits: &[u8], radix: u32, most: usize) -> Option<u64>
     requires radix { (radix ≡ 10) ⊎ (radix ≡ 16) }
     requires most { most ≤ 16 }

@@ -4,15 +4,15 @@ ghost use Rattle.std.specs.Prelude.{◌≡◌, ◌++◌, false, OnOk, map, optio
 ghost use Rattle.std.specs.List.{flat_map};
 ghost use Rattle.std.specs.String.{string_bytes};
 ghost use Rattle.dw_check.specs.CallerText.{answer_text, answer_line, found_line, caller_text};
-ghost use Rattle.dw_check.specs.CallerViews.{answer_in, found_in, caller_in};
+ghost use Rattle.dw_unwind.specs.CallerViews.{answer_in, found_in, caller_in};
 ghost use Rattle.dw_check.specs.WriteResults.{IsSame, WritesWhole, is_write};
 
 use crate::numbers::{push_address, push_decimal};
 use crate::sink::Sink;
 use crate::stop::ReportFault;
-use crate::unwinding::{Answer, Caller};
 use crate::writer::{Writer, send_line};
 use dw_bytes::AddressSize;
+use dw_unwind::{Answer, Caller};
 use std::alloc::AllocError;
 
 /// What is known of a number.

@@ -8,9 +8,9 @@ ghost use Rattle.dw_check.specs.StateViews.{IsStateOf};
 ghost use Rattle.dw_check.specs.Stops.{AreBadModules, IsBadSection, IsBadState};
 
 use crate::machine_state::{MachineState, read_state};
-use crate::modules::Module;
 use crate::stop::RunFault;
 use dw_bytes::Target;
+use dw_unwind::Module;
 use hex::FromHexError;
 use std::alloc::{AllocError, Global};
 use std::borrow::CowSlice;

@@ -172,7 +172,7 @@ impl Memory for MachineState {
     }
 }
 
-/// What a state file says, or its first line that is none or can't stand beside those before it. An empty line says nothing, and
+/// What a state file says, or its first line that isn't a state line or contradicts an earlier one. An empty line says nothing, and
 /// where two lines give one thing or one byte, the first holds. Time n log n in the file's length.
 pub(crate) fn read_state(
     alloc: Global,

@@ -62,7 +62,7 @@ pub(crate) fn push_range(
     push_address(line, size, end)
 }
 
-/// A number in decimal digits, one below 0 behind its sign.
+/// A number in decimal digits, with its sign before them if it is below 0.
 pub(crate) fn push_decimal<I: Integer>(line: &mut String, number: I) -> Result<(), AllocError>
     ensures { OnOk result (string_bytes line.new ≡ string_bytes line.old ++ I.text number) }
 {
@@ -70,7 +70,7 @@ pub(crate) fn push_decimal<I: Integer>(line: &mut String, number: I) -> Result<(
     line.push_str(buffer.format(number))
 }
 
-/// A number behind its sign.
+/// A number after its sign.
 pub(crate) fn push_signed(line: &mut String, number: i64) -> Result<(), AllocError>
     ensures { OnOk result (string_bytes line.new ≡ string_bytes line.old ++ signed_text number) }
 {

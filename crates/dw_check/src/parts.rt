@@ -12,7 +12,7 @@ use std::marker::Model;
 #[derive(Drop)]
 pub(crate) struct Parts<'a> {
     separator: u8,
-    /// What is behind the last separator that was met; nothing once all of it was given.
+    /// What follows the last separator that was met; nothing once all of it was given.
     rest: Option<&'a [u8]>,
 }
 

@@ -4,7 +4,7 @@ ghost use Rattle.std.specs.Prelude.{◌≡◌, List, None, IfOk, IfErr, length, 
 ghost use Rattle.dw_rows.specs.Section.{frame_of};
 ghost use Rattle.dw_check.specs.FileViews.{with_bytes};
 ghost use Rattle.dw_check.specs.Files.{GivesProcess};
-ghost use Rattle.dw_check.specs.Modules.{sections_of};
+ghost use Rattle.dw_unwind.specs.Modules.{unborrowed};
 ghost use Rattle.dw_check.specs.Runs.{IsBadProcess, IsUnreadProcess, frame_refusal, modules_of_sections, modules_refusal};
 ghost use Rattle.dw_check.specs.StateFile.{StateFact, IsGivenBy};
 ghost use Rattle.dw_check.specs.StateViews.{known_state_of};
@@ -13,11 +13,11 @@ ghost use Rattle.dw_check.specs.declared.stop.Section.TheVariants as sections;
 
 use crate::files::Files;
 use crate::machine_state::MachineState;
-use crate::modules::Module;
 use crate::stop::{RunFault, Section};
 use crate::whole_check::{SECTION_LIMIT, TOO_LONG};
 use dw_bytes::Target;
 use dw_rows::{CheckedFrame, check_frame};
+use dw_unwind::Module;
 use std::alloc::{AllocError, Global};
 use std::borrow::CowSlice;
 
@@ -88,8 +88,8 @@ pub(crate) fn modules_or_refusal<'s>(
 {
     let mut checked = Vec::new(alloc);
     for module in modules {
-        let frame = frame_or_refusal(alloc, target, module.rows().as_slice())?;
-        checked.push(Module::new(frame, module.load_address()))?;
+        let frame = frame_or_refusal(alloc, target, module.rows.as_slice())?;
+        checked.push(Module::new(frame, module.load_address))?;
     }
     Ok(checked)
 }
@@ -99,11 +99,11 @@ pub(crate) fn lent_modules<'f, 's>(
     alloc: Global,
     modules: &'f [Module<CheckedFrame<'s>>],
 ) -> Result<Vec<Module<&'f CheckedFrame<'s>>>, AllocError>
-    ensures { IfOk result (λ v. sections_of v.items ≡ modules.entry.now) }
+    ensures { IfOk result (λ v. unborrowed v.items ≡ modules.entry.now) }
 {
     let mut lent = Vec::with_capacity(alloc, modules.len())?;
     for module in modules {
-        lent.push(Module::new(module.rows(), module.load_address()))?;
+        lent.push(Module::new(&module.rows, module.load_address))?;
     }
     Ok(lent)
 }

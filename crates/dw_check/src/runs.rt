@@ -8,7 +8,7 @@ ghost use Rattle.dw_check.specs.Runs.{Ends, Goes, IsPlaceIn, IsReply, IsReplyTo,
 ghost use Rattle.dw_check.specs.Runs.{IsEvalReply, IsUnwindReply, IsBacktraceReply, ShowsCaller, ShowsWalk};
 ghost use Rattle.dw_check.specs.Runs.{lists_refusal, expression_refusal};
 ghost use Rattle.dw_check.specs.Checked.{check_fault};
-ghost use Rattle.dw_check.specs.Modules.{sections_of};
+ghost use Rattle.dw_unwind.specs.Modules.{unborrowed};
 ghost use Rattle.dw_check.specs.StateFile.{StateFact, IsGivenBy};
 ghost use Rattle.dw_check.specs.StateViews.{known_state_of};
 ghost use Rattle.dw_check.specs.Stops.{RefusesBoth, IsRefusal, ended_by, is_output};
@@ -18,20 +18,15 @@ ghost use Rattle.dw_check.specs.declared.stop.Section.TheVariants as sections;
 use crate::caller_text::write_caller;
 use crate::evaluations::write_outcome;
 use crate::files::Files;
-use crate::laws::{
-    each_address_has_an_unwinding_through_modules, one_caller_through_modules, one_report,
-    one_walk_through_modules, walks_through_what_is_found,
-};
+use crate::laws::one_report;
 use crate::locations::write_list_lookup;
 use crate::machine_state::MachineState;
-use crate::modules::{Module, as_linked, unwind_in};
 use crate::output::{write_frame_section, write_refused, write_row_lookup};
 use crate::process::{frame_or_refusal, lent_modules, modules_or_refusal, read_process};
 use crate::reports::write_report;
 use crate::requests::{End, ListLookup, Request, Task};
 use crate::sink::Sink;
 use crate::stop::{ReportFault, RunFault, Section};
-use crate::walk::Walk;
 use crate::walk_text::write_walk;
 use crate::whole_check::{Checked, SECTION_LIMIT, TOO_LONG, check};
 use crate::writer::Writer;
@@ -40,6 +35,11 @@ use dw_loclists::{CheckedLists, check_lists};
 use dw_ops::Expression;
 use dw_rows::CheckedFrame;
 use dw_stack::{CheckedExpression, Kind, check_expression};
+use dw_unwind::laws::{
+    each_address_has_an_unwinding_through_modules, one_caller_through_modules,
+    one_walk_through_modules, unwindings_through_what_is_found, walks_through_what_is_found,
+};
+use dw_unwind::{Module, Walk, as_linked, unwind_in};
 use std::alloc::Global;
 
 /// The section of location lists of these bytes, if it has no fault.
@@ -233,10 +233,11 @@ fn unwind_and_write<S: Sink>(
     requires runs { S.has_stopped out.old.sink.now ≡ false }
     ensures same { IsSame out.old out.new }
     ensures written { (facts : List StateFact) → IsGivenBy (known_state_of state.now) facts
-        → (text : List ℕ) × ShowsCaller address out.old.size facts (sections_of modules.now) text
+        → (text : List ℕ) × ShowsCaller address out.old.size facts (unborrowed modules.now) text
         × Writes (S.taken out.old.sink.now) (S.taken out.new.sink.now) result text }
     ensures stops { S.has_stopped out.new.sink.now ≡ is_write result }
 {
+    unwindings_through_what_is_found();
     let caller = unwind_in(modules, &state.abi(), address, state, state);
     write_caller(out, caller.as_ref())
 }
@@ -249,17 +250,18 @@ fn walk_and_write<S: Sink>(
     limit: u32,
     state: &MachineState,
 ) -> Result<(), ReportFault>
-    requires checked { All (λ m. IsChecked m.rows) (sections_of modules.now) }
+    requires checked { All (λ m. IsChecked m.rows) (unborrowed modules.now) }
     requires runs { S.has_stopped out.old.sink.now ≡ false }
     ensures same { IsSame out.old out.new }
     ensures written { (facts : List StateFact) → IsGivenBy (known_state_of state.now) facts
         → (text : List ℕ)
-        × ShowsWalk address limit out.old.size facts (sections_of modules.now) text
+        × ShowsWalk address limit out.old.size facts (unborrowed modules.now) text
         × Writes (S.taken out.old.sink.now) (S.taken out.new.sink.now) result text }
     ensures stops { S.has_stopped out.new.sink.now ≡ is_write result }
 {
     // Proof only: the contract needs the rest of the text where writing fails.
     each_address_has_an_unwinding_through_modules();
+    unwindings_through_what_is_found();
     walks_through_what_is_found();
     let abi = state.abi();
     let mut walk = Walk::new(modules, &abi, address, state, state);

@@ -3,24 +3,22 @@
 ghost use Rattle.std.specs.Prelude.{◌≡◌, ◌++◌, List, false, OnOk, option_map};
 ghost use Rattle.std.specs.String.{string_bytes};
 ghost use Rattle.dw_rows.specs.AbiViews.{roles_of};
-ghost use Rattle.dw_check.specs.CallerViews.{answer_in};
-ghost use Rattle.dw_check.specs.Walks.{IsFrameAt, Place, WalkedFrame, Walks};
-ghost use Rattle.dw_check.specs.WalkSteps.{about_to_give, frame_at};
-ghost use Rattle.dw_check.specs.WalkText.{AlwaysUnwinds, brief_line, cfa_text, last_line, stop_text, walk_text};
-ghost use Rattle.dw_check.specs.WalkViews.{brief_in};
+ghost use Rattle.dw_unwind.specs.CallerViews.{answer_in};
+ghost use Rattle.dw_unwind.specs.Walks.{AlwaysUnwinds, IsFrameAt, Place, WalkedFrame, Walks};
+ghost use Rattle.dw_unwind.specs.WalkSteps.{about_to_give, frame_at};
+ghost use Rattle.dw_check.specs.WalkText.{brief_line, cfa_text, last_line, stop_text, walk_text};
+ghost use Rattle.dw_unwind.specs.WalkViews.{brief_in};
 ghost use Rattle.dw_check.specs.WriteResults.{IsSame, Writes, is_write};
 
 use crate::caller_text::push_answer;
-use crate::frames::{BriefFrame, Stop};
 use crate::numbers::{push_address, push_decimal};
 use crate::sink::Sink;
 use crate::stop::ReportFault;
-use crate::unwinder::Unwinder;
-use crate::unwinding::Answer;
-use crate::walk::Walk;
 use crate::writer::{Writer, send_line};
 use dw_bytes::AddressSize;
 use dw_eval::Memory;
+use dw_unwind::laws::frames_that_are_given_are_a_walk;
+use dw_unwind::{Answer, BriefFrame, Stop, Unwinder, Walk};
 use std::alloc::AllocError;
 
 /// The CFA of a frame, or that there is no caller.
@@ -110,8 +108,8 @@ fn write_stop<S: Sink>(out: &mut Writer<'_, S>, stop: Stop) -> Result<(), Report
     send_line(out)
 }
 
-/// Writes the lines of a walk from its first frame on, each as its frame is given: no more than one of them is kept.
-pub(crate) fn write_walk<S: Sink, U: Unwinder, M: Memory>(
+/// Writes the lines of a walk from its first frame on, each as its frame is given, so that one line is kept at a time.
+pub(crate) fn write_walk<S: Sink, U: Unwinder + Drop, M: Memory>(
     out: &mut Writer<'_, S>,
     walk: &mut Walk<'_, U, M>,
     limit: u32,
@@ -127,6 +125,7 @@ pub(crate) fn write_walk<S: Sink, U: Unwinder, M: Memory>(
         (walk_text out.old.size frames stop) }
     ensures stops { S.has_stopped out.new.sink.now ≡ is_write result }
 {
+    frames_that_are_given_are_a_walk::<U>();
     let mut number: u32 = 0;
     while number < limit {
         let Some(frame) = walk.next() else {

@@ -25,11 +25,11 @@ pub enum Change {
     Swap,
     /// The top becomes the third entry, the second the top and the third the second.
     Rot,
-    /// A value takes the place of so many entries at the top.
+    /// A value takes the place of the topmost entries, `taken` of them.
     Put { taken: usize, value: u64 },
 }
 
-/// A value in the place of so many entries.
+/// A value in the place of the topmost entries, `taken` of them.
 #[inline(always)]
 fn change_to(taken: usize, value: u64) -> Result<Change, EvaluationError>
     ensures { result ≡ Ok (Change.Put taken value) }

@@ -37,8 +37,8 @@ pub trait Memory {
     /// The byte at an address.
     ghost bytes: { Self → ℕ → Option ℕ };
 
-    /// The number that so many bytes from an address on are in this order, where all of them are known. A read has 1,
-    /// 2, 4 or 8 bytes, and its last byte's address is below 2^64.
+    /// The number that `size` bytes from an address on are in this order, where all of them are known. A read has 1, 2, 4
+    /// or 8 bytes, and its last byte's address is below 2^64.
     fn read(&self, address: u64, size: u8, order: Order) -> Option<u64>
         requires size { IsSize size }
         requires within { address + size ≤ 2 ^ 64 }

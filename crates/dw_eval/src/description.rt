@@ -16,7 +16,7 @@ use arrayvec::ArrayVec;
 use dw_ops::Expression;
 use dw_stack::Kind;
 
-/// Runs a location on behind its first piece, at this offset and after so many steps.
+/// Runs a location's expression on after its first piece, from this offset and with this count of steps.
 fn run_location_on<'a, R: Registers, M: Memory, const PLACES: usize>(
     expression: &Expression<'a>,
     environment: &Environment<'_, R, M>,

@@ -10,7 +10,7 @@ use crate::location::{Location, Piece, PieceSize};
 use crate::stack::Stack;
 use dw_ops::{Expression, Operation};
 
-/// Where a run stands, but for its offset and its pieces.
+/// The state of a run, without its offset and its pieces.
 #[derive(Drop)]
 pub struct Run<'a, const PLACES: usize> {
     pub stack: Stack<PLACES>,

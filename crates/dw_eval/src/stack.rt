@@ -40,7 +40,7 @@ impl<const PLACES: usize> Stack<PLACES> {
         self.height == 0
     }
 
-    /// The entry so many below the top.
+    /// The entry `below` places below the top.
     #[inline(always)]
     pub fn entry(&self, below: usize) -> u64
         requires { below < length self.now }
@@ -49,7 +49,7 @@ impl<const PLACES: usize> Stack<PLACES> {
         self.places[self.height - 1 - below]
     }
 
-    /// Puts a value in the place of so many entries at the top.
+    /// Puts a value in the place of the topmost entries, `taken` of them.
     #[inline(always)]
     pub fn put(&mut self, taken: usize, value: u64)
         requires taken { taken ≤ length self.old }

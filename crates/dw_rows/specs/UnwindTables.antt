@@ -26,22 +26,22 @@ abbrev pub IsFoundAt : FrameSection → ℕ → Option (Row × ℕ) → Type 0
 IsFoundAt s address None = (f : Fde) → Contains s.fdes f → ¬ Covers f address
 IsFoundAt s address (Some found) = (row_of s address ≡ Some found.0) × IsReturnRegister s address found.1
 
--- it has the row of each address of a section, and no other
+-- At each address it gives the row that the section has there, and none where no FDE of the section covers the address.
 pub record IsTableOf (s : FrameSection) (t : RowTable) : Type 0 where
   pub target : t.target ≡ s.target
   pub row : (address : ℕ) → IsFoundAt s address (row_at t address)
 
--- ---- the bytes that a table takes at most, apart from those of expressions
+-- ---- the room that is always enough for a table, in bytes: less is enough where rows share their rules
 
--- of a row: 80, and 16 for each register that has a rule. Where rows share their rules it is less.
+-- for a row: 80, and 16 for each register that has a rule
 abbrev pub row_bytes : {E : Type 0} → RowOver E → ℕ
 row_bytes row = 80 + 16 * length row.rules
 
--- of the rows of an FDE, and of where they end
+-- for the rows of an FDE, and for where they end
 abbrev pub fde_bytes : FrameSection → Fde → ℕ
 fde_bytes s f = 80 + sum_by row_bytes (rows_in s f)
 
--- of those of all FDEs
+-- for those of all FDEs
 abbrev pub table_bytes : FrameSection → ℕ
 table_bytes s = 80 + sum_by (fde_bytes s) s.fdes
 

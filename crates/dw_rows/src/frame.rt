@@ -335,10 +335,12 @@ impl<'a> CheckedFrame<'a> {
 
     /// A table of the rows of all FDEs, for look-ups by the million. It borrows nothing, so the section may go.
     ///
-    /// `room` is the number of bytes that its rows and their rules may take: a section of N bytes may have rows that take 700 times
-    /// N. `Ok(None)` says that they take more, and nothing is kept. It never comes where `room` is as much as all rows take if no two
-    /// share their rules: 80 bytes a row and 16 for each rule of a register, 80 an FDE, and 80 more. The one fault is `Memory`, at 0.
-    /// It runs each program once, and takes n log n for n rows at most.
+    /// `room` is the number of bytes that its rows and their rules may take: the rows of a section of N bytes may take 700 times N.
+    /// `Ok(None)` says that they would take more, and nothing is kept. That never happens where `room` is enough for all rows with
+    /// no rules shared between them: 80 bytes for each row and 16 for each of its register rules, 80 for each FDE, and 80 more. The
+    /// contract says so, and that a table has at most a row for every 16 bytes of `room`; that its rules fit too is tested, not proved.
+    ///
+    /// The one fault is `Memory`, at 0. It runs each program once, and takes n log n for n rows at most.
     pub fn compile(&self, alloc: Global, room: usize) -> Result<Option<UnwindTable>, Fault>
         ensures table { IfOk result (λ made. IfSome made (IsTableOf self.now)) }
         ensures room { IfOk result

@@ -11,8 +11,8 @@ use crate::table::UnwindTable;
 use crate::unwind_row::UnwindRow;
 use dw_bytes::Target;
 
-/// What gives the row of an address: a checked section, by running a program, or a compiled table. Unwinding and walks go over
-/// either.
+/// What gives the row of an address: a checked section that is lent, by running a program, or a compiled table, by its arrays.
+/// Unwinding and walks go over either. A table that is lent gives what it gives itself, so that one table serves many processes.
 pub trait UnwindRows {
     /// What a look-up writes its row into, where it has to: a section's does, a table's lends the row.
     type Slot: Drop;
@@ -46,6 +46,27 @@ impl UnwindRows for UnwindTable {
     ghost target_of = { λ t. t.target };
 
     ghost finds = { λ t address found. found ≡ row_at t address };
+
+    #[inline(always)]
+    fn rows_target(&self) -> Target {
+        self.target()
+    }
+
+    #[inline(always)]
+    fn slot(&self) -> () {}
+
+    #[inline(always)]
+    fn find_row<'p>(&'p self, address: u64, _slot: &'p mut ()) -> Option<(UnwindRow<'p, 'p>, u16)> {
+        self.row_and_return_register(address)
+    }
+}
+
+impl<'f> UnwindRows for &'f UnwindTable {
+    type Slot = ();
+
+    ghost target_of = { λ t. t.now.target };
+
+    ghost finds = { λ t address found. found ≡ row_at t.now address };
 
     #[inline(always)]
     fn rows_target(&self) -> Target {

@@ -1,8 +1,8 @@
 //! Callers that are proved: what a caller learns from the contracts of `dw_rows`, `dw_eval` and `dw_check`.
 
 ghost use Rattle.std.specs.Prelude.{◌≡◌, ◌<◌, ◌^◌, ℕ, None, Some, IfSome, option_map};
-ghost use Rattle.dw_check.specs.Caller.{Unwinds, machine};
-ghost use Rattle.dw_check.specs.CallerViews.{caller_in};
+ghost use Rattle.dw_unwind.specs.Caller.{Unwinds, machine};
+ghost use Rattle.dw_unwind.specs.CallerViews.{caller_in};
 ghost use Rattle.dw_eval.specs.Numbers.{width_of};
 ghost use Rattle.dw_eval.specs.Results.{IsEvaluation, value};
 ghost use Rattle.dw_rows.specs.Rules.{Row, offset, rule_in};
@@ -76,6 +76,6 @@ pub fn caller_by_table<R: Registers, M: Memory>(
         (machine table.now.target (R.contents registers.now) (M.bytes memory.now))
         (roles_of abi.now) frame address (option_map caller_in result) }
 {
-    dw_check::laws::unwinding_by_what_is_found();
+    dw_unwind::laws::unwinding_by_what_is_found();
     unwind_by(table, abi, address, registers, memory)
 }

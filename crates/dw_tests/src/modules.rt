@@ -69,7 +69,34 @@ fn a_walk_goes_from_a_library_to_its_program(rt: HostRuntime) {
     }
     assert_eq!(rt; walk.next(), None);
     assert_eq!(rt; walk.stop(), Some(Stop::NotCovered));
-    assert!(rt; walk.registers().is_none());
+    assert!(rt; walk.caller_registers().is_none());
+}
+
+#[test]
+fn a_walk_can_be_cut_short_and_goes_on(rt: HostRuntime) {
+    let modules = program_and_library(rt.alloc()).expect(&rt, "there is memory");
+    let abi = Abi::none();
+    let mut walk = Walk::new(&modules[..], &abi, 0x20_1010, &FramePointer {}, &STACK);
+    let mut count = 0;
+    for frame in walk.by_ref().take(2) {
+        assert_eq!(rt; frame, FRAMES[count]);
+        count += 1;
+    }
+    assert_eq!(rt; count, 2);
+    assert_eq!(rt; walk.next(), Some(FRAMES[2]));
+    assert_eq!(rt; walk.next(), None);
+}
+
+#[test]
+fn one_table_serves_processes_that_load_it_elsewhere(rt: HostRuntime) {
+    let modules = program_and_library(rt.alloc()).expect(&rt, "there is memory");
+    let table = &modules[0].rows;
+    for load_address in [0x10_0000, 0x7000_0000] {
+        let process = [Module::new(table, load_address)];
+        let address = load_address + 0x1010;
+        let caller = unwind_in(&process, &Abi::none(), address, &FramePointer {}, &STACK);
+        assert_eq!(rt; caller.expect(&rt, "covered").cfa, Answer::Value(0x7010));
+    }
 }
 
 #[test]
@@ -77,7 +104,7 @@ fn a_walk_lends_the_registers_of_the_caller(rt: HostRuntime) {
     let modules = program_and_library(rt.alloc()).expect(&rt, "there is memory");
     let abi = Abi::none();
     let walk = Walk::new(&modules[..], &abi, 0x20_1010, &FramePointer {}, &STACK);
-    let registers = walk.registers().expect(&rt, "covered");
+    let registers = walk.caller_registers().expect(&rt, "covered");
     assert_eq!(rt; registers.register(6), Some(0x7020));
     assert_eq!(rt; registers.register(16), Some(0x10_1010));
     assert_eq!(rt; registers.register(7), None);

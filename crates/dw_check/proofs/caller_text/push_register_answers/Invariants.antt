@@ -2,7 +2,7 @@ use Rattle.std.proofs.Common.{◌≡◌, ◌++◌, take, map}
 use Rattle.std.specs.List.{flat_map}
 use Rattle.std.specs.String.{string_bytes}
 use Rattle.dw_check.specs.CallerText.{found_line}
-use Rattle.dw_check.specs.CallerViews.{found_in}
+use Rattle.dw_unwind.specs.CallerViews.{found_in}
 use Rattle.dw_check.proofs.caller_text.push_register_answers.Given as goal
 
 abbrev pub invariant-loop-found : goal.invariant-loop-found

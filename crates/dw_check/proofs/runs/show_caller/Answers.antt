@@ -1,7 +1,7 @@
 use Rattle.std.proofs.Common.{◌∙◌, ap, length, map, subst, sym}
 use Rattle.dw_check.specs.FileViews.{with_bytes}
 use Rattle.dw_check.specs.Files.{GivesProcess}
-use Rattle.dw_check.specs.Modules.{sections_of}
+use Rattle.dw_unwind.specs.Modules.{unborrowed}
 use Rattle.dw_check.specs.Runs.{Goes, IsUnwindReply, ShowsCaller, OfModules}
 use Rattle.dw_check.specs.declared.stop.RunFault.TheVariants.{Memory}
 use Rattle.dw_check.proofs.OneReply.{one_caller_shown}
@@ -52,8 +52,8 @@ returns-clause-goes g c =
     let gives = subst (λ l. GivesProcess asked.target c.args.load loads asked.hex files (with_bytes l) read.0)
     (sym c.as_slice.ensures.value) read.2 in
     let checked = c.in_ok-modules.ensures in
-    let sections = sections_of c.as_slice-3.result.now in
-    let are = ap sections_of c.as_slice-3.ensures.value ∙ c.in_ok-modules-2.ensures ∙ c.as_slice-2.ensures.value
+    let sections = unborrowed c.as_slice-3.result.now in
+    let are = ap unborrowed c.as_slice-3.ensures.value ∙ c.in_ok-modules-2.ensures ∙ c.as_slice-2.ensures.value
     ∙ checked.modules in
     let written = c.unwind_and_write.ensures.written read.0 read.1 in
     let shown = subst (λ z. ShowsCaller c.args.address z read.0 sections written.0) c.requires.size written.1 in

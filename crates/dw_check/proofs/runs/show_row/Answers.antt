@@ -1,7 +1,7 @@
 use Rattle.std.proofs.Common.{◌∙◌, ap, length, map, subst, sym}
 use Rattle.std.specs.Prelude.{Some}
 use Rattle.dw_rows.specs.Section.{FrameSection}
-use Rattle.dw_check.specs.Modules.{as_linked}
+use Rattle.dw_unwind.specs.Modules.{as_linked}
 use Rattle.dw_check.specs.Runs.{Goes, IsRowReply}
 use Rattle.dw_check.specs.Text.{lookup_text}
 use Rattle.dw_check.specs.WriteResults.{Writes}

@@ -1,8 +1,0 @@
-use Rattle.std.proofs.Common.{refl}
-use Rattle.dw_check.specs.WalkViews.{frame_with}
-use Rattle.dw_check.proofs.walk.Walk.advance.Goals as goal
-
-pub returns-then-not-self-clause-gives : goal.returns-then-not-self-clause-gives
-returns-then-not-self-clause-gives g c =
-    let w = c.self.inside in
-    rw (← c.self.view_is, c.if-not-self.true) (frame_with w.address w.is_other w.one w.other w.unwound, refl, refl)

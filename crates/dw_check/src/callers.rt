@@ -1,0 +1,99 @@
+//! The frame that called, and walks up the stack, over sections that were checked together.
+
+ghost use Rattle.std.specs.Prelude.{◌≡◌, ◌<◌, ◌^◌, All, IfErr, IfOk, IfSome, IsOk, option_map};
+ghost use Rattle.dw_bytes.specs.Answers.{memory as want_of_memory};
+ghost use Rattle.dw_eval.specs.Numbers.{width_of};
+ghost use Rattle.dw_rows.specs.Abi.{no_abi};
+ghost use Rattle.dw_rows.specs.AbiViews.{roles_of};
+ghost use Rattle.dw_unwind.specs.Caller.{Unwinds, machine};
+ghost use Rattle.dw_unwind.specs.CallerFits.{CallerFits, FrameFits};
+ghost use Rattle.dw_unwind.specs.CallerViews.{caller_in};
+ghost use Rattle.dw_unwind.specs.Walks.{Walks, first_place, over_section};
+ghost use Rattle.dw_unwind.specs.WalkViews.{frames_in};
+
+use crate::whole_check::Checked;
+use dw_bytes::Fault;
+use dw_eval::{Memory, Registers};
+use dw_rows::Abi;
+use dw_unwind::{Backtrace, Caller, backtrace_by_section, unwind_by_section};
+use std::alloc::Global;
+
+/// The caller of the frame at an address, over the frame's registers and memory, or none where no FDE covers the address (DWARF 5,
+/// section 6.4.1). A register that no instruction has given a rule is undefined.
+///
+/// It is `unwind_with` under an ABI that says nothing.
+pub fn unwind<R: Registers, M: Memory>(
+    checked: &Checked<'_>,
+    address: u64,
+    registers: &R,
+    memory: &M,
+) -> Option<Caller>
+    ensures unwinds { Unwinds (machine checked.now.frame.target (R.contents registers.now)
+        (M.bytes memory.now)) no_abi checked.now.frame address (option_map caller_in result) }
+
+    // All its numbers are below 2^w, w being the size of an address in bits.
+    ensures fits { IfSome (option_map caller_in result)
+        (CallerFits (2 ^ width_of checked.now.frame.target.address_size)) }
+{
+    unwind_with(checked, &Abi::none(), address, registers, memory)
+}
+
+/// The caller of the frame at an address, over the frame's registers and memory, or none where no FDE covers the address (DWARF 5,
+/// section 6.4.1). The ABI says what a register is that no instruction has given a rule.
+///
+/// It is `unwind_by` the section: one binary search finds the FDE and one its CIE, and its program is run once, up to the row of the
+/// address.
+pub fn unwind_with<R: Registers, M: Memory>(
+    checked: &Checked<'_>,
+    abi: &Abi,
+    address: u64,
+    registers: &R,
+    memory: &M,
+) -> Option<Caller>
+    ensures unwinds { Unwinds (machine checked.now.frame.target (R.contents registers.now)
+        (M.bytes memory.now)) (roles_of abi.now) checked.now.frame address
+        (option_map caller_in result) }
+
+    // All its numbers are below 2^w, w being the size of an address in bits.
+    ensures fits { IfSome (option_map caller_in result)
+        (CallerFits (2 ^ width_of checked.now.frame.target.address_size)) }
+{
+    unwind_by_section(checked.frame(), abi, address, registers, memory)
+}
+
+/// Walks up the stack from a frame at an address, with its registers, over memory: the frame, its caller, that one's caller and so
+/// on, at most `limit` frames, and why there are no more (DWARF 5, sections 6.4.1 and 6.4.4).
+///
+/// It is `backtrace_by_section` over the checked frame section.
+pub fn backtrace<R: Registers, M: Memory>(
+    alloc: Global,
+    checked: &Checked<'_>,
+    abi: &Abi,
+    address: u64,
+    registers: &R,
+    memory: &M,
+    limit: u32,
+) -> Result<Backtrace, Fault>
+    ensures walks { IfOk result (λ walk.
+        Walks (over_section checked.now.frame (roles_of abi.now) (M.bytes memory.now))
+        (first_place address (R.contents registers.now)) limit
+        (frames_in walk.frames.items) walk.stop) }
+    ensures lacks { IfErr result (λ fault. fault ≡ want_of_memory) }
+    ensures none { limit ≡ 0 → IsOk result }
+
+    // All numbers are below 2^w, w being the size of an address in bits, where the first frame's address is.
+    ensures fits { IfOk result (λ walk.
+        address < 2 ^ width_of checked.now.frame.target.address_size
+        → All (FrameFits (2 ^ width_of checked.now.frame.target.address_size))
+        (frames_in walk.frames.items)) }
+{
+    backtrace_by_section(
+        alloc,
+        checked.frame(),
+        abi,
+        address,
+        registers,
+        memory,
+        limit,
+    )
+}

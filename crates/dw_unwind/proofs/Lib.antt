@@ -1,0 +1,10 @@
+pub mod Ascending
+pub mod Callers
+pub mod CallersFit
+pub mod EachCaller
+pub mod GivenFrames
+pub mod ModuleWalks
+pub mod OneCaller
+pub mod OneWalk
+pub mod Walking
+pub mod WalksOver

@@ -1,0 +1,46 @@
+-- What the types of a walk stand for.
+use Rattle.std.specs.Prelude.{◌≡◌, ℕ, Bool, true, false, if◌then◌else◌, IfSome, List, MatchOption, Some, map, Option, option_map}
+use Rattle.dw_unwind.specs.declared.frames.BriefFrame.{BriefFrame}
+use Rattle.dw_unwind.specs.declared.frames.Frame as declared
+use Rattle.dw_unwind.specs.declared.frames.Stop.{Stop}
+use Rattle.dw_unwind.specs.declared.unwinding.Unwound.{Unwound}
+use Rattle.dw_unwind.specs.Caller.{Answer}
+use Rattle.dw_unwind.specs.CallerViews.{answer_in, caller_in}
+use Rattle.dw_unwind.specs.UnwoundViews.{caller_with}
+use Rattle.dw_unwind.specs.CallerFits.{ProgressFits}
+use Rattle.dw_unwind.specs.Walks.{CallerRelation, WalkedFrame}
+use Rattle.dw_unwind.specs.WalkSteps.{GivesNext, Progress, WalkState, about_to_give, has_given, cfa_of, frame_at, stop_of}
+
+abbrev pub frame_in : declared.Frame → WalkedFrame
+frame_in f = record { address = f.address; caller = option_map caller_in f.caller }
+
+abbrev pub frames_in : List declared.Frame → List WalkedFrame
+frames_in frames = map frame_in frames
+
+-- a frame in brief
+abbrev pub brief_in : BriefFrame → ℕ × Option Answer
+brief_in f = (f.address, option_map answer_in f.cfa)
+
+abbrev pub brief_of : WalkedFrame → ℕ × Option Answer
+brief_of frame = (frame.address, cfa_of frame)
+
+-- ---- a walk's fields
+
+-- the frame at an address, with the registers of its caller in one of two rooms
+abbrev pub frame_with : ℕ → Bool → List (ℕ × Answer) → List (ℕ × Answer) → Option Unwound → WalkedFrame
+frame_with address is_other one other unwound =
+    record { address = address; caller = option_map (caller_with (if is_other then other else one)) unwound }
+
+abbrev pub progress_with : Bool → WalkedFrame → Progress
+progress_with false frame = about_to_give frame
+progress_with true frame = has_given frame
+
+-- ---- a call of `next`
+
+-- It gives the next frame, in brief; or none, for which there is a reason, and then nothing changes. Numbers stay below a bound of
+-- addresses.
+pub record NextFrame {U M : Type 0} (u : CallerRelation) (IsBound : ℕ → Type 0) (old : WalkState U M) (given : Option BriefFrame)
+    (new : WalkState U M) : Type 0 where
+  pub gives : MatchOption given (((stop : Stop) × (stop_of old.progress ≡ Some stop)) × (new ≡ old)) (λ _. GivesNext u old new)
+  pub brief : IfSome given (λ f. brief_in f ≡ brief_of (frame_at new.progress))
+  pub fits : IfSome given (λ _. (bound : ℕ) → IsBound bound → ProgressFits bound old.progress → ProgressFits bound new.progress)

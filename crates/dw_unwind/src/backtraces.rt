@@ -1,0 +1,144 @@
+//! Walks up the stack, collected.
+
+ghost use Rattle.std.specs.Prelude.{◌≡◌, ◌<◌, ◌^◌, ℕ, All, IfErr, IfOk, IsOk};
+ghost use Rattle.dw_bytes.specs.Answers.{memory as want_of_memory};
+ghost use Rattle.dw_eval.specs.Numbers.{width_of};
+ghost use Rattle.dw_rows.specs.AbiViews.{roles_of};
+ghost use Rattle.dw_unwind.specs.CallerFits.{FrameFits};
+ghost use Rattle.dw_unwind.specs.Modules.{AreBelow, over_modules_of_rows};
+ghost use Rattle.dw_unwind.specs.Walks.{Walks, over_rows, over_section, first_place};
+ghost use Rattle.dw_unwind.specs.WalkViews.{frames_in};
+
+use crate::frames::{Backtrace, Stop};
+use crate::laws::walks_over_what_is_found;
+use crate::modules::Module;
+use crate::unwinder::Unwinder;
+use crate::walk::Walk;
+use dw_bytes::Fault;
+use dw_eval::{Memory, Registers};
+use dw_rows::{Abi, CheckedFrame, UnwindRows};
+use std::alloc::Global;
+
+/// Walks up the stack by whatever unwinds, and keeps the frames.
+fn backtrace_over<U: Unwinder + Drop, R: Registers, M: Memory>(
+    alloc: Global,
+    unwinder: U,
+    abi: &Abi,
+    address: u64,
+    registers: &R,
+    memory: &M,
+    limit: u32,
+) -> Result<Backtrace, Fault>
+    ensures walks { IfOk result (λ walk.
+        Walks (U.unwinds unwinder (roles_of abi.now) (M.bytes memory.now))
+        (first_place address (R.contents registers.now)) limit
+        (frames_in walk.frames.items) walk.stop) }
+    ensures lacks { IfErr result (λ fault. fault ≡ want_of_memory) }
+    ensures none { limit ≡ 0 → IsOk result }
+    ensures fits { IfOk result (λ walk. (bound : ℕ) → U.is_bound unwinder bound
+        → address < bound → All (FrameFits bound) (frames_in walk.frames.items)) }
+{
+    let mut walk = Walk::new(unwinder, abi, address, registers, memory);
+    let mut frames = Vec::new(alloc);
+    while (frames.len() as u64) < u64::from(limit) {
+        if let Err(stop) = walk.advance() {
+            return Ok(Backtrace { frames, stop });
+        }
+        frames.push(walk.frame())?;
+    }
+    Ok(Backtrace {
+        frames,
+        stop: Stop::Limit,
+    })
+}
+
+/// Walks up the stack through the modules of a process: from a frame at an address as loaded, with its registers, over memory, to its
+/// caller, that one's caller and so on, at most `limit` frames, and why there are no more (DWARF 5, sections 6.4.1 and 6.4.4).
+///
+/// The first frame is looked up at its own address, each other at the address before its own; the module of an address is the first
+/// that has a row for it. Addresses of frames are as loaded. After the first frame a register has a value only where the answer for it
+/// was one. Each frame costs what `unwind_in` costs, and takes some 6 KB, since a caller has room for all registers that a row and an
+/// ABI can name; `Walk` gives the same frames one by one and takes no memory. The one fault is `Memory`, at 0.
+pub fn backtrace_in<T: UnwindRows, R: Registers, M: Memory>(
+    alloc: Global,
+    modules: &[Module<T>],
+    abi: &Abi,
+    address: u64,
+    registers: &R,
+    memory: &M,
+    limit: u32,
+) -> Result<Backtrace, Fault>
+    ensures walks { IfOk result (λ walk.
+        Walks (over_modules_of_rows T.target_of T.finds (roles_of abi.now) (M.bytes memory.now)
+        modules.now) (first_place address (R.contents registers.now)) limit
+        (frames_in walk.frames.items) walk.stop) }
+    ensures lacks { IfErr result (λ fault. fault ≡ want_of_memory) }
+    ensures none { limit ≡ 0 → IsOk result }
+
+    // All numbers are below 2^w for the widest module's w, where the first frame's address is.
+    ensures fits { IfOk result (λ walk. (bound : ℕ) → AreBelow T.target_of modules.now bound
+        → address < bound → All (FrameFits bound) (frames_in walk.frames.items)) }
+{
+    backtrace_over(alloc, modules, abi, address, registers, memory, limit)
+}
+
+/// Walks up the stack over whatever gives rows, a checked section or a compiled table: from a frame at an address, with its
+/// registers, over memory, to its caller, that one's caller and so on, at most `limit` frames, and why there are no more (DWARF 5,
+/// sections 6.4.1 and 6.4.4).
+///
+/// The first frame is looked up at its own address, each other at the address before its own. After the first frame a register has a
+/// value only where the answer for it was one. Each frame costs what `unwind_by` costs, and takes some 6 KB, since a caller has
+/// room for all registers that a row and an ABI can name; `Walk` gives the same frames one by one and takes no memory. The one fault
+/// is `Memory`, at 0.
+pub fn backtrace_by<T: UnwindRows, R: Registers, M: Memory>(
+    alloc: Global,
+    rows: &T,
+    abi: &Abi,
+    address: u64,
+    registers: &R,
+    memory: &M,
+    limit: u32,
+) -> Result<Backtrace, Fault>
+    ensures walks { IfOk result (λ walk.
+        Walks (over_rows (T.target_of rows.now) (T.finds rows.now)
+        (roles_of abi.now) (M.bytes memory.now))
+        (first_place address (R.contents registers.now)) limit
+        (frames_in walk.frames.items) walk.stop) }
+    ensures lacks { IfErr result (λ fault. fault ≡ want_of_memory) }
+    ensures none { limit ≡ 0 → IsOk result }
+
+    // All numbers are below 2^w, w being the size of an address in bits, where the first frame's address is.
+    ensures fits { IfOk result (λ walk.
+        address < 2 ^ width_of (T.target_of rows.now).address_size
+        → All (FrameFits (2 ^ width_of (T.target_of rows.now).address_size))
+        (frames_in walk.frames.items)) }
+{
+    backtrace_over(alloc, rows, abi, address, registers, memory, limit)
+}
+
+/// Walks up the stack over a checked frame section: `backtrace_by` it, for a caller that has no location lists.
+pub fn backtrace_by_section<R: Registers, M: Memory>(
+    alloc: Global,
+    frame: &CheckedFrame<'_>,
+    abi: &Abi,
+    address: u64,
+    registers: &R,
+    memory: &M,
+    limit: u32,
+) -> Result<Backtrace, Fault>
+    ensures walks { IfOk result (λ walk.
+        Walks (over_section frame.now (roles_of abi.now) (M.bytes memory.now))
+        (first_place address (R.contents registers.now)) limit
+        (frames_in walk.frames.items) walk.stop) }
+    ensures lacks { IfErr result (λ fault. fault ≡ want_of_memory) }
+    ensures none { limit ≡ 0 → IsOk result }
+
+    // All numbers are below 2^w, w being the size of an address in bits, where the first frame's address is.
+    ensures fits { IfOk result (λ walk.
+        address < 2 ^ width_of frame.now.target.address_size
+        → All (FrameFits (2 ^ width_of frame.now.target.address_size))
+        (frames_in walk.frames.items)) }
+{
+    walks_over_what_is_found();
+    backtrace_by(alloc, &frame, abi, address, registers, memory, limit)
+}

@@ -1,0 +1,177 @@
+//! The registers of a caller, in a list that a walk fills again for each frame.
+
+ghost use Rattle.std.specs.Prelude.{◌≡◌, ◌<◌, ◌≤◌, [], ℕ, IfSome, Some, length, map, slice_get, true};
+ghost use Rattle.dw_unwind.specs.CallerViews.{answer_in, found_in};
+ghost use Rattle.dw_unwind.specs.FrameRegisters.{Ascends};
+ghost use Rattle.dw_unwind.specs.Walks.{contents_of};
+
+use crate::register_list::RegisterList;
+use crate::unwinding::{Answer, FoundRegisters, MAX_FOUND};
+use dw_eval::Registers;
+use std::marker::Model;
+
+/// The number of guesses that are kept of where a register is: one for each number modulo this.
+const GUESSES: usize = 64;
+
+/// The registers of a caller with their answers. As the registers of a frame they have a content where the answer is a value.
+///
+/// There is room for all that a row and an ABI can name, but emptying the list writes only its count: a frame costs what its own
+/// registers cost.
+#[derive(Drop)]
+pub struct FrameRegisters {
+    /// The registers, and after the first `count` of them what earlier frames left.
+    found: [(u16, Answer); MAX_FOUND],
+    count: usize,
+    /// Where a register was put last, by its number modulo `GUESSES`. It may have been of an earlier frame: a guess is believed only
+    /// after a look.
+    places: [u8; GUESSES],
+    /// Whether each number is above those before it, and all of them are below `bound`. A register is then at one place at most.
+    is_ascending: bool,
+    bound: u32,
+}
+
+impl Model for FrameRegisters {
+    ghost use Rattle.std.specs.Prelude.{ℕ, List, map, take};
+    ghost use Rattle.dw_unwind.specs.Caller.{Answer};
+
+    ghost Value = { List (ℕ × Answer) };
+
+    ghost use Rattle.dw_unwind.specs.CallerViews.{found_in};
+    ghost use Rattle.dw_unwind.specs.declared.unwinding.TheConstants.{MAX_FOUND};
+
+    ghost view = { λ r. map found_in (take r.count r.found) };
+
+    ghost use Rattle.dw_unwind.specs.FrameRegisters.{IsRoom};
+    ghost use Rattle.dw_unwind.specs.declared.frame_registers.TheConstants.{GUESSES};
+
+    ghost invariant = { λ r. IsRoom MAX_FOUND GUESSES r.found r.count r.places r.is_ascending r.bound };
+}
+
+/// The content of a register by what was found of a caller.
+fn content_among(found: &[(u16, Answer)], number: u16) -> Option<u64>
+    ensures { result ≡ contents_of (map found_in found.now) number }
+{
+    for register in found {
+        if register.0 == number {
+            return match register.1 {
+                Answer::Value(content) => Some(content),
+                _ => None,
+            };
+        }
+    }
+    None
+}
+
+/// What was found of a register, if it is at this place.
+#[inline(always)]
+fn answer_at(found: &[(u16, Answer)], place: usize, number: u16) -> Option<Answer>
+    ensures { IfSome result (λ answer. (k : ℕ)
+        × (slice_get (map found_in found.now) k ≡ Some (number, answer_in answer))) }
+{
+    if place >= found.len() {
+        return None;
+    }
+    let (register, answer) = found[place];
+    if register == number {
+        Some(answer)
+    } else {
+        None
+    }
+}
+
+/// The content of a register among those with ascending numbers, if the register is at this place: it is at no other.
+#[inline(always)]
+fn content_at(found: &[(u16, Answer)], place: usize, number: u16) -> Option<Option<u64>>
+    requires { (bound : ℕ) × Ascends 0 found.now bound }
+    ensures { IfSome result (λ content. content ≡ contents_of (map found_in found.now) number) }
+{
+    match answer_at(found, place, number)? {
+        Answer::Value(content) => Some(Some(content)),
+        _ => Some(None),
+    }
+}
+
+/// Whether numbers that are below a bound still ascend with one more at their end.
+#[inline(always)]
+fn stays_ascending(is_ascending: bool, bound: u32, number: u16) -> bool
+    ensures { result ≡ true → (is_ascending ≡ true) × (bound ≤ number) }
+{
+    is_ascending && bound <= u32::from(number)
+}
+
+impl FrameRegisters {
+    /// No registers.
+    pub(crate) fn none() -> Self
+        ensures { result ≡ [] }
+    {
+        FrameRegisters {
+            found: [(0, Answer::Undefined); MAX_FOUND],
+            count: 0,
+            places: [0; GUESSES],
+            is_ascending: true,
+            bound: 0,
+        }
+    }
+
+    /// The registers with their answers, in the order of their rules.
+    pub fn as_slice(&self) -> &[(u16, Answer)]
+        ensures found { map found_in result.now ≡ self.now }
+        ensures few { length result.now ≤ MAX_FOUND }
+    {
+        &self.found[..self.count]
+    }
+
+    /// A copy, as a caller has them.
+    pub fn to_list(&self) -> FoundRegisters
+        ensures { map found_in result.items ≡ self.now }
+    {
+        let mut list = FoundRegisters::new();
+        // They fit: both have the same number of places.
+        let _ = list.try_extend_from_slice(self.as_slice());
+        list
+    }
+}
+
+impl RegisterList for FrameRegisters {
+    ghost registers = { λ r. r };
+
+    #[inline(always)]
+    fn clear(&mut self) {
+        self.count = 0;
+        self.is_ascending = true;
+        self.bound = 0;
+    }
+
+    #[inline(always)]
+    fn push(&mut self, number: u16, answer: Answer) {
+        self.is_ascending = stays_ascending(self.is_ascending, self.bound, number);
+        self.bound = u32::from(number) + 1;
+        self.places[usize::from(number) % GUESSES] = self.count as u8;
+        self.found[self.count] = (number, answer);
+        self.count += 1;
+    }
+
+    #[inline(always)]
+    fn answer(&self, number: u16) -> Option<Answer> {
+        let place = self.places[usize::from(number) % GUESSES];
+        answer_at(&self.found[..self.count], usize::from(place), number)
+    }
+}
+
+impl Registers for FrameRegisters {
+    ghost use Rattle.dw_unwind.specs.Walks.{contents_of};
+
+    ghost contents = { λ r. contents_of r };
+
+    #[inline(always)]
+    fn register(&self, number: u16) -> Option<u64> {
+        let found = &self.found[..self.count];
+        if self.is_ascending {
+            let place = self.places[usize::from(number) % GUESSES];
+            if let Some(content) = content_at(found, usize::from(place), number) {
+                return content;
+            }
+        }
+        content_among(found, number)
+    }
+}

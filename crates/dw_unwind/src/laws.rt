@@ -1,0 +1,268 @@
+//! Laws of unwinding and of walks: functions that do nothing, each with the law as its contract.
+
+ghost use Rattle.std.specs.Prelude.{◌≡◌, ◌↔◌, ◌<◌, ◌^◌, ◌≤◌, ◌++◌, ◌∷◌, [], ℕ, All, Contains, List, None, Option, Some, length, take};
+ghost use Rattle.std.specs.Borrow.{Bor};
+ghost use Rattle.dw_eval.specs.Numbers.{width_of};
+ghost use Rattle.dw_eval.specs.World.{World};
+ghost use Rattle.dw_frame.specs.Records.{Fde};
+ghost use Rattle.dw_rows.specs.Abi.{Abi};
+ghost use Rattle.dw_rows.specs.Rules.{Row};
+ghost use Rattle.dw_rows.specs.Section.{FrameSection, IsChecked, rows_in};
+ghost use Rattle.dw_rows.specs.UnwindTables.{IsFoundAt, IsTableOf, RowTable, row_at};
+ghost use Rattle.dw_unwind.specs.Caller.{Caller, IsCaller, Unwinds, UnwindsBy};
+ghost use Rattle.dw_unwind.specs.Modules.{AreTablesOf, over_modules_of_rows, over_sections, over_tables, unborrowed, where_linked};
+ghost use Rattle.dw_unwind.specs.Walks.{AlwaysUnwinds, IsFrameAt, Place, WalkedFrame, Walks, first_place, over_rows, over_section, over_table};
+ghost use Rattle.dw_unwind.specs.WalkSteps.{GivesFrame, GivesFrames, Progress, about_to_give, after, has_given, stop_of};
+ghost use Rattle.dw_unwind.specs.declared.frames.Stop.{Stop};
+ghost use Rattle.dw_unwind.specs.declared.frames.Stop.TheVariants.{Limit};
+ghost use Rattle.dw_unwind.specs.declared.modules.Module.{Module};
+ghost use Rattle.dw_unwind.specs.declared.unwinding.TheConstants.{MAX_FOUND};
+
+use crate::unwinder::Unwinder;
+
+/// Over a section that is accepted an unwinding has one answer: none, or one caller.
+pub fn one_caller()
+    ensures { (e : World) (abi : Abi) (frame : FrameSection) (address : ℕ) (c d : Option Caller)
+        → IsChecked frame → Unwinds e abi frame address c
+        → Unwinds e abi frame address d → c ≡ d }
+{
+    dw_rows::laws::rows_have_good_expressions();
+    dw_rows::laws::rules_under_abis();
+    dw_eval::laws::evaluations_are_determined();
+}
+
+/// Over each row of a section that is accepted there is a caller.
+pub fn each_row_has_a_caller()
+    ensures { (e : World) (abi : Abi) (column : ℕ) (frame : FrameSection) (fde : Fde) (row : Row)
+        → IsChecked frame → Contains frame.fdes fde
+        → Contains (rows_in frame fde) row
+        → (c : Caller) × IsCaller e abi column row c }
+{
+    dw_rows::laws::rows_have_good_expressions();
+    dw_rows::laws::rules_under_abis();
+    dw_stack::laws::each_has_a_depth();
+    dw_eval::laws::each_has_an_evaluation();
+}
+
+/// At each address of a section that is accepted an unwinding has an answer.
+pub fn each_address_has_an_unwinding()
+    ensures { (e : World) (abi : Abi) (frame : FrameSection) (address : ℕ) → IsChecked frame
+        → (c : Option Caller) × Unwinds e abi frame address c }
+{
+    dw_rows::laws::exact_rows();
+    each_row_has_a_caller();
+}
+
+/// An unwinding by what is found at an address of a section is one over the section, and the other way round. So is one over a table
+/// of the section.
+pub fn unwinding_by_what_is_found()
+    ensures found { (e : World) (abi : Abi) (frame : FrameSection) (address : ℕ)
+        (found : Option (Row × ℕ)) (c : Option Caller) → IsFoundAt frame address found
+        → UnwindsBy e abi found c ↔ Unwinds e abi frame address c }
+    ensures table { (e : World) (abi : Abi) (frame : FrameSection) (table : RowTable) (address : ℕ)
+        (c : Option Caller) → IsTableOf frame table
+        → UnwindsBy e abi (row_at table address) c ↔ Unwinds e abi frame address c }
+{}
+
+/// Over a section that is accepted a walk is determined by where it begins and by its limit.
+pub fn one_walk()
+    ensures { (frame : FrameSection) (abi : Abi) (memory : ℕ → Option ℕ) (first : Place) (limit : ℕ)
+        (xs ys : List WalkedFrame) (a b : Stop) → IsChecked frame
+        → Walks (over_section frame abi memory) first limit xs a
+        → Walks (over_section frame abi memory) first limit ys b → (xs ≡ ys) × (a ≡ b) }
+{
+    one_caller();
+}
+
+/// And there is one.
+pub fn each_has_a_walk()
+    ensures { (frame : FrameSection) (abi : Abi) (memory : ℕ → Option ℕ) (first : Place) (limit : ℕ)
+        → IsChecked frame → (xs : List WalkedFrame) × (stop : Stop)
+        × Walks (over_section frame abi memory) first limit xs stop }
+{
+    each_address_has_an_unwinding();
+}
+
+/// A walk with a smaller limit is the beginning of the one with a greater.
+pub fn longer_walks_begin_so()
+    ensures { (frame : FrameSection) (abi : Abi) (memory : ℕ → Option ℕ) (first : Place) (m n : ℕ)
+        (xs ys : List WalkedFrame) (a b : Stop) → IsChecked frame
+        → Walks (over_section frame abi memory) first m xs a
+        → Walks (over_section frame abi memory) first n ys b → m ≤ n → xs ≡ take m ys }
+{
+    one_walk();
+}
+
+/// A walk by what is found at addresses of a section is one over the section, one by what a table gives is one over the table, and one
+/// over a table of the section is one over the section; and the other way round.
+pub fn walks_over_what_is_found()
+    ensures found { (frame : FrameSection) (abi : Abi) (memory : ℕ → Option ℕ) (first : Place)
+        (limit : ℕ) (xs : List WalkedFrame) (stop : Stop)
+        → Walks (over_rows frame.target (IsFoundAt frame) abi memory) first limit xs stop
+        ↔ Walks (over_section frame abi memory) first limit xs stop }
+    ensures rows { (table : RowTable) (abi : Abi) (memory : ℕ → Option ℕ) (first : Place)
+        (limit : ℕ) (xs : List WalkedFrame) (stop : Stop)
+        → Walks (over_rows table.target (λ address found. found ≡ row_at table address) abi memory)
+        first limit xs stop
+        ↔ Walks (over_table table abi memory) first limit xs stop }
+    ensures table { (frame : FrameSection) (table : RowTable) (abi : Abi) (memory : ℕ → Option ℕ)
+        (first : Place) (limit : ℕ) (xs : List WalkedFrame) (stop : Stop) → IsTableOf frame table
+        → Walks (over_table table abi memory) first limit xs stop
+        ↔ Walks (over_section frame abi memory) first limit xs stop }
+{}
+
+/// Through the modules of a process whose sections are accepted an unwinding has one answer: none, or one caller.
+pub fn one_caller_through_modules()
+    ensures { (sections : List (Module FrameSection)) (abi : Abi) (memory registers : ℕ → Option ℕ)
+        (address : ℕ) (c d : Option Caller) → All (λ m. IsChecked m.rows) sections
+        → over_sections abi memory sections registers address c
+        → over_sections abi memory sections registers address d → c ≡ d }
+{
+    one_caller();
+}
+
+/// And it has one.
+pub fn each_address_has_an_unwinding_through_modules()
+    ensures { (sections : List (Module FrameSection)) (abi : Abi) (memory registers : ℕ → Option ℕ)
+        (address : ℕ) → All (λ m. IsChecked m.rows) sections
+        → (c : Option Caller) × over_sections abi memory sections registers address c }
+{
+    each_address_has_an_unwinding();
+}
+
+/// Through such modules a walk is determined by where it begins and by its limit.
+pub fn one_walk_through_modules()
+    ensures { (sections : List (Module FrameSection)) (abi : Abi) (memory : ℕ → Option ℕ)
+        (first : Place) (limit : ℕ) (xs ys : List WalkedFrame) (a b : Stop)
+        → All (λ m. IsChecked m.rows) sections
+        → Walks (over_sections abi memory sections) first limit xs a
+        → Walks (over_sections abi memory sections) first limit ys b → (xs ≡ ys) × (a ≡ b) }
+{
+    one_caller_through_modules();
+}
+
+/// And there is one.
+pub fn each_has_a_walk_through_modules()
+    ensures { (sections : List (Module FrameSection)) (abi : Abi) (memory : ℕ → Option ℕ)
+        (first : Place) (limit : ℕ) → All (λ m. IsChecked m.rows) sections
+        → (xs : List WalkedFrame) × (stop : Stop)
+        × Walks (over_sections abi memory sections) first limit xs stop }
+{
+    each_address_has_an_unwinding_through_modules();
+}
+
+/// A walk through modules with a smaller limit is the beginning of the one with a greater.
+pub fn longer_walks_through_modules_begin_so()
+    ensures { (sections : List (Module FrameSection)) (abi : Abi) (memory : ℕ → Option ℕ)
+        (first : Place) (m n : ℕ) (xs ys : List WalkedFrame) (a b : Stop)
+        → All (λ m. IsChecked m.rows) sections
+        → Walks (over_sections abi memory sections) first m xs a
+        → Walks (over_sections abi memory sections) first n ys b → m ≤ n → xs ≡ take m ys }
+{
+    one_walk_through_modules();
+}
+
+/// An unwinding through modules by what is found in each is one through their sections or through their tables, and one through tables
+/// of sections is one through the sections; and the other way round.
+pub fn unwindings_through_what_is_found()
+    ensures found { (modules : List (Module (Bor FrameSection))) (abi : Abi)
+        (memory registers : ℕ → Option ℕ) (address : ℕ) (c : Option Caller)
+        → over_modules_of_rows (λ s. s.now.target) (λ s. IsFoundAt s.now) abi memory modules
+        registers address c
+        ↔ over_sections abi memory (unborrowed modules) registers address c }
+    ensures rows { (tables : List (Module RowTable)) (abi : Abi) (memory registers : ℕ → Option ℕ)
+        (address : ℕ) (c : Option Caller)
+        → over_modules_of_rows (λ t. t.target) (λ t address found. found ≡ row_at t address)
+        abi memory tables registers address c
+        ↔ over_tables abi memory tables registers address c }
+    ensures borrowed { (tables : List (Module (Bor RowTable))) (abi : Abi)
+        (memory registers : ℕ → Option ℕ) (address : ℕ) (c : Option Caller)
+        → over_modules_of_rows (λ t. t.now.target) (λ t address found. found ≡ row_at t.now address)
+        abi memory tables registers address c
+        ↔ over_tables abi memory (unborrowed tables) registers address c }
+    ensures tables { (sections : List (Module FrameSection)) (tables : List (Module RowTable))
+        (abi : Abi) (memory registers : ℕ → Option ℕ) (address : ℕ) (c : Option Caller)
+        → AreTablesOf sections tables
+        → over_tables abi memory tables registers address c
+        ↔ over_sections abi memory sections registers address c }
+{}
+
+/// And so are walks.
+pub fn walks_through_what_is_found()
+    ensures found { (modules : List (Module (Bor FrameSection))) (abi : Abi)
+        (memory : ℕ → Option ℕ) (first : Place) (limit : ℕ) (xs : List WalkedFrame) (stop : Stop)
+        → Walks (over_modules_of_rows (λ s. s.now.target) (λ s. IsFoundAt s.now) abi memory modules)
+        first limit xs stop
+        ↔ Walks (over_sections abi memory (unborrowed modules)) first limit xs stop }
+    ensures rows { (tables : List (Module RowTable)) (abi : Abi) (memory : ℕ → Option ℕ)
+        (first : Place) (limit : ℕ) (xs : List WalkedFrame) (stop : Stop)
+        → Walks (over_modules_of_rows (λ t. t.target)
+        (λ t address found. found ≡ row_at t address) abi memory tables) first limit xs stop
+        ↔ Walks (over_tables abi memory tables) first limit xs stop }
+    ensures borrowed { (tables : List (Module (Bor RowTable))) (abi : Abi) (memory : ℕ → Option ℕ)
+        (first : Place) (limit : ℕ) (xs : List WalkedFrame) (stop : Stop)
+        → Walks (over_modules_of_rows (λ t. t.now.target)
+        (λ t address found. found ≡ row_at t.now address) abi memory tables) first limit xs stop
+        ↔ Walks (over_tables abi memory (unborrowed tables)) first limit xs stop }
+    ensures tables { (sections : List (Module FrameSection)) (tables : List (Module RowTable))
+        (abi : Abi) (memory : ℕ → Option ℕ) (first : Place) (limit : ℕ) (xs : List WalkedFrame)
+        (stop : Stop) → AreTablesOf sections tables
+        → Walks (over_tables abi memory tables) first limit xs stop
+        ↔ Walks (over_sections abi memory sections) first limit xs stop }
+{
+    unwindings_through_what_is_found();
+}
+
+/// One module that is loaded where it is linked is as its section: an unwinding or a walk through it is one over the section, and the
+/// other way round, at addresses below 2^w, w being the size of an address in bits.
+pub fn one_module_is_its_section()
+    ensures unwindings { (frame : FrameSection) (abi : Abi) (memory registers : ℕ → Option ℕ)
+        (address : ℕ) (c : Option Caller) → address < 2 ^ width_of frame.target.address_size
+        → over_sections abi memory (where_linked frame) registers address c
+        ↔ over_section frame abi memory registers address c }
+    ensures walks { (frame : FrameSection) (abi : Abi) (memory registers : ℕ → Option ℕ)
+        (address limit : ℕ) (xs : List WalkedFrame) (stop : Stop) → IsChecked frame
+        → address < 2 ^ width_of frame.target.address_size
+        → Walks (over_sections abi memory (where_linked frame)) (first_place address registers)
+        limit xs stop
+        ↔ Walks (over_section frame abi memory) (first_place address registers) limit xs stop }
+{
+    dw_rows::laws::rows_have_good_expressions();
+    dw_rows::laws::rules_under_abis();
+    dw_eval::laws::numbers_of_evaluations_fit();
+}
+
+/// What a `Walk` gives, frame after frame, is a walk with a limit, over whatever it goes. After frames that were given comes the next one.
+/// Where none is given next, the frames are the walk with any limit above their number; with their number as the limit they are the
+/// walk in any case. If every address has an answer, they are the beginning of a walk with any limit from their number on.
+pub fn frames_that_are_given_are_a_walk<U: Unwinder>()
+    ensures more { (unwinder : U) (abi : Abi) (memory : ℕ → Option ℕ) (from : Progress)
+        (xs : List WalkedFrame) (next : WalkedFrame)
+        → GivesFrames (U.unwinds unwinder abi memory) from xs
+        → GivesFrame (U.unwinds unwinder abi memory) (after from xs) next
+        → GivesFrames (U.unwinds unwinder abi memory) from (xs ++ next ∷ [])
+        × (after from (xs ++ next ∷ []) ≡ has_given next) }
+    ensures ends { (unwinder : U) (abi : Abi) (memory : ℕ → Option ℕ) (first : Place)
+        (begin : WalkedFrame) (limit : ℕ) (xs : List WalkedFrame) (stop : Stop)
+        → IsFrameAt (U.unwinds unwinder abi memory) first begin
+        → GivesFrames (U.unwinds unwinder abi memory) (about_to_give begin) xs
+        → stop_of (after (about_to_give begin) xs) ≡ Some stop → length xs < limit
+        → Walks (U.unwinds unwinder abi memory) first limit xs stop }
+    ensures fills { (unwinder : U) (abi : Abi) (memory : ℕ → Option ℕ) (first : Place)
+        (begin : WalkedFrame) (limit : ℕ) (xs : List WalkedFrame)
+        → IsFrameAt (U.unwinds unwinder abi memory) first begin
+        → GivesFrames (U.unwinds unwinder abi memory) (about_to_give begin) xs
+        → length xs ≡ limit → Walks (U.unwinds unwinder abi memory) first limit xs Limit }
+    ensures begins { (unwinder : U) (abi : Abi) (memory : ℕ → Option ℕ) (first : Place)
+        (begin : WalkedFrame) (limit : ℕ) (xs : List WalkedFrame)
+        → AlwaysUnwinds (U.unwinds unwinder abi memory)
+        → IsFrameAt (U.unwinds unwinder abi memory) first begin
+        → GivesFrames (U.unwinds unwinder abi memory) (about_to_give begin) xs
+        → length xs ≤ limit → (others : List WalkedFrame) × (stop : Stop)
+        × Walks (U.unwinds unwinder abi memory) first limit (xs ++ others) stop }
+{}
+
+/// The most registers of a caller that are named.
+pub fn walk_limits()
+    ensures { MAX_FOUND ≡ 256 }
+{}

@@ -1,0 +1,22 @@
+//! The frame that called, and walks up the stack, by the rows of checked sections and compiled tables: over one of these, or
+//! through the modules of a process.
+#![tactic(auto)]
+
+mod backtraces;
+mod frame_registers;
+mod frames;
+pub mod laws;
+mod modules;
+mod present;
+mod register_list;
+mod unwinder;
+mod unwinding;
+mod walk;
+
+pub use backtraces::{backtrace_by, backtrace_by_section, backtrace_in};
+pub use frame_registers::FrameRegisters;
+pub use frames::{Backtrace, BriefFrame, Frame, Stop};
+pub use modules::{Module, as_linked, unwind_in};
+pub use unwinder::Unwinder;
+pub use unwinding::{Answer, Caller, FoundRegisters, MAX_FOUND, unwind_by, unwind_by_section};
+pub use walk::Walk;

@@ -1,0 +1,109 @@
+//! The modules of a process, and the caller at an address of one of them.
+
+ghost use Rattle.std.specs.Prelude.{◌≡◌, ◌^◌, ℕ, IfSome, option_map};
+ghost use Rattle.dw_eval.specs.Numbers.{width_of};
+ghost use Rattle.dw_rows.specs.AbiViews.{roles_of};
+ghost use Rattle.dw_unwind.specs.CallerFits.{CallerFits};
+ghost use Rattle.dw_unwind.specs.CallerViews.{caller_in};
+ghost use Rattle.dw_unwind.specs.Modules.{AreBelow, as_linked, over_modules_of_rows};
+ghost use Rattle.dw_unwind.specs.UnwoundViews.{caller_with};
+
+use crate::register_list::RegisterList;
+use crate::unwinder::Unwinder;
+use crate::unwinding::{Caller, Unwound, unwind_into, unwind_over};
+use dw_bytes::Target;
+use dw_eval::{Memory, Registers, Width};
+use dw_rows::{Abi, UnwindRows};
+
+/// A module of a process, its executable or a library: what gives its rows, a checked section or a compiled table, and its load
+/// address. All modules of one process have the address size of the process.
+///
+/// ```rust
+/// let sections = [Module::new(&program, 0x5555_5555_4000), Module::new(&library, 0x7fff_f7dc_3000)];
+/// let tables = [Module::new(&program_table, 0x5555_5555_4000), Module::new(&library_table, 0x7fff_f7dc_3000)];
+/// ```
+#[derive(Clone, Copy, Debug, Drop)]
+pub struct Module<T> {
+    /// What gives its rows: `&CheckedFrame`, `UnwindTable` or `&UnwindTable`.
+    pub rows: T,
+    /// What is added to an address as linked, modulo 2^w, w being the size of an address in bits, to have the address as loaded. For a
+    /// position-independent module, which is linked at 0, that is where /proc/PID/maps shows its beginning; for a program that is
+    /// loaded where it is linked it is 0, even if it is mapped at 0x400000.
+    pub load_address: u64,
+}
+
+impl<T> Module<T> {
+    /// A module with these rows and this load address.
+    pub fn new(rows: T, load_address: u64) -> Self
+        ensures { result ≡ record { rows = rows; load_address = load_address } }
+    {
+        Module { rows, load_address }
+    }
+}
+
+/// The address as linked of an address as loaded: less the load address, modulo 2^w, w being the size of an address in bits.
+#[inline(always)]
+pub fn as_linked(target: Target, load_address: u64, address: u64) -> u64
+    ensures { result ≡ as_linked target load_address address }
+{
+    let width = Width {
+        size: target.address_size,
+    };
+    width.minus(address, load_address)
+}
+
+/// The modules of a process. The module of an address is the first of which an FDE covers the address as linked there.
+impl<'m, T: UnwindRows> Unwinder for &'m [Module<T>] {
+    ghost use Rattle.dw_unwind.specs.Modules.{AreBelow, over_modules_of_rows};
+
+    ghost unwinds = { λ m abi memory. over_modules_of_rows T.target_of T.finds abi memory m.now };
+
+    ghost is_bound = { λ m. AreBelow T.target_of m.now };
+
+    #[inline(always)]
+    fn unwind_into<R: Registers, M: Memory, L: RegisterList>(
+        &self,
+        abi: &Abi,
+        address: u64,
+        registers: &R,
+        memory: &M,
+        into: &mut L,
+    ) -> Option<Unwound> {
+        for module in *self {
+            let rows = &module.rows;
+            let address = as_linked(rows.rows_target(), module.load_address, address);
+            if let Some(unwound) = unwind_into(rows, abi, address, registers, memory, into) {
+                return Some(unwound);
+            }
+        }
+        None
+    }
+}
+
+/// The caller of the frame at an address as loaded, over the frame's registers and memory, by the first module that has a row for the
+/// address, or none where no module has one (DWARF 5, section 6.4.1).
+///
+/// It is what `unwind_by` gives at the address less the module's load address, modulo 2^w. A module that doesn't cover the address
+/// costs one look-up.
+///
+/// ```rust
+/// let modules = [Module::new(program, 0x5555_5555_4000), Module::new(library, 0x7fff_f7dc_3000)];
+/// let caller = unwind_in(&modules, &abi, address, &registers, &memory);
+/// ```
+pub fn unwind_in<T: UnwindRows, R: Registers, M: Memory>(
+    modules: &[Module<T>],
+    abi: &Abi,
+    address: u64,
+    registers: &R,
+    memory: &M,
+) -> Option<Caller>
+    ensures unwinds { over_modules_of_rows T.target_of T.finds (roles_of abi.now)
+        (M.bytes memory.now) modules.now (R.contents registers.now) address
+        (option_map caller_in result) }
+
+    // All its numbers are below 2^w for the widest module's w.
+    ensures fits { (bound : ℕ) → AreBelow T.target_of modules.now bound
+        → IfSome (option_map caller_in result) (CallerFits bound) }
+{
+    unwind_over(&modules, abi, address, registers, memory)
+}

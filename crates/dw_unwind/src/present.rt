@@ -1,0 +1,157 @@
+//! What registers and memory have, and what rules make of it.
+
+ghost use Rattle.std.specs.Prelude.{◌≡◌, ◌≤◌, ℕ, All, Some, length};
+ghost use Rattle.dw_rows.specs.Views.{cfa_rule_of, rule_of};
+ghost use Rattle.dw_rows.specs.GivenRows.{IsCfaOfKind, IsEntryOfKind, IsRuleOfKind};
+ghost use Rattle.dw_stack.specs.Certificates.{checked_of};
+ghost use Rattle.dw_stack.specs.Located.{located_of};
+ghost use Rattle.dw_unwind.specs.Caller.{Gives, IsCfa, IsRegister, AreRegisters, number_plus, content_plus, content, word};
+ghost use Rattle.dw_unwind.specs.CallerViews.{answer_in, machine_in, with_optional_cfa};
+
+use crate::register_list::RegisterList;
+use crate::unwinding::{Answer, MAX_FOUND};
+use dw_bytes::Target;
+use dw_eval::{Context, Memory, Outcome, Registers, Width, evaluate};
+use dw_rows::{CfaRule, RegisterRule, RegisterRules};
+use dw_stack::CheckedExpression;
+
+/// The registers and the memory of a frame, under the target of its section.
+#[derive(Drop)]
+pub(crate) struct Present<'m, R: Registers, M: Memory> {
+    pub target: Target,
+    pub registers: &'m R,
+    pub memory: &'m M,
+}
+
+impl<'m, R: Registers, M: Memory> Present<'m, R, M> {
+    /// A number and an offset, modulo 2^w.
+    #[inline(always)]
+    fn number_plus(&self, number: u64, offset: i64) -> u64
+        ensures { result ≡ number_plus (machine_in R.contents M.bytes self.now) offset number }
+    {
+        let width = Width {
+            size: self.target.address_size,
+        };
+        width.offset(number, offset)
+    }
+
+    /// A content and an offset, modulo 2^w.
+    #[inline(always)]
+    fn content_plus(&self, content: Option<u64>, offset: i64) -> Answer
+        ensures { answer_in result
+            ≡ content_plus (machine_in R.contents M.bytes self.now) offset content }
+    {
+        match content {
+            Some(number) => Answer::Value(self.number_plus(number, offset)),
+            None => Answer::Unreadable,
+        }
+    }
+
+    /// The content of a register, modulo 2^w.
+    #[inline(always)]
+    fn content(&self, number: u16) -> Answer
+        ensures { answer_in result ≡ content (machine_in R.contents M.bytes self.now) number }
+    {
+        self.content_plus(self.registers.register(number), 0)
+    }
+
+    /// The address-sized word at an address.
+    #[inline(always)]
+    fn word(&self, address: u64) -> Answer
+        ensures { answer_in result ≡ word (machine_in R.contents M.bytes self.now) address }
+    {
+        let size = self.target.address_size.bytes();
+        if address > self.target.address_size.max_address() - u64::from(size - 1) {
+            return Answer::Unreadable;
+        }
+        self.content_plus(self.memory.read(address, size, self.target.order), 0)
+    }
+
+    /// What an expression of a row gives, which begins with the CFA where that is handed in. Few rules have one, and an evaluation in
+    /// the midst of the others would slow them down.
+    #[inline(never)]
+    fn outcome(&self, expression: &CheckedExpression<'_>, cfa: Option<u64>) -> Answer
+        ensures { (at : ℕ) → Gives (with_optional_cfa (machine_in R.contents M.bytes self.now) cfa)
+            (checked_of expression.now).kind (located_of (at, expression.now))
+            (answer_in result) }
+    {
+        let context = Context {
+            cfa,
+            frame_base: None,
+            object: None,
+        };
+        match evaluate(expression, &context, self.registers, self.memory).outcome {
+            Outcome::Value(value) => Answer::Value(value),
+            Outcome::DivisionByZero { .. } => Answer::DivisionByZero,
+            _ => Answer::Unreadable,
+        }
+    }
+
+    /// The CFA by its rule.
+    #[inline(always)]
+    pub fn cfa(&self, rule: CfaRule<'_>) -> Answer
+        requires { IsCfaOfKind (cfa_rule_of rule) }
+        ensures { IsCfa (machine_in R.contents M.bytes self.now) (Some (cfa_rule_of rule.entry))
+            (answer_in result) }
+    {
+        match rule {
+            CfaRule::RegisterAndOffset { register, offset } => {
+                self.content_plus(self.registers.register(register), offset)
+            }
+            CfaRule::Expression { expression, .. } => self.outcome(&expression, None),
+        }
+    }
+
+    /// A register of the caller by its rule and the CFA.
+    #[inline(always)]
+    pub fn register(&self, cfa: Answer, number: u16, rule: RegisterRule<'_>) -> Answer
+        requires { IsRuleOfKind (rule_of rule) }
+        ensures { IsRegister (machine_in R.contents M.bytes self.now) (answer_in cfa) number
+            (rule_of rule.entry) (answer_in result) }
+    {
+        match rule {
+            RegisterRule::Default => Answer::Undefined,
+            RegisterRule::Undefined => Answer::Undefined,
+            RegisterRule::SameValue => self.content(number),
+            RegisterRule::Offset(offset) => match cfa {
+                Answer::Value(cfa) => self.word(self.number_plus(cfa, offset)),
+                other => other,
+            },
+            RegisterRule::ValOffset(offset) => match cfa {
+                Answer::Value(cfa) => Answer::Value(self.number_plus(cfa, offset)),
+                other => other,
+            },
+            RegisterRule::Register(other) => self.content(other),
+            RegisterRule::Expression { expression, .. } => match cfa {
+                Answer::Value(cfa) => match self.outcome(&expression, Some(cfa)) {
+                    Answer::Value(address) => self.word(address),
+                    other => other,
+                },
+                other => other,
+            },
+            RegisterRule::ValExpression { expression, .. } => match cfa {
+                Answer::Value(cfa) => self.outcome(&expression, Some(cfa)),
+                other => other,
+            },
+        }
+    }
+
+    /// Writes the registers of these rules, in their order, in the place of those that are in the list.
+    #[inline(always)]
+    pub fn registers_into<L: RegisterList>(
+        &self,
+        cfa: Answer,
+        rules: RegisterRules<'_, '_>,
+        registers: &mut L,
+    )
+        requires few { length rules ≤ MAX_FOUND }
+        requires kinds { All IsEntryOfKind rules }
+        ensures { AreRegisters (machine_in R.contents M.bytes self.now) (answer_in cfa) rules.entry
+            (L.registers registers.new) }
+    {
+        registers.clear();
+        for (number, rule) in rules {
+            registers.push(number, self.register(cfa, number, rule));
+        }
+    }
+}

@@ -1,0 +1,65 @@
+//! What finds the caller of a frame.
+
+ghost use Rattle.std.specs.Prelude.{IfSome, option_map};
+ghost use Rattle.dw_rows.specs.AbiViews.{roles_of};
+ghost use Rattle.dw_unwind.specs.CallerFits.{CallerFits};
+ghost use Rattle.dw_unwind.specs.UnwoundViews.{caller_with};
+
+use crate::register_list::RegisterList;
+use crate::unwinding::{Unwound, unwind_into};
+use dw_eval::{Memory, Registers};
+use dw_rows::{Abi, UnwindRows};
+
+/// What finds the caller of a frame, for `Walk`: a checked section or a compiled table, as `&&CheckedFrame` or `&UnwindTable`, or the
+/// modules of a process, as `&[Module<T>]`. Other crates can't implement it: its registers go to a list that is private here.
+pub trait Unwinder {
+    ghost use Rattle.std.specs.Prelude.{ℕ, Option};
+    ghost use Rattle.dw_rows.specs.Abi.{Abi};
+    ghost use Rattle.dw_unwind.specs.Walks.{CallerRelation};
+
+    /// Which caller a frame has, under an ABI and over memory: a relation between the frame's registers, the address that is looked up
+    /// for it, and the caller, none where nothing covers the address.
+    ghost unwinds: { Self → Abi → (ℕ → Option ℕ) → CallerRelation };
+
+    /// A bound of addresses: 2^w or more, w being the size of an address in bits. Where one is given, callers have no greater numbers.
+    ghost is_bound: { Self → ℕ → Type 0 };
+
+    /// Finds the caller of the frame at an address, and writes its registers to a list, in the place of what is there. Where there is
+    /// no caller, the list may have anything.
+    fn unwind_into<R: Registers, M: Memory, L: RegisterList>(
+        &self,
+        abi: &Abi,
+        address: u64,
+        registers: &R,
+        memory: &M,
+        into: &mut L,
+    ) -> Option<Unwound>
+        ensures unwinds { unwinds self.now (roles_of abi.now) (M.bytes memory.now)
+            (R.contents registers.now) address
+            (option_map (caller_with (L.registers into.new)) result) }
+        ensures fits { (bound : ℕ) → is_bound self.now bound
+            → IfSome (option_map (caller_with (L.registers into.new)) result) (CallerFits bound) };
+}
+
+/// A checked section or a compiled table.
+impl<'r, T: UnwindRows> Unwinder for &'r T {
+    ghost use Rattle.std.specs.Prelude.{◌≤◌, ◌^◌};
+    ghost use Rattle.dw_eval.specs.Numbers.{width_of};
+    ghost use Rattle.dw_unwind.specs.Walks.{over_rows};
+
+    ghost unwinds = { λ r. over_rows (T.target_of r.now) (T.finds r.now) };
+
+    ghost is_bound = { λ r bound. 2 ^ width_of (T.target_of r.now).address_size ≤ bound };
+
+    #[inline(always)]
+    fn unwind_into<R: Registers, M: Memory, L: RegisterList>(
+        &self,
+        abi: &Abi,
+        address: u64,
+        registers: &R,
+        memory: &M,
+        into: &mut L,
+    ) -> Option<Unwound> {
+        unwind_into(*self, abi, address, registers, memory, into)
+    }
+}

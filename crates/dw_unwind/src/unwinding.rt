@@ -1,0 +1,202 @@
+//! The frame that called: its registers, its CFA, and where it goes on.
+
+ghost use Rattle.std.specs.Prelude.{◌≡◌, ◌^◌, ℕ, IfSome, Option, option_map};
+ghost use Rattle.dw_eval.specs.Numbers.{width_of};
+ghost use Rattle.dw_rows.specs.Abi.{no_abi, rule_under, rules_under};
+ghost use Rattle.dw_rows.specs.AbiViews.{roles_of};
+ghost use Rattle.dw_rows.specs.Rules.{Row};
+ghost use Rattle.dw_unwind.specs.Caller.{AreRegisters, IsRegister, Unwinds, UnwindsBy, machine};
+ghost use Rattle.dw_unwind.specs.CallerFits.{CallerFits};
+ghost use Rattle.dw_unwind.specs.CallerViews.{answer_in, caller_in, machine_in};
+ghost use Rattle.dw_unwind.specs.UnwoundViews.{caller_with};
+ghost use Rattle.dw_unwind.specs.Walks.{over_rows};
+
+use crate::laws::unwinding_by_what_is_found;
+use crate::present::Present;
+use crate::register_list::RegisterList;
+use crate::unwinder::Unwinder;
+use arrayvec::ArrayVec;
+use dw_eval::{Memory, Registers};
+use dw_rows::{Abi, CheckedFrame, MAX_RULES, UnwindRow, UnwindRows};
+
+/// What is known of a register of the caller, of its CFA or of its return address.
+#[derive(Clone, Copy, Debug, PartialEq, Eq)]
+pub enum Answer {
+    /// It is this number, below 2^w, w being the size of an address in bits.
+    Value(u64),
+    /// It can't be had: no instruction has given the register a rule and the ABI doesn't name it, or the rule says so.
+    Undefined,
+    /// It, or the CFA that it needs, takes a register or memory that isn't handed in, or a read goes past the greatest address.
+    Unreadable,
+    /// Its expression, or that of the CFA that it needs, divides by zero.
+    DivisionByZero,
+}
+
+/// What fills the places of a list that aren't used.
+impl Default for Answer {
+    fn default() -> Self
+        ensures { result ≡ Answer.Undefined }
+    {
+        Answer::Undefined
+    }
+}
+
+/// The most registers that can have a rule, of a row and of an ABI together.
+pub const MAX_FOUND: usize = 2 * MAX_RULES;
+
+/// Registers with their answers, in ascending order.
+pub type FoundRegisters = ArrayVec<(u16, Answer), MAX_FOUND>;
+
+/// The frame that called (DWARF 5, section 6.4.1).
+#[derive(Clone, Debug, Drop, PartialEq, Eq)]
+pub struct Caller {
+    /// The canonical frame address.
+    pub cfa: Answer,
+    /// Each register that has a rule other than `Default`, or that the ABI names, ascending.
+    pub registers: FoundRegisters,
+    /// Where the caller goes on: what the register is that the CIE names for it.
+    pub return_address: Answer,
+}
+
+/// What an unwinding gives beside the registers of the caller.
+#[derive(Clone, Copy, Debug)]
+pub struct Unwound {
+    /// The canonical frame address.
+    pub cfa: Answer,
+    /// Where the caller goes on.
+    pub return_address: Answer,
+}
+
+/// Where the caller goes on, which may be among its registers.
+#[inline(always)]
+fn return_address<R: Registers, M: Memory, L: RegisterList>(
+    present: &Present<'_, R, M>,
+    row: &UnwindRow<'_, '_>,
+    abi: &Abi,
+    cfa: Answer,
+    number: u16,
+    found: &L,
+) -> Answer
+    requires { AreRegisters (machine_in R.contents M.bytes present.now) (answer_in cfa)
+        (rules_under (roles_of abi.now) row.now.rules) (L.registers found.now) }
+    ensures { IsRegister (machine_in R.contents M.bytes present.now) (answer_in cfa) number
+        (rule_under (roles_of abi.now) row.now.rules number) (answer_in result) }
+{
+    dw_rows::laws::rules_under_abis();
+    match found.answer(number) {
+        Some(answer) => answer,
+        None => present.register(cfa, number, row.register_with(abi, number)),
+    }
+}
+
+/// Unwinds as `unwind_by` does, and writes the caller's registers to a list, in the place of what is there. Where there is no caller,
+/// the list may have anything.
+#[inline(always)]
+pub(crate) fn unwind_into<T: UnwindRows, R: Registers, M: Memory, L: RegisterList>(
+    rows: &T,
+    abi: &Abi,
+    address: u64,
+    registers: &R,
+    memory: &M,
+    into: &mut L,
+) -> Option<Unwound>
+    ensures unwinds { over_rows (T.target_of rows.now) (T.finds rows.now) (roles_of abi.now)
+        (M.bytes memory.now) (R.contents registers.now) address
+        (option_map (caller_with (L.registers into.new)) result) }
+    ensures fits { IfSome (option_map (caller_with (L.registers into.new)) result)
+        (CallerFits (2 ^ width_of (T.target_of rows.now).address_size)) }
+{
+    // What is said of ABIs and of evaluations gives that numbers fit.
+    dw_rows::laws::rules_under_abis();
+    dw_eval::laws::numbers_of_evaluations_fit();
+    let mut slot = rows.slot();
+    let Some((row, number)) = rows.find_row(address, &mut slot) else {
+        return None;
+    };
+    let present = Present {
+        target: rows.rows_target(),
+        registers,
+        memory,
+    };
+    let cfa = present.cfa(row.cfa());
+    present.registers_into(cfa, row.rules_with(abi), into);
+    Some(Unwound {
+        cfa,
+        return_address: return_address(&present, &row, abi, cfa, number, into),
+    })
+}
+
+/// The caller of the frame at an address, by whatever unwinds.
+pub(crate) fn unwind_over<U: Unwinder, R: Registers, M: Memory>(
+    unwinder: &U,
+    abi: &Abi,
+    address: u64,
+    registers: &R,
+    memory: &M,
+) -> Option<Caller>
+    ensures unwinds { U.unwinds unwinder.now (roles_of abi.now) (M.bytes memory.now)
+        (R.contents registers.now) address (option_map caller_in result) }
+    ensures fits { (bound : ℕ) → U.is_bound unwinder.now bound
+        → IfSome (option_map caller_in result) (CallerFits bound) }
+{
+    let mut caller = Caller {
+        cfa: Answer::Undefined,
+        registers: FoundRegisters::new(),
+        return_address: Answer::Undefined,
+    };
+    let unwound = unwinder.unwind_into(abi, address, registers, memory, &mut caller.registers)?;
+    caller.cfa = unwound.cfa;
+    caller.return_address = unwound.return_address;
+    Some(caller)
+}
+
+/// The caller of the frame at an address, over the frame's registers and memory, by the row that a checked section or a compiled
+/// table gives there, or none where it gives none (DWARF 5, section 6.4.1). The ABI says what a register is that no instruction has
+/// given a rule.
+///
+/// Contents and sums are taken modulo 2^w, and what is saved is an address-sized word. A rule that needs the CFA has the CFA's
+/// answer where that has no value. It costs the look-up and one evaluation for each expression of the row.
+///
+/// ```rust
+/// let Some(table) = frame.compile(alloc, 1 << 20)? else {
+///     return Ok(()); // its rows take more than that
+/// };
+/// let caller = unwind_by(&table, &abi, address, &registers, &memory);
+/// ```
+pub fn unwind_by<T: UnwindRows, R: Registers, M: Memory>(
+    rows: &T,
+    abi: &Abi,
+    address: u64,
+    registers: &R,
+    memory: &M,
+) -> Option<Caller>
+    ensures unwinds { (found : Option (Row × ℕ)) × T.finds rows.now address found
+        × UnwindsBy (machine (T.target_of rows.now) (R.contents registers.now) (M.bytes memory.now))
+        (roles_of abi.now) found (option_map caller_in result) }
+
+    // All its numbers are below 2^w, w being the size of an address in bits.
+    ensures fits { IfSome (option_map caller_in result)
+        (CallerFits (2 ^ width_of (T.target_of rows.now).address_size)) }
+{
+    unwind_over(&rows, abi, address, registers, memory)
+}
+
+/// The same over a checked frame section, for a caller that has no location lists.
+pub fn unwind_by_section<R: Registers, M: Memory>(
+    frame: &CheckedFrame<'_>,
+    abi: &Abi,
+    address: u64,
+    registers: &R,
+    memory: &M,
+) -> Option<Caller>
+    ensures unwinds { Unwinds
+        (machine frame.now.target (R.contents registers.now) (M.bytes memory.now))
+        (roles_of abi.now) frame.now address (option_map caller_in result) }
+
+    // All its numbers are below 2^w, w being the size of an address in bits.
+    ensures fits { IfSome (option_map caller_in result)
+        (CallerFits (2 ^ width_of frame.now.target.address_size)) }
+{
+    unwinding_by_what_is_found();
+    unwind_by(&frame, abi, address, registers, memory)
+}
