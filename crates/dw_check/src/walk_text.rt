@@ -1,13 +1,13 @@
 //! The text of a walk, written frame by frame.
 
-ghost use Rattle.std.specs.Prelude.{◌≡◌, ◌++◌, List, false, OnOk, option_map};
+ghost use Rattle.std.specs.Prelude.{◌≡◌, ◌++◌, IfOk, List, MatchResult, OnOk, Some, false, option_map};
 ghost use Rattle.std.specs.String.{string_bytes};
 ghost use Rattle.dw_rows.specs.AbiViews.{roles_of};
 ghost use Rattle.dw_unwind.specs.CallerViews.{answer_in};
 ghost use Rattle.dw_unwind.specs.Walks.{AlwaysUnwinds, IsFrameAt, Place, WalkedFrame, Walks};
-ghost use Rattle.dw_unwind.specs.WalkSteps.{about_to_give, frame_at};
+ghost use Rattle.dw_unwind.specs.WalkSteps.{GivesNext, about_to_give, frame_at, stop_of};
 ghost use Rattle.dw_check.specs.WalkText.{brief_line, cfa_text, last_line, stop_text, walk_text};
-ghost use Rattle.dw_unwind.specs.WalkViews.{brief_in};
+ghost use Rattle.dw_unwind.specs.WalkViews.{brief_in, brief_of};
 ghost use Rattle.dw_check.specs.WriteResults.{IsSame, Writes, is_write};
 
 use crate::caller_text::push_answer;
@@ -108,6 +108,22 @@ fn write_stop<S: Sink>(out: &mut Writer<'_, S>, stop: Stop) -> Result<(), Report
     send_line(out)
 }
 
+/// The next frame of a walk, or why there is none.
+fn next_or_stop<U: Unwinder + Drop, M: Memory>(
+    walk: &mut Walk<'_, U, M>,
+) -> Result<BriefFrame, Stop>
+    ensures gives { MatchResult result
+        (λ _. GivesNext (U.unwinds walk.old.unwinder (roles_of walk.old.abi) (M.bytes walk.old.memory))
+        walk.old walk.new)
+        (λ stop. (stop_of walk.old.progress ≡ Some stop) × (walk.new ≡ walk.old)) }
+    ensures brief { IfOk result (λ frame. brief_in frame ≡ brief_of (frame_at walk.new.progress)) }
+{
+    match walk.next() {
+        Some(frame) => Ok(frame),
+        None => Err(walk.stop().unwrap()),
+    }
+}
+
 /// Writes the lines of a walk from its first frame on, each as its frame is given, so that one line is kept at a time.
 pub(crate) fn write_walk<S: Sink, U: Unwinder + Drop, M: Memory>(
     out: &mut Writer<'_, S>,
@@ -128,8 +144,9 @@ pub(crate) fn write_walk<S: Sink, U: Unwinder + Drop, M: Memory>(
     frames_that_are_given_are_a_walk::<U>();
     let mut number: u32 = 0;
     while number < limit {
-        let Some(frame) = walk.next() else {
-            return write_stop(out, walk.stop().unwrap());
+        let frame = match next_or_stop(walk) {
+            Ok(frame) => frame,
+            Err(stop) => return write_stop(out, stop),
         };
         write_walked_frame(out, number, frame)?;
         number += 1;

@@ -115,20 +115,19 @@ fn walk_once(
         bytes: start.stack,
     };
     let mut walk = Walk::new(modules, abi, start.address, &registers, &memory);
-    for index in 0..frames.len() {
-        match walk.next() {
-            Some(frame) => frames[index] = frame_of(frame),
-            None => {
-                return WalkEnd {
-                    count: index as u64,
-                    stop: stop_number(walk.stop()),
-                };
-            }
-        }
+    let mut count = 0;
+    for frame in walk.by_ref().take(frames.len()) {
+        frames[count] = frame_of(frame);
+        count += 1;
     }
+    let stop = if count < frames.len() {
+        walk.stop()
+    } else {
+        None
+    };
     WalkEnd {
-        count: frames.len() as u64,
-        stop: stop_number(None),
+        count: count as u64,
+        stop: stop_number(stop),
     }
 }
 
