@@ -63,12 +63,12 @@ fn a_walk_goes_from_a_library_to_its_program(rt: HostRuntime) {
     let abi = Abi::none();
     let mut walk = Walk::new(&modules[..], &abi, 0x20_1010, &FramePointer {}, &STACK);
     assert_eq!(rt; walk.stop(), None);
-    for frame in FRAMES {
-        assert_eq!(rt; walk.stop(), None);
-        assert_eq!(rt; walk.next(), Some(frame));
-    }
-    assert_eq!(rt; walk.next(), None);
+    assert_eq!(rt; walk.next(), Some(FRAMES[0]));
+    assert_eq!(rt; walk.next(), Some(FRAMES[1]));
+    assert_eq!(rt; walk.stop(), None);
+    assert_eq!(rt; walk.next(), Some(FRAMES[2]));
     assert_eq!(rt; walk.stop(), Some(Stop::NotCovered));
+    assert_eq!(rt; walk.next(), None);
     assert!(rt; walk.caller_registers().is_none());
 }
 
@@ -77,12 +77,7 @@ fn a_walk_can_be_cut_short_and_goes_on(rt: HostRuntime) {
     let modules = program_and_library(rt.alloc()).expect(&rt, "there is memory");
     let abi = Abi::none();
     let mut walk = Walk::new(&modules[..], &abi, 0x20_1010, &FramePointer {}, &STACK);
-    let mut count = 0;
-    for frame in walk.by_ref().take(2) {
-        assert_eq!(rt; frame, FRAMES[count]);
-        count += 1;
-    }
-    assert_eq!(rt; count, 2);
+    assert_eq!(rt; walk.by_ref().take(2).count(), 2);
     assert_eq!(rt; walk.next(), Some(FRAMES[2]));
     assert_eq!(rt; walk.next(), None);
 }

@@ -100,6 +100,12 @@ fn stop_number(stop: Option<Stop>) -> u32 {
     }
 }
 
+/// The next frame of a walk. A loop that calls `next` itself has to show that the iterator ends, and a walk need not.
+#[inline(always)]
+fn next_frame(walk: &mut Walk<'_, &[Module<UnwindTable>], MemoryBlock<'_>>) -> Option<BriefFrame> {
+    walk.next()
+}
+
 /// Walks once, and writes the frames, as many as there are places for.
 fn walk_once(
     modules: &[Module<UnwindTable>],
@@ -115,19 +121,20 @@ fn walk_once(
         bytes: start.stack,
     };
     let mut walk = Walk::new(modules, abi, start.address, &registers, &memory);
-    let mut count = 0;
-    for frame in walk.by_ref().take(frames.len()) {
-        frames[count] = frame_of(frame);
-        count += 1;
+    for index in 0..frames.len() {
+        match next_frame(&mut walk) {
+            Some(frame) => frames[index] = frame_of(frame),
+            None => {
+                return WalkEnd {
+                    count: index as u64,
+                    stop: stop_number(walk.stop()),
+                };
+            }
+        }
     }
-    let stop = if count < frames.len() {
-        walk.stop()
-    } else {
-        None
-    };
     WalkEnd {
-        count: count as u64,
-        stop: stop_number(stop),
+        count: frames.len() as u64,
+        stop: stop_number(None),
     }
 }
 
