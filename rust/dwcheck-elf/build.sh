@@ -1,0 +1,12 @@
+#!/usr/bin/env bash
+# Runs cargo on this crate, offline, with the packages that Debian 12 installs.
+#   ./build.sh build --release
+#   ./build.sh test
+# CARGO names another cargo. It needs librust-object-dev, librust-gimli-dev and librust-flate2-dev.
+set -eu
+cd "$(dirname "$0")"
+registry=$(dpkg -L librust-object-dev | sed -n 's#/object-[0-9.]*/Cargo.toml$##p')
+command=$1
+shift
+exec "${CARGO:-cargo}" "$command" --offline -j "${JOBS:-1}" \
+  --config 'source.crates-io.replace-with="debian"' --config "source.debian.directory=\"$registry\"" "$@"

@@ -1,0 +1,121 @@
+//! Bridges and validates the `.eh_frame` of ELF files, and prints totals.
+//!
+//!     bridge_files FILE ..      files that aren't ELF files are left out
+//!     bridge_files -            names of files from standard input, one a line
+//!
+//! Each different section is read once. A line is printed for each file that can't be read, bridged or validated.
+//! With the environment variable OUT the bridged bytes are written to that folder, numbered, with their names in `names`.
+
+use dwcheck_elf::bridge::{bridge, Counts, Options};
+use dwcheck_elf::program::Program;
+use dwcheck_elf::validate::{validate, Agreement};
+use std::collections::HashSet;
+use std::io::{BufRead, Write};
+use std::path::{Path, PathBuf};
+
+#[derive(Default)]
+struct Totals {
+    files: usize,
+    sections: usize,
+    bytes: usize,
+    bridged_bytes: usize,
+    failures: usize,
+    with_args_size: usize,
+    with_set_loc: usize,
+    with_signal_frames: usize,
+    with_mended: usize,
+    counts: Counts,
+    agreement: Agreement,
+}
+
+fn main() {
+    let mut names: Vec<String> = std::env::args().skip(1).collect();
+    if names == ["-"] {
+        names = std::io::stdin().lock().lines().map_while(Result::ok).collect();
+    }
+    let out = std::env::var_os("OUT").map(PathBuf::from);
+    let mut totals = Totals::default();
+    let mut seen = HashSet::new();
+    for name in &names {
+        if let Err(error) = file(Path::new(name), out.as_deref(), &mut totals, &mut seen) {
+            totals.failures += 1;
+            println!("{}: {}", name, error);
+        }
+    }
+    print(&totals);
+}
+
+type Failure = Box<dyn std::error::Error>;
+
+fn file(path: &Path, out: Option<&Path>, totals: &mut Totals, seen: &mut HashSet<Vec<u8>>) -> Result<(), Failure> {
+    if !path.metadata()?.is_file() {
+        return Ok(());
+    }
+    let data = std::fs::read(path)?;
+    if !data.starts_with(b"\x7fELF") {
+        return Ok(());
+    }
+    totals.files += 1;
+    let program = Program::read(&data)?;
+    let section = match program.eh_frame()? {
+        Some(section) if !seen.contains(section.bytes.as_ref()) => section,
+        _ => return Ok(()),
+    };
+    seen.insert(section.bytes.to_vec());
+    totals.sections += 1;
+    totals.bytes += section.bytes.len();
+    let section = program.eh_frame_of(&section);
+    let bridged = bridge(&section, Options::default())?;
+    totals.bridged_bytes += bridged.bytes().len();
+    add(totals, bridged.counts(), bridged.mended().len());
+    if let Some(out) = out {
+        std::fs::write(out.join(format!("{}.frame", totals.sections)), bridged.bytes())?;
+        let mut names = std::fs::OpenOptions::new().create(true).append(true).open(out.join("names"))?;
+        writeln!(names, "{} {}", totals.sections, path.display())?;
+    }
+    let agreement = validate(&section, &bridged)?;
+    totals.agreement.cies += agreement.cies;
+    totals.agreement.fdes += agreement.fdes;
+    totals.agreement.rows += agreement.rows;
+    totals.agreement.refused += agreement.refused;
+    if agreement.refused > 0 {
+        println!("{}: gimli refuses {} FDEs in both sections", path.display(), agreement.refused);
+    }
+    Ok(())
+}
+
+fn add(totals: &mut Totals, counts: &Counts, mended: usize) {
+    let sum = &mut totals.counts;
+    sum.cies += counts.cies;
+    sum.fdes += counts.fdes;
+    sum.terminators += counts.terminators;
+    sum.augmentations += counts.augmentations;
+    sum.personalities += counts.personalities;
+    sum.data_areas += counts.data_areas;
+    sum.signal_frames += counts.signal_frames;
+    sum.args_sizes += counts.args_sizes;
+    sum.set_locs += counts.set_locs;
+    totals.with_args_size += usize::from(counts.args_sizes > 0);
+    totals.with_set_loc += usize::from(counts.set_locs > 0);
+    totals.with_signal_frames += usize::from(counts.signal_frames > 0);
+    totals.with_mended += usize::from(mended > 0);
+}
+
+fn print(totals: &Totals) {
+    let Totals { counts, agreement, .. } = totals;
+    println!("ELF files {}, failures {}", totals.files, totals.failures);
+    println!("different sections {}, bytes {}, bridged {}", totals.sections, totals.bytes, totals.bridged_bytes);
+    println!("bridged: CIEs {}, FDEs {}, end marks {}", counts.cies, counts.fdes, counts.terminators);
+    println!(
+        "dropped: augmentations {}, personalities {}, data areas {}, args_size {} in {} sections",
+        counts.augmentations, counts.personalities, counts.data_areas, counts.args_sizes, totals.with_args_size
+    );
+    println!(
+        "set_loc {} in {} sections, signal frames {} in {} sections, def_cfa_register mended in {} sections",
+        counts.set_locs, totals.with_set_loc, counts.signal_frames, totals.with_signal_frames, totals.with_mended
+    );
+    println!(
+        "validated: CIEs {}, FDEs {}, rows {}, FDEs that gimli refuses in both {}",
+        agreement.cies, agreement.fdes, agreement.rows, agreement.refused
+    );
+}

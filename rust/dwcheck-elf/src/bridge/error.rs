@@ -1,0 +1,84 @@
+//! What can't be bridged.
+
+use crate::bytes::ReadError;
+use std::fmt;
+
+/// A record that has no counterpart in `.debug_frame`, or that can't be read.
+#[derive(Clone, Debug, PartialEq, Eq)]
+pub struct BridgeError {
+    /// The offset of the record in `.eh_frame`.
+    pub record: u64,
+    /// The offset of the field in `.eh_frame`.
+    pub field: u64,
+    /// What is wrong with the field.
+    pub reason: Reason,
+}
+
+/// Why a field of a record can't be bridged.
+#[derive(Clone, Debug, PartialEq, Eq)]
+pub enum Reason {
+    /// The section or the record ends before the field does.
+    Truncated,
+    /// A LEB128 number doesn't fit 64 bits.
+    LebRange,
+    /// An initial length between 0xfffffff0 and 0xfffffffe.
+    ReservedLength,
+    /// The record's CIE pointer leads to no CIE before it.
+    NoSuchCie,
+    /// The CIE has a version other than 1 and 3.
+    Version(u8),
+    /// The CIE's augmentation string has a letter with no known meaning.
+    Augmentation(String),
+    /// A pointer encoding (`DW_EH_PE`) that isn't known, or that leads to memory.
+    Encoding(u8),
+    /// A pointer is relative to a place (text, data or function) that the file doesn't have.
+    NoBase(u8),
+    /// A signed range is negative.
+    NegativeRange,
+    /// The field's relocation names a symbol that the object doesn't define.
+    Unresolved,
+    /// The section, or what it becomes, has 2^32 bytes or more.
+    TooLong,
+}
+
+impl From<ReadError> for Reason {
+    fn from(error: ReadError) -> Self {
+        match error {
+            ReadError::Truncated => Reason::Truncated,
+            ReadError::LebRange => Reason::LebRange,
+        }
+    }
+}
+
+impl Reason {
+    /// The error at a field of a record.
+    pub(crate) fn at(self, record: usize, field: usize) -> BridgeError {
+        BridgeError { record: record as u64, field: field as u64, reason: self }
+    }
+}
+
+impl fmt::Display for Reason {
+    fn fmt(&self, f: &mut fmt::Formatter<'_>) -> fmt::Result {
+        match self {
+            Reason::Truncated => f.write_str("the bytes end before the field does"),
+            Reason::LebRange => f.write_str("a LEB128 number doesn't fit 64 bits"),
+            Reason::ReservedLength => f.write_str("the record has a reserved length"),
+            Reason::NoSuchCie => f.write_str("the CIE pointer leads to no CIE before the record"),
+            Reason::Version(version) => write!(f, "the CIE has version {}, not 1 or 3", version),
+            Reason::Augmentation(string) => write!(f, "the augmentation {:?} isn't known", string),
+            Reason::Encoding(code) => write!(f, "the pointer encoding {:#04x} isn't supported", code),
+            Reason::NoBase(code) => write!(f, "the file has no base for the pointer encoding {:#04x}", code),
+            Reason::NegativeRange => f.write_str("the range is negative"),
+            Reason::Unresolved => f.write_str("the address belongs to a symbol that the object doesn't define"),
+            Reason::TooLong => f.write_str("the section has 2^32 bytes or more"),
+        }
+    }
+}
+
+impl fmt::Display for BridgeError {
+    fn fmt(&self, f: &mut fmt::Formatter<'_>) -> fmt::Result {
+        write!(f, ".eh_frame record {:#x}, at {:#x}: {}", self.record, self.field, self.reason)
+    }
+}
+
+impl std::error::Error for BridgeError {}

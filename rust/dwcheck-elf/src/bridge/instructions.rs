@@ -1,0 +1,156 @@
+//! Copies call frame instructions, and changes those few that differ.
+
+use super::pointer;
+use super::records::{Bridge, CieParts};
+use super::Reason;
+use crate::bytes::{Cursor, ReadError};
+
+/// The operands of an instruction, as far as their sizes go.
+#[derive(Clone, Copy, Debug, PartialEq, Eq)]
+enum Operands {
+    None,
+    Bytes(u64),
+    Leb,
+    TwoLebs,
+    Block,
+    LebAndBlock,
+    Address,
+}
+
+const SET_LOC: u8 = 0x01;
+const REMEMBER_STATE: u8 = 0x0a;
+const RESTORE_STATE: u8 = 0x0b;
+const DEF_CFA: u8 = 0x0c;
+const DEF_CFA_REGISTER: u8 = 0x0d;
+const DEF_CFA_OFFSET: u8 = 0x0e;
+const DEF_CFA_EXPRESSION: u8 = 0x0f;
+const DEF_CFA_SF: u8 = 0x12;
+const DEF_CFA_OFFSET_SF: u8 = 0x13;
+const GNU_ARGS_SIZE: u8 = 0x2e;
+
+/// The operands of an instruction by its code, or nothing if the code isn't known.
+fn operands(code: u8) -> Option<Operands> {
+    Some(match code {
+        0x40..=0x7f | 0xc0..=0xff => Operands::None,
+        0x80..=0xbf => Operands::Leb,
+        0x00 | REMEMBER_STATE | RESTORE_STATE => Operands::None,
+        SET_LOC => Operands::Address,
+        0x02 => Operands::Bytes(1),
+        0x03 => Operands::Bytes(2),
+        0x04 => Operands::Bytes(4),
+        0x06..=0x08 | DEF_CFA_REGISTER | DEF_CFA_OFFSET | DEF_CFA_OFFSET_SF => Operands::Leb,
+        0x05 | 0x09 | DEF_CFA | 0x11 | DEF_CFA_SF | 0x14 | 0x15 => Operands::TwoLebs,
+        DEF_CFA_EXPRESSION => Operands::Block,
+        0x10 | 0x16 => Operands::LebAndBlock,
+        // DW_CFA_MIPS_advance_loc8, and DW_CFA_GNU_window_save, which aarch64 has for another thing.
+        0x1d => Operands::Bytes(8),
+        0x2d => Operands::None,
+        GNU_ARGS_SIZE => Operands::Leb,
+        // DW_CFA_GNU_negative_offset_extended.
+        0x2f => Operands::TwoLebs,
+        _ => return None,
+    })
+}
+
+/// Moves past operands that aren't an encoded address.
+fn skip(cursor: &mut Cursor<'_>, operands: Operands) -> Result<(), ReadError> {
+    match operands {
+        Operands::None | Operands::Address => Ok(()),
+        Operands::Bytes(count) => cursor.take(count).map(|_| ()),
+        Operands::Leb => cursor.skip_leb(),
+        Operands::TwoLebs => cursor.skip_leb().and_then(|()| cursor.skip_leb()),
+        Operands::Block => block(cursor),
+        Operands::LebAndBlock => cursor.skip_leb().and_then(|()| block(cursor)),
+    }
+}
+
+fn block(cursor: &mut Cursor<'_>) -> Result<(), ReadError> {
+    let length = cursor.uleb()?;
+    cursor.take(length).map(|_| ())
+}
+
+/// Whether the CFA has a rule, now and in the states that are remembered.
+#[derive(Clone, Debug, Default)]
+pub(super) struct CfaKnown {
+    now: bool,
+    remembered: Vec<bool>,
+}
+
+impl CfaKnown {
+    /// As it is where a program begins.
+    pub fn new(now: bool) -> Self {
+        CfaKnown { now, remembered: Vec::new() }
+    }
+
+    /// As it is where the program ends.
+    pub fn now(&self) -> bool {
+        self.now
+    }
+
+    fn step(&mut self, code: u8) {
+        match code {
+            DEF_CFA..=DEF_CFA_EXPRESSION | DEF_CFA_SF | DEF_CFA_OFFSET_SF => self.now = true,
+            REMEMBER_STATE => self.remembered.push(self.now),
+            RESTORE_STATE => self.now = self.remembered.pop().unwrap_or(self.now),
+            _ => {}
+        }
+    }
+}
+
+impl Bridge<'_> {
+    /// Copies a program. `function` is where the FDE's range begins.
+    pub(super) fn instructions(
+        &mut self,
+        cursor: &mut Cursor<'_>,
+        cie: &CieParts,
+        function: Option<u64>,
+        known: &mut CfaKnown,
+    ) -> Result<(), (usize, Reason)> {
+        self.pair(cursor.at());
+        while !cursor.is_at_end() {
+            let start = cursor.at();
+            let whole = cursor.clone();
+            let code = cursor.byte().unwrap_or(0);
+            let read = operands(code).map(|operands| skip(cursor, operands));
+            if read != Some(Ok(())) {
+                // dwcheck finds the same fault at the same instruction.
+                self.bytes.extend_from_slice(whole.rest());
+                *cursor = whole;
+                cursor.take(cursor.rest().len() as u64).map_err(|error| (start, error.into()))?;
+                return Ok(());
+            }
+            match code {
+                GNU_ARGS_SIZE => {
+                    self.counts.args_sizes += 1;
+                    self.pair(cursor.at());
+                }
+                SET_LOC => self.set_loc(cursor, cie, function).map_err(|reason| (start + 1, reason))?,
+                DEF_CFA_REGISTER if !known.now && !self.options.strict => self.mend(cursor, start),
+                _ => self.bytes.extend_from_slice(cursor.since(start)),
+            }
+            known.step(code);
+        }
+        Ok(())
+    }
+
+    /// Decodes the address of `DW_CFA_set_loc`.
+    fn set_loc(&mut self, cursor: &mut Cursor<'_>, cie: &CieParts, function: Option<u64>) -> Result<(), Reason> {
+        let operand = cursor.at();
+        let address = pointer::address(cursor, cie.encoding, &self.section, function)?;
+        self.bytes.push(SET_LOC);
+        self.pair(operand);
+        self.address(address);
+        self.pair(cursor.at());
+        self.counts.set_locs += 1;
+        Ok(())
+    }
+
+    /// Gives the CFA the offset 0 with its register.
+    fn mend(&mut self, cursor: &Cursor<'_>, start: usize) {
+        self.bytes.push(DEF_CFA);
+        self.bytes.extend_from_slice(cursor.since(start + 1));
+        self.bytes.push(0);
+        self.pair(cursor.at());
+        self.mended.push(start as u64);
+    }
+}

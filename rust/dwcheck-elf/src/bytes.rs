@@ -1,0 +1,133 @@
+//! Reads numbers from bytes.
+
+use crate::target::Target;
+
+/// Why a number can't be read.
+#[derive(Clone, Copy, Debug, PartialEq, Eq)]
+pub(crate) enum ReadError {
+    /// The bytes end before the number does.
+    Truncated,
+    /// A LEB128 number doesn't fit 64 bits.
+    LebRange,
+}
+
+/// A place in a section, from which numbers are read.
+#[derive(Clone, Debug)]
+pub(crate) struct Cursor<'a> {
+    bytes: &'a [u8],
+    at: usize,
+    target: Target,
+}
+
+impl<'a> Cursor<'a> {
+    /// The beginning of a section.
+    pub fn new(bytes: &'a [u8], target: Target) -> Self {
+        Cursor { bytes, at: 0, target }
+    }
+
+    /// The offset in the section of what is read next.
+    pub fn at(&self) -> usize {
+        self.at
+    }
+
+    /// Whether all bytes were read.
+    pub fn is_at_end(&self) -> bool {
+        self.at >= self.bytes.len()
+    }
+
+    /// What is left.
+    pub fn rest(&self) -> &'a [u8] {
+        self.bytes.get(self.at..).unwrap_or(&[])
+    }
+
+    /// The bytes from an offset to this place.
+    pub fn since(&self, start: usize) -> &'a [u8] {
+        self.bytes.get(start..self.at).unwrap_or(&[])
+    }
+
+    /// A cursor over the next `length` bytes, with the offsets of the section. This one moves past them.
+    pub fn split(&mut self, length: u64) -> Result<Cursor<'a>, ReadError> {
+        let start = self.at;
+        let end = self.end_of(length)?;
+        self.at = end;
+        let bytes = self.bytes.get(..end).ok_or(ReadError::Truncated)?;
+        Ok(Cursor { bytes, at: start, target: self.target })
+    }
+
+    fn end_of(&self, length: u64) -> Result<usize, ReadError> {
+        let length = usize::try_from(length).map_err(|_| ReadError::Truncated)?;
+        let end = self.at.checked_add(length).ok_or(ReadError::Truncated)?;
+        if end > self.bytes.len() {
+            return Err(ReadError::Truncated);
+        }
+        Ok(end)
+    }
+
+    /// The next `length` bytes.
+    pub fn take(&mut self, length: u64) -> Result<&'a [u8], ReadError> {
+        let end = self.end_of(length)?;
+        let taken = self.bytes.get(self.at..end).ok_or(ReadError::Truncated)?;
+        self.at = end;
+        Ok(taken)
+    }
+
+    /// The next byte.
+    pub fn byte(&mut self) -> Result<u8, ReadError> {
+        let byte = *self.bytes.get(self.at).ok_or(ReadError::Truncated)?;
+        self.at += 1;
+        Ok(byte)
+    }
+
+    /// The next number of `size` bytes, at most 8.
+    pub fn number(&mut self, size: u8) -> Result<u64, ReadError> {
+        let bytes = self.take(u64::from(size))?;
+        Ok(self.target.number(bytes))
+    }
+
+    /// The next number of `size` bytes, at most 8, with its sign extended to 64 bits.
+    pub fn signed(&mut self, size: u8) -> Result<u64, ReadError> {
+        let number = self.number(size)?;
+        let unused = 64 - 8 * u32::from(size.clamp(1, 8));
+        Ok((((number << unused) as i64) >> unused) as u64)
+    }
+
+    /// The next unsigned LEB128 number.
+    pub fn uleb(&mut self) -> Result<u64, ReadError> {
+        let (mut value, mut shift) = (0u64, 0u32);
+        loop {
+            let byte = self.byte()?;
+            let group = u64::from(byte & 0x7f);
+            if shift > 63 || group << shift >> shift != group {
+                return Err(ReadError::LebRange);
+            }
+            value |= group << shift;
+            if byte & 0x80 == 0 {
+                return Ok(value);
+            }
+            shift += 7;
+        }
+    }
+
+    /// The next signed LEB128 number, as 64 bits.
+    pub fn sleb(&mut self) -> Result<u64, ReadError> {
+        let (mut value, mut shift) = (0u64, 0u32);
+        loop {
+            let byte = self.byte()?;
+            if shift > 63 || shift == 63 && byte != 0 && byte != 0x7f {
+                return Err(ReadError::LebRange);
+            }
+            value |= u64::from(byte & 0x7f) << shift;
+            shift += 7;
+            if byte & 0x80 == 0 {
+                let negative = byte & 0x40 != 0 && shift < 64;
+                return Ok(if negative { value | u64::MAX << shift } else { value });
+            }
+        }
+    }
+
+    /// Moves past a LEB128 number of any size.
+    pub fn skip_leb(&mut self) -> Result<(), ReadError> {
+        while self.byte()? & 0x80 != 0 {}
+        Ok(())
+    }
+}

@@ -1,0 +1,127 @@
+//! The files that a process had mapped.
+
+use super::CoreFile;
+use std::collections::HashSet;
+use std::ffi::OsStr;
+use std::fmt;
+use std::fs::File;
+use std::io::Read;
+use std::os::unix::ffi::OsStrExt;
+use std::path::{Path, PathBuf};
+
+/// A mapped file with more bytes isn't read.
+pub const FILE_LIMIT: u64 = 1 << 30;
+
+/// No more files are read where all would have more bytes.
+pub const FILES_LIMIT: u64 = 4 << 30;
+
+/// How many bytes of a file are compared with those that the core has.
+const COMPARED: usize = 4096;
+
+/// A file that was mapped.
+#[derive(Debug)]
+pub struct MappedFile {
+    /// Its name in the core.
+    pub path: PathBuf,
+    /// Its bytes now, or why they can't be used.
+    pub bytes: Result<Vec<u8>, FileError>,
+}
+
+/// Why a mapped file can't be used.
+#[derive(Debug)]
+pub enum FileError {
+    /// It can't be read.
+    Read(std::io::Error),
+    /// It isn't a regular file.
+    NotRegular,
+    /// It has more bytes than [`FILE_LIMIT`], or all have more than [`FILES_LIMIT`].
+    TooLarge(u64),
+    /// It isn't the file that was mapped: its first bytes aren't those that the core has.
+    Changed,
+}
+
+/// All files that were mapped, each once.
+#[derive(Debug, Default)]
+pub struct Files {
+    files: Vec<MappedFile>,
+}
+
+impl Files {
+    /// Reads the files that a core names, below a folder: `/` for those of this machine.
+    pub fn read(core: &CoreFile<'_>, root: &Path) -> Self {
+        let mut seen = HashSet::new();
+        let mut left = FILES_LIMIT;
+        let mut files = Vec::new();
+        for mapping in core.mappings() {
+            if !seen.insert(mapping.path) {
+                continue;
+            }
+            let path = PathBuf::from(OsStr::from_bytes(mapping.path));
+            let bytes = content(&below(root, &path), left).and_then(|bytes| same(core, mapping.path, bytes));
+            left = left.saturating_sub(bytes.as_ref().map_or(0, |bytes| bytes.len() as u64));
+            files.push(MappedFile { path, bytes });
+        }
+        Files { files }
+    }
+
+    /// All files, in the order in which the core names them first.
+    pub fn all(&self) -> &[MappedFile] {
+        &self.files
+    }
+
+    /// The place of a file among all, and its bytes.
+    pub(super) fn find(&self, path: &[u8]) -> Option<(usize, &[u8])> {
+        let place = self.files.iter().position(|file| file.path.as_os_str().as_bytes() == path)?;
+        let bytes = self.files.get(place)?.bytes.as_deref().ok()?;
+        Some((place, bytes))
+    }
+}
+
+/// The path below a folder. An absolute path begins at the folder.
+fn below(root: &Path, path: &Path) -> PathBuf {
+    root.join(path.strip_prefix("/").unwrap_or(path))
+}
+
+/// Reads a regular file. Others, as devices and pipes, aren't opened.
+fn content(path: &Path, left: u64) -> Result<Vec<u8>, FileError> {
+    if !path.metadata().map_err(FileError::Read)?.is_file() {
+        return Err(FileError::NotRegular);
+    }
+    let file = File::open(path).map_err(FileError::Read)?;
+    let size = file.metadata().map_err(FileError::Read)?.len();
+    let limit = FILE_LIMIT.min(left);
+    if size > limit {
+        return Err(FileError::TooLarge(size));
+    }
+    let mut bytes = Vec::with_capacity(usize::try_from(size).unwrap_or(0));
+    file.take(limit).read_to_end(&mut bytes).map_err(FileError::Read)?;
+    Ok(bytes)
+}
+
+/// Compares the beginning of a program or library with what the core has of it.
+fn same(core: &CoreFile<'_>, path: &[u8], bytes: Vec<u8>) -> Result<Vec<u8>, FileError> {
+    let starts = core.mappings().iter().filter(|mapping| mapping.path == path && mapping.offset == 0);
+    for mapping in starts {
+        let size = usize::try_from(mapping.end.saturating_sub(mapping.begin)).unwrap_or(COMPARED).min(COMPARED);
+        let held = core.bytes_from(mapping.begin).unwrap_or(&[]);
+        let held = held.get(..size).unwrap_or(held);
+        let held = held.get(..bytes.len()).unwrap_or(held);
+        if held.starts_with(b"\x7fELF") && !bytes.starts_with(held) {
+            return Err(FileError::Changed);
+        }
+    }
+    Ok(bytes)
+}
+
+impl fmt::Display for FileError {
+    fn fmt(&self, f: &mut fmt::Formatter<'_>) -> fmt::Result {
+        match self {
+            FileError::Read(error) => write!(f, "can't be read: {}", error),
+            FileError::NotRegular => f.write_str("isn't a regular file"),
+            FileError::TooLarge(size) => write!(f, "is too large with {} bytes", size),
+            FileError::Changed => f.write_str("isn't the file that was mapped"),
+        }
+    }
+}
+
+impl std::error::Error for FileError {}

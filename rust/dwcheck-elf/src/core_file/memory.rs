@@ -1,0 +1,116 @@
+//! The memory of a process that died.
+
+use super::{CoreFile, Files};
+use std::collections::BTreeMap;
+
+/// Where the bytes of a block come from.
+#[derive(Clone, Copy, Debug, PartialEq, Eq)]
+pub enum Origin {
+    /// The core.
+    Core,
+    /// A mapped file, by its place in [`Files::all`]. The core left these bytes out, since they are the file's.
+    File(usize),
+}
+
+/// Bytes of the memory.
+#[derive(Clone, Copy, Debug, PartialEq, Eq)]
+pub struct Block<'a> {
+    /// The address of the first byte.
+    pub address: u64,
+    /// The bytes.
+    pub bytes: &'a [u8],
+    /// Where they come from.
+    pub origin: Origin,
+}
+
+/// Blocks of memory. No two have an address in common.
+#[derive(Clone, Debug, Default)]
+pub struct Memory<'a> {
+    blocks: BTreeMap<u64, Block<'a>>,
+}
+
+impl<'a> Block<'a> {
+    /// The address after the last byte. A block never passes the highest address.
+    pub fn end(&self) -> u64 {
+        self.address.saturating_add(self.bytes.len() as u64)
+    }
+
+    /// The part of it from one address to before another.
+    fn part(&self, begin: u64, end: u64) -> Option<Block<'a>> {
+        let from = usize::try_from(begin.checked_sub(self.address)?).ok()?;
+        let to = usize::try_from(end.checked_sub(self.address)?).ok()?;
+        Some(Block { address: begin, bytes: self.bytes.get(from..to)?, origin: self.origin })
+    }
+}
+
+impl<'data> CoreFile<'data> {
+    /// The memory: what the core has, and what it left out since the files have it.
+    pub fn memory<'a>(&self, files: &'a Files) -> Memory<'a>
+    where
+        'data: 'a,
+    {
+        let mut memory = Memory::default();
+        for segment in &self.segments {
+            memory.add(Block { address: segment.address, bytes: segment.bytes, origin: Origin::Core });
+        }
+        for mapping in self.mappings() {
+            let found = files.find(mapping.path).and_then(|(place, bytes)| {
+                let begin = usize::try_from(mapping.offset).ok()?;
+                let size = usize::try_from(mapping.end.checked_sub(mapping.begin)?).ok()?;
+                let held = bytes.get(begin..)?;
+                Some((place, held.get(..size).unwrap_or(held)))
+            });
+            if let Some((place, bytes)) = found {
+                memory.add(Block { address: mapping.begin, bytes, origin: Origin::File(place) });
+            }
+        }
+        memory
+    }
+}
+
+impl<'a> Memory<'a> {
+    /// Adds those parts of a block that no block has yet.
+    fn add(&mut self, block: Block<'a>) {
+        let mut next = block.address;
+        while next < block.end() {
+            let before = self.blocks.range(..=next).next_back();
+            if let Some(end) = before.map(|(_, before)| before.end()).filter(|end| *end > next) {
+                next = end;
+                continue;
+            }
+            let after = self.blocks.range(next..).next().map(|(address, _)| *address);
+            let end = after.unwrap_or(u64::MAX).min(block.end());
+            if let Some(part) = block.part(next, end) {
+                self.blocks.insert(next, part);
+            }
+            next = end;
+        }
+    }
+
+    /// All blocks, by address.
+    pub fn blocks(&self) -> impl Iterator<Item = &Block<'a>> {
+        self.blocks.values()
+    }
+
+    /// The bytes from an address on, as far as its block goes.
+    pub fn from(&self, address: u64) -> Option<&'a [u8]> {
+        let (_, block) = self.blocks.range(..=address).next_back()?;
+        let past = usize::try_from(address.checked_sub(block.address)?).ok()?;
+        block.bytes.get(past..).filter(|bytes| !bytes.is_empty())
+    }
+
+    /// Copies the bytes from an address on, across blocks. Gives false if one of them isn't known.
+    pub fn read(&self, address: u64, bytes: &mut [u8]) -> bool {
+        let mut done = 0;
+        while let Some(rest) = bytes.get_mut(done..).filter(|rest| !rest.is_empty()) {
+            let held = match address.checked_add(done as u64).and_then(|next| self.from(next)) {
+                Some(held) => held,
+                None => return false,
+            };
+            let count = held.len().min(rest.len());
+            rest.iter_mut().zip(held).for_each(|(byte, held)| *byte = *held);
+            done += count;
+        }
+        true
+    }
+}

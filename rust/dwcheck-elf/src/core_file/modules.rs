@@ -1,0 +1,125 @@
+//! The programs and libraries of a process that died, and where they were loaded.
+
+use super::{CoreFile, Files, Mapping};
+use crate::program::{Program, Segment};
+use std::collections::HashMap;
+use std::ffi::OsStr;
+use std::os::unix::ffi::OsStrExt;
+use std::path::PathBuf;
+
+/// Where a module's ELF file is.
+#[derive(Clone, Copy, Debug, PartialEq, Eq)]
+pub enum Image<'a> {
+    /// A mapped file, by its place in [`Files::all`], and its bytes.
+    File(usize, &'a [u8]),
+    /// The kernel's vDSO, which the core has in memory.
+    Vdso(&'a [u8]),
+}
+
+/// A program or library that was loaded.
+#[derive(Clone, Debug, PartialEq, Eq)]
+pub struct Module<'a> {
+    /// Its name.
+    pub path: PathBuf,
+    /// What is added to an address of the file to get an address of the process, modulo 2^w.
+    pub bias: u64,
+    /// The first address of its mappings.
+    pub begin: u64,
+    /// The address after its last mapping.
+    pub end: u64,
+    /// Its ELF file.
+    pub image: Image<'a>,
+}
+
+impl<'a> Image<'a> {
+    /// The bytes of the ELF file.
+    pub fn bytes(&self) -> &'a [u8] {
+        match self {
+            Image::File(_, bytes) | Image::Vdso(bytes) => bytes,
+        }
+    }
+}
+
+/// A module, as far as its mappings were seen.
+struct Candidate<'a> {
+    place: usize,
+    has_code: bool,
+    module: Module<'a>,
+}
+
+/// Finds modules among mappings.
+struct Finder<'a> {
+    core: &'a CoreFile<'a>,
+    files: &'a Files,
+    /// The segments of each file, once it was read.
+    segments: HashMap<usize, Vec<Segment>>,
+    found: Vec<Candidate<'a>>,
+}
+
+impl CoreFile<'_> {
+    /// The modules, in the order of their mappings, and the vDSO last.
+    ///
+    /// A mapped ELF file is a module where one of its executable segments is mapped. A file that is loaded at two
+    /// places is two modules.
+    pub fn modules<'a>(&'a self, files: &'a Files) -> Vec<Module<'a>> {
+        let mut finder = Finder { core: self, files, segments: HashMap::new(), found: Vec::new() };
+        self.mappings().iter().for_each(|mapping| finder.add(mapping));
+        let loaded = finder.found.into_iter().filter(|candidate| candidate.has_code);
+        loaded.map(|candidate| candidate.module).chain(self.vdso_module()).collect()
+    }
+
+    /// The vDSO, whose ELF file is in memory as a whole.
+    fn vdso_module(&self) -> Option<Module<'_>> {
+        let begin = self.vdso?;
+        let bytes = self.bytes_from(begin)?;
+        let segments = Program::read(bytes).ok()?.segments();
+        let bias = begin.wrapping_sub(segments.first()?.address);
+        let end = begin.saturating_add(bytes.len() as u64);
+        let path = PathBuf::from("[vdso]");
+        Some(Module { path, bias: self.target().wrap(bias), begin, end, image: Image::Vdso(bytes) })
+    }
+}
+
+impl<'a> Finder<'a> {
+    /// Adds a mapping to the module that it belongs to, if it belongs to one.
+    fn add(&mut self, mapping: &Mapping<'_>) {
+        let (place, bytes) = match self.files.find(mapping.path) {
+            Some(found) => found,
+            None => return,
+        };
+        let read = || Program::read(bytes).map_or(Vec::new(), |program| program.segments());
+        let segments = self.segments.entry(place).or_insert_with(read);
+        let segment = match segment_of(mapping, segments) {
+            Some(segment) => segment,
+            None => return,
+        };
+        let load = mapping.begin.wrapping_sub(mapping.offset);
+        let bias = self.core.target().wrap(load.wrapping_add(segment.offset).wrapping_sub(segment.address));
+        let has_code = segment.is_executable;
+        let same = |candidate: &&mut Candidate<'_>| candidate.place == place && candidate.module.bias == bias;
+        if let Some(candidate) = self.found.iter_mut().find(same) {
+            candidate.has_code |= has_code;
+            candidate.module.begin = candidate.module.begin.min(mapping.begin);
+            candidate.module.end = candidate.module.end.max(mapping.end);
+            return;
+        }
+        let path = PathBuf::from(OsStr::from_bytes(mapping.path));
+        let image = Image::File(place, bytes);
+        let module = Module { path, bias, begin: mapping.begin, end: mapping.end, image };
+        self.found.push(Candidate { place, has_code, module });
+    }
+}
+
+/// The segment that a mapping shows: the first one that begins in it, else the one that it begins in.
+///
+/// Where one segment ends and the next begins in the same page of the file, both mappings have that page. A mapping
+/// begins at the page in which its segment begins.
+fn segment_of(mapping: &Mapping<'_>, segments: &[Segment]) -> Option<Segment> {
+    let end = mapping.offset.saturating_add(mapping.end.saturating_sub(mapping.begin));
+    let begins = |segment: &&Segment| (mapping.offset..end).contains(&segment.offset);
+    let holds = |segment: &&Segment| {
+        (segment.offset..segment.offset.saturating_add(segment.file_size)).contains(&mapping.offset)
+    };
+    let first = segments.iter().filter(begins).min_by_key(|segment| segment.offset);
+    first.or_else(|| segments.iter().find(holds)).copied()
+}

@@ -1,0 +1,115 @@
+//! The notes of a core file.
+
+use super::registers::{thread, Thread};
+use super::CoreError;
+use crate::abi::Abi;
+use crate::bytes::{Cursor, ReadError};
+use crate::target::{AddressSize, Target};
+use object::elf::{NT_AUXV, NT_FILE, NT_PRSTATUS, NT_SIGINFO};
+
+/// The address of the vDSO, in the auxiliary vector.
+const AT_SYSINFO_EHDR: u64 = 33;
+
+/// A part of a file that is mapped into memory.
+#[derive(Clone, Copy, Debug, PartialEq, Eq)]
+pub struct Mapping<'data> {
+    /// The first address.
+    pub begin: u64,
+    /// The address after the last one.
+    pub end: u64,
+    /// The offset in the file of what is at the first address.
+    pub offset: u64,
+    /// The file's name, as the kernel gave it.
+    pub path: &'data [u8],
+}
+
+/// The signal that ended a process.
+#[derive(Clone, Copy, Debug, PartialEq, Eq)]
+pub struct Signal {
+    /// Its number.
+    pub number: u32,
+    /// Why it came (`si_code`).
+    pub code: u32,
+    /// For SIGSEGV, SIGBUS, SIGILL and SIGFPE: the address of the fault. Else it has no meaning.
+    pub address: u64,
+}
+
+/// What the notes say.
+#[derive(Clone, Debug)]
+pub(super) struct Notes<'data> {
+    target: Target,
+    abi: &'static Abi,
+    pub threads: Vec<Thread>,
+    pub signal: Option<Signal>,
+    pub mappings: Vec<Mapping<'data>>,
+    pub vdso: Option<u64>,
+}
+
+impl<'data> Notes<'data> {
+    pub fn new(target: Target, abi: &'static Abi) -> Self {
+        Notes { target, abi, threads: Vec::new(), signal: None, mappings: Vec::new(), vdso: None }
+    }
+
+    /// Reads a note. One that isn't needed is left out.
+    pub fn add(&mut self, owner: &[u8], kind: u32, bytes: &'data [u8]) -> Result<(), CoreError> {
+        if owner != b"CORE" {
+            return Ok(());
+        }
+        let read = match kind {
+            NT_PRSTATUS => thread(bytes, self.target, self.abi).map(|thread| self.threads.push(thread)),
+            NT_SIGINFO => signal(bytes, self.target).map(|signal| self.signal = self.signal.or(Some(signal))),
+            NT_FILE => self.files(bytes),
+            NT_AUXV => {
+                self.vdso = vdso(bytes, self.target);
+                Ok(())
+            }
+            _ => Ok(()),
+        };
+        read.map_err(|_| CoreError::Note(kind))
+    }
+
+    /// A count, a page size, that many mappings, and their names.
+    fn files(&mut self, bytes: &'data [u8]) -> Result<(), ReadError> {
+        let word = self.target.address_size.bytes();
+        let mut numbers = Cursor::new(bytes, self.target);
+        let count = numbers.number(word)?;
+        let page = numbers.number(word)?;
+        let size = count.checked_mul(3 * u64::from(word)).ok_or(ReadError::Truncated)?;
+        let mut names = numbers.clone();
+        names.take(size)?;
+        for _ in 0..count {
+            let (begin, end) = (numbers.number(word)?, numbers.number(word)?);
+            let offset = numbers.number(word)?.saturating_mul(page);
+            let name = names.at();
+            while names.byte()? != 0 {}
+            let path = names.since(name).strip_suffix(&[0]).unwrap_or(&[]);
+            self.mappings.push(Mapping { begin, end, offset, path });
+        }
+        Ok(())
+    }
+}
+
+/// Reads a `siginfo_t`.
+fn signal(bytes: &[u8], target: Target) -> Result<Signal, ReadError> {
+    let mut cursor = Cursor::new(bytes, target);
+    let number = cursor.number(4)? as u32;
+    cursor.take(4)?;
+    let code = cursor.number(4)? as u32;
+    if target.address_size == AddressSize::Eight {
+        cursor.take(4)?;
+    }
+    let address = cursor.number(target.address_size.bytes())?;
+    Ok(Signal { number, code, address })
+}
+
+/// Finds the vDSO's address in the auxiliary vector, pairs of a type and a value.
+fn vdso(bytes: &[u8], target: Target) -> Option<u64> {
+    let word = target.address_size.bytes();
+    let mut cursor = Cursor::new(bytes, target);
+    loop {
+        let (kind, value) = (cursor.number(word).ok()?, cursor.number(word).ok()?);
+        if kind == AT_SYSINFO_EHDR {
+            return Some(value);
+        }
+    }
+}

@@ -1,0 +1,77 @@
+//! The registers of a thread (`struct elf_prstatus` of Linux).
+
+use crate::abi::Abi;
+use crate::bytes::{Cursor, ReadError};
+use crate::target::{AddressSize, Target};
+use object::elf;
+
+/// A thread of a core file.
+#[derive(Clone, Debug, PartialEq, Eq)]
+pub struct Thread {
+    /// Its id.
+    pub id: u32,
+    /// The signal that it got, 0 for none.
+    pub signal: u16,
+    /// Its registers by their DWARF numbers, ascending.
+    pub registers: Vec<(u16, u64)>,
+}
+
+impl Thread {
+    /// The value of a register.
+    pub fn register(&self, number: u16) -> Option<u64> {
+        let found = self.registers.binary_search_by_key(&number, |(number, _)| *number).ok()?;
+        self.registers.get(found).map(|(_, value)| *value)
+    }
+}
+
+/// A register that has no DWARF number here.
+const NO: u16 = u16::MAX;
+
+/// r15 to r12, rbp, rbx, r11 to r8, rax, rcx, rdx, rsi, rdi, orig_rax, rip, cs, eflags, rsp, ss, fs_base, gs_base, ds, es,
+/// fs, gs.
+const X86_64: [u16; 27] = [
+    15, 14, 13, 12, 6, 3, 11, 10, 9, 8, 0, 2, 1, 4, 5, NO, 16, 51, 49, 7, 52, 58, 59, 53, 50, 54, 55,
+];
+
+/// ebx, ecx, edx, esi, edi, ebp, eax, ds, es, fs, gs, orig_eax, eip, cs, eflags, esp, ss.
+const I386: [u16; 17] = [3, 1, 2, 6, 7, 5, 0, 43, 40, 44, 45, NO, 8, 41, 9, 4, 42];
+
+/// x0 to x30, sp, pc, pstate.
+const AARCH64: [u16; 34] = [
+    0, 1, 2, 3, 4, 5, 6, 7, 8, 9, 10, 11, 12, 13, 14, 15, 16, 17, 18, 19, 20, 21, 22, 23, 24, 25, 26, 27, 28, 29, 30, 31,
+    32, NO,
+];
+
+fn numbers(abi: &Abi) -> &'static [u16] {
+    match abi.machine {
+        elf::EM_X86_64 => &X86_64,
+        elf::EM_386 => &I386,
+        elf::EM_AARCH64 => &AARCH64,
+        _ => &[],
+    }
+}
+
+/// Reads a note of type `NT_PRSTATUS`.
+pub(super) fn thread(bytes: &[u8], target: Target, abi: &Abi) -> Result<Thread, ReadError> {
+    let word = target.address_size.bytes();
+    // Three numbers of 4 bytes, the signal, two masks of a word, four ids of 4 bytes, four times of two words.
+    let (id, registers) = match target.address_size {
+        AddressSize::Four => (24, 72),
+        AddressSize::Eight => (32, 112),
+    };
+    let mut cursor = Cursor::new(bytes, target);
+    cursor.take(12)?;
+    let signal = cursor.number(2)? as u16;
+    cursor.take(id - 14)?;
+    let id = cursor.number(4)? as u32;
+    cursor.take(registers - cursor.at() as u64)?;
+    let mut held = Vec::new();
+    for number in numbers(abi) {
+        let value = cursor.number(word)?;
+        if *number != NO {
+            held.push((*number, value));
+        }
+    }
+    held.sort_unstable();
+    Ok(Thread { id, signal, registers: held })
+}

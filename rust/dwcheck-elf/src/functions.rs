@@ -1,0 +1,189 @@
+//! The functions of a file: names by address, addresses by name.
+
+use crate::layout::Layout;
+use crate::target::Target;
+use object::elf;
+use object::read::{Object, ObjectSection, ObjectSymbol, SymbolSection};
+use object::{SectionFlags, SymbolFlags};
+use std::collections::HashMap;
+use std::fmt;
+
+/// A symbol of a function, or a label in code.
+#[derive(Clone, Copy, Debug, PartialEq, Eq)]
+pub struct Function<'data> {
+    /// The name, as it is in the file.
+    pub name: &'data str,
+    /// The first address.
+    pub begin: u64,
+    /// The count of bytes, 0 if it isn't known.
+    pub size: u64,
+    /// The end of the section that it is in.
+    limit: u64,
+    /// How well the symbol names its address. The best symbol has the highest.
+    rank: u8,
+}
+
+/// Why a name has no address.
+#[derive(Clone, Debug, PartialEq, Eq)]
+pub enum NameError {
+    /// No function has the name.
+    Unknown(String),
+    /// Several functions have the name. These are their addresses.
+    Ambiguous(String, Vec<u64>),
+    /// What follows the plus sign isn't a number.
+    Offset(String),
+}
+
+/// All functions of a file, by address.
+#[derive(Clone, Debug, Default)]
+pub struct Functions<'data> {
+    functions: Vec<Function<'data>>,
+    /// For each function the highest end of those up to it.
+    ends: Vec<u64>,
+}
+
+impl<'data> Function<'data> {
+    /// The address after the last one. A function of unknown size ends where it begins.
+    fn end(&self) -> u64 {
+        self.begin.saturating_add(self.size)
+    }
+}
+
+impl<'data> Functions<'data> {
+    /// Reads both symbol tables. Names that aren't UTF-8 are left out.
+    pub(crate) fn read(file: &object::File<'data>, layout: &Layout, machine: u16, target: Target) -> Self {
+        let code = code_sections(file, layout);
+        let mut functions: Vec<_> = file
+            .symbols()
+            .chain(file.dynamic_symbols())
+            .filter_map(|symbol| function(&symbol, layout, &code, machine, target))
+            .collect();
+        functions.sort_by(|one, other| (one.begin, one.rank, one.size).cmp(&(other.begin, other.rank, other.size)));
+        functions.dedup();
+        let ends = functions.iter().scan(0, |highest: &mut u64, function| {
+            *highest = function.end().max(*highest);
+            Some(*highest)
+        });
+        let ends = ends.collect();
+        Functions { functions, ends }
+    }
+
+    /// All functions, by address.
+    pub fn all(&self) -> &[Function<'data>] {
+        &self.functions
+    }
+
+    /// The function that an address is in, and the offset in it.
+    ///
+    /// If no function covers the address, it is the nearest symbol before it in its section, if that has no size.
+    pub fn at(&self, address: u64) -> Option<(&Function<'data>, u64)> {
+        let count = self.functions.partition_point(|function| function.begin <= address);
+        let before = self.functions.get(..count)?.iter().zip(&self.ends).rev();
+        let exact = before.clone().next().map(|(function, _)| function);
+        let found = before
+            .take_while(|(_, end)| **end > address)
+            .map(|(function, _)| function)
+            .find(|function| function.end() > address);
+        let found = found.or_else(|| exact.filter(|function| function.size == 0 && address < function.limit))?;
+        Some((found, address - found.begin))
+    }
+
+    /// The address of a function by its exact name. A global function goes before local ones.
+    pub fn address_of(&self, name: &str) -> Result<u64, NameError> {
+        let named = || self.functions.iter().filter(|function| function.name == name);
+        let best = named().map(|function| function.rank).max();
+        let best = best.ok_or_else(|| NameError::Unknown(name.to_string()))?;
+        let mut addresses: Vec<_> = named().filter(|function| function.rank == best).map(|found| found.begin).collect();
+        addresses.dedup();
+        match addresses.as_slice() {
+            [address] => Ok(*address),
+            _ => Err(NameError::Ambiguous(name.to_string(), addresses)),
+        }
+    }
+
+    /// The address that a text says: a function's name, or a name, a plus sign and a number, as `main+4` or `main+0x4`.
+    pub fn parse(&self, text: &str) -> Result<u64, NameError> {
+        match (self.address_of(text), text.rsplit_once('+')) {
+            (Err(NameError::Unknown(_)), Some((name, offset))) => {
+                let begin = self.address_of(name.trim_end())?;
+                let offset = number(offset.trim_start()).ok_or_else(|| NameError::Offset(text.to_string()))?;
+                begin.checked_add(offset).ok_or_else(|| NameError::Offset(text.to_string()))
+            }
+            (found, _) => found,
+        }
+    }
+}
+
+fn number(text: &str) -> Option<u64> {
+    let (digits, radix) = match text.strip_prefix("0x") {
+        Some(digits) => (digits, 16),
+        None => (text, 10),
+    };
+    let plain = !digits.is_empty() && digits.bytes().all(|byte| byte.is_ascii_hexdigit());
+    u64::from_str_radix(digits, radix).ok().filter(|_| plain)
+}
+
+/// The end of each section with code, by its index.
+fn code_sections(file: &object::File<'_>, layout: &Layout) -> HashMap<usize, u64> {
+    let is_code = |flags| match flags {
+        SectionFlags::Elf { sh_flags } => sh_flags & u64::from(elf::SHF_EXECINSTR) != 0,
+        _ => false,
+    };
+    let code = file.sections().filter(|section| is_code(section.flags()));
+    code.map(|section| (section.index().0, layout.address(section.index()).saturating_add(section.size()))).collect()
+}
+
+/// The function that a symbol names, if it names one.
+fn function<'data>(
+    symbol: &object::Symbol<'data, '_>,
+    layout: &Layout,
+    code: &HashMap<usize, u64>,
+    machine: u16,
+    target: Target,
+) -> Option<Function<'data>> {
+    let info = match symbol.flags() {
+        SymbolFlags::Elf { st_info, .. } => st_info,
+        _ => return None,
+    };
+    let (is_function, is_label) = match info & 0xf {
+        elf::STT_FUNC | elf::STT_GNU_IFUNC => (true, false),
+        elf::STT_NOTYPE => (false, true),
+        _ => return None,
+    };
+    let section = match symbol.section() {
+        SymbolSection::Section(index) => index,
+        _ => return None,
+    };
+    let code_end = code.get(&section.0).copied();
+    let name = symbol.name().ok().filter(|name| !name.is_empty())?;
+    // Labels that begin with a dollar sign only mark code and data, on arm, aarch64 and riscv.
+    if is_label && (code_end.is_none() || name.starts_with('$')) {
+        return None;
+    }
+    let mut begin = target.wrap(layout.symbol_base(section).wrapping_add(symbol.address()));
+    if machine == elf::EM_ARM && is_function {
+        begin &= !1; // The lowest bit says that the code is Thumb.
+    }
+    let binding = match info >> 4 {
+        elf::STB_GLOBAL => 2,
+        elf::STB_WEAK => 1,
+        _ => 0,
+    };
+    let limit = code_end.unwrap_or_else(|| begin.saturating_add(symbol.size()));
+    Some(Function { name, begin, size: symbol.size(), limit, rank: binding + if is_function { 3 } else { 0 } })
+}
+
+impl fmt::Display for NameError {
+    fn fmt(&self, f: &mut fmt::Formatter<'_>) -> fmt::Result {
+        match self {
+            NameError::Unknown(name) => write!(f, "no function has the name {}", name),
+            NameError::Ambiguous(name, addresses) => {
+                write!(f, "{} functions have the name {}:", addresses.len(), name)?;
+                addresses.iter().try_for_each(|address| write!(f, " {:#x}", address))
+            }
+            NameError::Offset(text) => write!(f, "no number follows the plus sign in {}", text),
+        }
+    }
+}
+
+impl std::error::Error for NameError {}

@@ -1,0 +1,232 @@
+//! An ELF file: its frame sections, location lists, functions and segments.
+
+use crate::bridge::EhFrame;
+use crate::functions::Functions;
+use crate::layout::{is_loaded, Layout};
+use crate::relocate::{relocate, RelocationError};
+use crate::target::{AddressSize, Order, Target};
+use object::elf;
+use object::read::{CompressionFormat, Object, ObjectSection, ObjectSegment};
+use object::SegmentFlags;
+use std::borrow::Cow;
+use std::fmt;
+
+/// A compressed section may have this many bytes when it is decompressed.
+pub const DECOMPRESSED_LIMIT: u64 = 1 << 30;
+
+/// Deflate makes at most this many bytes of one.
+const DEFLATE_RATIO: u64 = 1032;
+
+/// What an ELF file is.
+#[derive(Clone, Copy, Debug, PartialEq, Eq)]
+pub enum Kind {
+    /// A program that is loaded at its addresses (`ET_EXEC`).
+    Executable,
+    /// A shared library, or a program that can be loaded anywhere (`ET_DYN`).
+    Shared,
+    /// An unlinked object (`ET_REL`).
+    Relocatable,
+    /// A core file (`ET_CORE`).
+    Core,
+    /// Another `e_type`.
+    Other(u16),
+}
+
+/// An ELF file.
+pub struct Program<'data> {
+    file: object::File<'data>,
+    layout: Layout,
+    target: Target,
+    machine: u16,
+    kind: Kind,
+}
+
+/// The bytes of a section, decompressed and with its relocations applied.
+#[derive(Clone, Debug, PartialEq, Eq)]
+pub struct Section<'data> {
+    /// The bytes.
+    pub bytes: Cow<'data, [u8]>,
+    /// The address of the first byte, 0 for a section that isn't loaded.
+    pub address: u64,
+    /// Offsets of fields that hold the address of a symbol that an unlinked object doesn't define, ascending.
+    pub unresolved: Vec<u64>,
+}
+
+/// A part of a file that is loaded into memory (`PT_LOAD`).
+#[derive(Clone, Copy, Debug, PartialEq, Eq)]
+pub struct Segment {
+    /// The address of its first byte.
+    pub address: u64,
+    /// How many bytes it has in memory.
+    pub size: u64,
+    /// The offset in the file of its first byte.
+    pub offset: u64,
+    /// How many of its bytes are in the file.
+    pub file_size: u64,
+    /// Whether it may be executed.
+    pub is_executable: bool,
+}
+
+/// Why a file or a section can't be read.
+#[derive(Clone, Debug, PartialEq, Eq)]
+pub enum ProgramError {
+    /// The file isn't an ELF file, or its headers are wrong.
+    Elf(String),
+    /// The sections of an unlinked object don't fit the addresses.
+    Layout,
+    /// Two sections have the same name.
+    Repeated(&'static str),
+    /// A section's bytes aren't in the file, or can't be decompressed.
+    Section(&'static str, String),
+    /// A compressed section says that it has more bytes than [`DECOMPRESSED_LIMIT`], or more than its bytes can hold.
+    TooLarge(&'static str, u64),
+    /// A relocation of a section at an offset can't be applied.
+    Relocation(&'static str, u64, RelocationError),
+}
+
+impl<'data> Program<'data> {
+    /// Reads the headers of a file.
+    pub fn read(data: &'data [u8]) -> Result<Self, ProgramError> {
+        let file = object::File::parse(data).map_err(|error| ProgramError::Elf(error.to_string()))?;
+        let order = if file.is_little_endian() { Order::Little } else { Order::Big };
+        let address_size = if file.is_64() { AddressSize::Eight } else { AddressSize::Four };
+        let target = Target { order, address_size };
+        let half = |at: usize| data.get(at..at + 2).map_or(0, |bytes| target.number(bytes) as u16);
+        let (elf_type, machine) = (half(16), half(18));
+        let layout = Layout::of(&file, elf_type, target).map_err(|_| ProgramError::Layout)?;
+        let kind = match elf_type {
+            elf::ET_EXEC => Kind::Executable,
+            elf::ET_DYN => Kind::Shared,
+            elf::ET_REL => Kind::Relocatable,
+            elf::ET_CORE => Kind::Core,
+            other => Kind::Other(other),
+        };
+        Ok(Program { file, layout, target, machine, kind })
+    }
+
+    /// The byte order and the address size.
+    pub fn target(&self) -> Target {
+        self.target
+    }
+
+    /// The machine's number (`e_machine`).
+    pub fn machine(&self) -> u16 {
+        self.machine
+    }
+
+    /// What the file is.
+    pub fn kind(&self) -> Kind {
+        self.kind
+    }
+
+    /// The section `.debug_frame`, if the file has it.
+    pub fn debug_frame(&self) -> Result<Option<Section<'data>>, ProgramError> {
+        self.section(".debug_frame")
+    }
+
+    /// The section `.debug_loclists`, if the file has it.
+    pub fn debug_loclists(&self) -> Result<Option<Section<'data>>, ProgramError> {
+        self.section(".debug_loclists")
+    }
+
+    /// The section `.eh_frame`, if the file has it.
+    pub fn eh_frame(&self) -> Result<Option<Section<'data>>, ProgramError> {
+        self.section(".eh_frame")
+    }
+
+    /// What [`crate::bridge::bridge`] needs of this program and its `.eh_frame`.
+    pub fn eh_frame_of<'a>(&self, section: &'a Section<'_>) -> EhFrame<'a> {
+        let address = |name| {
+            let section = self.file.section_by_name(name)?;
+            Some(self.layout.address(section.index()))
+        };
+        EhFrame {
+            bytes: &section.bytes,
+            address: section.address,
+            target: self.target,
+            text: address(".text"),
+            data: address(".got.plt").or_else(|| address(".got")),
+            unresolved: &section.unresolved,
+        }
+    }
+
+    /// The functions of both symbol tables. This takes time; keep it.
+    pub fn functions(&self) -> Functions<'data> {
+        Functions::read(&self.file, &self.layout, self.machine, self.target)
+    }
+
+    /// What is loaded into memory.
+    pub fn segments(&self) -> Vec<Segment> {
+        let segment = |segment: object::Segment<'data, '_>| {
+            let (offset, file_size) = segment.file_range();
+            let is_executable = match segment.flags() {
+                SegmentFlags::Elf { p_flags } => p_flags & elf::PF_X != 0,
+                _ => false,
+            };
+            Segment { address: segment.address(), size: segment.size(), offset, file_size, is_executable }
+        };
+        self.file.segments().map(segment).collect()
+    }
+
+    fn section(&self, name: &'static str) -> Result<Option<Section<'data>>, ProgramError> {
+        let found = match self.file.section_by_name(name) {
+            Some(found) => found,
+            None => return Ok(None),
+        };
+        let has_name = |section: &object::Section<'data, '_>| section.name() == Ok(name);
+        if self.file.sections().filter(has_name).count() > 1 {
+            return Err(ProgramError::Repeated(name));
+        }
+        // A file that keeps debug sections alone has the others without bytes.
+        if found.file_range().is_none() {
+            return Ok(None);
+        }
+        let mut section = Section { bytes: uncompressed(&found, name)?, address: 0, unresolved: Vec::new() };
+        if is_loaded(found.flags()) {
+            section.address = self.layout.address(found.index());
+        }
+        if self.kind == Kind::Relocatable && found.relocations().next().is_some() {
+            let bytes = section.bytes.to_mut();
+            let applied = relocate(&self.file, &found, bytes, &self.layout, self.machine, self.target);
+            section.unresolved = applied.map_err(|(offset, error)| ProgramError::Relocation(name, offset, error))?;
+        }
+        Ok(Some(section))
+    }
+}
+
+/// The bytes of a section. The size that a compressed section claims is judged before any memory is taken.
+fn uncompressed<'data>(
+    section: &object::Section<'data, '_>,
+    name: &'static str,
+) -> Result<Cow<'data, [u8]>, ProgramError> {
+    let fail = |error: object::Error| ProgramError::Section(name, error.to_string());
+    let data = section.compressed_data().map_err(fail)?;
+    if data.format == CompressionFormat::None {
+        return Ok(Cow::Borrowed(data.data));
+    }
+    let size = data.uncompressed_size;
+    let possible = (data.data.len() as u64).saturating_mul(DEFLATE_RATIO);
+    if size > DECOMPRESSED_LIMIT.min(possible) {
+        return Err(ProgramError::TooLarge(name, size));
+    }
+    let bytes = data.decompress().map_err(fail)?;
+    if bytes.len() as u64 != size {
+        return Err(ProgramError::Section(name, "the section has another size when it is decompressed".to_string()));
+    }
+    Ok(bytes)
+}
+
+impl fmt::Display for ProgramError {
+    fn fmt(&self, f: &mut fmt::Formatter<'_>) -> fmt::Result {
+        match self {
+            ProgramError::Elf(error) => write!(f, "not an ELF file that can be read: {}", error),
+            ProgramError::Layout => f.write_str("the sections of the object don't fit its addresses"),
+            ProgramError::Repeated(name) => write!(f, "the file has several sections {}", name),
+            ProgramError::Section(name, error) => write!(f, "{}: {}", name, error),
+            ProgramError::TooLarge(name, size) => write!(f, "{} can't have {} bytes", name, size),
+            ProgramError::Relocation(name, offset, error) => write!(f, "{} at {:#x}: {}", name, offset, error),
+        }
+    }
+}
+
+impl std::error::Error for ProgramError {}

@@ -1,0 +1,179 @@
+//! Applies the relocations of an unlinked object to one of its sections.
+
+use crate::layout::Layout;
+use crate::target::Target;
+use object::elf;
+use object::read::{Object, ObjectSection, ObjectSymbol, RelocationTarget, SymbolSection};
+use object::{Relocation, RelocationKind};
+use std::fmt;
+
+/// A relocation that can't be applied.
+#[derive(Clone, Debug, PartialEq, Eq)]
+pub enum RelocationError {
+    /// The relocation's type isn't known.
+    Type(String),
+    /// The field isn't in the section.
+    Place,
+    /// The relocation names a symbol that the file doesn't have.
+    Symbol,
+}
+
+/// What is done with the number in a field.
+#[derive(Clone, Copy, Debug)]
+enum Action {
+    Nothing,
+    /// It becomes the symbol's address.
+    Absolute,
+    /// It becomes the distance to the symbol's address from the field's own.
+    Relative,
+    /// The symbol's address is added to it.
+    Add,
+    /// The symbol's address is subtracted from it.
+    Subtract,
+}
+
+/// An action on a field of some bits.
+#[derive(Clone, Copy, Debug)]
+struct Step {
+    action: Action,
+    bits: u8,
+}
+
+/// Applies all relocations of a section, and gives the offsets of those whose symbol isn't defined, ascending.
+pub(crate) fn relocate(
+    file: &object::File<'_>,
+    section: &object::Section<'_, '_>,
+    bytes: &mut [u8],
+    layout: &Layout,
+    machine: u16,
+    target: Target,
+) -> Result<Vec<u64>, (u64, RelocationError)> {
+    let mut unresolved = Vec::new();
+    let start = layout.address(section.index());
+    for (offset, relocation) in section.relocations() {
+        let fail = |error| (offset, error);
+        let step = step_of(machine, &relocation).map_err(fail)?;
+        if matches!(step.action, Action::Nothing) {
+            continue;
+        }
+        match symbol_address(file, &relocation, layout).map_err(fail)? {
+            None => unresolved.push(offset),
+            Some(symbol) => {
+                apply(bytes, offset, start, symbol, step, &relocation, target).ok_or_else(|| fail(RelocationError::Place))?
+            }
+        }
+    }
+    unresolved.sort_unstable();
+    Ok(unresolved)
+}
+
+/// The address of the symbol that a relocation names, or nothing if the object doesn't define it.
+fn symbol_address(
+    file: &object::File<'_>,
+    relocation: &Relocation,
+    layout: &Layout,
+) -> Result<Option<u64>, RelocationError> {
+    let index = match relocation.target() {
+        RelocationTarget::Symbol(index) => index,
+        RelocationTarget::Section(index) => return Ok(Some(layout.address(index))),
+        RelocationTarget::Absolute => return Ok(Some(0)),
+        _ => return Err(RelocationError::Symbol),
+    };
+    let symbol = file.symbol_by_index(index).map_err(|_| RelocationError::Symbol)?;
+    Ok(match symbol.section() {
+        SymbolSection::Section(index) => Some(layout.symbol_base(index).wrapping_add(symbol.address())),
+        SymbolSection::Absolute => Some(symbol.address()),
+        _ => None,
+    })
+}
+
+/// Writes one field.
+fn apply(
+    bytes: &mut [u8],
+    offset: u64,
+    start: u64,
+    symbol: u64,
+    step: Step,
+    relocation: &Relocation,
+    target: Target,
+) -> Option<()> {
+    let size = step.bits.checked_add(7)? / 8;
+    let begin = usize::try_from(offset).ok()?;
+    let field = bytes.get_mut(begin..begin.checked_add(usize::from(size))?)?;
+    let held = target.number(field);
+    let implicit = if relocation.has_implicit_addend() { sign_extended(held, step.bits) } else { 0 };
+    let value = symbol.wrapping_add(relocation.addend() as u64).wrapping_add(implicit);
+    let number = match step.action {
+        Action::Nothing => held,
+        Action::Absolute => value,
+        Action::Relative => value.wrapping_sub(start.wrapping_add(offset)),
+        Action::Add => held.wrapping_add(value),
+        Action::Subtract => held.wrapping_sub(value),
+    };
+    let kept = u64::MAX.checked_shl(u32::from(step.bits)).unwrap_or(0);
+    let mut written = Vec::with_capacity(8);
+    target.push(&mut written, held & kept | number & !kept, size);
+    field.copy_from_slice(&written);
+    Some(())
+}
+
+fn sign_extended(number: u64, bits: u8) -> u64 {
+    let unused = 64u32.saturating_sub(u32::from(bits)).min(63);
+    (((number << unused) as i64) >> unused) as u64
+}
+
+fn step_of(machine: u16, relocation: &Relocation) -> Result<Step, RelocationError> {
+    let step = |action, bits| Ok(Step { action, bits });
+    match relocation.kind() {
+        RelocationKind::Absolute => step(Action::Absolute, relocation.size()),
+        RelocationKind::Relative | RelocationKind::PltRelative => step(Action::Relative, relocation.size()),
+        RelocationKind::Elf(0) => step(Action::Nothing, 0),
+        RelocationKind::Elf(code) => machine_step(machine, code)
+            .ok_or_else(|| RelocationError::Type(format!("{} of machine {}", code, machine))),
+        kind => Err(RelocationError::Type(format!("{:?}", kind))),
+    }
+}
+
+/// The types that `object` has no name for.
+fn machine_step(machine: u16, code: u32) -> Option<Step> {
+    let (action, bits) = match (machine, code) {
+        (elf::EM_X86_64, elf::R_X86_64_PC64) => (Action::Relative, 64),
+        (elf::EM_PPC, elf::R_PPC_REL32) | (elf::EM_PPC64, elf::R_PPC64_REL32) => (Action::Relative, 32),
+        (elf::EM_PPC64, elf::R_PPC64_REL64) => (Action::Relative, 64),
+        (elf::EM_ARM, elf::R_ARM_REL32) => (Action::Relative, 32),
+        (elf::EM_RISCV, _) => riscv(code)?,
+        _ => return None,
+    };
+    Some(Step { action, bits })
+}
+
+/// A RISC-V assembler leaves distances to the linker: it sets a field to one address, then subtracts another.
+fn riscv(code: u32) -> Option<(Action, u8)> {
+    Some(match code {
+        elf::R_RISCV_ADD8 => (Action::Add, 8),
+        elf::R_RISCV_ADD16 => (Action::Add, 16),
+        elf::R_RISCV_ADD32 => (Action::Add, 32),
+        elf::R_RISCV_ADD64 => (Action::Add, 64),
+        elf::R_RISCV_SUB6 => (Action::Subtract, 6),
+        elf::R_RISCV_SUB8 => (Action::Subtract, 8),
+        elf::R_RISCV_SUB16 => (Action::Subtract, 16),
+        elf::R_RISCV_SUB32 => (Action::Subtract, 32),
+        elf::R_RISCV_SUB64 => (Action::Subtract, 64),
+        elf::R_RISCV_SET6 => (Action::Absolute, 6),
+        elf::R_RISCV_SET8 => (Action::Absolute, 8),
+        elf::R_RISCV_SET16 => (Action::Absolute, 16),
+        elf::R_RISCV_SET32 => (Action::Absolute, 32),
+        elf::R_RISCV_32_PCREL => (Action::Relative, 32),
+        _ => return None,
+    })
+}
+
+impl fmt::Display for RelocationError {
+    fn fmt(&self, f: &mut fmt::Formatter<'_>) -> fmt::Result {
+        match self {
+            RelocationError::Type(code) => write!(f, "the relocation type {} isn't known", code),
+            RelocationError::Place => f.write_str("the relocation's field isn't in the section"),
+            RelocationError::Symbol => f.write_str("the relocation names a symbol that isn't there"),
+        }
+    }
+}

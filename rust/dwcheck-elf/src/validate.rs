@@ -1,0 +1,185 @@
+//! Compares the rows of `.eh_frame` with those of the bridged bytes.
+//!
+//! gimli reads both: the section as it is, and the bridged bytes as `.debug_frame`. The records of the section are
+//! found here by their lengths alone, and nothing is taken from the bridge but its bytes. So a record that the bridge
+//! lost, added or changed is a difference.
+
+mod gimli_rows;
+
+use crate::bridge::{Bridged, EhFrame};
+use crate::bytes::Cursor;
+use crate::row::Row;
+use gimli::{CieOrFde, DebugFrame, UnwindSection};
+use gimli_rows::{compared_cies, BridgedSection, Original, OriginalEntry};
+use std::fmt;
+
+pub use gimli_rows::GimliRows;
+
+/// What was compared.
+#[derive(Clone, Copy, Debug, Default, PartialEq, Eq)]
+pub struct Agreement {
+    /// Common information entries.
+    pub cies: usize,
+    /// Frame description entries.
+    pub fdes: usize,
+    /// Rows that are equal. A row that covers no address isn't counted.
+    pub rows: usize,
+    /// FDEs whose rows gimli refuses in both sections for the same reason, after equal rows.
+    pub refused: usize,
+}
+
+/// The first difference between the two sections.
+#[derive(Clone, Debug, PartialEq, Eq)]
+pub struct Difference {
+    /// The offset of the record in `.eh_frame`.
+    pub record: u64,
+    /// What differs.
+    pub what: What,
+}
+
+/// What differs between a record and its counterpart.
+#[derive(Clone, Debug, PartialEq, Eq)]
+pub enum What {
+    /// gimli can't read the record in `.eh_frame`.
+    Unreadable(String),
+    /// gimli can't read the counterpart.
+    UnreadableBridged(String),
+    /// There is no counterpart.
+    Missing,
+    /// The bridged bytes have a record that the section doesn't have.
+    Surplus,
+    /// One is a CIE and the other an FDE.
+    Kind,
+    /// The CIEs have other alignment factors or another return address register.
+    Numbers,
+    /// The FDEs cover other addresses.
+    Range {
+        /// First address and count of bytes in `.eh_frame`.
+        section: (u64, u64),
+        /// First address and count of bytes in the bridged bytes.
+        bridged: (u64, u64),
+    },
+    /// A row of the FDE, counted from 0.
+    Row {
+        /// Its number.
+        number: usize,
+        /// The row in `.eh_frame`, the end of the rows, or an error.
+        section: String,
+        /// The row in the bridged bytes, the end of the rows, or an error.
+        bridged: String,
+    },
+}
+
+/// Something that gives the rows of an FDE one by one.
+pub trait RowSource<'a> {
+    /// Writes the next row to `row`. Gives false after the last one, and an error where the rows can't go on.
+    fn next_row(&mut self, row: &mut Row<'a>) -> Result<bool, String>;
+}
+
+/// Compares rows one by one, and gives their number and whether both ended with the same error.
+pub fn compare_rows<'a, 'b>(
+    section: &mut impl RowSource<'a>,
+    bridged: &mut impl RowSource<'b>,
+) -> Result<(usize, bool), What> {
+    let (mut left, mut right) = (Row::default(), Row::default());
+    let mut number = 0;
+    loop {
+        let (one, other) = (section.next_row(&mut left), bridged.next_row(&mut right));
+        match (&one, &other) {
+            (Ok(true), Ok(true)) if left == right => number += 1,
+            (Ok(false), Ok(false)) => return Ok((number, false)),
+            (Err(one), Err(other)) if one == other => return Ok((number, true)),
+            _ => return Err(What::Row { number, section: shown(&one, &left), bridged: shown(&other, &right) }),
+        }
+    }
+}
+
+fn shown(outcome: &Result<bool, String>, row: &Row<'_>) -> String {
+    match outcome {
+        Ok(true) => row.to_string(),
+        Ok(false) => "no more rows".to_string(),
+        Err(error) => error.clone(),
+    }
+}
+
+/// Compares each record of the section with its counterpart.
+pub fn validate(section: &EhFrame<'_>, bridged: &Bridged) -> Result<Agreement, Difference> {
+    let mut original = Original::new(section);
+    let mut other = BridgedSection::new(section.target, bridged.bytes());
+    let frames: DebugFrame<_> = other.section;
+    let bases = gimli::BaseAddresses::default();
+    let mut entries = frames.entries(&bases);
+    let mut agreement = Agreement::default();
+    let mut cursor = Cursor::new(section.bytes, section.target);
+    while let Some(record) = next_record(&mut cursor) {
+        let fail = |what| Difference { record: record as u64, what };
+        let theirs = entries.next().map_err(|error| fail(What::UnreadableBridged(error.to_string())))?;
+        let theirs = theirs.ok_or_else(|| fail(What::Missing))?;
+        let ours = original.entry(record).map_err(|error| fail(What::Unreadable(error.to_string())))?;
+        match (ours, theirs) {
+            (OriginalEntry::Cie(cie), CieOrFde::Cie(counterpart)) => {
+                compared_cies(&cie, &counterpart).map_err(fail)?;
+                agreement.cies += 1;
+            }
+            (OriginalEntry::Fde(fde), CieOrFde::Fde(partial)) => {
+                let counterpart = partial
+                    .parse(DebugFrame::cie_from_offset)
+                    .map_err(|error| fail(What::UnreadableBridged(error.to_string())))?;
+                let (rows, refused) = original.compare(&fde, &mut other, &counterpart).map_err(fail)?;
+                agreement.fdes += 1;
+                agreement.rows += rows;
+                agreement.refused += usize::from(refused);
+            }
+            _ => return Err(fail(What::Kind)),
+        }
+    }
+    match entries.next() {
+        Ok(None) => Ok(agreement),
+        _ => Err(Difference { record: section.bytes.len() as u64, what: What::Surplus }),
+    }
+}
+
+/// The offset of the next record that isn't an end mark.
+fn next_record(cursor: &mut Cursor<'_>) -> Option<usize> {
+    while !cursor.is_at_end() {
+        let record = cursor.at();
+        let length = match cursor.number(4).ok()? {
+            0xffff_ffff => cursor.number(8).ok()?,
+            length => length,
+        };
+        cursor.take(length).ok()?;
+        if length != 0 {
+            return Some(record);
+        }
+    }
+    None
+}
+
+impl fmt::Display for What {
+    fn fmt(&self, f: &mut fmt::Formatter<'_>) -> fmt::Result {
+        match self {
+            What::Unreadable(error) => write!(f, "gimli can't read the record: {}", error),
+            What::UnreadableBridged(error) => write!(f, "gimli can't read the bridged record: {}", error),
+            What::Missing => f.write_str("the record was lost"),
+            What::Surplus => f.write_str("there is a bridged record too many"),
+            What::Kind => f.write_str("one record is a CIE, the other an FDE"),
+            What::Numbers => f.write_str("the numbers of the CIEs differ"),
+            What::Range { section, bridged } => write!(
+                f,
+                "the ranges differ: {:#x} with {:#x} bytes, bridged {:#x} with {:#x} bytes",
+                section.0, section.1, bridged.0, bridged.1
+            ),
+            What::Row { number, section, bridged } => {
+                write!(f, "row {} differs: {}, bridged {}", number, section, bridged)
+            }
+        }
+    }
+}
+
+impl fmt::Display for Difference {
+    fn fmt(&self, f: &mut fmt::Formatter<'_>) -> fmt::Result {
+        write!(f, ".eh_frame record {:#x}: {}", self.record, self.what)
+    }
+}
+
+impl std::error::Error for Difference {}
