@@ -58,7 +58,7 @@ impl<'data> Functions<'data> {
             .chain(file.dynamic_symbols())
             .filter_map(|symbol| function(&symbol, layout, &code, machine, target))
             .collect();
-        functions.sort_by(|one, other| (one.begin, one.rank, one.size).cmp(&(other.begin, other.rank, other.size)));
+        functions.sort_by_key(|function| (function.begin, function.rank, function.size));
         functions.dedup();
         let ends = functions.iter().scan(0, |highest: &mut u64, function| {
             *highest = function.end().max(*highest);

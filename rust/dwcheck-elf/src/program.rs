@@ -3,7 +3,7 @@
 use crate::bridge::EhFrame;
 use crate::functions::Functions;
 use crate::layout::{is_loaded, Layout};
-use crate::relocate::{relocate, RelocationError};
+use crate::relocate::{self, RelocationError};
 use crate::target::{AddressSize, Order, Target};
 use object::elf;
 use object::read::{CompressionFormat, Object, ObjectSection, ObjectSegment};
@@ -186,8 +186,9 @@ impl<'data> Program<'data> {
             section.address = self.layout.address(found.index());
         }
         if self.kind == Kind::Relocatable && found.relocations().next().is_some() {
-            let bytes = section.bytes.to_mut();
-            let applied = relocate(&self.file, &found, bytes, &self.layout, self.machine, self.target);
+            let (file, layout, machine, target) = (&self.file, &self.layout, self.machine, self.target);
+            let object = relocate::Object { file, layout, machine, target };
+            let applied = object.relocate(&found, section.bytes.to_mut());
             section.unresolved = applied.map_err(|(offset, error)| ProgramError::Relocation(name, offset, error))?;
         }
         Ok(Some(section))

@@ -3,7 +3,7 @@
 use crate::layout::Layout;
 use crate::target::Target;
 use object::elf;
-use object::read::{Object, ObjectSection, ObjectSymbol, RelocationTarget, SymbolSection};
+use object::read::{Object as _, ObjectSection, ObjectSymbol, RelocationTarget, SymbolSection};
 use object::{Relocation, RelocationKind};
 use std::fmt;
 
@@ -39,82 +39,81 @@ struct Step {
     bits: u8,
 }
 
-/// Applies all relocations of a section, and gives the offsets of those whose symbol isn't defined, ascending.
-pub(crate) fn relocate(
-    file: &object::File<'_>,
-    section: &object::Section<'_, '_>,
-    bytes: &mut [u8],
-    layout: &Layout,
-    machine: u16,
-    target: Target,
-) -> Result<Vec<u64>, (u64, RelocationError)> {
-    let mut unresolved = Vec::new();
-    let start = layout.address(section.index());
-    for (offset, relocation) in section.relocations() {
-        let fail = |error| (offset, error);
-        let step = step_of(machine, &relocation).map_err(fail)?;
-        if matches!(step.action, Action::Nothing) {
-            continue;
+/// An unlinked object whose relocations are applied.
+#[derive(Clone, Copy)]
+pub(crate) struct Object<'file, 'data> {
+    pub file: &'file object::File<'data>,
+    pub layout: &'file Layout,
+    pub machine: u16,
+    pub target: Target,
+}
+
+impl Object<'_, '_> {
+    /// Applies all relocations of a section, and gives the offsets of those whose symbol isn't defined, ascending.
+    pub fn relocate(
+        &self,
+        section: &object::Section<'_, '_>,
+        bytes: &mut [u8],
+    ) -> Result<Vec<u64>, (u64, RelocationError)> {
+        let mut unresolved = Vec::new();
+        let start = self.layout.address(section.index());
+        for (offset, relocation) in section.relocations() {
+            let fail = |error| (offset, error);
+            let step = step_of(self.machine, &relocation).map_err(fail)?;
+            let symbol = match self.symbol(&relocation).map_err(fail)? {
+                Some(symbol) => symbol,
+                None => {
+                    unresolved.push(offset);
+                    continue;
+                }
+            };
+            let field = field(bytes, offset, step.bits).ok_or_else(|| fail(RelocationError::Place))?;
+            self.apply(field, start.wrapping_add(offset), symbol, step, &relocation);
         }
-        match symbol_address(file, &relocation, layout).map_err(fail)? {
-            None => unresolved.push(offset),
-            Some(symbol) => {
-                apply(bytes, offset, start, symbol, step, &relocation, target).ok_or_else(|| fail(RelocationError::Place))?
-            }
-        }
+        unresolved.sort_unstable();
+        Ok(unresolved)
     }
-    unresolved.sort_unstable();
-    Ok(unresolved)
+
+    /// The address of the symbol that a relocation names, or nothing if the object doesn't define it.
+    fn symbol(&self, relocation: &Relocation) -> Result<Option<u64>, RelocationError> {
+        let index = match relocation.target() {
+            RelocationTarget::Symbol(index) => index,
+            RelocationTarget::Section(index) => return Ok(Some(self.layout.address(index))),
+            RelocationTarget::Absolute => return Ok(Some(0)),
+            _ => return Err(RelocationError::Symbol),
+        };
+        let symbol = self.file.symbol_by_index(index).map_err(|_| RelocationError::Symbol)?;
+        Ok(match symbol.section() {
+            SymbolSection::Section(index) => Some(self.layout.symbol_base(index).wrapping_add(symbol.address())),
+            SymbolSection::Absolute => Some(symbol.address()),
+            _ => None,
+        })
+    }
+
+    /// Changes a field at an address.
+    fn apply(&self, field: &mut [u8], address: u64, symbol: u64, step: Step, relocation: &Relocation) {
+        let held = self.target.number(field);
+        let implicit = if relocation.has_implicit_addend() { sign_extended(held, step.bits) } else { 0 };
+        let value = symbol.wrapping_add(relocation.addend() as u64).wrapping_add(implicit);
+        let number = match step.action {
+            Action::Nothing => held,
+            Action::Absolute => value,
+            Action::Relative => value.wrapping_sub(address),
+            Action::Add => held.wrapping_add(value),
+            Action::Subtract => held.wrapping_sub(value),
+        };
+        let kept = u64::MAX.checked_shl(u32::from(step.bits)).unwrap_or(0);
+        let mut written = Vec::with_capacity(8);
+        self.target.push(&mut written, held & kept | number & !kept, field.len() as u8);
+        field.iter_mut().zip(written).for_each(|(byte, new)| *byte = new);
+    }
 }
 
-/// The address of the symbol that a relocation names, or nothing if the object doesn't define it.
-fn symbol_address(
-    file: &object::File<'_>,
-    relocation: &Relocation,
-    layout: &Layout,
-) -> Result<Option<u64>, RelocationError> {
-    let index = match relocation.target() {
-        RelocationTarget::Symbol(index) => index,
-        RelocationTarget::Section(index) => return Ok(Some(layout.address(index))),
-        RelocationTarget::Absolute => return Ok(Some(0)),
-        _ => return Err(RelocationError::Symbol),
-    };
-    let symbol = file.symbol_by_index(index).map_err(|_| RelocationError::Symbol)?;
-    Ok(match symbol.section() {
-        SymbolSection::Section(index) => Some(layout.symbol_base(index).wrapping_add(symbol.address())),
-        SymbolSection::Absolute => Some(symbol.address()),
-        _ => None,
-    })
-}
-
-/// Writes one field.
-fn apply(
-    bytes: &mut [u8],
-    offset: u64,
-    start: u64,
-    symbol: u64,
-    step: Step,
-    relocation: &Relocation,
-    target: Target,
-) -> Option<()> {
-    let size = step.bits.checked_add(7)? / 8;
+/// The bytes of a field, at most 8.
+fn field(bytes: &mut [u8], offset: u64, bits: u8) -> Option<&mut [u8]> {
+    let size = usize::from(bits.min(64).checked_add(7)? / 8);
     let begin = usize::try_from(offset).ok()?;
-    let field = bytes.get_mut(begin..begin.checked_add(usize::from(size))?)?;
-    let held = target.number(field);
-    let implicit = if relocation.has_implicit_addend() { sign_extended(held, step.bits) } else { 0 };
-    let value = symbol.wrapping_add(relocation.addend() as u64).wrapping_add(implicit);
-    let number = match step.action {
-        Action::Nothing => held,
-        Action::Absolute => value,
-        Action::Relative => value.wrapping_sub(start.wrapping_add(offset)),
-        Action::Add => held.wrapping_add(value),
-        Action::Subtract => held.wrapping_sub(value),
-    };
-    let kept = u64::MAX.checked_shl(u32::from(step.bits)).unwrap_or(0);
-    let mut written = Vec::with_capacity(8);
-    target.push(&mut written, held & kept | number & !kept, size);
-    field.copy_from_slice(&written);
-    Some(())
+    bytes.get_mut(begin..begin.checked_add(size)?)
 }
 
 fn sign_extended(number: u64, bits: u8) -> u64 {
@@ -128,8 +127,9 @@ fn step_of(machine: u16, relocation: &Relocation) -> Result<Step, RelocationErro
         RelocationKind::Absolute => step(Action::Absolute, relocation.size()),
         RelocationKind::Relative | RelocationKind::PltRelative => step(Action::Relative, relocation.size()),
         RelocationKind::Elf(0) => step(Action::Nothing, 0),
-        RelocationKind::Elf(code) => machine_step(machine, code)
-            .ok_or_else(|| RelocationError::Type(format!("{} of machine {}", code, machine))),
+        RelocationKind::Elf(code) => {
+            machine_step(machine, code).ok_or_else(|| RelocationError::Type(format!("{} of machine {}", code, machine)))
+        }
         kind => Err(RelocationError::Type(format!("{:?}", kind))),
     }
 }

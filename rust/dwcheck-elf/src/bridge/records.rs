@@ -135,14 +135,8 @@ impl<'a> Bridge<'a> {
             return Err((at, Reason::Version(version)));
         }
         self.bytes.push(version);
-        let mut cie = CieParts {
-            source,
-            bridged: bridged as u64,
-            encoding: 0,
-            has_data: false,
-            signal: false,
-            cfa_known: false,
-        };
+        let mut cie =
+            CieParts { source, bridged: bridged as u64, encoding: 0, has_data: false, signal: false, cfa_known: false };
         let at = record.at();
         self.pair(at);
         let letters = augmentation(record).map_err(|reason| (at, reason))?;

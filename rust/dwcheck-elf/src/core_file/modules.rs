@@ -89,37 +89,40 @@ impl<'a> Finder<'a> {
         };
         let read = || Program::read(bytes).map_or(Vec::new(), |program| program.segments());
         let segments = self.segments.entry(place).or_insert_with(read);
-        let segment = match segment_of(mapping, segments) {
-            Some(segment) => segment,
-            None => return,
-        };
-        let load = mapping.begin.wrapping_sub(mapping.offset);
-        let bias = self.core.target().wrap(load.wrapping_add(segment.offset).wrapping_sub(segment.address));
-        let has_code = segment.is_executable;
-        let same = |candidate: &&mut Candidate<'_>| candidate.place == place && candidate.module.bias == bias;
-        if let Some(candidate) = self.found.iter_mut().find(same) {
+        let target = self.core.target();
+        let shown = segments.iter().filter(|segment| is_shown(mapping, segment));
+        let biased = shown.map(|segment| (target.wrap(bias(mapping, segment)), segment.is_executable));
+        let known = biased.clone().find_map(|(bias, has_code)| {
+            let same = |found: &Candidate<'_>| found.place == place && found.module.bias == bias;
+            Some((self.found.iter().position(same)?, has_code))
+        });
+        if let Some((candidate, has_code)) = known.and_then(|(at, has_code)| Some((self.found.get_mut(at)?, has_code)))
+        {
             candidate.has_code |= has_code;
             candidate.module.begin = candidate.module.begin.min(mapping.begin);
             candidate.module.end = candidate.module.end.max(mapping.end);
-            return;
+        } else if let Some((bias, has_code)) = biased.clone().next() {
+            let path = PathBuf::from(OsStr::from_bytes(mapping.path));
+            let image = Image::File(place, bytes);
+            let module = Module { path, bias, begin: mapping.begin, end: mapping.end, image };
+            self.found.push(Candidate { place, has_code, module });
         }
-        let path = PathBuf::from(OsStr::from_bytes(mapping.path));
-        let image = Image::File(place, bytes);
-        let module = Module { path, bias, begin: mapping.begin, end: mapping.end, image };
-        self.found.push(Candidate { place, has_code, module });
     }
 }
 
-/// The segment that a mapping shows: the first one that begins in it, else the one that it begins in.
+/// Whether a mapping has a byte of a segment.
 ///
-/// Where one segment ends and the next begins in the same page of the file, both mappings have that page. A mapping
-/// begins at the page in which its segment begins.
-fn segment_of(mapping: &Mapping<'_>, segments: &[Segment]) -> Option<Segment> {
-    let end = mapping.offset.saturating_add(mapping.end.saturating_sub(mapping.begin));
-    let begins = |segment: &&Segment| (mapping.offset..end).contains(&segment.offset);
-    let holds = |segment: &&Segment| {
-        (segment.offset..segment.offset.saturating_add(segment.file_size)).contains(&mapping.offset)
-    };
-    let first = segments.iter().filter(begins).min_by_key(|segment| segment.offset);
-    first.or_else(|| segments.iter().find(holds)).copied()
+/// Where one segment ends and the next begins in the same page of the file, both are mapped with that page. So a
+/// mapping can show a segment that it wasn't made for. The segment that gives a bias that is known already is the right
+/// one.
+fn is_shown(mapping: &Mapping<'_>, segment: &Segment) -> bool {
+    let mapped_end = mapping.offset.saturating_add(mapping.end.saturating_sub(mapping.begin));
+    let segment_end = segment.offset.saturating_add(segment.file_size);
+    mapping.offset < segment_end && segment.offset < mapped_end
+}
+
+/// The bias of a module that has a segment in a mapping.
+fn bias(mapping: &Mapping<'_>, segment: &Segment) -> u64 {
+    let file_begin = mapping.begin.wrapping_sub(mapping.offset);
+    file_begin.wrapping_add(segment.offset).wrapping_sub(segment.address)
 }

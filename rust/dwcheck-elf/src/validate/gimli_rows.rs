@@ -86,10 +86,9 @@ impl<'a> Original<'a> {
         let ours = fde.rows(&self.section, &self.bases, &mut self.context);
         let theirs = counterpart.rows(&other.section, &other.bases, &mut other.context);
         match (ours, theirs) {
-            (Ok(ours), Ok(theirs)) => compare_rows(
-                &mut GimliRows { table: ours, target },
-                &mut GimliRows { table: theirs, target },
-            ),
+            (Ok(ours), Ok(theirs)) => {
+                compare_rows(&mut GimliRows { table: ours, target }, &mut GimliRows { table: theirs, target })
+            }
             (Err(one), Err(other)) if one == other => Ok((0, true)),
             (Err(error), _) => Err(What::Unreadable(error.to_string())),
             (_, Err(error)) => Err(What::UnreadableBridged(error.to_string())),

@@ -1,0 +1,78 @@
+//! What readelf says of frame sections.
+
+use crate::common::{hex, Folder};
+use dwcheck_elf::bridge::{bridge, Bridged, Options};
+use dwcheck_elf::program::Program;
+use dwcheck_elf::validate::{validate, Agreement};
+
+/// A record as `readelf --debug-dump=frames` shows it.
+#[derive(Debug)]
+pub struct Shown {
+    pub offset: u64,
+    /// The offset of its CIE and the range, of an FDE.
+    pub fde: Option<(u64, u64, u64)>,
+    /// The augmentation string, of a CIE.
+    pub augmentation: String,
+    pub lines: Vec<String>,
+}
+
+/// The records of one section. End marks are left out.
+pub fn records(folder: &Folder, file: &str, section: &str) -> Vec<Shown> {
+    let mut shown: Vec<Shown> = Vec::new();
+    for line in part(&folder.run(&format!("readelf --debug-dump=frames {}", file)), section) {
+        let words: Vec<_> = line.split_whitespace().collect();
+        match words.as_slice() {
+            [offset, _, _, "CIE", ..] => shown.push(record(offset, None)),
+            [offset, _, _, "FDE", cie, pc] => {
+                let (begin, end) = pc.trim_start_matches("pc=").split_once("..").unwrap();
+                let cie = hex(cie.trim_start_matches("cie="));
+                shown.push(record(offset, Some((cie, hex(begin), hex(end)))));
+            }
+            ["Augmentation:", string] => shown.last_mut().unwrap().augmentation = string.replace('"', ""),
+            [_, "ZERO", "terminator"] | [] => {}
+            _ => shown.iter_mut().last().unwrap().lines.push(line.trim().to_string()),
+        }
+    }
+    shown
+}
+
+fn record(offset: &str, fde: Option<(u64, u64, u64)>) -> Shown {
+    Shown { offset: hex(offset), fde, augmentation: String::new(), lines: Vec::new() }
+}
+
+/// The lines of what readelf shows that belong to a section.
+fn part<'a>(shown: &'a str, section: &str) -> impl Iterator<Item = &'a str> {
+    let title = format!("Contents of the {} section", section);
+    let lines = shown.lines().skip_while(move |line| !line.starts_with(&title)).skip(1);
+    lines.take_while(|line| !line.starts_with("Contents of"))
+}
+
+/// The rows that readelf finds in a section, without the offsets of records and the augmentations.
+fn rows(shown: &str, section: &str) -> Vec<String> {
+    let kept = |line: &'_ str| {
+        let start = ["pc=", "cf="].iter().find_map(|word| line.find(word)).unwrap_or(0);
+        line[start..].trim().to_string()
+    };
+    part(shown, section).filter(|line| !line.contains("ZERO terminator") && !line.trim().is_empty()).map(kept).collect()
+}
+
+/// Bridges the `.eh_frame` of a linked file, puts the result into a copy of the file as `.debug_frame`, and asks
+/// readelf for the rows of both, which have to be equal. gimli's have to be equal too.
+pub fn compared(folder: &Folder, file: &str, objcopy: &str) -> (Bridged, Agreement) {
+    let bytes = folder.bytes(file);
+    let program = Program::read(&bytes).unwrap();
+    let section = program.eh_frame().unwrap().unwrap();
+    let section = program.eh_frame_of(&section);
+    let bridged = bridge(&section, Options::default()).unwrap();
+    folder.write("bridged", bridged.bytes());
+    folder.run(&format!("{} -R .debug_frame {} both; {0} --add-section .debug_frame=bridged both", objcopy, file));
+    let shown = folder.run("readelf --debug-dump=frames-interp both");
+    let (ours, theirs) = (rows(&shown, ".debug_frame"), rows(&shown, ".eh_frame"));
+    assert!(!theirs.is_empty());
+    for (one, other) in ours.iter().zip(&theirs) {
+        assert_eq!(one, other, "{}", file);
+    }
+    assert_eq!(ours.len(), theirs.len());
+    let agreement = validate(&section, &bridged).unwrap_or_else(|difference| panic!("{}: {}", file, difference));
+    (bridged, agreement)
+}

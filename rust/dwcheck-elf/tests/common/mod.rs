@@ -1,0 +1,114 @@
+//! What the tests share: folders, tools and what they print.
+#![allow(dead_code)]
+
+use std::path::{Path, PathBuf};
+use std::process::Command;
+
+/// A folder of its own for a test, removed at the end.
+pub struct Folder(PathBuf);
+
+impl Folder {
+    pub fn new(name: &str) -> Self {
+        let folder = std::env::temp_dir().join(format!("dwcheck-elf-{}-{}", name, std::process::id()));
+        std::fs::create_dir_all(&folder).unwrap();
+        Folder(folder.canonicalize().unwrap())
+    }
+
+    pub fn path(&self) -> &Path {
+        &self.0
+    }
+
+    pub fn file(&self, name: &str) -> PathBuf {
+        self.0.join(name)
+    }
+
+    pub fn write(&self, name: &str, bytes: impl AsRef<[u8]>) -> PathBuf {
+        let file = self.file(name);
+        std::fs::write(&file, bytes).unwrap();
+        file
+    }
+
+    pub fn bytes(&self, name: &str) -> Vec<u8> {
+        std::fs::read(self.file(name)).unwrap()
+    }
+
+    /// Runs a command line in the folder and gives what it prints. It has to succeed.
+    pub fn run(&self, line: &str) -> String {
+        let output = Command::new("bash").args(["-c", line]).current_dir(&self.0).env("LC_ALL", "C").output().unwrap();
+        let error = String::from_utf8_lossy(&output.stderr);
+        assert!(output.status.success(), "{}\n{}", line, error);
+        String::from_utf8_lossy(&output.stdout).into_owned()
+    }
+
+    /// The bytes of a section, as objcopy takes them out, decompressed.
+    pub fn section(&self, file: &str, section: &str) -> Vec<u8> {
+        self.run(&format!("objcopy --decompress-debug-sections --dump-section {}=taken {} /dev/null", section, file));
+        self.bytes("taken")
+    }
+}
+
+impl Drop for Folder {
+    fn drop(&mut self) {
+        let _ = std::fs::remove_dir_all(&self.0);
+    }
+}
+
+/// Whether a tool is installed. If not, a message says that the test is skipped.
+pub fn has(tool: &str) -> bool {
+    let found = std::env::split_paths(&std::env::var_os("PATH").unwrap()).any(|folder| folder.join(tool).is_file());
+    if !found {
+        eprintln!("skipped: {} isn't installed", tool);
+    }
+    found
+}
+
+/// A hexadecimal number, with or without 0x.
+pub fn hex(text: &str) -> u64 {
+    u64::from_str_radix(text.trim_start_matches("0x"), 16).unwrap_or_else(|_| panic!("no number: {}", text))
+}
+
+/// Where some bytes are among others. They have to be there once.
+pub fn place_of(bytes: &[u8], part: &[u8]) -> usize {
+    let places: Vec<_> = (0..bytes.len()).filter(|place| bytes[*place..].starts_with(part)).collect();
+    assert_eq!(places.len(), 1, "{:x?} is at {:?}", part, places);
+    places[0]
+}
+
+/// A program in C with functions that save registers and move the stack.
+pub const C: &str = "
+#include <stdio.h>
+#include <stdlib.h>
+__attribute__((noinline)) int twice(int x) { return x + x; }
+__attribute__((noinline)) long mixed(long a, long b, long c, long d, long e, long f, long g) {
+    long held[9];
+    for (int i = 0; i < 9; i++) held[i] = twice(a + i) * twice(b - i) + c * d + e * f + g;
+    return held[twice(a) % 9 & 7];
+}
+__attribute__((noinline)) int sorted(const void *x, const void *y) { return *(const int *)x - *(const int *)y; }
+int main(int argc, char **argv) {
+    int all[] = {4, 2, 3, argc};
+    qsort(all, 4, sizeof *all, sorted);
+    char *grown = __builtin_alloca(argc * 16);
+    grown[0] = argv[0][0];
+    return printf(\"%ld %d\\n\", mixed(argc, 1, 2, 3, 4, 5, 6), grown[0] + all[0]) < 0;
+}
+";
+
+/// A program in C++ that throws, with objects to destroy on the way.
+pub const CXX: &str = "
+#include <string>
+#include <vector>
+#include <stdexcept>
+struct Loud { std::string name; ~Loud() { if (name.size() > 99) __builtin_abort(); } };
+__attribute__((noinline)) void thrower(int n, const std::string &s) { if (n > 2) throw std::runtime_error(s); }
+__attribute__((noinline)) int middle(int n, int a, int b, int c, int d, int e, int f, int g) {
+    Loud loud{std::to_string(n)};
+    std::vector<Loud> more(n);
+    thrower(n, loud.name);
+    return n + a + b + c + d + e + f + g + more.size();
+}
+int main(int argc, char **) {
+    try { return middle(argc, 1, 2, 3, 4, 5, 6, 7) & 1; }
+    catch (const std::exception &e) { return e.what()[0]; }
+}
+";

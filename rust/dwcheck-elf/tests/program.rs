@@ -1,0 +1,180 @@
+//! Programs against what nm, readelf and objcopy say of them.
+
+mod common;
+
+use common::{has, hex, Folder, C};
+use dwcheck_elf::functions::NameError;
+use dwcheck_elf::program::{Kind, Program, ProgramError};
+use dwcheck_elf::target::{AddressSize, Order};
+
+const DEBUG_FRAME: &str = "-g -gdwarf-5 -O2 -fno-asynchronous-unwind-tables";
+
+#[test]
+fn headers() {
+    let folder = Folder::new("headers");
+    folder.write("a.c", C);
+    folder.write("e.s", "f: .long 0\n");
+    folder.run("gcc -O2 a.c -o shared; gcc -O2 -no-pie a.c -o fixed; gcc -c a.c -o object.o");
+    let mut cases = vec![
+        ("shared", 62, Kind::Shared, Order::Little, AddressSize::Eight),
+        ("fixed", 62, Kind::Executable, Order::Little, AddressSize::Eight),
+        ("object.o", 62, Kind::Relocatable, Order::Little, AddressSize::Eight),
+    ];
+    let others = [
+        ("i686-linux-gnu-as", "i386.o", 3, Order::Little, AddressSize::Four),
+        ("aarch64-linux-gnu-as", "aarch64.o", 183, Order::Little, AddressSize::Eight),
+        ("powerpc-linux-gnu-as", "powerpc.o", 20, Order::Big, AddressSize::Four),
+        ("s390x-linux-gnu-as", "s390x.o", 22, Order::Big, AddressSize::Eight),
+    ];
+    for (tool, name, machine, order, size) in others {
+        if has(tool) {
+            folder.run(&format!("{} e.s -o {}", tool, name));
+            cases.push((name, machine, Kind::Relocatable, order, size));
+        }
+    }
+    for (name, machine, kind, order, size) in cases {
+        let bytes = folder.bytes(name);
+        let program = Program::read(&bytes).unwrap();
+        assert_eq!((program.machine(), program.kind()), (machine, kind), "{}", name);
+        assert_eq!((program.target().order, program.target().address_size), (order, size), "{}", name);
+    }
+}
+
+/// Each symbol that nm calls a function, by name and by address.
+#[test]
+fn functions() {
+    let folder = Folder::new("functions");
+    folder.write("a.c", C);
+    folder.run("gcc -O2 a.c -o linked");
+    let bytes = folder.bytes("linked");
+    let functions = Program::read(&bytes).unwrap().functions();
+    let mut seen = 0;
+    for line in folder.run("nm -S linked").lines() {
+        let words: Vec<_> = line.split_whitespace().collect();
+        if let [begin, size, "T" | "t", name] = words.as_slice() {
+            let (begin, size) = (hex(begin), hex(size));
+            assert_eq!(functions.address_of(name), Ok(begin));
+            let (first, offset) = functions.at(begin).unwrap();
+            assert_eq!((first.begin, first.size, offset), (begin, size, 0), "{}", name);
+            let (last, offset) = functions.at(begin + size - 1).unwrap();
+            assert_eq!((last.begin, offset), (begin, size - 1), "{}", name);
+            seen += 1;
+        }
+    }
+    assert!(seen >= 5, "{}", seen);
+    let main = functions.address_of("main").unwrap();
+    assert_eq!(functions.parse("main"), Ok(main));
+    assert_eq!(functions.parse("main+4"), Ok(main + 4));
+    assert_eq!(functions.parse("main + 0x10"), Ok(main + 16));
+    assert_eq!(functions.parse("main+x"), Err(NameError::Offset("main+x".into())));
+    assert_eq!(functions.parse("nothing"), Err(NameError::Unknown("nothing".into())));
+    assert_eq!(functions.at(u64::MAX), None);
+    assert_eq!(functions.at(0), None);
+}
+
+/// Local functions of two files with one name.
+#[test]
+fn names_that_repeat() {
+    let folder = Folder::new("names");
+    folder.write("a.s", "same: nop\n.globl _start\n_start: call same\n");
+    folder.write("b.s", ".type same, @function\nsame: nop\nnop\n.size same, .-same\n");
+    folder.write("c.s", ".type same, @function\nnop\nsame: nop\nnop\n.size same, .-same\n");
+    folder.run("for f in a b c; do as $f.s -o $f.o; done; ld a.o b.o -o two; ld a.o b.o c.o -o three");
+    let address = |line: &str| hex(line.split_whitespace().next().unwrap());
+    let bytes = folder.bytes("two");
+    let two = Program::read(&bytes).unwrap().functions();
+    let shown = folder.run("readelf -sW two | grep FUNC | grep -w same | awk '{print $2}'");
+    assert_eq!(two.address_of("same"), Ok(address(&shown)), "a function goes before a label");
+    let bytes = folder.bytes("three");
+    let three = Program::read(&bytes).unwrap().functions();
+    let shown = folder.run("readelf -sW three | grep FUNC | grep -w same | awk '{print $2}' | sort");
+    let both: Vec<_> = shown.lines().map(address).collect();
+    assert_eq!(three.address_of("same"), Err(NameError::Ambiguous("same".into(), both)));
+}
+
+#[test]
+fn segments() {
+    let folder = Folder::new("segments");
+    folder.write("a.c", C);
+    folder.run("gcc -O2 a.c -o linked");
+    let bytes = folder.bytes("linked");
+    let found: Vec<_> = Program::read(&bytes)
+        .unwrap()
+        .segments()
+        .iter()
+        .map(|segment| {
+            (segment.offset, segment.address, segment.file_size, segment.size, segment.is_executable)
+        })
+        .collect();
+    let shown = folder.run("readelf -lW linked | grep '^  LOAD'");
+    let expected: Vec<_> = shown
+        .lines()
+        .map(|line| {
+            let words: Vec<_> = line.split_whitespace().collect();
+            (hex(words[1]), hex(words[2]), hex(words[4]), hex(words[5]), words[7] == "E")
+        })
+        .collect();
+    assert_eq!(found, expected);
+}
+
+/// Sections as objcopy takes them out, plain and in both forms of compression.
+#[test]
+fn compressed_sections() {
+    let folder = Folder::new("compressed");
+    folder.write("a.c", C);
+    for (form, header) in [("none", ".debug_frame"), ("zlib", ".debug_frame"), ("zlib-gnu", ".zdebug_frame")] {
+        // The linker alone compresses, so that all files have the same section.
+        folder.run(&format!("gcc {} -Wl,--compress-debug-sections={} a.c -o {}", DEBUG_FRAME, form, form));
+        let shown = folder.run(&format!("readelf -SW {} | grep -w 'z\\?debug_frame'", form));
+        assert!(shown.contains(header), "{}", shown);
+        let bytes = folder.bytes(form);
+        let program = Program::read(&bytes).unwrap();
+        let frame = program.debug_frame().unwrap().expect("the file has the section");
+        assert_eq!(frame.bytes.as_ref(), folder.section("none", ".debug_frame"), "{}", form);
+        assert_eq!(frame.address, 0);
+        let lists = program.debug_loclists().unwrap().expect("the file has the section");
+        assert_eq!(lists.bytes.as_ref(), folder.section("none", ".debug_loclists"), "{}", form);
+    }
+    let bytes = folder.bytes("none");
+    let program = Program::read(&bytes).unwrap();
+    let shown = folder.run("readelf -SW none | grep -w eh_frame | sed 's/.*PROGBITS *//'");
+    let eh_frame = program.eh_frame().unwrap().unwrap();
+    assert_eq!(eh_frame.address, hex(shown.split_whitespace().next().unwrap()));
+    assert_eq!(eh_frame.bytes.as_ref(), folder.section("none", ".eh_frame"));
+}
+
+/// A compressed section that claims more bytes than it can have takes no memory.
+#[test]
+fn sizes_that_lie() {
+    let folder = Folder::new("lies");
+    folder.write("a.c", C);
+    folder.run(&format!("gcc {} -Wl,--compress-debug-sections=zlib a.c -o linked", DEBUG_FRAME));
+    let bytes = folder.bytes("linked");
+    let shown = folder.run("readelf -SW linked | grep -w debug_frame | sed 's/.*PROGBITS *//'");
+    let offset = hex(shown.split_whitespace().nth(1).unwrap()) as usize;
+    for size in [u64::MAX, 1 << 40, 1 << 30, 1 << 25] {
+        let mut changed = bytes.clone();
+        changed[offset + 8..offset + 16].copy_from_slice(&size.to_le_bytes());
+        let program = Program::read(&changed).unwrap();
+        assert_eq!(program.debug_frame(), Err(ProgramError::TooLarge(".debug_frame", size)));
+    }
+    let mut changed = bytes.clone();
+    changed[offset + 8] ^= 1;
+    let program = Program::read(&changed).unwrap();
+    assert!(matches!(program.debug_frame(), Err(ProgramError::Section(".debug_frame", _))));
+}
+
+#[test]
+fn files_without_sections() {
+    let folder = Folder::new("without");
+    folder.write("a.s", ".globl _start\n_start: nop\n");
+    folder.run("as a.s -o a.o; ld a.o -o linked; objcopy --only-keep-debug /bin/true debug");
+    let bytes = folder.bytes("linked");
+    let program = Program::read(&bytes).unwrap();
+    assert_eq!((program.debug_frame(), program.debug_loclists(), program.eh_frame()), (Ok(None), Ok(None), Ok(None)));
+    let bytes = folder.bytes("debug");
+    assert_eq!(Program::read(&bytes).unwrap().eh_frame(), Ok(None), "the section has no bytes there");
+    for bytes in [&b""[..], b"\x7fELF", b"#!/bin/sh\n", &bytes[..40]] {
+        assert!(matches!(Program::read(bytes), Err(ProgramError::Elf(_))));
+    }
+}
