@@ -15,7 +15,7 @@ pub use registers::Thread;
 use crate::abi::{abi, Abi};
 use crate::target::{AddressSize, Order, Target};
 use notes::Notes;
-use object::elf::{FileHeader32, FileHeader64, ET_CORE, PT_LOAD};
+use object::elf::{FileHeader32, FileHeader64, ET_CORE, PF_X, PT_LOAD};
 use object::read::elf::{FileHeader, ProgramHeader};
 use object::read::FileKind;
 use object::Endianness;
@@ -38,6 +38,10 @@ pub struct CoreFile<'data> {
 struct CoreSegment<'data> {
     address: u64,
     bytes: &'data [u8],
+    /// How many bytes of memory it stands for, with those that the core left out.
+    size: u64,
+    /// Whether the process could execute it.
+    is_executable: bool,
     /// The core says that it has more bytes than the file holds.
     is_cut: bool,
 }
@@ -127,6 +131,14 @@ impl<'data> CoreFile<'data> {
         self.segments.iter().any(|segment| segment.is_cut)
     }
 
+    /// Whether the process could execute code at an address. Where the core doesn't say it, it is taken to be so.
+    fn may_execute(&self, address: u64) -> bool {
+        let holds = |segment: &&CoreSegment<'_>| {
+            address.checked_sub(segment.address).map_or(false, |past| past < segment.size)
+        };
+        self.segments.iter().find(holds).map_or(true, |segment| segment.is_executable)
+    }
+
     /// The bytes that the core has from an address on, to the end of a segment.
     fn bytes_from(&self, address: u64) -> Option<&'data [u8]> {
         self.segments.iter().find_map(|segment| {
@@ -146,7 +158,13 @@ impl<'data> CoreSegment<'data> {
         let begin = usize::try_from(header.p_offset(endian).into()).unwrap_or(usize::MAX);
         let there = data.get(begin..).unwrap_or(&[]);
         let held = usize::try_from(size).map_or(there, |size| there.get(..size).unwrap_or(there));
-        CoreSegment { address, bytes: held, is_cut: (held.len() as u64) < size }
+        CoreSegment {
+            address,
+            bytes: held,
+            size: header.p_memsz(endian).into(),
+            is_executable: header.p_flags(endian) & PF_X != 0,
+            is_cut: (held.len() as u64) < size,
+        }
     }
 }
 

@@ -134,13 +134,23 @@ fn step_of(machine: u16, relocation: &Relocation) -> Result<Step, RelocationErro
     }
 }
 
-/// The types that `object` has no name for.
+/// `R_MIPS_PC32`, which `object` doesn't name.
+const MIPS_PC32: u32 = 248;
+
+/// The types that `object` leaves to others.
 fn machine_step(machine: u16, code: u32) -> Option<Step> {
     let (action, bits) = match (machine, code) {
         (elf::EM_X86_64, elf::R_X86_64_PC64) => (Action::Relative, 64),
         (elf::EM_PPC, elf::R_PPC_REL32) | (elf::EM_PPC64, elf::R_PPC64_REL32) => (Action::Relative, 32),
         (elf::EM_PPC64, elf::R_PPC64_REL64) => (Action::Relative, 64),
         (elf::EM_ARM, elf::R_ARM_REL32) => (Action::Relative, 32),
+        (elf::EM_MIPS, MIPS_PC32) => (Action::Relative, 32),
+        (elf::EM_ALPHA, elf::R_ALPHA_REFLONG) => (Action::Absolute, 32),
+        (elf::EM_ALPHA, elf::R_ALPHA_REFQUAD) => (Action::Absolute, 64),
+        (elf::EM_ALPHA, elf::R_ALPHA_SREL32) => (Action::Relative, 32),
+        (elf::EM_ALPHA, elf::R_ALPHA_SREL64) => (Action::Relative, 64),
+        (elf::EM_SPARC | elf::EM_SPARC32PLUS | elf::EM_SPARCV9, elf::R_SPARC_DISP32) => (Action::Relative, 32),
+        (elf::EM_SPARC | elf::EM_SPARC32PLUS | elf::EM_SPARCV9, elf::R_SPARC_DISP64) => (Action::Relative, 64),
         (elf::EM_RISCV, _) => riscv(code)?,
         _ => return None,
     };

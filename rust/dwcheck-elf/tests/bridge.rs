@@ -4,7 +4,7 @@ mod common;
 #[path = "common/frames.rs"]
 mod frames;
 
-use common::{has, Folder, C, CXX};
+use common::{has, Folder, C, CXX, MACHINES};
 use dwcheck_elf::bridge::{Edge, RecordKind};
 use frames::{compared, records, Shown};
 
@@ -107,10 +107,10 @@ f: .cfi_startproc
 fn other_machines() {
     let folder = Folder::new("machines");
     folder.write("a.s", CFI);
-    for machine in ["i686", "aarch64", "arm", "powerpc", "powerpc64", "powerpc64le", "s390x", "riscv64", "sparc64", "hppa"] {
-        if has(&format!("{}-linux-gnu-as", machine)) {
-            folder.run(&format!("{0}-linux-gnu-as a.s -o a.o; {0}-linux-gnu-ld -e 0 a.o -o linked", machine));
-            let (bridged, agreement) = compared(&folder, "linked", &format!("{}-linux-gnu-objcopy", machine));
+    for machine in MACHINES {
+        if has(&format!("{}-as", machine)) {
+            folder.run(&format!("{0}-as a.s -o a.o; {0}-ld -e 0 a.o -o linked", machine));
+            let (bridged, agreement) = compared(&folder, "linked", &format!("{}-objcopy", machine));
             assert_eq!((bridged.counts().fdes, agreement.rows), (1, 4), "{}", machine);
         }
     }

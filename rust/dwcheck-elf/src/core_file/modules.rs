@@ -90,23 +90,27 @@ impl<'a> Finder<'a> {
         let read = || Program::read(bytes).map_or(Vec::new(), |program| program.segments());
         let segments = self.segments.entry(place).or_insert_with(read);
         let target = self.core.target();
-        let shown = segments.iter().filter(|segment| is_shown(mapping, segment));
-        let biased = shown.map(|segment| (target.wrap(bias(mapping, segment)), segment.is_executable));
-        let known = biased.clone().find_map(|(bias, has_code)| {
-            let same = |found: &Candidate<'_>| found.place == place && found.module.bias == bias;
-            Some((self.found.iter().position(same)?, has_code))
-        });
-        if let Some((candidate, has_code)) = known.and_then(|(at, has_code)| Some((self.found.get_mut(at)?, has_code)))
-        {
+        let shown: Vec<_> = segments.iter().filter(|segment| is_shown(mapping, segment)).collect();
+        let bias_of = |segment: &Segment| target.wrap(bias(mapping, segment));
+        let is_module = |candidate: &Candidate<'_>, bias| candidate.place == place && candidate.module.bias == bias;
+        let is_known = |bias: &u64| self.found.iter().any(|candidate| is_module(candidate, *bias));
+        let mut biases = shown.iter().map(|segment| bias_of(segment));
+        let bias = match biases.clone().find(is_known).or_else(|| biases.next()) {
+            Some(bias) => bias,
+            None => return,
+        };
+        let has_code = self.core.may_execute(mapping.begin)
+            && shown.iter().any(|segment| segment.is_executable && bias_of(segment) == bias);
+        if let Some(candidate) = self.found.iter_mut().find(|candidate| is_module(candidate, bias)) {
             candidate.has_code |= has_code;
             candidate.module.begin = candidate.module.begin.min(mapping.begin);
             candidate.module.end = candidate.module.end.max(mapping.end);
-        } else if let Some((bias, has_code)) = biased.clone().next() {
-            let path = PathBuf::from(OsStr::from_bytes(mapping.path));
-            let image = Image::File(place, bytes);
-            let module = Module { path, bias, begin: mapping.begin, end: mapping.end, image };
-            self.found.push(Candidate { place, has_code, module });
+            return;
         }
+        let path = PathBuf::from(OsStr::from_bytes(mapping.path));
+        let image = Image::File(place, bytes);
+        let module = Module { path, bias, begin: mapping.begin, end: mapping.end, image };
+        self.found.push(Candidate { place, has_code, module });
     }
 }
 

@@ -112,3 +112,19 @@ int main(int argc, char **) {
     catch (const std::exception &e) { return e.what()[0]; }
 }
 ";
+
+/// The names before those of the binutils of other machines.
+pub const MACHINES: [&str; 12] = [
+    "i686-linux-gnu",
+    "aarch64-linux-gnu",
+    "alpha-linux-gnu",
+    "arm-linux-gnueabihf",
+    "hppa-linux-gnu",
+    "mips-linux-gnu",
+    "powerpc-linux-gnu",
+    "powerpc64-linux-gnu",
+    "powerpc64le-linux-gnu",
+    "riscv64-linux-gnu",
+    "s390x-linux-gnu",
+    "sparc64-linux-gnu",
+];
