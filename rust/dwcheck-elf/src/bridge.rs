@@ -113,6 +113,9 @@ impl Bridged {
     ///
     /// An offset where a record begins is also where the one before it ends. `edge` says which is meant.
     pub fn place(&self, offset: u64, edge: Edge) -> Option<Place> {
+        if offset > self.bytes.len() as u64 {
+            return None;
+        }
         self.places.find(offset, edge)
     }
 }

@@ -5,17 +5,26 @@ use crate::bridge::EhFrame;
 use crate::row::{Cfa, Row, Rule};
 use crate::target::Target;
 use gimli::{
-    BaseAddresses, CfaRule, CommonInformationEntry, DebugFrame, EndianSlice, FrameDescriptionEntry, RegisterRule,
-    RunTimeEndian, UnwindContext, UnwindSection, UnwindTable, UnwindTableRow,
+    BaseAddresses, CfaRule, CommonInformationEntry, DebugFrame, EndianSlice, FrameDescriptionEntry, Reader, Register,
+    RegisterRule, RunTimeEndian, UnwindContext, UnwindContextStorage, UnwindSection, UnwindTable, UnwindTableRow,
 };
 
 type Bytes<'a> = EndianSlice<'a, RunTimeEndian>;
+type Context<'a> = Box<UnwindContext<Bytes<'a>, Bounded>>;
 type Cie<'a> = CommonInformationEntry<Bytes<'a>>;
 type Fde<'a> = FrameDescriptionEntry<Bytes<'a>>;
 
+/// Room for rules and remembered rows, more than dwcheck takes. gimli's own room for remembered rows has no bound.
+struct Bounded;
+
+impl<R: Reader> UnwindContextStorage<R> for Bounded {
+    type Rules = [(Register, RegisterRule<R>); 192];
+    type Stack = [UnwindTableRow<R, Self>; 32];
+}
+
 /// The rows of one FDE by gimli. Rows that cover no address are left out.
 pub struct GimliRows<'data, 'a, 'ctx> {
-    table: UnwindTable<'a, 'ctx, Bytes<'data>>,
+    table: UnwindTable<'a, 'ctx, Bytes<'data>, Bounded>,
     target: Target,
 }
 
@@ -25,7 +34,7 @@ pub(super) struct Original<'a> {
     bytes: &'a [u8],
     target: Target,
     bases: BaseAddresses,
-    context: Box<UnwindContext<Bytes<'a>>>,
+    context: Context<'a>,
 }
 
 /// A record of the section.
@@ -38,7 +47,7 @@ pub(super) enum OriginalEntry<'a> {
 pub(super) struct BridgedSection<'a> {
     pub section: DebugFrame<Bytes<'a>>,
     bases: BaseAddresses,
-    context: Box<UnwindContext<Bytes<'a>>>,
+    context: Context<'a>,
 }
 
 impl<'a> Original<'a> {
@@ -52,7 +61,7 @@ impl<'a> Original<'a> {
         }
         let mut read = gimli::EhFrame::new(section.bytes, section.target.gimli_order());
         read.set_address_size(section.target.address_size.bytes());
-        let context = Box::new(UnwindContext::new());
+        let context = Box::new(UnwindContext::new_in());
         Original { section: read, bytes: section.bytes, target: section.target, bases, context }
     }
 
@@ -100,7 +109,7 @@ impl<'a> BridgedSection<'a> {
     pub fn new(target: Target, bytes: &'a [u8]) -> Self {
         let mut section = DebugFrame::new(bytes, target.gimli_order());
         section.set_address_size(target.address_size.bytes());
-        BridgedSection { section, bases: BaseAddresses::default(), context: Box::new(UnwindContext::new()) }
+        BridgedSection { section, bases: BaseAddresses::default(), context: Box::new(UnwindContext::new_in()) }
     }
 }
 
@@ -131,7 +140,7 @@ impl<'data> RowSource<'data> for GimliRows<'data, '_, '_> {
 }
 
 /// Copies the rules of a row.
-fn fill<'a>(row: &mut Row<'a>, read: &UnwindTableRow<Bytes<'a>>) {
+fn fill<'a>(row: &mut Row<'a>, read: &UnwindTableRow<Bytes<'a>, Bounded>) {
     row.cfa = match read.cfa() {
         CfaRule::RegisterAndOffset { register, offset } => {
             Cfa::RegisterOffset { register: register.0, offset: *offset }
