@@ -1,0 +1,167 @@
+//! Files with bytes that were changed at random: they give answers or errors, and never end the process.
+
+mod common;
+
+use common::{has, Folder, C, CXX};
+use dwcheck_elf::bridge::{bridge, Edge, EhFrame, Options};
+use dwcheck_elf::core_file::{CoreFile, Files};
+use dwcheck_elf::program::Program;
+use dwcheck_elf::validate::validate;
+use std::path::Path;
+
+/// Numbers that look random and are the same on each run (xorshift).
+struct Numbers(u64);
+
+impl Numbers {
+    fn next(&mut self, below: usize) -> usize {
+        self.0 ^= self.0 << 13;
+        self.0 ^= self.0 >> 7;
+        self.0 ^= self.0 << 17;
+        (self.0 % below as u64) as usize
+    }
+
+    /// Changes some bytes of a range, or cuts the bytes.
+    fn damage(&mut self, bytes: &mut Vec<u8>, begin: usize, end: usize) {
+        const BYTES: [u8; 8] = [0, 1, 0x7f, 0x80, 0xff, 0xfe, 0x10, 0x9b];
+        for _ in 0..1 + self.next(4) {
+            let at = begin + self.next(end - begin);
+            bytes[at] = match self.next(3) {
+                0 => bytes[at] ^ 1 << self.next(8),
+                1 => BYTES[self.next(8)],
+                _ => self.next(256) as u8,
+            };
+        }
+        if self.next(16) == 0 {
+            bytes.truncate(begin + self.next(end - begin));
+        }
+    }
+}
+
+fn frames(section: &EhFrame<'_>) -> bool {
+    let bridged = match bridge(section, Options::default()) {
+        Ok(bridged) => bridged,
+        Err(error) => {
+            assert!(error.record <= error.field && error.field <= section.bytes.len() as u64, "{}", error);
+            return false;
+        }
+    };
+    let end = bridged.bytes().len() as u64;
+    for offset in (0..end + 4).step_by(7).chain([end, end + 1, u64::MAX]) {
+        for edge in [Edge::Begin, Edge::End] {
+            let place = bridged.place(offset, edge);
+            assert!(place.map_or(true, |place| place.record <= place.offset));
+        }
+    }
+    match validate(section, &bridged) {
+        Ok(agreement) => assert_eq!(agreement.fdes, bridged.counts().fdes),
+        Err(difference) => assert!(!difference.to_string().is_empty()),
+    }
+    true
+}
+
+/// Reads all that a program has.
+fn program(bytes: &[u8]) {
+    let program = match Program::read(bytes) {
+        Ok(program) => program,
+        Err(error) => return assert!(!error.to_string().is_empty()),
+    };
+    program.segments();
+    let functions = program.functions();
+    for function in functions.all() {
+        functions.at(function.begin.wrapping_add(1));
+        let _ = functions.address_of(function.name);
+    }
+    let _ = (functions.parse("main+4"), program.debug_frame(), program.debug_loclists());
+    if let Ok(Some(section)) = program.eh_frame() {
+        frames(&program.eh_frame_of(&section));
+    }
+}
+
+/// The section alone. Where the bridge takes it, gimli's rows differ only if gimli can't read one of both.
+#[test]
+fn sections() {
+    let folder = Folder::new("damage-sections");
+    folder.write("a.cc", CXX);
+    folder.run("g++ -O2 -mno-accumulate-outgoing-args a.cc -o linked");
+    let bytes = folder.bytes("linked");
+    let program = Program::read(&bytes).unwrap();
+    let whole = program.eh_frame().unwrap().unwrap();
+    let mut numbers = Numbers(0x1234_5678_9abc_def1);
+    let mut bridged = 0;
+    for _ in 0..4000 {
+        let mut section = whole.clone();
+        let bytes = section.bytes.to_mut();
+        let end = bytes.len();
+        numbers.damage(bytes, 0, end);
+        bridged += usize::from(frames(&program.eh_frame_of(&section)));
+    }
+    assert!((1000..4000).contains(&bridged), "{}", bridged);
+}
+
+#[test]
+fn programs_and_objects() {
+    let folder = Folder::new("damage-programs");
+    folder.write("a.c", C);
+    folder.run("gcc -O2 -g -gz=zlib -gdwarf-5 a.c -o linked; gcc -O2 -g -gz=zlib -c a.c -o object.o");
+    folder.run("gcc -O2 -g -fno-asynchronous-unwind-tables -Wl,--compress-debug-sections=zlib-gnu a.c -o gnu");
+    let mut numbers = Numbers(0x2345_6789_abcd_ef12);
+    for file in ["linked", "object.o", "gnu"] {
+        let whole = folder.bytes(file);
+        let length = whole.len();
+        let sections = common::hex(folder.run(&format!("printf %x $(readelf -h {} | awk '/Start of section/ {{print $5}}')", file)).trim());
+        for number in 0..600 {
+            let mut bytes = whole.clone();
+            let (begin, end) = match number % 3 {
+                0 => (0, 1024),
+                1 => (sections as usize, length),
+                _ => (0, length),
+            };
+            numbers.damage(&mut bytes, begin, end);
+            program(&bytes);
+        }
+    }
+}
+
+#[test]
+fn cores() {
+    let folder = Folder::new("damage-cores");
+    if !has("gdb") {
+        return;
+    }
+    folder.write("a.s", ".globl _start\n_start: .cfi_startproc\nud2\n.cfi_endproc\n");
+    folder.run("as a.s -o a.o; ld a.o -o crash");
+    folder.run("gdb --batch -ex 'set startup-with-shell off' -ex run -ex 'gcore core' ./crash </dev/null >&2");
+    let whole = folder.bytes("core");
+    let notes = folder.run("readelf -lW core | awk '/NOTE/ {print $2, $5}'");
+    let words: Vec<_> = notes.split_whitespace().map(common::hex).collect();
+    let mut numbers = Numbers(0x3456_789a_bcde_f123);
+    let mut read = 0;
+    for number in 0..3000 {
+        let mut bytes = whole.clone();
+        let (begin, end) = match number % 2 {
+            0 => (0, words[0] as usize),
+            _ => (words[0] as usize, (words[0] + words[1]) as usize),
+        };
+        numbers.damage(&mut bytes, begin, end);
+        let core = match CoreFile::read(&bytes) {
+            Ok(core) => core,
+            Err(error) => {
+                assert!(!error.to_string().is_empty());
+                continue;
+            }
+        };
+        let files = Files::read(&core, Path::new("/"));
+        let memory = core.memory(&files);
+        let blocks: Vec<_> = memory.blocks().collect();
+        assert!(blocks.windows(2).all(|pair| pair[0].end() <= pair[1].address));
+        for thread in core.threads() {
+            let pointer = thread.register(core.abi().stack_pointer).unwrap();
+            memory.read(pointer, &mut [0; 300]);
+        }
+        for module in core.modules(&files) {
+            assert!(module.begin <= module.end);
+        }
+        read += 1;
+    }
+    assert!(read > 1000, "{}", read);
+}
