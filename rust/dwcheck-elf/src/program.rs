@@ -74,7 +74,7 @@ pub enum ProgramError {
     Elf(String),
     /// The sections of an unlinked object don't fit the addresses.
     Layout,
-    /// Two sections have the same name.
+    /// Two sections with bytes have the same name.
     Repeated(&'static str),
     /// A section's bytes aren't in the file, or can't be decompressed.
     Section(&'static str, String),
@@ -169,18 +169,17 @@ impl<'data> Program<'data> {
     }
 
     fn section(&self, name: &'static str) -> Result<Option<Section<'data>>, ProgramError> {
-        let found = match self.file.section_by_name(name) {
-            Some(found) => found,
-            None => return Ok(None),
+        let compressed = name.strip_prefix('.').unwrap_or(name);
+        let is_named = |found: &str| found == name || found.strip_prefix(".z") == Some(compressed);
+        // A file that keeps debug sections alone has the others without bytes. An object can have an empty one besides.
+        let has_bytes = |section: &object::Section<'data, '_>| section.file_range().map_or(false, |(_, size)| size > 0);
+        let named = self.file.sections().filter(|section| section.name().map_or(false, is_named));
+        let mut named = named.filter(has_bytes);
+        let found = match (named.next(), named.next()) {
+            (None, _) => return Ok(None),
+            (Some(found), None) => found,
+            (Some(_), Some(_)) => return Err(ProgramError::Repeated(name)),
         };
-        let has_name = |section: &object::Section<'data, '_>| section.name() == Ok(name);
-        if self.file.sections().filter(has_name).count() > 1 {
-            return Err(ProgramError::Repeated(name));
-        }
-        // A file that keeps debug sections alone has the others without bytes.
-        if found.file_range().is_none() {
-            return Ok(None);
-        }
         let mut section = Section { bytes: uncompressed(&found, name)?, address: 0, unresolved: Vec::new() };
         if is_loaded(found.flags()) {
             section.address = self.layout.address(found.index());

@@ -6,7 +6,7 @@ use common::{has, Folder, C, CXX};
 use dwcheck_elf::bridge::{bridge, Edge, EhFrame, Options};
 use dwcheck_elf::core_file::{CoreFile, Files};
 use dwcheck_elf::program::Program;
-use dwcheck_elf::validate::validate;
+use dwcheck_elf::validate::{validate, What};
 use std::path::Path;
 
 /// Numbers that look random and are the same on each run (xorshift).
@@ -37,6 +37,8 @@ impl Numbers {
     }
 }
 
+/// Bridges a section, if it can be. The bridge leaves out augmentation data that gimli reads and may refuse; that is the
+/// only difference.
 fn frames(section: &EhFrame<'_>) -> bool {
     let bridged = match bridge(section, Options::default()) {
         Ok(bridged) => bridged,
@@ -54,7 +56,7 @@ fn frames(section: &EhFrame<'_>) -> bool {
     }
     match validate(section, &bridged) {
         Ok(agreement) => assert_eq!(agreement.fdes, bridged.counts().fdes),
-        Err(difference) => assert!(!difference.to_string().is_empty()),
+        Err(difference) => assert!(matches!(difference.what, What::Unreadable(_)), "{}", difference),
     }
     true
 }
@@ -77,7 +79,7 @@ fn program(bytes: &[u8]) {
     }
 }
 
-/// The section alone. Where the bridge takes it, gimli's rows differ only if gimli can't read one of both.
+/// The section alone.
 #[test]
 fn sections() {
     let folder = Folder::new("damage-sections");

@@ -210,6 +210,24 @@ fde_end:
     assert_eq!(error, BridgeError { record, field: record + 8, reason: Reason::Unresolved });
 }
 
+/// An empty section besides is left out. Two with bytes are refused.
+#[test]
+fn sections_that_repeat() {
+    let folder = Folder::new("objects-repeat");
+    let section = |number: u8, bytes: &str| {
+        format!(".section .eh_frame, \"a\", @progbits, unique, {}\n{}\n", number, bytes)
+    };
+    folder.write("one.s", section(1, "") + &section(2, ".long 0"));
+    folder.write("two.s", section(1, ".long 0") + &section(2, ".long 0"));
+    folder.run("as one.s -o one.o; as two.s -o two.o");
+    assert_eq!(folder.run("readelf -SW one.o | grep -c '[0-9]\\] .eh_frame'").trim(), "2");
+    let bytes = folder.bytes("one.o");
+    let found = Program::read(&bytes).unwrap().eh_frame().unwrap().unwrap();
+    assert_eq!(found.bytes.as_ref(), [0; 4]);
+    let bytes = folder.bytes("two.o");
+    assert_eq!(Program::read(&bytes).unwrap().eh_frame(), Err(ProgramError::Repeated(".eh_frame")));
+}
+
 /// A relocation of a type that no frame section has, and one beside the section.
 #[test]
 fn relocations_that_are_wrong() {
