@@ -133,9 +133,8 @@ impl<'data> CoreFile<'data> {
 
     /// Whether the process could execute code at an address. Where the core doesn't say it, it is taken to be so.
     fn may_execute(&self, address: u64) -> bool {
-        let holds = |segment: &&CoreSegment<'_>| {
-            address.checked_sub(segment.address).map_or(false, |past| past < segment.size)
-        };
+        let holds =
+            |segment: &&CoreSegment<'_>| address.checked_sub(segment.address).map_or(false, |past| past < segment.size);
         self.segments.iter().find(holds).map_or(true, |segment| segment.is_executable)
     }
 

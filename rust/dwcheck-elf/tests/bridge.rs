@@ -15,13 +15,17 @@ fn counted(folder: &Folder, file: &str) {
     let cies: Vec<&Shown> = shown.iter().filter(|record| record.fde.is_none()).collect();
     let letter = |letter: char| cies.iter().filter(|cie| cie.augmentation.contains(letter)).count();
     let is_signal = |cie: u64| cies.iter().any(|shown| shown.offset == cie && shown.augmentation.contains('S'));
-    let lines = |word: &str| shown.iter().flat_map(|record| &record.lines).filter(|line| line.starts_with(word)).count();
+    let lines =
+        |word: &str| shown.iter().flat_map(|record| &record.lines).filter(|line| line.starts_with(word)).count();
     let marks = folder.run(&format!("readelf --debug-dump=frames {} | grep -c 'ZERO terminator' || true", file));
     let counts = bridged.counts();
     assert_eq!(counts.cies, cies.len());
     assert_eq!(counts.fdes, shown.len() - cies.len());
     assert_eq!(counts.terminators, marks.trim().parse::<usize>().unwrap());
-    assert_eq!((counts.augmentations, counts.personalities, counts.data_areas), (letter('z'), letter('P'), letter('L')));
+    assert_eq!(
+        (counts.augmentations, counts.personalities, counts.data_areas),
+        (letter('z'), letter('P'), letter('L'))
+    );
     assert_eq!(counts.args_sizes, lines("DW_CFA_GNU_args_size"));
     assert_eq!(counts.set_locs, lines("DW_CFA_set_loc"));
     let signals = shown.iter().filter(|record| record.fde.map_or(false, |(cie, ..)| is_signal(cie)));

@@ -293,14 +293,8 @@ fn core_that_was_cut() {
     assert_eq!(CoreFile::read(&program).unwrap_err(), CoreError::NotCore(3));
 }
 
-/// A 32-bit program, where the kernel runs it.
-#[test]
-fn i386_program() {
-    let folder = Folder::new("core-i386");
-    if !has("i686-linux-gnu-as") || !has("gdb") {
-        return;
-    }
-    let text = ".globl _start
+/// A 32-bit program that dies below a frame.
+const I386_CRASH: &str = ".globl _start
 _start: .cfi_startproc
  movl $0x12345678, %ebx
  movl $0x9abcdef0, %esi
@@ -317,7 +311,15 @@ f: .cfi_startproc
  ud2
  .cfi_endproc
 ";
-    folder.write("a.s", text);
+
+/// A 32-bit program, where the kernel runs it.
+#[test]
+fn i386_program() {
+    let folder = Folder::new("core-i386");
+    if !has("i686-linux-gnu-as") || !has("gdb") {
+        return;
+    }
+    folder.write("a.s", I386_CRASH);
     folder.run("i686-linux-gnu-as a.s -o a.o; i686-linux-gnu-ld a.o -o crash");
     if !kernel_core(&folder, "./crash", "kernel.core") {
         return;
@@ -337,14 +339,8 @@ f: .cfi_startproc
     assert!(matches!(modules.last().unwrap().image, Image::Vdso(_)));
 }
 
-/// No aarch64 program runs here. elfutils reads the same bytes: a note by hand in a file whose type is that of cores.
-#[test]
-fn aarch64_registers() {
-    let folder = Folder::new("core-aarch64");
-    if !has("aarch64-linux-gnu-as") || !has("eu-readelf") {
-        return;
-    }
-    let mut text = ".section .note, \"a\", @note
+/// The beginning of a note with the registers of an aarch64 thread.
+const AARCH64_NOTE: &str = ".section .note, \"a\", @note
  .long 5, end - begin, 1
  .asciz \"CORE\"
  .balign 4
@@ -353,10 +349,18 @@ begin: .fill 12, 1, 0
  .fill 18, 1, 0
  .long 4321
  .fill 76, 1, 0
-"
-    .to_string();
+";
+
+/// No aarch64 program runs here. elfutils reads the same bytes: a note by hand in a file whose type is that of cores.
+#[test]
+fn aarch64_registers() {
+    let folder = Folder::new("core-aarch64");
+    if !has("aarch64-linux-gnu-as") || !has("eu-readelf") {
+        return;
+    }
+    let mut text = AARCH64_NOTE.to_string();
     for register in 0..34u64 {
-        text += &format!(" .quad {:#x}\n", 0x1122_3344_5566_0000 | register * 0x101);
+        text += &format!(" .quad {:#x}\n", 0x1122_3344_5566_0000 + register * 0x101);
     }
     text += " .long 1, 0\nend:\n";
     folder.write("a.s", text);

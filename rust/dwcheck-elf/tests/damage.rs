@@ -79,6 +79,27 @@ fn program(bytes: &[u8]) {
     }
 }
 
+/// Reads all that a core has.
+fn core(bytes: &[u8]) -> bool {
+    let core = match CoreFile::read(bytes) {
+        Ok(core) => core,
+        Err(error) => {
+            assert!(!error.to_string().is_empty());
+            return false;
+        }
+    };
+    let files = Files::read(&core, Path::new("/"));
+    let memory = core.memory(&files);
+    let blocks: Vec<_> = memory.blocks().collect();
+    assert!(blocks.windows(2).all(|pair| pair[0].end() <= pair[1].address));
+    for thread in core.threads() {
+        let pointer = thread.register(core.abi().stack_pointer).unwrap();
+        memory.read(pointer, &mut [0; 300]);
+    }
+    assert!(core.modules(&files).iter().all(|module| module.begin <= module.end));
+    true
+}
+
 /// The section alone.
 #[test]
 fn sections() {
@@ -110,7 +131,9 @@ fn programs_and_objects() {
     for file in ["linked", "object.o", "gnu"] {
         let whole = folder.bytes(file);
         let length = whole.len();
-        let sections = common::hex(folder.run(&format!("printf %x $(readelf -h {} | awk '/Start of section/ {{print $5}}')", file)).trim());
+        let sections = common::hex(
+            folder.run(&format!("printf %x $(readelf -h {} | awk '/Start of section/ {{print $5}}')", file)).trim(),
+        );
         for number in 0..600 {
             let mut bytes = whole.clone();
             let (begin, end) = match number % 3 {
@@ -145,25 +168,7 @@ fn cores() {
             _ => (words[0] as usize, (words[0] + words[1]) as usize),
         };
         numbers.damage(&mut bytes, begin, end);
-        let core = match CoreFile::read(&bytes) {
-            Ok(core) => core,
-            Err(error) => {
-                assert!(!error.to_string().is_empty());
-                continue;
-            }
-        };
-        let files = Files::read(&core, Path::new("/"));
-        let memory = core.memory(&files);
-        let blocks: Vec<_> = memory.blocks().collect();
-        assert!(blocks.windows(2).all(|pair| pair[0].end() <= pair[1].address));
-        for thread in core.threads() {
-            let pointer = thread.register(core.abi().stack_pointer).unwrap();
-            memory.read(pointer, &mut [0; 300]);
-        }
-        for module in core.modules(&files) {
-            assert!(module.begin <= module.end);
-        }
-        read += 1;
+        read += usize::from(core(&bytes));
     }
     assert!(read > 1000, "{}", read);
 }

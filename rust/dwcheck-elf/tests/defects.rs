@@ -125,7 +125,8 @@ fn error(record: u64, field: u64, reason: Reason) -> BridgeError {
 #[test]
 fn def_cfa_register_without_a_rule() {
     let cie = cie(b"\0", &[0x0d, 7]);
-    let program = [&0x2000u64.to_le_bytes()[..], &8u64.to_le_bytes(), &[0x41, 0x0e, 16, 0x0d, 6, 0x41, 0x0d, 7]].concat();
+    let program =
+        [&0x2000u64.to_le_bytes()[..], &8u64.to_le_bytes(), &[0x41, 0x0e, 16, 0x0d, 6, 0x41, 0x0d, 7]].concat();
     let bytes = [cie.clone(), fde(cie.len(), &program)].concat();
     let mended = bridge(&section(&bytes), Options::default()).unwrap();
     assert_eq!(mended.mended(), [cie.len() as u64 - 2]);
@@ -145,7 +146,8 @@ fn set_loc() {
     cie[0] += 5;
     let at = cie.len();
     let relative = |offset: usize, address: i32| (address - 0x1000 - offset as i32).to_le_bytes();
-    let bytes = [&relative(at + 8, 0x2000)[..], &8i32.to_le_bytes(), &[0, 0x01], &relative(at + 18, 0x2004), &[0x0e, 16]];
+    let bytes =
+        [&relative(at + 8, 0x2000)[..], &8i32.to_le_bytes(), &[0, 0x01], &relative(at + 18, 0x2004), &[0x0e, 16]];
     let bytes = [cie.clone(), fde(at, &bytes.concat())].concat();
     let bridged = bridge(&section(&bytes), Options::default()).unwrap();
     assert_eq!(bridged.counts().set_locs, 1);

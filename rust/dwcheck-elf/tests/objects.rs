@@ -214,9 +214,8 @@ fde_end:
 #[test]
 fn sections_that_repeat() {
     let folder = Folder::new("objects-repeat");
-    let section = |number: u8, bytes: &str| {
-        format!(".section .eh_frame, \"a\", @progbits, unique, {}\n{}\n", number, bytes)
-    };
+    let section =
+        |number: u8, bytes: &str| format!(".section .eh_frame, \"a\", @progbits, unique, {}\n{}\n", number, bytes);
     folder.write("one.s", section(1, "") + &section(2, ".long 0"));
     folder.write("two.s", section(1, ".long 0") + &section(2, ".long 0"));
     folder.run("as one.s -o one.o; as two.s -o two.o");

@@ -102,9 +102,7 @@ fn segments() {
         .unwrap()
         .segments()
         .iter()
-        .map(|segment| {
-            (segment.offset, segment.address, segment.file_size, segment.size, segment.is_executable)
-        })
+        .map(|segment| (segment.offset, segment.address, segment.file_size, segment.size, segment.is_executable))
         .collect();
     let shown = folder.run("readelf -lW linked | grep '^  LOAD'");
     let expected: Vec<_> = shown

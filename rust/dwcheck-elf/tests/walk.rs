@@ -1,0 +1,126 @@
+//! The frames of a core's threads by the program `dwcheck`, from all that this library reads, against gdb's.
+//!
+//! It needs a built `dwcheck`, whose path the variable DWCHECK has. Else it is skipped.
+
+mod common;
+
+use common::{has, hex, Folder};
+use dwcheck_elf::bridge::{bridge, Options};
+use dwcheck_elf::core_file::{CoreFile, Files, Memory, Module, Thread};
+use dwcheck_elf::program::Program;
+use std::collections::HashMap;
+use std::fmt::Write;
+use std::path::Path;
+
+/// Two threads with a callback of the C library, and a signal handler on the way.
+const CRASH: &str = "
+#include <pthread.h>
+#include <signal.h>
+#include <stdlib.h>
+#include <unistd.h>
+static volatile int waits;
+static int order(const void *x, const void *y) { waits = 1; for (;;) pause(); return x < y; }
+static void *sorts(void *x) { int v[] = {3, 1, 2}; qsort(v, 3, sizeof *v, order); return x; }
+static void handler(int n) { while (!waits) usleep(1000); abort(); }
+__attribute__((noinline)) int deep(int n) {
+    volatile int k = n;
+    if (n == 0) return *(volatile int *)0;
+    return deep(n - 1) + k;
+}
+int main(void) {
+    pthread_t t;
+    pthread_create(&t, 0, sorts, 0);
+    signal(SIGSEGV, handler);
+    return deep(5);
+}
+";
+
+const FRAMES: &str = "
+set backtrace past-main on
+python
+for thread in gdb.selected_inferior().threads():
+    thread.switch()
+    frame, found = gdb.newest_frame(), []
+    while frame is not None:
+        if frame.type() != gdb.INLINE_FRAME:
+            found.append(hex(frame.pc()))
+        frame = frame.older()
+    print('walk', thread.ptid[1], *found)
+end
+";
+
+/// Writes the bridged `.eh_frame` of a module to a file, and gives the module as the program wants it.
+fn module_word(folder: &Folder, number: usize, module: &Module<'_>) -> Option<String> {
+    let program = Program::read(module.image.bytes()).ok()?;
+    let section = program.eh_frame().unwrap()?;
+    let bridged = bridge(&program.eh_frame_of(&section), Options::default()).unwrap();
+    let name = format!("{}.frame", number);
+    folder.write(&name, bridged.bytes());
+    Some(format!("{:#x}={}", module.bias, name))
+}
+
+/// The state file of a thread: what calls keep, its registers, and its stack from a little below the stack pointer on.
+fn state(core: &CoreFile<'_>, memory: &Memory<'_>, thread: &Thread) -> String {
+    let abi = core.abi();
+    let mut state = String::new();
+    for number in abi.kept {
+        writeln!(state, "keep {}", number).unwrap();
+    }
+    writeln!(state, "sp {}", abi.stack_pointer).unwrap();
+    for (number, value) in &thread.registers {
+        writeln!(state, "reg {} {:#x}", number, value).unwrap();
+    }
+    let begin = thread.register(abi.stack_pointer).unwrap() - 128;
+    let stack = memory.from(begin).unwrap();
+    let stack = stack.get(..65536).unwrap_or(stack);
+    let bytes: String = stack.iter().map(|byte| format!("{:02x}", byte)).collect();
+    writeln!(state, "mem {:#x} {}", begin, bytes).unwrap();
+    state
+}
+
+/// The frames of each thread by gdb, without those of inlined functions.
+fn frames_by_gdb(folder: &Folder) -> HashMap<u32, Vec<u64>> {
+    folder.write("frames.gdb", FRAMES);
+    let shown = folder.run("gdb --batch -x frames.gdb crash core | grep ^walk");
+    let threads = shown.lines().map(|line| {
+        let words: Vec<_> = line.split(' ').collect();
+        (words[1].parse().unwrap(), words[2..].iter().map(|word| hex(word)).collect())
+    });
+    threads.collect()
+}
+
+#[test]
+fn frames_by_dwcheck() {
+    let dwcheck = match std::env::var("DWCHECK") {
+        Ok(dwcheck) if has("gdb") => dwcheck,
+        _ => return eprintln!("skipped: DWCHECK names no built dwcheck"),
+    };
+    let folder = Folder::new("walk");
+    folder.write("crash.c", CRASH);
+    folder.run("gcc -O1 -g crash.c -o crash -lpthread");
+    let run =
+        "gdb --batch -ex 'set startup-with-shell off' -ex 'handle SIGSEGV nostop' -ex run -ex 'gcore core' ./crash";
+    folder.run(&format!("{} </dev/null >&2", run));
+    let bytes = folder.bytes("core");
+    let core = CoreFile::read(&bytes).unwrap();
+    let files = Files::read(&core, Path::new("/"));
+    let memory = core.memory(&files);
+    let modules: Vec<_> = core.modules(&files);
+    let words: Vec<_> =
+        modules.iter().enumerate().filter_map(|(at, module)| module_word(&folder, at, module)).collect();
+    assert_eq!(words.len(), 4, "the program, the C library, the loader, the vDSO");
+    let expected = frames_by_gdb(&folder);
+    for thread in core.threads() {
+        folder.write("state", state(&core, &memory, thread));
+        let (load, first) = words[0].split_once('=').unwrap();
+        let others: String = words[1..].iter().map(|word| format!(" --module {}", word)).collect();
+        let start = thread.register(core.abi().program_counter).unwrap();
+        let line = format!("{} backtrace --load {}{} {} {:#x} state 100", dwcheck, load, others, first, start);
+        let walk = folder.run(&line);
+        let frames = walk.lines().filter(|line| line.starts_with("frame ") && !line.ends_with(" none"));
+        let frames: Vec<_> = frames.map(|line| hex(line.split(' ').nth(2).unwrap())).collect();
+        assert_eq!(frames, expected[&thread.id], "{}", walk);
+        eprintln!("thread {}: {} frames", thread.id, frames.len());
+        assert!(frames.len() > 5);
+    }
+}
