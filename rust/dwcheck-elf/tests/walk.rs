@@ -42,7 +42,7 @@ for thread in gdb.selected_inferior().threads():
     thread.switch()
     frame, found = gdb.newest_frame(), []
     while frame is not None:
-        if frame.type() != gdb.INLINE_FRAME:
+        if frame.type() not in (gdb.INLINE_FRAME, gdb.TAILCALL_FRAME):
             found.append(hex(frame.pc()))
         frame = frame.older()
     print('walk', thread.ptid[1], *found)
@@ -78,7 +78,8 @@ fn state(core: &CoreFile<'_>, memory: &Memory<'_>, thread: &Thread) -> String {
     state
 }
 
-/// The frames of each thread by gdb, without those of inlined functions.
+/// The frames of each thread by gdb, without those that only debug information knows: of inlined functions, and of
+/// functions that another one took the place of.
 fn frames_by_gdb(folder: &Folder) -> HashMap<u32, Vec<u64>> {
     folder.write("frames.gdb", FRAMES);
     let shown = folder.run("gdb --batch -x frames.gdb crash core | grep ^walk");
