@@ -4,14 +4,17 @@
 //!     bridge_files -            names of files from standard input, one a line
 //!
 //! Each different section is read once. A line is printed for each file that can't be read, bridged or validated.
-//! With the environment variable OUT the bridged bytes are written to that folder, numbered, with their names in `names`.
+//! With the path of a built `dwcheck` in the variable DWCHECK, that checks each bridged section too. Where it refuses one,
+//! a line says where the fault is in the file.
 
-use dwcheck_elf::bridge::{bridge, Counts, Options};
+use dwcheck_elf::bridge::{bridge, Bridged, Counts, Edge, Options};
 use dwcheck_elf::program::Program;
+use dwcheck_elf::target::{AddressSize, Order};
 use dwcheck_elf::validate::{validate, Agreement};
 use std::collections::HashSet;
-use std::io::{BufRead, Write};
+use std::io::BufRead;
 use std::path::{Path, PathBuf};
+use std::process::Command;
 
 #[derive(Default)]
 struct Totals {
@@ -20,6 +23,8 @@ struct Totals {
     bytes: usize,
     bridged_bytes: usize,
     failures: usize,
+    accepted: usize,
+    refused: usize,
     with_args_size: usize,
     with_set_loc: usize,
     with_signal_frames: usize,
@@ -33,11 +38,11 @@ fn main() {
     if names == ["-"] {
         names = std::io::stdin().lock().lines().map_while(Result::ok).collect();
     }
-    let out = std::env::var_os("OUT").map(PathBuf::from);
+    let dwcheck = std::env::var_os("DWCHECK").map(PathBuf::from);
     let mut totals = Totals::default();
     let mut seen = HashSet::new();
     for name in &names {
-        if let Err(error) = file(Path::new(name), out.as_deref(), &mut totals, &mut seen) {
+        if let Err(error) = file(Path::new(name), dwcheck.as_deref(), &mut totals, &mut seen) {
             totals.failures += 1;
             println!("{}: {}", name, error);
         }
@@ -47,7 +52,7 @@ fn main() {
 
 type Failure = Box<dyn std::error::Error>;
 
-fn file(path: &Path, out: Option<&Path>, totals: &mut Totals, seen: &mut HashSet<Vec<u8>>) -> Result<(), Failure> {
+fn file(path: &Path, dwcheck: Option<&Path>, totals: &mut Totals, seen: &mut HashSet<Vec<u8>>) -> Result<(), Failure> {
     if !path.metadata()?.is_file() {
         return Ok(());
     }
@@ -68,11 +73,6 @@ fn file(path: &Path, out: Option<&Path>, totals: &mut Totals, seen: &mut HashSet
     let bridged = bridge(&section, Options::default())?;
     totals.bridged_bytes += bridged.bytes().len();
     add(totals, bridged.counts(), bridged.mended().len());
-    if let Some(out) = out {
-        std::fs::write(out.join(format!("{}.frame", totals.sections)), bridged.bytes())?;
-        let mut names = std::fs::OpenOptions::new().create(true).append(true).open(out.join("names"))?;
-        writeln!(names, "{} {}", totals.sections, path.display())?;
-    }
     let agreement = validate(&section, &bridged)?;
     totals.agreement.cies += agreement.cies;
     totals.agreement.fdes += agreement.fdes;
@@ -81,7 +81,52 @@ fn file(path: &Path, out: Option<&Path>, totals: &mut Totals, seen: &mut HashSet
     if agreement.refused > 0 {
         println!("{}: gimli refuses {} FDEs in both sections", path.display(), agreement.refused);
     }
+    if let Some(dwcheck) = dwcheck {
+        let answer = check(dwcheck, &program, &bridged)?;
+        totals.accepted += usize::from(answer.is_none());
+        totals.refused += usize::from(answer.is_some());
+        if let Some(fault) = answer {
+            println!("{}: {}", path.display(), fault);
+        }
+    }
     Ok(())
+}
+
+/// Asks dwcheck for the first fault of a bridged section, and says where it is in the file.
+fn check(dwcheck: &Path, program: &Program<'_>, bridged: &Bridged) -> Result<Option<String>, Failure> {
+    let name = std::env::temp_dir().join(format!("bridged-{}", std::process::id()));
+    std::fs::write(&name, bridged.bytes())?;
+    let mut command = Command::new(dwcheck);
+    command.arg("check");
+    if program.target().address_size == AddressSize::Four {
+        command.arg("--addr4");
+    }
+    if program.target().order == Order::Big {
+        command.arg("--big");
+    }
+    let output = command.arg(&name).arg("/dev/null").output()?;
+    std::fs::remove_file(&name)?;
+    let answer = String::from_utf8_lossy(&output.stdout);
+    let first = answer.lines().next().unwrap_or("no answer");
+    let offset = match first.split(' ').collect::<Vec<_>>().as_slice() {
+        ["accepted"] => return Ok(None),
+        ["refused", _, _, "frame", offset] => u64::from_str_radix(offset.trim_start_matches("0x"), 16)?,
+        _ => return Ok(Some(first.to_string())),
+    };
+    let edge = if first.contains(" Overlap ") { Edge::Begin } else { Edge::End };
+    let place = bridged.place(offset, edge).ok_or("the fault has no place")?;
+    let functions = program.functions();
+    let function = place.kind.range().and_then(|range| functions.at(range.start));
+    let range = place.kind.range().unwrap_or(0..0);
+    Ok(Some(format!(
+        "{}: .eh_frame {:#x}, record {:#x}, {:#x}..{:#x} {}",
+        first,
+        place.offset,
+        place.record,
+        range.start,
+        range.end,
+        function.map_or("", |(function, _)| function.name)
+    )))
 }
 
 fn add(totals: &mut Totals, counts: &Counts, mended: usize) {
@@ -118,4 +163,5 @@ fn print(totals: &Totals) {
         "validated: CIEs {}, FDEs {}, rows {}, FDEs that gimli refuses in both {}",
         agreement.cies, agreement.fdes, agreement.rows, agreement.refused
     );
+    println!("checked by dwcheck: accepted {}, refused {}", totals.accepted, totals.refused);
 }
