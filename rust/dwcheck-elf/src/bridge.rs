@@ -56,7 +56,7 @@ pub struct Counts {
     pub cies: usize,
     /// Frame description entries.
     pub fdes: usize,
-    /// Records with the length 0, which mark the end and may stand in the midst.
+    /// Records with the length 0. They mark the end, but a linker can leave one in the middle.
     pub terminators: usize,
     /// CIEs whose augmentation was dropped.
     pub augmentations: usize,
@@ -64,7 +64,7 @@ pub struct Counts {
     pub personalities: usize,
     /// CIEs whose FDEs had a language-specific data area that was dropped.
     pub data_areas: usize,
-    /// FDEs of signal frames. The caller of such a frame was interrupted, and its address doesn't follow a call.
+    /// FDEs of signal frames.
     pub signal_frames: usize,
     /// Instructions `DW_CFA_GNU_args_size` that were dropped.
     pub args_sizes: usize,

@@ -50,7 +50,7 @@ impl<'data> Function<'data> {
 }
 
 impl<'data> Functions<'data> {
-    /// Reads both symbol tables. Names that aren't UTF-8 are left out.
+    /// Reads both symbol tables. It leaves out names that aren't UTF-8.
     pub(crate) fn read(file: &object::File<'data>, layout: &Layout, machine: u16, target: Target) -> Self {
         let code = code_sections(file, layout);
         let mut functions: Vec<_> = file
@@ -58,7 +58,7 @@ impl<'data> Functions<'data> {
             .chain(file.dynamic_symbols())
             .filter_map(|symbol| function(&symbol, layout, &code, machine, target))
             .collect();
-        functions.sort_by_key(|function| (function.begin, function.rank, function.size));
+        functions.sort_by_key(|function| (function.begin, function.rank, function.size, function.name));
         functions.dedup();
         let ends = functions.iter().scan(0, |highest: &mut u64, function| {
             *highest = function.end().max(*highest);

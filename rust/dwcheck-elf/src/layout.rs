@@ -8,8 +8,8 @@ use std::collections::HashMap;
 
 /// The address of each section.
 ///
-/// A linked file says them. An unlinked object has none, so its sections get addresses here, each of its own: first
-/// the code, from address 0 on, then data that the file holds, then data that starts as zeros.
+/// A linked file has them. An unlinked object doesn't, so each of its sections gets an address of its own here: first the
+/// code, from address 0 on, then the data that the file holds, then the data that starts as zeros.
 #[derive(Clone, Debug, Default)]
 pub(crate) struct Layout {
     addresses: HashMap<usize, u64>,

@@ -119,17 +119,17 @@ impl<'data> Program<'data> {
         self.kind
     }
 
-    /// The section `.debug_frame`, if the file has it.
+    /// The section `.debug_frame`, if the file has it and it has bytes.
     pub fn debug_frame(&self) -> Result<Option<Section<'data>>, ProgramError> {
         self.section(".debug_frame")
     }
 
-    /// The section `.debug_loclists`, if the file has it.
+    /// The section `.debug_loclists`, if the file has it and it has bytes.
     pub fn debug_loclists(&self) -> Result<Option<Section<'data>>, ProgramError> {
         self.section(".debug_loclists")
     }
 
-    /// The section `.eh_frame`, if the file has it.
+    /// The section `.eh_frame`, if the file has it and it has bytes.
     pub fn eh_frame(&self) -> Result<Option<Section<'data>>, ProgramError> {
         self.section(".eh_frame")
     }
@@ -171,7 +171,8 @@ impl<'data> Program<'data> {
     fn section(&self, name: &'static str) -> Result<Option<Section<'data>>, ProgramError> {
         let compressed = name.strip_prefix('.').unwrap_or(name);
         let is_named = |found: &str| found == name || found.strip_prefix(".z") == Some(compressed);
-        // A file that keeps debug sections alone has the others without bytes. An object can have an empty one besides.
+        // In a file with debug information only, the other sections have no bytes. An object can have an empty section
+        // and another one of the same name.
         let has_bytes = |section: &object::Section<'data, '_>| section.file_range().map_or(false, |(_, size)| size > 0);
         let named = self.file.sections().filter(|section| section.name().map_or(false, is_named));
         let mut named = named.filter(has_bytes);

@@ -46,7 +46,7 @@ pub enum Rule<'a> {
     Expression(&'a [u8]),
     /// It is what an expression gives.
     ValExpression(&'a [u8]),
-    /// The augmentation says it.
+    /// The augmentation determines it.
     Architectural,
 }
 

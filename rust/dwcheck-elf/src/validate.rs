@@ -71,6 +71,9 @@ pub enum What {
 }
 
 /// Something that gives the rows of an FDE one by one.
+///
+/// gimli doesn't tell a register that is undefined from one without a rule. A source that is compared with
+/// [`GimliRows`] has to leave out each [`crate::row::Rule::Undefined`] and each row that covers no address.
 pub trait RowSource<'a> {
     /// Writes the next row to `row`. Gives false after the last one, and an error where the rows can't go on.
     fn next_row(&mut self, row: &mut Row<'a>) -> Result<bool, String>;

@@ -14,7 +14,6 @@ fn counted(folder: &Folder, file: &str) {
     let shown = records(folder, file, ".eh_frame");
     let cies: Vec<&Shown> = shown.iter().filter(|record| record.fde.is_none()).collect();
     let letter = |letter: char| cies.iter().filter(|cie| cie.augmentation.contains(letter)).count();
-    let is_signal = |cie: u64| cies.iter().any(|shown| shown.offset == cie && shown.augmentation.contains('S'));
     let lines =
         |word: &str| shown.iter().flat_map(|record| &record.lines).filter(|line| line.starts_with(word)).count();
     let marks = folder.run(&format!("readelf --debug-dump=frames {} | grep -c 'ZERO terminator' || true", file));
@@ -28,34 +27,39 @@ fn counted(folder: &Folder, file: &str) {
     );
     assert_eq!(counts.args_sizes, lines("DW_CFA_GNU_args_size"));
     assert_eq!(counts.set_locs, lines("DW_CFA_set_loc"));
-    let signals = shown.iter().filter(|record| record.fde.map_or(false, |(cie, ..)| is_signal(cie)));
+    let signals = shown.iter().filter(|record| record.fde.map_or(false, |(cie, ..)| is_signal(&shown, cie)));
     assert_eq!(counts.signal_frames, signals.count());
     assert_eq!((agreement.cies, agreement.fdes, agreement.refused), (counts.cies, counts.fdes, 0));
     placed(folder, file, &shown, &bridged);
+}
+
+/// Whether the FDEs of a CIE are signal frames.
+fn is_signal(shown: &[Shown], cie: u64) -> bool {
+    shown.iter().any(|record| record.offset == cie && record.augmentation.contains('S'))
 }
 
 /// Each record leads back to where readelf shows it, and each byte of its instructions to the same byte.
 fn placed(folder: &Folder, file: &str, shown: &[Shown], bridged: &dwcheck_elf::bridge::Bridged) {
     let source = folder.section(file, ".eh_frame");
     assert_eq!(bridged.records().len(), shown.len());
-    for (number, (record, shown)) in bridged.records().iter().zip(shown).enumerate() {
-        assert_eq!(record.source, shown.offset);
-        let kind = match shown.fde {
+    for (number, (record, expected)) in bridged.records().iter().zip(shown).enumerate() {
+        assert_eq!(record.source, expected.offset);
+        let kind = match expected.fde {
             None => RecordKind::Cie,
-            Some((_, begin, end)) => RecordKind::Fde { begin, size: end - begin },
+            Some((cie, begin, end)) => RecordKind::Fde { begin, size: end - begin, signal: is_signal(shown, cie) },
         };
         let place = bridged.place(record.bridged, Edge::Begin).unwrap();
-        assert_eq!((place.offset, place.record, place.kind), (shown.offset, shown.offset, kind));
+        assert_eq!((place.offset, place.record, place.kind), (expected.offset, expected.offset, kind));
         let next = bridged.records().get(number + 1);
         let end = next.map_or(bridged.bytes().len() as u64, |next| next.bridged);
         let place = bridged.place(end, Edge::End).unwrap();
-        let length = u32::from_le_bytes(source[shown.offset as usize..][..4].try_into().unwrap());
-        assert_eq!((place.offset, place.record), (shown.offset + 4 + u64::from(length), shown.offset));
-        if shown.fde.is_some() {
+        let length = u32::from_le_bytes(source[expected.offset as usize..][..4].try_into().unwrap());
+        assert_eq!((place.offset, place.record), (expected.offset + 4 + u64::from(length), expected.offset));
+        if expected.fde.is_some() {
             for offset in record.bridged + 24..end {
                 let place = bridged.place(offset, Edge::Begin).unwrap();
                 assert_eq!(source[place.offset as usize], bridged.bytes()[offset as usize]);
-                assert_eq!(place.record, shown.offset);
+                assert_eq!(place.record, expected.offset);
             }
         }
     }
@@ -183,7 +187,7 @@ fn encodings() {
         let is_leb = encoding & 0xf == 1 || encoding & 0xf == 9;
         let bridged = if is_leb { validated(&folder).0 } else { compared(&folder, "linked", "objcopy").0 };
         let kind = bridged.records().last().map(|record| record.kind);
-        assert_eq!(kind, Some(RecordKind::Fde { begin: f, size: 3 }), "encoding {:#x}", encoding);
+        assert_eq!(kind, Some(RecordKind::Fde { begin: f, size: 3, signal: false }), "encoding {:#x}", encoding);
     }
 }
 
@@ -197,7 +201,7 @@ fn encodings_with_other_bases() {
         let f = common::hex(folder.run("nm linked | grep -w f").split(' ').next().unwrap());
         let (bridged, agreement) = validated(&folder);
         let kind = bridged.records().last().map(|record| record.kind);
-        assert_eq!(kind, Some(RecordKind::Fde { begin: f, size: 3 }), "encoding {:#x}", encoding);
+        assert_eq!(kind, Some(RecordKind::Fde { begin: f, size: 3, signal: false }), "encoding {:#x}", encoding);
         assert_eq!(agreement.rows, 3);
     }
 }

@@ -267,7 +267,7 @@ fn files_that_cannot_be_used() {
     assert!(memory.blocks().all(|block| block.origin == Origin::Core));
 }
 
-/// A core that ends in the midst keeps its threads, and what memory is there.
+/// A core that ends in the middle keeps its threads, and what memory is there.
 #[test]
 fn core_that_was_cut() {
     let folder = Folder::new("core-cut");

@@ -43,7 +43,7 @@ fn def_cfa_register_after_an_expression() {
     let place = bridged.place(here as u64, Edge::End).unwrap();
     assert_eq!(place.offset, there as u64);
     let begin = common::hex(folder.run("nm linked | grep -w _start").split(' ').next().unwrap());
-    assert_eq!(place.kind, RecordKind::Fde { begin, size: 3 });
+    assert_eq!(place.kind, RecordKind::Fde { begin, size: 3, signal: false });
 }
 
 /// The fault Unrestored is at the end of the FDE, where the next record begins.
@@ -158,7 +158,7 @@ fn set_loc() {
     assert_eq!(bridged.place(operand + 8, Edge::End).unwrap().offset, at as u64 + 22);
 }
 
-/// End marks in the midst, and records in the 64-bit format.
+/// End marks in the middle, and records in the 64-bit format.
 #[test]
 fn end_marks_and_long_records() {
     let cie = cie(b"\0", &[0x0c, 7, 8]);
@@ -219,7 +219,7 @@ fn records_that_cannot_be_bridged() {
     assert_eq!(refused(&bytes), error(at as u64, at as u64 + 12, Reason::NegativeRange));
 }
 
-/// A range that changed, a record that was lost and one too many are differences.
+/// Differences of ranges, rows and numbers, a record that was lost and one too many.
 #[test]
 fn changes_are_seen() {
     let folder = Folder::new("changes");
@@ -236,6 +236,15 @@ fn changes_are_seen() {
     let difference = validate(&program.eh_frame_of(&changed), &first).unwrap_err();
     assert_eq!(difference.record, record.source);
     assert!(matches!(difference.what, What::Range { .. }), "{}", difference);
+    let mut changed = eh_frame.clone();
+    let offset_instruction = place_of(&changed.bytes, &[0x0e, 16, 0x46, 0x0e, 24]);
+    changed.bytes.to_mut()[offset_instruction + 4] = 32;
+    let difference = validate(&program.eh_frame_of(&changed), &first).unwrap_err();
+    assert!(matches!(difference.what, What::Row { number: 1, .. }), "{}", difference);
+    let mut changed = eh_frame.clone();
+    changed.bytes.to_mut()[13] = 0x79;
+    let difference = validate(&program.eh_frame_of(&changed), &first).unwrap_err();
+    assert_eq!((difference.record, difference.what), (0, What::Numbers));
     let last = record.source as usize;
     let mut short = eh_frame.clone();
     short.bytes.to_mut().truncate(last);

@@ -76,7 +76,7 @@ fn ranges_of_eh_frame(folder: &Folder, file: &str) -> Vec<(u64, u64)> {
     assert_eq!((agreement.fdes, agreement.refused), (bridged.counts().fdes, 0));
     let range = |kind: RecordKind| match kind {
         RecordKind::Cie => None,
-        RecordKind::Fde { begin, size } => Some((begin, size)),
+        RecordKind::Fde { begin, size, .. } => Some((begin, size)),
     };
     bridged.records().iter().filter_map(|record| range(record.kind)).collect()
 }

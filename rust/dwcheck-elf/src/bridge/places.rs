@@ -24,6 +24,9 @@ pub enum RecordKind {
         begin: u64,
         /// How many bytes it covers.
         size: u64,
+        /// Whether it is that of a signal frame. Its caller was interrupted, so the address in the caller doesn't follow a
+        /// call.
+        signal: bool,
     },
 }
 
@@ -85,7 +88,7 @@ impl RecordKind {
     pub fn range(self) -> Option<Range<u64>> {
         match self {
             RecordKind::Cie => None,
-            RecordKind::Fde { begin, size } => Some(begin..begin.saturating_add(size)),
+            RecordKind::Fde { begin, size, .. } => Some(begin..begin.saturating_add(size)),
         }
     }
 }

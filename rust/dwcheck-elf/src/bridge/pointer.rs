@@ -34,7 +34,7 @@ fn number(cursor: &mut Cursor<'_>, encoding: u8, address_size: u8) -> Result<u64
     })
 }
 
-/// Reads an address. `function` is the start of the function, if the pointer stands in one.
+/// Reads an address. `function` is where the FDE's range begins, once that is known.
 pub(super) fn address(
     cursor: &mut Cursor<'_>,
     encoding: u8,

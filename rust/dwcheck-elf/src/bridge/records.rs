@@ -217,7 +217,7 @@ impl<'a> Bridge<'a> {
         self.instructions(record, cie, Some(begin), &mut known)?;
         self.counts.fdes += 1;
         self.counts.signal_frames += usize::from(cie.signal);
-        Ok(RecordKind::Fde { begin, size })
+        Ok(RecordKind::Fde { begin, size, signal: cie.signal })
     }
 }
 

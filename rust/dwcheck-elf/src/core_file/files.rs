@@ -1,7 +1,7 @@
 //! The files that a process had mapped.
 
 use super::CoreFile;
-use std::collections::HashSet;
+use std::collections::HashMap;
 use std::ffi::OsStr;
 use std::fmt;
 use std::fs::File;
@@ -44,24 +44,27 @@ pub enum FileError {
 #[derive(Debug, Default)]
 pub struct Files {
     files: Vec<MappedFile>,
+    /// The place of each file by its name.
+    places: HashMap<Vec<u8>, usize>,
 }
 
 impl Files {
     /// Reads the files that a core names, below a folder: `/` for those of this machine.
     pub fn read(core: &CoreFile<'_>, root: &Path) -> Self {
-        let mut seen = HashSet::new();
+        let mut places = HashMap::new();
         let mut left = FILES_LIMIT;
         let mut files = Vec::new();
         for mapping in core.mappings() {
-            if !seen.insert(mapping.path) {
+            if places.contains_key(mapping.path) {
                 continue;
             }
+            places.insert(mapping.path.to_vec(), files.len());
             let path = PathBuf::from(OsStr::from_bytes(mapping.path));
             let bytes = content(&below(root, &path), left).and_then(|bytes| same(core, mapping.path, bytes));
             left = left.saturating_sub(bytes.as_ref().map_or(0, |bytes| bytes.len() as u64));
             files.push(MappedFile { path, bytes });
         }
-        Files { files }
+        Files { files, places }
     }
 
     /// All files, in the order in which the core names them first.
@@ -71,7 +74,7 @@ impl Files {
 
     /// The place of a file among all, and its bytes.
     pub(super) fn find(&self, path: &[u8]) -> Option<(usize, &[u8])> {
-        let place = self.files.iter().position(|file| file.path.as_os_str().as_bytes() == path)?;
+        let place = *self.places.get(path)?;
         let bytes = self.files.get(place)?.bytes.as_deref().ok()?;
         Some((place, bytes))
     }
