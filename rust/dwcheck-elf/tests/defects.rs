@@ -158,6 +158,22 @@ fn set_loc() {
     assert_eq!(bridged.place(operand + 8, Edge::End).unwrap().offset, at as u64 + 22);
 }
 
+/// A personality routine at the next multiple of the address size. gimli doesn't read that encoding.
+#[test]
+fn aligned_personality() {
+    // The encoding is at 17. The pointer begins at 24, after six bytes that aren't used.
+    let data = [&[16, 0x50][..], &[0xee; 6], &0x1234u64.to_le_bytes(), &[0x1b, 0x0c, 7, 8]].concat();
+    let cie = cie(b"zPR\0", &data);
+    let at = cie.len();
+    let relative = (0x2000 - 0x1000 - (at as i32 + 8)).to_le_bytes();
+    let bytes = [cie, fde(at, &[&relative[..], &8i32.to_le_bytes(), &[0, 0x41, 0x0e, 16]].concat())].concat();
+    let bridged = bridge(&section(&bytes), Options::default()).unwrap();
+    assert_eq!(bridged.records()[1].kind, RecordKind::Fde { begin: 0x2000, size: 8, signal: false });
+    assert_eq!(bridged.counts().personalities, 1);
+    let difference = validate(&section(&bytes), &bridged).unwrap_err();
+    assert!(matches!(difference.what, What::Unreadable(_)));
+}
+
 /// End marks in the middle, and records in the 64-bit format.
 #[test]
 fn end_marks_and_long_records() {

@@ -80,9 +80,9 @@ fn state(core: &CoreFile<'_>, memory: &Memory<'_>, thread: &Thread) -> String {
 
 /// The frames of each thread by gdb, without those that only debug information knows: of inlined functions, and of
 /// functions that another one took the place of.
-fn frames_by_gdb(folder: &Folder) -> HashMap<u32, Vec<u64>> {
+fn frames_by_gdb(folder: &Folder, program: &str) -> HashMap<u32, Vec<u64>> {
     folder.write("frames.gdb", FRAMES);
-    let shown = folder.run("gdb --batch -x frames.gdb crash core | grep ^walk");
+    let shown = folder.run(&format!("gdb --batch -x frames.gdb {} core | grep ^walk", program));
     let threads = shown.lines().map(|line| {
         let words: Vec<_> = line.split(' ').collect();
         (words[1].parse().unwrap(), words[2..].iter().map(|word| hex(word)).collect())
@@ -90,38 +90,76 @@ fn frames_by_gdb(folder: &Folder) -> HashMap<u32, Vec<u64>> {
     threads.collect()
 }
 
-#[test]
-fn frames_by_dwcheck() {
-    let dwcheck = match std::env::var("DWCHECK") {
-        Ok(dwcheck) if has("gdb") => dwcheck,
-        _ => return eprintln!("skipped: DWCHECK names no built dwcheck"),
-    };
-    let folder = Folder::new("walk");
-    folder.write("crash.c", CRASH);
-    folder.run("gcc -O1 -g crash.c -o crash -lpthread");
-    let run =
-        "gdb --batch -ex 'set startup-with-shell off' -ex 'handle SIGSEGV nostop' -ex run -ex 'gcore core' ./crash";
-    folder.run(&format!("{} </dev/null >&2", run));
+/// The path of the built `dwcheck`, if there is one to compare with gdb.
+fn dwcheck() -> Option<String> {
+    let dwcheck = std::env::var("DWCHECK").ok().filter(|_| has("gdb"));
+    if dwcheck.is_none() {
+        eprintln!("skipped: DWCHECK names no built dwcheck");
+    }
+    dwcheck
+}
+
+/// Compares the frames of all threads of the core that `program` left, and gives the count of modules.
+fn compare_walks(folder: &Folder, dwcheck: &str, program: &str) -> usize {
     let bytes = folder.bytes("core");
     let core = CoreFile::read(&bytes).unwrap();
     let files = Files::read(&core, Path::new("/"));
     let memory = core.memory(&files);
     let modules: Vec<_> = core.modules(&files);
-    let words: Vec<_> =
-        modules.iter().enumerate().filter_map(|(at, module)| module_word(&folder, at, module)).collect();
-    assert_eq!(words.len(), 4, "the program, the C library, the loader, the vDSO");
-    let expected = frames_by_gdb(&folder);
+    let words: Vec<_> = modules.iter().enumerate().filter_map(|(at, module)| module_word(folder, at, module)).collect();
+    let expected = frames_by_gdb(folder, program);
     for thread in core.threads() {
         folder.write("state", state(&core, &memory, thread));
         let (load, first) = words[0].split_once('=').unwrap();
         let others: String = words[1..].iter().map(|word| format!(" --module {}", word)).collect();
         let start = thread.register(core.abi().program_counter).unwrap();
-        let line = format!("{} backtrace --load {}{} {} {:#x} state 100", dwcheck, load, others, first, start);
+        let line = format!("{} backtrace --load {}{} {} {:#x} state 1000", dwcheck, load, others, first, start);
         let walk = folder.run(&line);
         let frames = walk.lines().filter(|line| line.starts_with("frame ") && !line.ends_with(" none"));
         let frames: Vec<_> = frames.map(|line| hex(line.split(' ').nth(2).unwrap())).collect();
         assert_eq!(frames, expected[&thread.id], "{}", walk);
         eprintln!("thread {}: {} frames", thread.id, frames.len());
         assert!(frames.len() > 5);
+    }
+    words.len()
+}
+
+#[test]
+fn frames_of_a_c_program() {
+    if let Some(dwcheck) = dwcheck() {
+        let folder = Folder::new("walk-c");
+        folder.write("crash.c", CRASH);
+        folder.run("gcc -O1 -g crash.c -o crash -lpthread");
+        let run = "-ex 'set startup-with-shell off' -ex 'handle SIGSEGV nostop' -ex run -ex 'gcore core'";
+        folder.run(&format!("gdb --batch {} ./crash </dev/null >&2", run));
+        let modules = compare_walks(&folder, &dwcheck, "crash");
+        assert_eq!(modules, 4, "the program, the C library, the loader, the vDSO");
+    }
+}
+
+/// A larger program: the Python of the system, with a thread that waits, deep below calls, and one that aborts.
+const PYTHON: &str = "
+import ctypes, os, re, ssl, threading, time
+def deep(n, last):
+    return last() if n == 0 else max([n], key=lambda _: deep(n - 1, last))
+thread = threading.Thread(target=deep, args=(30, lambda: time.sleep(100)))
+thread.start()
+time.sleep(0.2)
+compare = ctypes.CFUNCTYPE(ctypes.c_int, ctypes.c_void_p, ctypes.c_void_p)(lambda x, y: deep(20, os.abort))
+ctypes.CDLL(None).qsort((ctypes.c_int * 4)(3, 1, 4, 2), 4, 4, compare)
+";
+
+#[test]
+fn frames_of_python() {
+    let python = Path::new("/usr/bin/python3");
+    if !python.is_file() {
+        return eprintln!("skipped: /usr/bin/python3 isn't installed");
+    }
+    if let Some(dwcheck) = dwcheck() {
+        let folder = Folder::new("walk-python");
+        folder.write("crash.py", PYTHON);
+        let run = "-ex 'set startup-with-shell off' -ex run -ex 'gcore core' --args /usr/bin/python3 crash.py";
+        folder.run(&format!("gdb --batch {} </dev/null >&2", run));
+        assert!(compare_walks(&folder, &dwcheck, "/usr/bin/python3") > 10);
     }
 }
