@@ -267,6 +267,35 @@ fn files_that_cannot_be_used() {
     assert!(memory.blocks().all(|block| block.origin == Origin::Core));
 }
 
+/// Names that would lead out of the folder, or to a file whose bytes never end.
+#[test]
+fn names_that_are_wrong() {
+    let folder = Folder::new("core-names");
+    folder.write("crash.c", CRASH);
+    folder.run("gcc -O1 -g crash.c -o crash -lpthread");
+    if !kernel_core(&folder, "./crash", "kernel.core") {
+        return;
+    }
+    let path = folder.file("crash").into_os_string().into_string().unwrap();
+    let bytes = folder.bytes("kernel.core");
+    let error_of = |name: &str| {
+        let name = format!("{:/<1$}", name, path.len());
+        let mut changed = bytes.clone();
+        let whole = [path.as_bytes(), b"\0"].concat();
+        for at in 0..changed.len() - whole.len() {
+            if changed[at..].starts_with(&whole) {
+                changed[at..at + path.len()].copy_from_slice(name.as_bytes());
+            }
+        }
+        let files = Files::read(&CoreFile::read(&changed).unwrap(), Path::new("/"));
+        format!("{:?}", files.all()[0].bytes.as_ref().unwrap_err())
+    };
+    assert_eq!(error_of("/tmp/../etc/passwd"), "Name");
+    assert_eq!(error_of("etc/passwd"), "Name");
+    assert_eq!(error_of("/dev/zero"), "NotRegular");
+    assert_eq!(error_of("/proc/kmsg"), "NotRegular");
+}
+
 /// A core that ends in the middle keeps its threads, and what memory is there.
 #[test]
 fn core_that_was_cut() {

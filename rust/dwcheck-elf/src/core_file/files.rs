@@ -7,7 +7,7 @@ use std::fmt;
 use std::fs::File;
 use std::io::Read;
 use std::os::unix::ffi::OsStrExt;
-use std::path::{Path, PathBuf};
+use std::path::{Component, Path, PathBuf};
 
 /// A mapped file with more bytes isn't read.
 pub const FILE_LIMIT: u64 = 1 << 30;
@@ -30,9 +30,11 @@ pub struct MappedFile {
 /// Why a mapped file can't be used.
 #[derive(Debug)]
 pub enum FileError {
+    /// Its name isn't an absolute path, or leads up with `..`. The kernel gives no such name.
+    Name,
     /// It can't be read.
     Read(std::io::Error),
-    /// It isn't a regular file.
+    /// It isn't a regular file, or it has no bytes, as files of `/proc` have none.
     NotRegular,
     /// It has more bytes than [`FILE_LIMIT`], or all have more than [`FILES_LIMIT`].
     TooLarge(u64),
@@ -60,7 +62,9 @@ impl Files {
             }
             places.insert(mapping.path.to_vec(), files.len());
             let path = PathBuf::from(OsStr::from_bytes(mapping.path));
-            let bytes = content(&below(root, &path), left).and_then(|bytes| same(core, mapping.path, bytes));
+            let bytes = below(root, &path)
+                .and_then(|path| content(&path, left))
+                .and_then(|bytes| same(core, mapping.path, bytes));
             left = left.saturating_sub(bytes.as_ref().map_or(0, |bytes| bytes.len() as u64));
             files.push(MappedFile { path, bytes });
         }
@@ -80,9 +84,15 @@ impl Files {
     }
 }
 
-/// The path below a folder. An absolute path begins at the folder.
-fn below(root: &Path, path: &Path) -> PathBuf {
-    root.join(path.strip_prefix("/").unwrap_or(path))
+/// The path below a folder, where an absolute path begins.
+fn below(root: &Path, path: &Path) -> Result<PathBuf, FileError> {
+    let inner = path.strip_prefix("/").map_err(|_| FileError::Name)?;
+    let goes_down = inner.components().all(|part| matches!(part, Component::Normal(_)));
+    if goes_down {
+        Ok(root.join(inner))
+    } else {
+        Err(FileError::Name)
+    }
 }
 
 /// Reads a regular file. Others, as devices and pipes, aren't opened.
@@ -92,12 +102,14 @@ fn content(path: &Path, left: u64) -> Result<Vec<u8>, FileError> {
     }
     let file = File::open(path).map_err(FileError::Read)?;
     let size = file.metadata().map_err(FileError::Read)?.len();
-    let limit = FILE_LIMIT.min(left);
-    if size > limit {
+    if size == 0 {
+        return Err(FileError::NotRegular);
+    }
+    if size > FILE_LIMIT.min(left) {
         return Err(FileError::TooLarge(size));
     }
     let mut bytes = Vec::with_capacity(usize::try_from(size).unwrap_or(0));
-    file.take(limit).read_to_end(&mut bytes).map_err(FileError::Read)?;
+    file.take(size).read_to_end(&mut bytes).map_err(FileError::Read)?;
     Ok(bytes)
 }
 
@@ -119,8 +131,9 @@ fn same(core: &CoreFile<'_>, path: &[u8], bytes: Vec<u8>) -> Result<Vec<u8>, Fil
 impl fmt::Display for FileError {
     fn fmt(&self, f: &mut fmt::Formatter<'_>) -> fmt::Result {
         match self {
+            FileError::Name => f.write_str("isn't the absolute path of a file"),
             FileError::Read(error) => write!(f, "can't be read: {}", error),
-            FileError::NotRegular => f.write_str("isn't a regular file"),
+            FileError::NotRegular => f.write_str("isn't a regular file with bytes"),
             FileError::TooLarge(size) => write!(f, "is too large with {} bytes", size),
             FileError::Changed => f.write_str("isn't the file that was mapped"),
         }
