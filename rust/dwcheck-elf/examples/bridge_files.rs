@@ -24,6 +24,7 @@ struct Totals {
     bridged_bytes: usize,
     failures: usize,
     accepted: usize,
+    accepted_rows: usize,
     refused: usize,
     with_args_size: usize,
     with_set_loc: usize,
@@ -82,18 +83,33 @@ fn file(path: &Path, dwcheck: Option<&Path>, totals: &mut Totals, seen: &mut Has
         println!("{}: gimli refuses {} FDEs in both sections", path.display(), agreement.refused);
     }
     if let Some(dwcheck) = dwcheck {
-        let answer = check(dwcheck, &program, &bridged)?;
-        totals.accepted += usize::from(answer.is_none());
-        totals.refused += usize::from(answer.is_some());
-        if let Some(fault) = answer {
-            println!("{}: {}", path.display(), fault);
+        match check(dwcheck, &program, &bridged)? {
+            Answer::Accepted(rows) => {
+                totals.accepted += 1;
+                totals.accepted_rows += rows;
+                if rows != agreement.rows {
+                    println!("{}: dwcheck counts {} rows, gimli {}", path.display(), rows, agreement.rows);
+                }
+            }
+            Answer::Refused(fault) => {
+                totals.refused += 1;
+                println!("{}: {}", path.display(), fault);
+            }
         }
     }
     Ok(())
 }
 
-/// Asks dwcheck for the first fault of a bridged section, and says where it is in the file.
-fn check(dwcheck: &Path, program: &Program<'_>, bridged: &Bridged) -> Result<Option<String>, Failure> {
+/// What dwcheck says of a section.
+enum Answer {
+    /// The count of its rows.
+    Accepted(usize),
+    /// The first fault, and where it is in the file.
+    Refused(String),
+}
+
+/// Asks dwcheck to check a bridged section.
+fn check(dwcheck: &Path, program: &Program<'_>, bridged: &Bridged) -> Result<Answer, Failure> {
     let name = std::env::temp_dir().join(format!("bridged-{}", std::process::id()));
     std::fs::write(&name, bridged.bytes())?;
     let mut command = Command::new(dwcheck);
@@ -109,24 +125,22 @@ fn check(dwcheck: &Path, program: &Program<'_>, bridged: &Bridged) -> Result<Opt
     let answer = String::from_utf8_lossy(&output.stdout);
     let first = answer.lines().next().unwrap_or("no answer");
     let offset = match first.split(' ').collect::<Vec<_>>().as_slice() {
-        ["accepted"] => return Ok(None),
+        ["accepted"] => {
+            let rows = answer.lines().find_map(|line| line.strip_prefix("cies ")?.rsplit(' ').next());
+            return Ok(Answer::Accepted(rows.ok_or("dwcheck counts no rows")?.parse()?));
+        }
         ["refused", _, _, "frame", offset] => u64::from_str_radix(offset.trim_start_matches("0x"), 16)?,
-        _ => return Ok(Some(first.to_string())),
+        _ => return Ok(Answer::Refused(first.to_string())),
     };
     let edge = if first.contains(" Overlap ") { Edge::Begin } else { Edge::End };
     let place = bridged.place(offset, edge).ok_or("the fault has no place")?;
     let functions = program.functions();
     let function = place.kind.range().and_then(|range| functions.at(range.start));
     let range = place.kind.range().unwrap_or(0..0);
-    Ok(Some(format!(
-        "{}: .eh_frame {:#x}, record {:#x}, {:#x}..{:#x} {}",
-        first,
-        place.offset,
-        place.record,
-        range.start,
-        range.end,
-        function.map_or("", |(function, _)| function.name)
-    )))
+    let name = function.map_or("", |(function, _)| function.name);
+    let (offset, record) = (place.offset, place.record);
+    let place = format!(".eh_frame {:#x}, record {:#x}, {:#x}..{:#x} {}", offset, record, range.start, range.end, name);
+    Ok(Answer::Refused(format!("{}: {}", first, place)))
 }
 
 fn add(totals: &mut Totals, counts: &Counts, mended: usize) {
@@ -163,5 +177,8 @@ fn print(totals: &Totals) {
         "validated: CIEs {}, FDEs {}, rows {}, FDEs that gimli refuses in both {}",
         agreement.cies, agreement.fdes, agreement.rows, agreement.refused
     );
-    println!("checked by dwcheck: accepted {}, refused {}", totals.accepted, totals.refused);
+    println!(
+        "checked by dwcheck: accepted {} with {} rows, refused {}",
+        totals.accepted, totals.accepted_rows, totals.refused
+    );
 }
