@@ -83,21 +83,27 @@ fn file(path: &Path, dwcheck: Option<&Path>, totals: &mut Totals, seen: &mut Has
         println!("{}: gimli refuses {} FDEs in both sections", path.display(), agreement.refused);
     }
     if let Some(dwcheck) = dwcheck {
-        match check(dwcheck, &program, &bridged)? {
-            Answer::Accepted(rows) => {
-                totals.accepted += 1;
-                totals.accepted_rows += rows;
-                if rows != agreement.rows {
-                    println!("{}: dwcheck counts {} rows, gimli {}", path.display(), rows, agreement.rows);
-                }
-            }
-            Answer::Refused(fault) => {
-                totals.refused += 1;
-                println!("{}: {}", path.display(), fault);
-            }
-        }
+        let answer = check(dwcheck, &program, &bridged)?;
+        judge(path, answer, agreement.rows, totals);
     }
     Ok(())
+}
+
+/// Counts what dwcheck says of a section, and prints what isn't expected.
+fn judge(path: &Path, answer: Answer, rows_by_gimli: usize, totals: &mut Totals) {
+    match answer {
+        Answer::Accepted(rows) => {
+            totals.accepted += 1;
+            totals.accepted_rows += rows;
+            if rows != rows_by_gimli {
+                println!("{}: dwcheck counts {} rows, gimli {}", path.display(), rows, rows_by_gimli);
+            }
+        }
+        Answer::Refused(fault) => {
+            totals.refused += 1;
+            println!("{}: {}", path.display(), fault);
+        }
+    }
 }
 
 /// What dwcheck says of a section.
