@@ -1,0 +1,41 @@
+-- The modules of a process, as they are added and removed, and the row of an address as loaded.
+use Rattle.std.specs.Prelude.{◌≡◌, ℕ, ◌==◌, if◌then◌else◌, List, [], ◌∷◌, ◌++◌, Option, None}
+use Rattle.std.specs.Option.{option_or, option_map}
+use Rattle.dw_bytes.specs.declared.target.Target.{Target}
+use Rattle.dw_rows.specs.Rules.{Row}
+use Rattle.dw_rows.specs.Section.{frame_of, section_fault}
+use Rattle.dw_rows.specs.UnwindTables.{RowTable, IsTableOf, row_at}
+use Rattle.dw_unwind.specs.Modules.{as_linked}
+use Rattle.dw_unwind.specs.declared.modules.Module.{Module}
+use Rattle.dw_process.specs.declared.found_row.FoundRow.{FoundRow}
+
+-- a process: its modules, each a table of rows with a load address
+abbrev pub Modules : Type 0
+Modules = List (Module RowTable)
+
+-- ---- added and removed
+
+-- A section without a fault is added, after the other modules: as a table of its rows.
+pub record IsAdded (target : Target) (section : List ℕ) (load_address : ℕ) (old new : Modules) : Type 0 where
+  pub accepted : section_fault target section ≡ None
+  pub table : RowTable
+  pub table_is : IsTableOf (frame_of target section) table
+  pub modules : new ≡ old ++ record { rows = table; load_address = load_address } ∷ []
+
+-- the modules without the first one at a load address
+abbrev pub without : ℕ → Modules → Modules
+without load_address [] = []
+without load_address (m ∷ modules) = if m.load_address == load_address then modules else m ∷ without load_address modules
+
+-- ---- rows
+
+-- what is found for an address as loaded, in the module at a load address
+abbrev pub found_with : ℕ → Row × ℕ → FoundRow
+found_with load_address found = record { load_address = load_address; row = found.0; return_register = found.1 }
+
+-- by the first module that has a row for the address as linked there
+abbrev pub row_in : Modules → ℕ → Option FoundRow
+row_in [] address = None
+row_in (m ∷ modules) address = option_or
+    (option_map (found_with m.load_address) (row_at m.rows (as_linked m.rows.target m.load_address address)))
+    (row_in modules address)

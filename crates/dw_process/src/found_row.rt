@@ -1,0 +1,14 @@
+//! The row of an address, and the module that has it.
+
+use dw_rows::UnwindRow;
+
+/// The row of an address as loaded, and the module that has it.
+#[derive(Debug, Drop)]
+pub struct FoundRow<'p> {
+    /// The load address of the module.
+    pub load_address: u64,
+    /// The row, whose own addresses are as linked.
+    pub row: UnwindRow<'p, 'p>,
+    /// The register that the CIE names for the return address.
+    pub return_register: u16,
+}

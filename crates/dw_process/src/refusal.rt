@@ -1,0 +1,23 @@
+//! Why a module isn't added.
+
+ghost use Rattle.std.specs.Prelude.{◌≡◌};
+ghost use Rattle.dw_process.specs.declared.refusal.Refusal.TheVariants as variants;
+
+use dw_bytes::Fault;
+
+/// Why a module isn't added.
+#[derive(Clone, Copy, Debug, PartialEq, Eq)]
+pub enum Refusal {
+    /// Its section has this first fault, or memory ran out (`Memory`, at 0).
+    Section(Fault),
+    /// Its rows take more than the room that was given.
+    Room,
+}
+
+impl From<Fault> for Refusal {
+    ghost from_gives = { λ fault why. why ≡ variants.Section fault };
+
+    fn from(fault: Fault) -> Self {
+        Refusal::Section(fault)
+    }
+}

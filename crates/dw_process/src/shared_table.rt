@@ -1,0 +1,80 @@
+//! A compiled table that several processes share.
+
+ghost use Rattle.std.specs.Prelude.{◌≡◌, IfSome};
+ghost use Rattle.dw_rows.specs.UnwindTables.{IsRowUnder, row_at};
+
+use dw_bytes::Target;
+use dw_rows::{UnwindRow, UnwindRows, UnwindTable};
+use std::alloc::Global;
+use std::marker::Model;
+use std::sync::Arc;
+
+/// One of the owners of a compiled table. The last of them frees it. Each may be on a thread of its own.
+#[derive(Drop)]
+pub struct SharedTable {
+    table: Arc<UnwindTable>,
+}
+
+impl Model for SharedTable {
+    ghost use Rattle.dw_rows.specs.UnwindTables.{RowTable};
+
+    ghost Value = { RowTable };
+
+    ghost view = { λ t. t.table.value };
+}
+
+impl SharedTable {
+    /// A table with one owner, or none where memory lacks.
+    pub fn new(alloc: Global, table: UnwindTable) -> Option<Self>
+        ensures { IfSome result (λ owner. owner ≡ table) }
+    {
+        match Arc::new(alloc, table) {
+            Ok(table) => Some(SharedTable { table }),
+            Err(_) => None,
+        }
+    }
+
+    /// One more owner of the same table. None where it has 2^63 - 1 already.
+    pub fn share(&self) -> Option<Self>
+        ensures { IfSome result (λ owner. owner ≡ self.now) }
+    {
+        match Arc::try_clone(&self.table) {
+            Ok(table) => Some(SharedTable { table }),
+            Err(_) => None,
+        }
+    }
+
+    /// The row of an address, as `UnwindTable::row_and_return_register`.
+    #[inline(always)]
+    pub fn row_and_return_register(&self, address: u64) -> Option<(UnwindRow<'_, '_>, u16)>
+        ensures row { result ≡ row_at self.now address }
+        ensures under { IfSome result (λ found. IsRowUnder self.now.target found.0) }
+    {
+        self.table.row_and_return_register(address)
+    }
+}
+
+/// It gives what its table gives.
+impl UnwindRows for SharedTable {
+    type Slot = ();
+
+    ghost use Rattle.std.specs.Prelude.{◌≡◌};
+    ghost use Rattle.dw_rows.specs.UnwindTables.{row_at};
+
+    ghost target_of = { λ t. t.target };
+
+    ghost finds = { λ t address found. found ≡ row_at t address };
+
+    #[inline(always)]
+    fn rows_target(&self) -> Target {
+        self.table.target()
+    }
+
+    #[inline(always)]
+    fn slot(&self) -> () {}
+
+    #[inline(always)]
+    fn find_row<'p>(&'p self, address: u64, _slot: &'p mut ()) -> Option<(UnwindRow<'p, 'p>, u16)> {
+        self.row_and_return_register(address)
+    }
+}

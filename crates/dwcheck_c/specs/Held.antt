@@ -1,0 +1,31 @@
+-- What is behind the pointer that C holds.
+use Rattle.std.specs.Prelude.{Option, None, Some}
+use Rattle.std.specs.Coded.{coded_option}
+use base.Fml.{Fml, Lft, ftrue}
+use base.Stored.{Coded}
+use denote.RawPtr.{Ptr}
+use denote.RattleType.{RattleType}
+use denote.Sharing.{nothing}
+use denote.Struct.Lending.{lent_at}
+use Rattle.std.specs.Box.Ownership.{box_owns}
+use Rattle.std.specs.Global.{Global}
+use Rattle.std.specs.contracts.impls.GlobalAllocator.TheImpl.{ghosts}
+use Rattle.dw_process.specs.Processes.{Modules}
+use Rattle.dw_process.specs.contracts.process.Process as process
+
+-- modules as they lie in memory
+abbrev pub the_process : RattleType
+the_process = process.the_row
+
+abbrev pub process_coded : Coded (Option Modules)
+process_coded = coded_option the_process.coded
+
+-- what a box of modules owns, if there is one
+abbrev pub held_if : Global → Ptr → Option Modules → Fml
+held_if alloc at None = ftrue
+held_if alloc at (Some m) = box_owns (ghosts.dealloc_token alloc) the_process at m
+
+-- what a reference to it lends
+abbrev pub lent_if : Ptr → Option Modules → Lft → Fml
+lent_if at None = nothing
+lent_if at (Some m) = lent_at the_process at m

@@ -1,0 +1,86 @@
+//! A process behind a pointer, as C holds it.
+
+ghost use Rattle.std.specs.Prelude.{◌≡◌, None, Some, Option, IsSome};
+ghost use Rattle.dw_process.specs.Processes.{Modules};
+ghost use Rattle.dwcheck_c.specs.Held.{held_if, lent_if, process_coded};
+
+mod parts;
+
+use dw_process::Process;
+use parts::Parts;
+use std::alloc::Global;
+use std::marker::{Model, Send};
+use std::ptr::null_mut;
+
+/// A box of a process without its type, which C can't have, or none.
+#[repr(C)]
+#[derive(Drop)]
+pub struct Held {
+    at: *mut u8,
+    alloc: Global,
+    pub ghost modules: { Option Modules } by { process_coded },
+}
+
+impl Model for Held {
+    ghost also_owns = { λ h. held_if h.alloc h.at h.modules };
+
+    ghost also_shares = { λ h _ κ. lent_if h.at h.modules κ };
+}
+
+impl Held {
+    /// No process.
+    pub fn none(alloc: Global) -> Held
+        ensures { result.modules ≡ None }
+    {
+        Held {
+            at: null_mut(),
+            alloc,
+        }
+    }
+
+    /// What a box has.
+    pub fn of(process: Box<Process>) -> Held
+        ensures { result.modules ≡ Some process.value }
+    {
+        Held::of_parts(Parts::of(process))
+    }
+
+    /// The box again.
+    pub fn into_box(self) -> Box<Process>
+        requires { IsSome self.modules }
+        ensures { self.modules ≡ Some result.value }
+    {
+        self.into_parts().into_box()
+    }
+
+    /// The process, to be read.
+    pub fn get(&self) -> &Process
+        requires { IsSome self.now.modules }
+        ensures { self.now.modules ≡ Some result.now }
+    {
+        unsafe { &*(self.at as *const Process) }
+    }
+
+    fn of_parts(parts: Parts<Process, Global>) -> Held
+        ensures { result.modules ≡ Some parts.value }
+    {
+        let Parts { ptr, alloc } = parts;
+        Held {
+            at: ptr as *mut u8,
+            alloc,
+        }
+    }
+
+    fn into_parts(self) -> Parts<Process, Global>
+        requires { IsSome self.modules }
+        ensures { self.modules ≡ Some result.value }
+    {
+        let Held { at, alloc } = self;
+        Parts {
+            ptr: at as *mut Process,
+            alloc,
+        }
+    }
+}
+
+unsafe impl Send for Held {}
