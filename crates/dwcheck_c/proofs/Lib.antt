@@ -1,2 +1,3 @@
 mod AsBox
-mod Peeks
+mod Assembled
+mod WrittenFrames

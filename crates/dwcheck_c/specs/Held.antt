@@ -1,12 +1,10 @@
 -- What is behind the pointer that C holds.
 use Rattle.std.specs.Prelude.{Option, None, Some}
 use Rattle.std.specs.Coded.{coded_option}
-use base.Fml.{Fml, Lft, ftrue}
+use base.Fml.{Fml, ftrue}
 use base.Stored.{Coded}
 use denote.RawPtr.{Ptr}
 use denote.RattleType.{RattleType}
-use denote.Sharing.{nothing}
-use denote.Struct.Lending.{lent_at}
 use Rattle.std.specs.Box.Ownership.{box_owns}
 use Rattle.std.specs.Global.{Global}
 use Rattle.std.specs.contracts.impls.GlobalAllocator.TheImpl.{ghosts}
@@ -24,8 +22,3 @@ process_coded = coded_option the_process.coded
 abbrev pub held_if : Global → Ptr → Option Modules → Fml
 held_if alloc at None = ftrue
 held_if alloc at (Some m) = box_owns (ghosts.dealloc_token alloc) the_process at m
-
--- what a reference to it lends
-abbrev pub lent_if : Ptr → Option Modules → Lft → Fml
-lent_if at None = nothing
-lent_if at (Some m) = lent_at the_process at m

@@ -2,7 +2,7 @@
 
 ghost use Rattle.std.specs.Prelude.{◌≡◌, None, Some, Option, IsSome};
 ghost use Rattle.dw_process.specs.Processes.{Modules};
-ghost use Rattle.dwcheck_c.specs.Held.{held_if, lent_if, process_coded};
+ghost use Rattle.dwcheck_c.specs.Held.{held_if, process_coded};
 
 mod parts;
 
@@ -23,8 +23,6 @@ pub struct Held {
 
 impl Model for Held {
     ghost also_owns = { λ h. held_if h.alloc h.at h.modules };
-
-    ghost also_shares = { λ h _ κ. lent_if h.at h.modules κ };
 }
 
 impl Held {
@@ -51,14 +49,6 @@ impl Held {
         ensures { self.modules ≡ Some result.value }
     {
         self.into_parts().into_box()
-    }
-
-    /// The process, to be read.
-    pub fn get(&self) -> &Process
-        requires { IsSome self.now.modules }
-        ensures { self.now.modules ≡ Some result.now }
-    {
-        unsafe { &*(self.at as *const Process) }
     }
 
     fn of_parts(parts: Parts<Process, Global>) -> Held

@@ -18,7 +18,7 @@ use Rattle.dwcheck_c.specs.contracts.held.Held.{the_row, the_type}
 
 keyless : (alloc : Global) (at : Ptr) (f : Option Modules) → Keyless (held_if alloc at f)
 keyless alloc at None = tt
-keyless alloc at (Some f) = (lies the_process modules.the_send at f, heap.frees.frees alloc (raw (lone the_process.mir)) at)
+keyless alloc at (Some f) = (lies the_process process.the_send at f, heap.frees.frees alloc (raw (lone the_process.mir)) at)
 
 pub send : IsSend the_row
 send =

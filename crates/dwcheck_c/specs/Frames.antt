@@ -1,0 +1,55 @@
+-- Frames of a walk as C has them.
+use Rattle.std.specs.Prelude.{◌≡◌, ℕ, List, ◌++◌, length, map, drop, Option, Some, None}
+use Rattle.dw_rows.specs.Abi.{Abi}
+use Rattle.dw_unwind.specs.Caller.{Answer, value, undefined, unreadable, division_by_zero}
+use Rattle.dw_unwind.specs.Modules.{over_tables}
+use Rattle.dw_unwind.specs.Walks.{CallerRelation, Place, WalkedFrame, Walks, first_place}
+use Rattle.dw_unwind.specs.WalkViews.{brief_of}
+use Rattle.dw_unwind.specs.declared.frames.Stop.{Stop}
+use Rattle.dw_unwind.specs.declared.frames.Stop.TheVariants.{Limit, NotCovered, ReturnUndefined, ReturnUnreadable, ReturnDivisionByZero}
+use Rattle.dw_process.specs.Processes.{Modules}
+use Rattle.dwcheck_c.specs.declared.answer.CAnswer.{CAnswer}
+use Rattle.dwcheck_c.specs.declared.answer.CFrame.{CFrame}
+
+abbrev pub canswer_by : ℕ → ℕ → CAnswer
+canswer_by kind n = record { value = n; kind = kind; reserved = 0 }
+
+abbrev pub canswer_of : Answer → CAnswer
+canswer_of (value n) = canswer_by 1 n
+canswer_of undefined = canswer_by 2 0
+canswer_of unreadable = canswer_by 3 0
+canswer_of division_by_zero = canswer_by 4 0
+
+-- of kind 0 where no FDE covers the address that is looked up
+abbrev pub optional_canswer : Option Answer → CAnswer
+optional_canswer None = canswer_by 0 0
+optional_canswer (Some answer) = canswer_of answer
+
+abbrev pub cframe_by : ℕ × Option Answer → CFrame
+cframe_by brief = record { address = brief.0; cfa = optional_canswer brief.1 }
+
+-- a frame's address and its CFA
+abbrev pub cframe_of : WalkedFrame → CFrame
+cframe_of frame = cframe_by (brief_of frame)
+
+abbrev pub stop_number : Stop → ℕ
+stop_number Limit = 0
+stop_number NotCovered = 1
+stop_number ReturnUndefined = 2
+stop_number ReturnUnreadable = 3
+stop_number ReturnDivisionByZero = 4
+
+-- The frames of a walk stand at the front of C's slots, as many as there are or fit, with their number and why there are no more. The
+-- other slots are as before.
+pub record AreWritten (u : CallerRelation) (first : Place) (old new : List CFrame) (count stop : ℕ) : Type 0 where
+  pub frames : List WalkedFrame
+  pub why : Stop
+  pub walks : Walks u first (length old) frames why
+  pub written : new ≡ map cframe_of frames ++ drop (length frames) old
+  pub count_is : count ≡ length frames
+  pub stop_is : stop ≡ stop_number why
+
+-- Through the modules of a process, under an ABI, over memory, from the frame at an address with its registers.
+pub record IsBacktrace (modules : Modules) (abi : Abi) (memory registers : ℕ → Option ℕ) (address : ℕ) (old new : List CFrame)
+    (count stop : ℕ) : Type 0 where
+  pub frames : AreWritten (over_tables abi memory modules) (first_place address registers) old new count stop

@@ -1,0 +1,22 @@
+-- Targets by C's numbers.
+use Rattle.std.specs.Prelude.{ℕ, ◌==◌, if◌then◌else◌, Option, Some, None}
+use Rattle.dw_bytes.specs.declared.target.Target.{Target}
+use Rattle.dw_bytes.specs.declared.target.Order.{Order}
+use Rattle.dw_bytes.specs.declared.target.Order.TheVariants.{Little, Big}
+use Rattle.dw_bytes.specs.declared.target.AddressSize.{AddressSize}
+use Rattle.dw_bytes.specs.declared.target.AddressSize.TheVariants.{Four, Eight}
+
+-- 0 is little, 1 is big
+abbrev pub order_by : ℕ → Option Order
+order_by n = if n == 0 then Some Little else if n == 1 then Some Big else None
+
+-- in bytes
+abbrev pub size_by : ℕ → Option AddressSize
+size_by n = if n == 4 then Some Four else if n == 8 then Some Eight else None
+
+abbrev pub target_from : Option Order → Option AddressSize → Option Target
+target_from (Some order) (Some size) = Some (record { order = order; address_size = size })
+target_from _ _ = None
+
+abbrev pub target_by : ℕ → ℕ → Option Target
+target_by order size = target_from (order_by order) (size_by size)

@@ -1,0 +1,74 @@
+//! What is known of numbers, as C has it.
+
+ghost use Rattle.std.specs.Prelude.{◌≡◌, option_map};
+ghost use Rattle.dw_unwind.specs.CallerViews.{answer_in};
+ghost use Rattle.dw_unwind.specs.WalkViews.{brief_in};
+ghost use Rattle.dwcheck_c.specs.Frames.{canswer_of, cframe_by, optional_canswer, stop_number};
+
+use dw_unwind::{Answer, BriefFrame, Stop};
+
+/// What is known of a number. Kind 0 says that no FDE covers the address that is looked up; 1 that it is the value; 2 that it is
+/// undefined; 3 that what it takes isn't handed in; 4 that its expression divides by zero. The value is 0 unless the kind is 1.
+#[repr(C)]
+#[derive(Clone, Copy, Debug)]
+pub struct CAnswer {
+    pub value: u64,
+    pub kind: u32,
+    pub reserved: u32,
+}
+
+/// A frame: its address and its canonical frame address.
+#[repr(C)]
+#[derive(Clone, Copy, Debug)]
+pub struct CFrame {
+    pub address: u64,
+    pub cfa: CAnswer,
+}
+
+fn of_kind(kind: u32, value: u64) -> CAnswer
+    ensures { result ≡ record { value = value; kind = kind; reserved = 0 } }
+{
+    CAnswer {
+        value,
+        kind,
+        reserved: 0,
+    }
+}
+
+/// An answer in C's form.
+pub(crate) fn shown_answer(answer: Answer) -> CAnswer
+    ensures { result ≡ canswer_of (answer_in answer) }
+{
+    match answer {
+        Answer::Value(value) => of_kind(1, value),
+        Answer::Undefined => of_kind(2, 0),
+        Answer::Unreadable => of_kind(3, 0),
+        Answer::DivisionByZero => of_kind(4, 0),
+    }
+}
+
+/// A frame in C's form.
+pub(crate) fn shown_frame(frame: BriefFrame) -> CFrame
+    ensures { result ≡ cframe_by (brief_in frame) }
+{
+    CFrame {
+        address: frame.address,
+        cfa: match frame.cfa {
+            Some(cfa) => shown_answer(cfa),
+            None => of_kind(0, 0),
+        },
+    }
+}
+
+/// The number of the reason why a walk ends.
+pub(crate) fn stop_code(stop: Stop) -> u32
+    ensures { result ≡ stop_number stop }
+{
+    match stop {
+        Stop::Limit => 0,
+        Stop::NotCovered => 1,
+        Stop::ReturnUndefined => 2,
+        Stop::ReturnUnreadable => 3,
+        Stop::ReturnDivisionByZero => 4,
+    }
+}

@@ -1,0 +1,66 @@
+//! A process, as C has it.
+
+ghost use Rattle.std.specs.Prelude.{◌≡◌, ◌↔◌, IsTrue, IsSome, None, Some, MatchOption};
+
+use crate::held::Held;
+use dw_process::Process;
+use std::alloc::Global;
+use std::mem::replace;
+
+/// A process that is open, or closed: one pointer and a flag. Where all of it is 0 it is closed.
+#[repr(C)]
+pub struct CProcess {
+    pub(crate) held: Held,
+    is_open: bool,
+    ghost tied: { IsTrue is_open ↔ IsSome held.modules },
+}
+
+impl CProcess {
+    ghost use Rattle.dwcheck_c.specs.Handles.{held_in};
+
+    pub(crate) fn closed(alloc: Global) -> CProcess
+        ensures { held_in result ≡ None }
+    {
+        CProcess {
+            held: Held::none(alloc),
+            is_open: false,
+        }
+    }
+
+    pub(crate) fn open(process: Box<Process>) -> CProcess
+        ensures { held_in result ≡ Some process.value }
+    {
+        CProcess {
+            held: Held::of(process),
+            is_open: true,
+        }
+    }
+
+    fn into_box(self) -> Option<Box<Process>>
+        ensures { MatchOption result (held_in self ≡ None) (λ b. held_in self ≡ Some b.value) }
+    {
+        let CProcess { held, is_open } = self;
+        if is_open {
+            Some(held.into_box())
+        } else {
+            drop(held);
+            None
+        }
+    }
+
+    /// Takes what is held, and leaves it closed.
+    pub(crate) fn take(&mut self, alloc: Global) -> Option<Box<Process>>
+        ensures taken { MatchOption result (held_in self.old ≡ None)
+            (λ b. held_in self.old ≡ Some b.value) }
+        ensures left { held_in self.new ≡ None }
+    {
+        let old = replace(self, CProcess::closed(alloc));
+        old.into_box()
+    }
+}
+
+impl Drop for CProcess {
+    fn drop(self) {
+        drop(self.into_box());
+    }
+}

@@ -1,0 +1,78 @@
+//! Memory that C hands in.
+
+use byteorder::{BigEndian, ByteOrder, LittleEndian};
+use dw_bytes::Order;
+use dw_eval::{Memory, MemoryBlock};
+
+/// The bytes from an address on.
+#[repr(C)]
+#[derive(Drop)]
+pub struct CBlock<'a> {
+    pub base: u64,
+    pub bytes: &'a [u8],
+}
+
+impl<'a> CBlock<'a> {
+    ghost use Rattle.std.specs.Prelude.{◌≡◌};
+    ghost use Rattle.dw_eval.specs.MemoryBlocks.{block_byte};
+
+    fn byte(&self, address: u64) -> Option<u8>
+        ensures { result ≡ block_byte self.now.base self.now.bytes.now address }
+    {
+        if self.base <= address {
+            self.bytes.get((address - self.base) as usize).copied()
+        } else {
+            None
+        }
+    }
+}
+
+/// Memory of which several blocks are known. An address that two have is the first one's.
+#[derive(Drop)]
+pub(crate) struct Blocks<'m, 'a> {
+    pub blocks: &'m [CBlock<'a>],
+}
+
+impl<'m, 'a> Blocks<'m, 'a> {
+    ghost use Rattle.std.specs.Prelude.{◌≡◌, ◌^◌, ◌+◌, ◌≤◌};
+    ghost use Rattle.dw_eval.specs.World.{IsSize, number_at};
+    ghost use Rattle.dwcheck_c.specs.Machine.{byte_in};
+
+    fn byte(&self, address: u64) -> Option<u8>
+        ensures { result ≡ byte_in self.now.blocks.now address }
+    {
+        for block in self.blocks {
+            if let Some(byte) = block.byte(address) {
+                return Some(byte);
+            }
+        }
+        None
+    }
+
+    /// What `read` gives, byte by byte.
+    fn read_by_bytes(&self, address: u64, size: u8, order: Order) -> Option<u64>
+        requires size { IsSize size }
+        requires within { address + size ≤ 2 ^ 64 }
+        ensures { result ≡ number_at (byte_in self.now.blocks.now) order address size }
+    {
+        let mut bytes = [0; 8];
+        for index in 0..size {
+            bytes[usize::from(index)] = self.byte(address + u64::from(index))?;
+        }
+        let count = usize::from(size);
+        Some(match order {
+            Order::Little => LittleEndian::read_uint(&bytes[..count], count),
+            Order::Big => BigEndian::read_uint(&bytes[..count], count),
+        })
+    }
+}
+
+impl<'m, 'a> Memory for Blocks<'m, 'a> {
+    ghost use Rattle.dwcheck_c.specs.Machine.{byte_in};
+
+    ghost bytes = { λ b. byte_in b.blocks.now };
+
+    fn read(&self, address: u64, size: u8, order: Order) -> Option<u64> {
+        self.read_by_bytes(address, size, order)
+    }
+}

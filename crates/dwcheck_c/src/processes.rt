@@ -1,0 +1,163 @@
+//! Processes: modules added, removed and shared.
+
+ghost use Rattle.std.specs.Prelude.{◌≡◌, ◌≢◌, ◌≤◌, ◌<◌, ◌^◌, ◌⊎◌, ◌==◌, false, true, [], IfErr, IfOk, IfSome, None, length};
+ghost use Rattle.std.specs.Option.{IsSomeAnd};
+ghost use Rattle.std.specs.List.{list_any};
+ghost use Rattle.dw_rows.specs.Section.{frame_of, section_fault};
+ghost use Rattle.dw_rows.specs.UnwindTables.{table_bytes};
+ghost use Rattle.dw_process.specs.Processes.{IsAdded, without};
+ghost use Rattle.dw_process.specs.Refusals.{IsRefused};
+ghost use Rattle.dwcheck_c.specs.Faults.{Reports};
+ghost use Rattle.dwcheck_c.specs.Handles.{modules_of};
+ghost use Rattle.dwcheck_c.specs.Targets.{target_by};
+
+use crate::fault::{CFault, IN_FRAME, report};
+use crate::handle::CProcess;
+use crate::status::{BAD_TARGET, DONE, NO_MEMORY, NO_ROOM, NONE, REFUSED, TOO_LONG};
+use crate::target::target;
+use dw_bytes::{FaultKind, OUT_OF_MEMORY, Target};
+use dw_process::{Process, Refusal};
+use std::alloc::Global;
+
+/// Adds a module to a process that may be closed. A closed one is opened only where the module is added.
+fn add(
+    alloc: Global,
+    process: &mut CProcess,
+    section: &[u8],
+    target: Target,
+    load_address: u64,
+    room: usize,
+) -> Result<(), Refusal>
+    requires { length section.now < 2 ^ 32 }
+    ensures added { IfOk result (λ _. IsAdded target section.now load_address
+        (modules_of process.old) (modules_of process.new)) }
+    ensures refused { IfErr result (λ why. IsRefused target section.now room why) }
+    ensures same { IfErr result (λ _. modules_of process.new ≡ modules_of process.old) }
+{
+    match process.take(alloc) {
+        Some(mut held) => {
+            let added = held.add(alloc, section, target, load_address, room);
+            *process = CProcess::open(held);
+            added
+        }
+        None => {
+            let mut new = Process::new(alloc);
+            new.add(alloc, section, target, load_address, room)?;
+            let Ok(held) = Box::new(alloc, new) else {
+                return Err(Refusal::Section(OUT_OF_MEMORY));
+            };
+            *process = CProcess::open(held);
+            Ok(())
+        }
+    }
+}
+
+/// Checks a frame section, compiles it and adds it to a process.
+#[unsafe(no_mangle)]
+pub extern "C" fn dwcheck_process_add(
+    alloc: Global,
+    process: &mut CProcess,
+    section: &[u8],
+    order: u32,
+    address_size: u32,
+    load_address: u64,
+    room: usize,
+    fault: &mut CFault,
+) -> u32
+    ensures added { result ≡ DONE → IsSomeAnd (target_by order address_size) (λ target.
+        IsAdded target section.now load_address (modules_of process.old) (modules_of process.new)) }
+    ensures refused { result ≡ REFUSED → IsSomeAnd (target_by order address_size) (λ target.
+        Reports IN_FRAME (section_fault target section.now) fault.new) }
+    ensures room { result ≡ NO_ROOM → IsSomeAnd (target_by order address_size) (λ target.
+        (section_fault target section.now ≡ None)
+        × (room < table_bytes (frame_of target section.now))) }
+    ensures target { result ≡ BAD_TARGET → target_by order address_size ≡ None }
+    ensures long { result ≡ TOO_LONG → 2 ^ 32 ≤ length section.now }
+    ensures codes { result ≤ TOO_LONG }
+    ensures same { result ≢ DONE → modules_of process.new ≡ modules_of process.old }
+    ensures unreported { result ≢ REFUSED → fault.new ≡ fault.old }
+{
+    let Some(target) = target(order, address_size) else {
+        return BAD_TARGET;
+    };
+    if section.len() >= 1 << 32 {
+        return TOO_LONG;
+    }
+    match add(alloc, process, section, target, load_address, room) {
+        Ok(()) => DONE,
+        Err(Refusal::Room) => NO_ROOM,
+        Err(Refusal::Section(found)) if found.kind == FaultKind::Memory => NO_MEMORY,
+        Err(Refusal::Section(found)) => {
+            *fault = report(IN_FRAME, found);
+            REFUSED
+        }
+    }
+}
+
+/// Removes the first module with a load address from a process.
+#[unsafe(no_mangle)]
+pub extern "C" fn dwcheck_process_remove(
+    alloc: Global,
+    process: &mut CProcess,
+    load_address: u64,
+) -> u32
+    ensures removed { modules_of process.new ≡ without load_address (modules_of process.old) }
+    ensures found { result ≡ DONE
+        → list_any (λ m. m.load_address == load_address) (modules_of process.old) ≡ true }
+    ensures none { result ≡ NONE
+        → list_any (λ m. m.load_address == load_address) (modules_of process.old) ≡ false }
+    ensures codes { (result ≡ DONE) ⊎ (result ≡ NONE) }
+{
+    let Some(mut held) = process.take(alloc) else {
+        return NONE;
+    };
+    let found = held.remove(load_address);
+    *process = CProcess::open(held);
+    if found { DONE } else { NONE }
+}
+
+/// The same modules in another process. None where memory lacks.
+fn shared(alloc: Global, held: &Process) -> Option<CProcess>
+    ensures { IfSome result (λ other. modules_of other ≡ held.now) }
+{
+    let shared = held.share(alloc)?;
+    match Box::new(alloc, shared) {
+        Ok(held) => Some(CProcess::open(held)),
+        Err(_) => None,
+    }
+}
+
+/// Makes another process of the same modules, in the place of what is there.
+#[unsafe(no_mangle)]
+pub extern "C" fn dwcheck_process_share(
+    alloc: Global,
+    process: &mut CProcess,
+    other: &mut CProcess,
+) -> u32
+    ensures shared { result ≡ DONE → modules_of other.new ≡ modules_of process.old }
+    ensures lacks { result ≡ NO_MEMORY → modules_of other.new ≡ modules_of other.old }
+    ensures codes { (result ≡ DONE) ⊎ (result ≡ NO_MEMORY) }
+    ensures same { modules_of process.new ≡ modules_of process.old }
+{
+    let Some(held) = process.take(alloc) else {
+        *other = CProcess::closed(alloc);
+        return DONE;
+    };
+    let made = shared(alloc, &held);
+    *process = CProcess::open(held);
+    match made {
+        Some(made) => {
+            *other = made;
+            DONE
+        }
+        None => NO_MEMORY,
+    }
+}
+
+/// Lets all modules of a process go.
+#[unsafe(no_mangle)]
+pub extern "C" fn dwcheck_process_close(alloc: Global, process: &mut CProcess)
+    ensures { modules_of process.new ≡ [] }
+{
+    *process = CProcess::closed(alloc);
+}

@@ -1,0 +1,88 @@
+//! What a stopped thread has, as C hands it in.
+
+use crate::memory::{Blocks, CBlock};
+use dw_eval::Registers;
+
+/// The content of register n is the n-th, where bit n of the flags is set.
+#[derive(Drop)]
+pub(crate) struct Contents<'a> {
+    pub contents: &'a [u64],
+    pub known: &'a [u8],
+}
+
+impl<'a> Contents<'a> {
+    ghost use Rattle.std.specs.Prelude.{◌≡◌};
+    ghost use Rattle.dwcheck_c.specs.Machine.{is_known};
+
+    fn is_known(&self, number: u16) -> bool
+        ensures { result ≡ is_known self.now.known.now number }
+    {
+        match self.known.get(usize::from(number / 8)) {
+            Some(byte) => (*byte >> (number % 8)) % 2 == 1,
+            None => false,
+        }
+    }
+}
+
+impl<'a> Registers for Contents<'a> {
+    ghost use Rattle.dwcheck_c.specs.Machine.{register_in};
+
+    ghost contents = { λ c. register_in c.contents.now c.known.now };
+
+    fn register(&self, number: u16) -> Option<u64> {
+        if self.is_known(number) {
+            self.contents.get(usize::from(number)).copied()
+        } else {
+            None
+        }
+    }
+}
+
+/// What a stopped thread has, and what calls of its ABI keep.
+#[repr(C)]
+#[derive(Drop)]
+pub struct CState<'a> {
+    /// The content of register n is the n-th, where bit n % 8 of byte n / 8 of `known` is set.
+    pub contents: &'a [u64],
+    pub known: &'a [u8],
+    /// The memory that is known.
+    pub blocks: &'a [CBlock<'a>],
+    /// The registers that calls keep.
+    pub kept: &'a [u16],
+    /// The stack pointer, whose value in a caller is the CFA, if `has_stack_pointer` isn't 0.
+    pub stack_pointer: u16,
+    pub has_stack_pointer: u16,
+    pub reserved: u32,
+}
+
+impl<'a> CState<'a> {
+    ghost use Rattle.std.specs.Prelude.{◌≡◌};
+    ghost use Rattle.dwcheck_c.specs.Machine.{registers_of, memory_of, pointer_of, register_in, byte_in};
+
+    pub(crate) fn registers(&self) -> Contents<'a>
+        ensures { register_in result.contents.now result.known.now ≡ registers_of self.now }
+    {
+        Contents {
+            contents: self.contents,
+            known: self.known,
+        }
+    }
+
+    pub(crate) fn memory(&self) -> Blocks<'a, 'a>
+        ensures { byte_in result.blocks.now ≡ memory_of self.now }
+    {
+        Blocks {
+            blocks: self.blocks,
+        }
+    }
+
+    pub(crate) fn pointer(&self) -> Option<u16>
+        ensures { result ≡ pointer_of self.now }
+    {
+        if self.has_stack_pointer == 0 {
+            None
+        } else {
+            Some(self.stack_pointer)
+        }
+    }
+}
