@@ -1,3 +1,4 @@
 mod AsBox
 mod Assembled
+mod Putting
 mod WrittenFrames

@@ -1,11 +1,13 @@
 -- Frames that are written as they are given.
-use Rattle.std.proofs.Common.{◌≡◌, ℕ, ◌+◌, ◌<◌, List, [], ◌∷◌, ◌++◌, length, map, take, drop, refl, sym, ap, ◌∙◌, arith, length-append, subst}
-use Rattle.std.specs.Prelude.{slice_set, Some}
-use Rattle.std.proofs.lemmas.List.{take_more_set, map-append, drop-drop, drop-set-lt, take-append-drop}
+use Rattle.std.proofs.Common.{◌≡◌, ℕ, ◌+◌, List, [], ◌∷◌, ◌++◌, length, map, refl, sym, ap, ◌∙◌, length-append, subst}
+use Rattle.std.specs.Prelude.{slice_set}
+use Rattle.std.proofs.lemmas.List.{length-map}
 use Rattle.dw_unwind.specs.Walks.{CallerRelation, Place, WalkedFrame, Walks}
-use Rattle.dw_unwind.specs.WalkSteps.{Progress, GivesFrame, GivesFrames, about_to_give, after, has_given, stop_of}
+use Rattle.dw_unwind.specs.WalkSteps.{Progress, GivesFrame, GivesFrames, about_to_give, after, has_given}
 use Rattle.dw_unwind.specs.declared.frames.Stop.{Stop}
 use Rattle.dwcheck_c.specs.declared.answer.CFrame.{CFrame}
+use Rattle.dwcheck_c.specs.Slots.{put_into}
+use Rattle.dwcheck_c.proofs.Putting.{puts_shown}
 use Rattle.dwcheck_c.specs.Frames.{AreWritten, cframe_of, stop_number}
 
 -- after frames that were given comes the next one
@@ -19,28 +21,23 @@ pub record UnderWay (u : CallerRelation) (begin : WalkedFrame) (p : Progress) (o
   pub frames : List WalkedFrame
   pub given : GivesFrames u (about_to_give begin) frames
   pub come : after (about_to_give begin) frames ≡ p
-  pub front : take count new ≡ map cframe_of frames
-  pub rest : drop count new ≡ drop count old
+  pub written : new ≡ put_into (map cframe_of frames) old
   pub counted : length frames ≡ count
 
 pub begins : (u : CallerRelation) (begin : WalkedFrame) (p : Progress) (old : List CFrame) → p ≡ about_to_give begin → UnderWay u begin p old old 0
-begins u begin p old is = record { frames = []; given = tt; come = sym is; front = refl; rest = refl; counted = refl }
-
-drop_one_more : (old new : List CFrame) (count : ℕ) → drop count new ≡ drop count old → drop (count + 1) new ≡ drop (count + 1) old
-drop_one_more old new count same = sym (drop-drop 1 count new) ∙ ap (drop 1) same ∙ drop-drop 1 count old
+begins u begin p old is = record { frames = []; given = tt; come = sym is; written = refl; counted = refl }
 
 pub goes : (u : CallerRelation) (begin : WalkedFrame) (more : GoesOn u) (p : Progress) (old new : List CFrame) (count : ℕ) (f : WalkedFrame)
-    → count < length new → UnderWay u begin p old new count → GivesFrame u p f
+    → UnderWay u begin p old new count → GivesFrame u p f
     → UnderWay u begin (has_given f) old (slice_set new count (cframe_of f)) (count + 1)
-goes u begin more p old new count f room h gives =
+goes u begin more p old new count f h gives =
     let next = more (about_to_give begin) h.frames f h.given (subst (λ (q : Progress). GivesFrame u q f) (sym h.come) gives) in
     record {
       frames = h.frames ++ f ∷ [];
       given = next.0;
       come = next.1;
-      front = take_more_set new count (cframe_of f) room ∙ ap (λ (l : List CFrame). l ++ cframe_of f ∷ []) h.front
-          ∙ sym (map-append cframe_of h.frames (f ∷ []));
-      rest = drop-set-lt (count + 1) new count (cframe_of f) (omega arith) ∙ drop_one_more old new count h.rest;
+      written = ap (λ (l : List CFrame). slice_set l count (cframe_of f)) h.written
+          ∙ puts_shown cframe_of h.frames old count f (sym h.counted ∙ sym (length-map h.frames cframe_of));
       counted = length-append h.frames (f ∷ []) ∙ ap (λ (n : ℕ). n + 1) h.counted;
     }
 
@@ -51,9 +48,7 @@ written u first begin p old new count stop h walks = record {
   frames = h.frames;
   why = stop;
   walks = walks;
-  written = sym (take-append-drop count new) ∙ ap (λ (l : List CFrame). l ++ drop count new) h.front
-      ∙ ap (λ (l : List CFrame). map cframe_of h.frames ++ l) h.rest
-      ∙ ap (λ (n : ℕ). map cframe_of h.frames ++ drop n old) (sym h.counted);
+  written = h.written;
   count_is = sym h.counted;
   stop_is = refl;
 }

@@ -1,5 +1,5 @@
 -- Frames of a walk as C has them.
-use Rattle.std.specs.Prelude.{◌≡◌, ℕ, List, ◌++◌, length, map, drop, Option, Some, None}
+use Rattle.std.specs.Prelude.{◌≡◌, ℕ, List, length, map, Option, Some, None}
 use Rattle.dw_rows.specs.Abi.{Abi}
 use Rattle.dw_unwind.specs.Caller.{Answer, value, undefined, unreadable, division_by_zero}
 use Rattle.dw_unwind.specs.Modules.{over_tables}
@@ -8,6 +8,7 @@ use Rattle.dw_unwind.specs.WalkViews.{brief_of}
 use Rattle.dw_unwind.specs.declared.frames.Stop.{Stop}
 use Rattle.dw_unwind.specs.declared.frames.Stop.TheVariants.{Limit, NotCovered, ReturnUndefined, ReturnUnreadable, ReturnDivisionByZero}
 use Rattle.dw_process.specs.Processes.{Modules}
+use Rattle.dwcheck_c.specs.Slots.{put_into}
 use Rattle.dwcheck_c.specs.declared.answer.CAnswer.{CAnswer}
 use Rattle.dwcheck_c.specs.declared.answer.CFrame.{CFrame}
 
@@ -39,13 +40,13 @@ stop_number ReturnUndefined = 2
 stop_number ReturnUnreadable = 3
 stop_number ReturnDivisionByZero = 4
 
--- The frames of a walk stand at the front of C's slots, as many as there are or fit, with their number and why there are no more. The
--- other slots are as before.
+-- The frames of a walk, of which as many are asked for as there are slots, are at the front of the slots, with their number and why
+-- there are no more. The other slots are as before.
 pub record AreWritten (u : CallerRelation) (first : Place) (old new : List CFrame) (count stop : ℕ) : Type 0 where
   pub frames : List WalkedFrame
   pub why : Stop
   pub walks : Walks u first (length old) frames why
-  pub written : new ≡ map cframe_of frames ++ drop (length frames) old
+  pub written : new ≡ put_into (map cframe_of frames) old
   pub count_is : count ≡ length frames
   pub stop_is : stop ≡ stop_number why
 

@@ -1,6 +1,11 @@
+pub mod Callers
+pub mod Checks
+pub mod Evaluated
 pub mod Faults
 pub mod Frames
 pub mod Handles
 pub mod Held
 pub mod Machine
+pub mod Rows
+pub mod Slots
 pub mod Targets

@@ -3,12 +3,20 @@
 
 mod answer;
 mod backtrace;
+mod callers;
+mod checks;
+mod context;
+mod expressions;
 mod fault;
 mod handle;
 mod held;
 mod memory;
+mod names;
 mod processes;
+mod row;
+mod slots;
 mod stacks;
 mod state;
 mod status;
 mod target;
+mod value;

@@ -1,22 +1,133 @@
-//! Stacks: the frames of a walk.
+//! Stacks: the row of an address, the caller of a frame, and the frames of a walk.
 
-ghost use Rattle.std.specs.Prelude.{◌≡◌, ◌≢◌, ◌⊎◌};
+ghost use Rattle.std.specs.Prelude.{◌≡◌, ◌≢◌, ◌⊎◌, IfSome, MatchOption, None, option_map};
+ghost use Rattle.std.specs.Option.{IsSomeAnd};
 ghost use Rattle.dw_rows.specs.AbiViews.{roles_of};
+ghost use Rattle.dw_process.specs.Processes.{row_in};
+ghost use Rattle.dw_unwind.specs.CallerViews.{caller_in};
+ghost use Rattle.dwcheck_c.specs.Callers.{IsCaller, Unwinds};
 ghost use Rattle.dwcheck_c.specs.Faults.{Reports};
 ghost use Rattle.dwcheck_c.specs.Frames.{IsBacktrace, stop_number};
 ghost use Rattle.dwcheck_c.specs.Handles.{modules_of};
 ghost use Rattle.dwcheck_c.specs.Machine.{abi_fault_of, abi_in, memory_of, registers_of};
+ghost use Rattle.dwcheck_c.specs.Rows.{IsRowOf};
 
 use crate::answer::{CFrame, stop_code};
 use crate::backtrace::write_backtrace;
+use crate::callers::{CCaller, CRegister, caller_through, write_caller};
 use crate::fault::{CFault, IN_ABI, report};
 use crate::handle::CProcess;
+use crate::row::{CRow, CRule, write_row};
 use crate::state::CState;
-use crate::status::{DONE, REFUSED};
+use crate::status::{DONE, NONE, REFUSED};
 use dw_process::SharedTable;
 use dw_rows::Abi;
-use dw_unwind::{Module, Stop};
+use dw_unwind::{Caller, Module, Stop};
 use std::alloc::Global;
+
+/// The row of an address as loaded, and its rules in slots.
+#[unsafe(no_mangle)]
+pub extern "C" fn dwcheck_row_at(
+    alloc: Global,
+    process: &mut CProcess,
+    address: u64,
+    row: &mut CRow,
+    rules: &mut [CRule],
+) -> u32
+    ensures row { result ≡ DONE → IsSomeAnd (row_in (modules_of process.old) address)
+        (λ found. IsRowOf found row.new rules.old rules.new) }
+    ensures none { result ≡ NONE → row_in (modules_of process.old) address ≡ None }
+    ensures codes { (result ≡ DONE) ⊎ (result ≡ NONE) }
+    ensures unwritten { result ≡ NONE → (row.new ≡ row.old) × (rules.new ≡ rules.old) }
+    ensures same { modules_of process.new ≡ modules_of process.old }
+{
+    let Some(held) = process.take(alloc) else {
+        return NONE;
+    };
+    let status = match held.row_for_address(address) {
+        Some(found) => {
+            write_row(&found, row, rules);
+            DONE
+        }
+        None => NONE,
+    };
+    *process = CProcess::open(held);
+    status
+}
+
+/// The caller of a frame, over what C hands in.
+fn caller_of(
+    modules: &[Module<SharedTable>],
+    abi: &Abi,
+    address: u64,
+    state: &CState<'_>,
+) -> Option<Caller>
+    ensures { Unwinds modules.now (roles_of abi.now) (memory_of state.now)
+        (registers_of state.now) address (option_map caller_in result) }
+{
+    caller_through(modules, abi, address, &state.registers(), &state.memory())
+}
+
+/// The same through the modules of a process.
+fn caller_within(
+    alloc: Global,
+    process: &mut CProcess,
+    abi: &Abi,
+    address: u64,
+    state: &CState<'_>,
+) -> Option<Caller>
+    ensures unwinds { Unwinds (modules_of process.old) (roles_of abi.now) (memory_of state.now)
+        (registers_of state.now) address (option_map caller_in result) }
+    ensures same { modules_of process.new ≡ modules_of process.old }
+{
+    match process.take(alloc) {
+        Some(held) => {
+            let caller = caller_of(held.modules(), abi, address, state);
+            *process = CProcess::open(held);
+            caller
+        }
+        None => caller_of(&[], abi, address, state),
+    }
+}
+
+/// The caller of the frame at an address as loaded, and its registers in slots.
+#[unsafe(no_mangle)]
+pub extern "C" fn dwcheck_unwind(
+    alloc: Global,
+    process: &mut CProcess,
+    address: u64,
+    state: &CState<'_>,
+    caller: &mut CCaller,
+    registers: &mut [CRegister],
+    fault: &mut CFault,
+) -> u32
+    ensures done { result ≡ DONE → IsCaller (modules_of process.old) (abi_in state.now)
+        (memory_of state.now) (registers_of state.now) address caller.new registers.old
+        registers.new }
+    ensures none { result ≡ NONE → Unwinds (modules_of process.old) (abi_in state.now)
+        (memory_of state.now) (registers_of state.now) address None }
+    ensures refused { result ≡ REFUSED → Reports IN_ABI (abi_fault_of state.now) fault.new }
+    ensures codes { (result ≡ DONE) ⊎ (result ≡ NONE) ⊎ (result ≡ REFUSED) }
+    ensures unwritten { result ≢ DONE
+        → (caller.new ≡ caller.old) × (registers.new ≡ registers.old) }
+    ensures unreported { result ≢ REFUSED → fault.new ≡ fault.old }
+    ensures same { modules_of process.new ≡ modules_of process.old }
+{
+    let abi = match Abi::new(state.kept, state.pointer()) {
+        Ok(abi) => abi,
+        Err(why) => {
+            *fault = report(IN_ABI, why);
+            return REFUSED;
+        }
+    };
+    match caller_within(alloc, process, &abi, address, state) {
+        Some(found) => {
+            write_caller(&found, caller, registers);
+            DONE
+        }
+        None => NONE,
+    }
+}
 
 /// The frames of a stack, over what C hands in.
 fn frames_of(

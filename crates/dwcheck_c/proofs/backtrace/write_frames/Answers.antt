@@ -65,7 +65,7 @@ loop-count-preserved g c =
     let shown : c.shown_frame.result ≡ cframe_of given.0 = c.shown_frame.ensures ∙ ap cframe_by brief in
     let slots = c.loop-count.slots in let count = c.loop-count.count in
     let next = goes u begin (c.frames_that_are_given_are_a_walk.ensures.more c.args.unwinder (roles_of c.args.abi.now) memory)
-    c.loop-count.walk.progress c.args.slots.now slots count given.0 c.loop-count-test.true keeps.under_way gives in
+    c.loop-count.walk.progress c.args.slots.now slots count given.0 keeps.under_way gives in
     record {
       over = ap (λ w. w.unwinder) given.2 ∙ keeps.over;
       abi = ap (λ w. w.abi) given.2 ∙ keeps.abi;

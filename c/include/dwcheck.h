@@ -1,0 +1,199 @@
+/* dwcheck: checks and unwinds by .debug_frame and .debug_loclists sections of DWARF 5.
+
+   Each call is proved to meet its contract (crates/dwcheck_c, in the clauses of the same names), for callers that keep
+   what is written here; nothing checks that they do.
+
+   What a caller owes for every call:
+   - A pointer points to a whole, aligned value of its type, which no other argument of the call overlaps and no other
+     thread writes during the call. A pointer that comes with a length points to that many elements, and isn't null even
+     for none: any address will do then.
+   - A process (dwcheck_process) is handed to one call at a time, and is moved only by copying it and setting the old
+     one to DWCHECK_CLOSED. It may go from thread to thread, ordered by a lock, an atomic of memory_order_seq_cst, or a
+     thread's start or join. For many threads at once give each a process of its own by dwcheck_process_share: they share
+     the tables, and no lock is needed.
+   - malloc, realloc and free are of one allocator and may be called from the thread. So calls that are said to take
+     memory are not for signal handlers, nor is any call for the forked child of a process with threads.
+   - Fields called `reserved` are set to 0. A later version may give them a meaning.
+
+   Enumerations may gain values: take one that you don't know as "something else". Structures gain fields only where
+   their name says `reserved`.
+
+   Addresses, offsets and registers are numbers as DWARF has them. A target is a byte order and an address size, 4 or 8
+   bytes; w is its size in bits.
+
+   Link: cc .. libdwcheck_c.a and the allocator part of the toolchain (c/tests/run.sh shows it). */
+#ifndef DWCHECK_H
+#define DWCHECK_H
+
+#include <stdbool.h>
+#include <stddef.h>
+#include <stdint.h>
+
+#ifdef __cplusplus
+extern "C" {
+#endif
+
+/* The version of this interface: 65536 times the first number, plus the second. Where the first numbers are the same, a
+   program goes on to work with a library of a later second number. */
+#define DWCHECK_VERSION 0x10000u
+uint32_t dwcheck_version(void);
+
+/* What calls come to. */
+enum {
+    DWCHECK_DONE = 0,       /* what the call writes is there */
+    DWCHECK_REFUSED = 1,    /* `fault` says why */
+    DWCHECK_NO_MEMORY = 2,  /* malloc or realloc gave nothing */
+    DWCHECK_NO_ROOM = 3,    /* the rows of the section may take more than `room` */
+    DWCHECK_BAD_TARGET = 4, /* `order` isn't 0 or 1, or `address_size` isn't 4 or 8 */
+    DWCHECK_TOO_LONG = 5,   /* 2^32 bytes or more */
+    DWCHECK_BAD_KIND = 6,   /* the kind of an expression is none */
+    DWCHECK_NONE = 7        /* there is none of what was asked for */
+};
+
+enum { DWCHECK_LITTLE = 0, DWCHECK_BIG = 1 }; /* byte orders */
+
+/* What a fault's offset counts in. */
+enum {
+    DWCHECK_IN_FRAME = 0,      /* bytes of the frame section */
+    DWCHECK_IN_LISTS = 1,      /* bytes of the location lists */
+    DWCHECK_IN_EXPRESSION = 2, /* bytes of the expression */
+    DWCHECK_IN_ABI = 3         /* places among the registers that are kept; the stack pointer is after them */
+};
+
+/* Why something is refused: the number of the fault (docs/PROFILE.md lists them) and its offset. */
+typedef struct { uint32_t number, offset, within, reserved; } dwcheck_fault;
+
+/* The name of a fault, as "NoSuchCie", without a 0 at its end: as much of it as fits goes into `text`, and `size` is how
+   long all of it is, at most 22. DONE, or NONE where no fault has the number, and then nothing is written. No memory. */
+uint32_t dwcheck_fault_name(uint32_t number, uint8_t *text, size_t text_length, size_t *size);
+
+/* ---- sections ------------------------------------------------------------------------------------------------------ */
+
+/* Checks a .debug_frame section and a .debug_loclists section, either of which may be empty. DONE where both are well
+   formed; REFUSED with the first fault; NO_MEMORY; BAD_TARGET. A section of 2^32 bytes is refused with fault 61. It takes
+   memory in proportion to the sections, and gives it back. */
+uint32_t dwcheck_check(const uint8_t *frame, size_t frame_length, const uint8_t *lists, size_t lists_length,
+                       uint32_t order, uint32_t address_size, dwcheck_fault *fault);
+
+/* ---- processes ----------------------------------------------------------------------------------------------------- */
+
+/* A process: its modules, each a compiled .debug_frame section with a load address. The fields are the library's own.
+   Where all of it is 0 it is closed: it has no module, and every call takes it. */
+typedef struct { void *opaque; uint64_t opaque_open; } dwcheck_process;
+#define DWCHECK_CLOSED {0, 0}
+
+/* Checks a .debug_frame section, compiles all its rows, and adds them as the last module. Nothing of the section's bytes
+   is needed any more when the call returns. `load_address` is what is added to an address as linked, modulo 2^w, to have
+   the address as loaded: for a position-independent module where its first mapping begins, for another 0. `room` is how
+   many bytes the rows may take; 700 times the section's length is always enough.
+   DONE; REFUSED with the first fault of the section; NO_MEMORY; NO_ROOM; BAD_TARGET; TOO_LONG. Only DONE changes the
+   process, only REFUSED writes `fault`. Time: n log n for n bytes of programs and rows. */
+uint32_t dwcheck_process_add(dwcheck_process *process, const uint8_t *frame, size_t frame_length, uint32_t order,
+                             uint32_t address_size, uint64_t load_address, size_t room, dwcheck_fault *fault);
+
+/* Removes the first module with a load address: DONE, or NONE where no module has it. It takes no memory. */
+uint32_t dwcheck_process_remove(dwcheck_process *process, uint64_t load_address);
+
+/* Makes `other` a process of the same modules, in the place of what it is, which is closed. The tables are shared, not
+   copied, and go with the last process that has them. What is added to or removed from one of the two is not so in the
+   other. DONE or NO_MEMORY, and then `other` is as it was. `process` is as it was in either case. */
+uint32_t dwcheck_process_share(dwcheck_process *process, dwcheck_process *other);
+
+/* Lets all modules go. A closed process may be closed again. */
+void dwcheck_process_close(dwcheck_process *process);
+
+/* ---- the row of an address ----------------------------------------------------------------------------------------- */
+
+/* What a register of the caller is. An expression begins at `offset` in the section, and has `length` bytes. */
+enum {
+    DWCHECK_RULE_UNDEFINED = 1,
+    DWCHECK_RULE_SAME_VALUE = 2,
+    DWCHECK_RULE_OFFSET = 3,        /* saved at CFA + offset */
+    DWCHECK_RULE_VAL_OFFSET = 4,    /* CFA + offset */
+    DWCHECK_RULE_REGISTER = 5,      /* the content of register `source` */
+    DWCHECK_RULE_EXPRESSION = 6,    /* saved where the expression says */
+    DWCHECK_RULE_VAL_EXPRESSION = 7 /* what the expression gives */
+};
+typedef struct { int64_t offset; uint64_t length; uint16_t reg, source; uint32_t kind; } dwcheck_rule;
+
+#define DWCHECK_MAX_RULES 128
+
+/* The addresses as linked from `start` to before `end`, of the module at a load address. The CFA is register cfa.reg plus
+   cfa.offset (kind DWCHECK_RULE_VAL_OFFSET), or what an expression gives (DWCHECK_RULE_VAL_EXPRESSION). */
+typedef struct {
+    uint64_t load_address, start, end;
+    dwcheck_rule cfa;
+    uint32_t return_reg; /* the register of the return address */
+    uint32_t count;      /* how many registers have a rule */
+} dwcheck_row;
+
+/* The row of an address as loaded, by the first module that has one. The rules of its registers go into `rules` by
+   ascending registers, as many as fit. DONE, or NONE, and then nothing is written. It takes no memory. */
+uint32_t dwcheck_row_at(dwcheck_process *process, uint64_t address, dwcheck_row *row, dwcheck_rule *rules,
+                        size_t rules_length);
+
+/* ---- callers and walks --------------------------------------------------------------------------------------------- */
+
+/* Memory from an address on. */
+typedef struct { uint64_t base; const uint8_t *bytes; size_t length; } dwcheck_block;
+
+/* What a stopped thread has. Register n has contents[n] where bit n % 8 of known[n / 8] is set, both being there. Memory is
+   the blocks' bytes; an address that two blocks have is that of the first. Calls keep the registers `kept`, 127 at most; if
+   has_stack_pointer isn't 0, the stack pointer's value in a caller is the CFA. No register stands there twice. */
+typedef struct {
+    const uint64_t *contents;
+    size_t contents_length;
+    const uint8_t *known;
+    size_t known_length;
+    const dwcheck_block *blocks;
+    size_t blocks_length;
+    const uint16_t *kept;
+    size_t kept_length;
+    uint16_t stack_pointer, has_stack_pointer;
+    uint32_t reserved;
+} dwcheck_state;
+
+/* What is known of a number. */
+enum {
+    DWCHECK_NOT_COVERED = 0,     /* no FDE covers the address that is looked up */
+    DWCHECK_VALUE = 1,           /* it is `value`, below 2^w */
+    DWCHECK_UNDEFINED = 2,       /* it can't be had */
+    DWCHECK_UNREADABLE = 3,      /* it takes a register or memory that isn't handed in */
+    DWCHECK_DIVISION_BY_ZERO = 4 /* its expression divides by zero */
+};
+typedef struct { uint64_t value; uint32_t kind, reserved; } dwcheck_answer;
+typedef struct { uint64_t value; uint32_t kind, number; } dwcheck_register;
+
+/* A caller: its canonical frame address, where it goes on, and how many registers have a rule of the row or of the ABI. */
+typedef struct { dwcheck_answer cfa, return_address; uint64_t count; } dwcheck_caller;
+
+#define DWCHECK_MAX_REGISTERS 256
+
+/* The caller of the frame at an address as loaded, by the first module that has a row for it. Its registers go into
+   `registers` by ascending numbers, as many as fit. DONE; NONE where no module has a row; REFUSED where the ABI names too
+   many registers or one twice, and then alone `fault` is written. It takes no memory, and some 12 KB of stack. */
+uint32_t dwcheck_unwind(dwcheck_process *process, uint64_t address, const dwcheck_state *state, dwcheck_caller *caller,
+                        dwcheck_register *registers, size_t registers_length, dwcheck_fault *fault);
+
+/* A frame: its address, and its canonical frame address. */
+typedef struct { uint64_t address; dwcheck_answer cfa; } dwcheck_frame;
+
+/* Why a walk ends. */
+enum {
+    DWCHECK_STOP_LIMIT = 0,            /* there are as many frames as slots */
+    DWCHECK_STOP_NOT_COVERED = 1,      /* no module has a row for the last frame */
+    DWCHECK_STOP_RETURN_UNDEFINED = 2, /* the walk is complete */
+    DWCHECK_STOP_RETURN_UNREADABLE = 3,
+    DWCHECK_STOP_RETURN_DIVISION_BY_ZERO = 4
+};
+
+/* Walks up the stack from the frame at `address`, into `frames`, as many as fit; `count` is how many there are, and `stop`
+   why there are no more. The first frame is looked up at its address, each other at the address before its own. DONE, or
+   REFUSED as dwcheck_unwind; only DONE writes `frames`, `count` and `stop`. It takes no memory, and some 20 KB of stack. */
+uint32_t dwcheck_backtrace(dwcheck_process *process, uint64_t address, const dwcheck_state *state, dwcheck_frame *frames,
+                           size_t frames_length, size_t *count, uint32_t *stop, dwcheck_fault *fault);
+
+#ifdef __cplusplus
+}
+#endif
+#endif

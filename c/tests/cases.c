@@ -1,0 +1,281 @@
+/* Each call on good input and at the edges. It prints what is wrong, and a last line. */
+#include "dwcheck.h"
+#include <dlfcn.h>
+#include <pthread.h>
+#include <stdio.h>
+#include <stdlib.h>
+#include <string.h>
+
+/* each request for memory may be refused; requests and gifts are counted */
+static long until = -1, asked, held;
+void *malloc(size_t n) {
+    static void *(*real)(size_t);
+    if (!real) *(void **)&real = dlsym(RTLD_NEXT, "malloc");
+    asked++;
+    if (until >= 0 && until-- == 0) return NULL;
+    __atomic_add_fetch(&held, 1, __ATOMIC_SEQ_CST);
+    return real(n);
+}
+void *realloc(void *p, size_t n) {
+    static void *(*real)(void *, size_t);
+    if (!real) *(void **)&real = dlsym(RTLD_NEXT, "realloc");
+    asked++;
+    if (until >= 0 && until-- == 0) return NULL;
+    if (!p) __atomic_add_fetch(&held, 1, __ATOMIC_SEQ_CST);
+    return real(p, n);
+}
+void free(void *p) {
+    static void (*real)(void *);
+    if (!real) *(void **)&real = dlsym(RTLD_NEXT, "free");
+    if (p) __atomic_sub_fetch(&held, 1, __ATOMIC_SEQ_CST);
+    real(p);
+}
+
+static int wrong;
+#define IS(what, want)                                                                                 \
+    do {                                                                                               \
+        long long is_ = (long long)(what), want_ = (long long)(want);                                  \
+        if (is_ != want_) { wrong++; printf("%d: %s is %lld, not %lld\n", __LINE__, #what, is_, want_); } \
+    } while (0)
+
+/* a CIE (version 4, return address register 16, CFA r7+8, r16 at c-8) and an FDE of 0x1000..0x1100 */
+static const uint8_t good[] = {
+    0x14, 0, 0, 0, 0xff, 0xff, 0xff, 0xff, 4, 0, 8, 0, 1, 0x78, 16, 0x0c, 7, 8, 0x90, 1, 0, 0, 0, 0,
+    0x14, 0, 0, 0, 0, 0, 0, 0, 0, 0x10, 0, 0, 0, 0, 0, 0, 0, 1, 0, 0, 0, 0, 0, 0};
+/* the same for 32 bits, with the return address register 8 and the CFA r4+4 */
+static const uint8_t four[] = {
+    0x14, 0, 0, 0, 0xff, 0xff, 0xff, 0xff, 4, 0, 4, 0, 1, 0x7c, 8, 0x0c, 4, 4, 0x88, 1, 0, 0, 0, 0,
+    0x0c, 0, 0, 0, 0, 0, 0, 0, 0, 0x10, 0, 0, 0, 1, 0, 0};
+static const uint8_t bad[] = {1, 0, 0, 0, 0};
+static const size_t room = 1 << 20;
+
+static dwcheck_fault fault = {9, 9, 9, 0};
+static uint64_t contents[17];
+static uint8_t known[3] = {0x80, 0, 0};
+static uint16_t kept[200] = {3, 6};
+static uint64_t words[4] = {0, 0x71f000001020, 0x55005, 0};
+static dwcheck_block blocks[2] = {{0x7f00, NULL, 32}, {0x7f10, NULL, 8}};
+static dwcheck_frame frames[8];
+static dwcheck_rule rules[4];
+static dwcheck_register registers[4];
+
+static dwcheck_state state(size_t keeps) {
+    dwcheck_state s = {contents, 17, known, 3, blocks, 1, kept, keeps, 7, 1, 0};
+    return s;
+}
+
+static uint32_t add(dwcheck_process *p, uint64_t load) {
+    return dwcheck_process_add(p, good, sizeof good, DWCHECK_LITTLE, 8, load, room, &fault);
+}
+
+static size_t count;
+static uint32_t stop;
+static uint32_t walk(dwcheck_process *p, uint64_t at, size_t n, size_t keeps) {
+    dwcheck_state s = state(keeps);
+    return dwcheck_backtrace(p, at, &s, frames, n, &count, &stop, &fault);
+}
+
+static void closed(void) {
+    dwcheck_process p = DWCHECK_CLOSED;
+    dwcheck_row row;
+    dwcheck_caller caller;
+    dwcheck_state s = state(2);
+    IS(walk(&p, 0x1010, 8, 2), DWCHECK_DONE); IS(count, 1); IS(stop, DWCHECK_STOP_NOT_COVERED);
+    IS(frames[0].address, 0x1010); IS(frames[0].cfa.kind, DWCHECK_NOT_COVERED);
+    IS(walk(&p, 0x1010, 0, 2), DWCHECK_DONE); IS(count, 0); IS(stop, DWCHECK_STOP_LIMIT);
+    IS(dwcheck_row_at(&p, 0x1010, &row, rules, 4), DWCHECK_NONE);
+    IS(dwcheck_unwind(&p, 0x1010, &s, &caller, registers, 4, &fault), DWCHECK_NONE);
+    IS(dwcheck_process_remove(&p, 0), DWCHECK_NONE);
+    dwcheck_process_close(&p);
+    dwcheck_process_close(&p);
+}
+
+static void refusals(void) {
+    dwcheck_process p = DWCHECK_CLOSED;
+    fault.number = 9;
+    IS(dwcheck_process_add(&p, good, sizeof good, 2, 8, 0, room, &fault), DWCHECK_BAD_TARGET);
+    IS(dwcheck_process_add(&p, good, sizeof good, 256, 8, 0, room, &fault), DWCHECK_BAD_TARGET);
+    IS(dwcheck_process_add(&p, good, sizeof good, 0, 5, 0, room, &fault), DWCHECK_BAD_TARGET);
+    IS(dwcheck_process_add(&p, good, sizeof good, 0, 264, 0, room, &fault), DWCHECK_BAD_TARGET);
+    IS(dwcheck_process_add(&p, good, sizeof good, 0, 8, 0, 10, &fault), DWCHECK_NO_ROOM);
+    IS(dwcheck_process_add(&p, good, (size_t)1 << 32, 0, 8, 0, room, &fault), DWCHECK_TOO_LONG);
+    IS(fault.number, 9);
+    IS(dwcheck_process_add(&p, bad, sizeof bad, 0, 8, 0, room, &fault), DWCHECK_REFUSED);
+    IS(fault.number, 1); IS(fault.within, DWCHECK_IN_FRAME);
+    IS(p.opaque == NULL, 1); /* it is closed still: nothing is to be let go */
+    IS(dwcheck_check(good, sizeof good, bad, 0, 0, 8, &fault), DWCHECK_DONE);
+    IS(dwcheck_check(good, 0, bad, 0, 0, 8, &fault), DWCHECK_DONE);
+    IS(dwcheck_check(good, sizeof good, bad, 0, 3, 8, &fault), DWCHECK_BAD_TARGET);
+    IS(dwcheck_check(good, sizeof good, bad, sizeof bad, 0, 8, &fault), DWCHECK_REFUSED); IS(fault.within, DWCHECK_IN_LISTS);
+    IS(dwcheck_check(good, sizeof good, good, (size_t)1 << 32, 0, 8, &fault), DWCHECK_REFUSED); IS(fault.number, 61);
+}
+
+static void walks(void) {
+    dwcheck_process p = DWCHECK_CLOSED;
+    dwcheck_row row;
+    dwcheck_caller caller;
+    dwcheck_state s = state(2);
+    long before;
+    size_t i;
+    /* an empty section is a module, too; the others are loaded at 0x71f000000000, and at -0x800 modulo 2^64 */
+    IS(dwcheck_process_add(&p, good, 0, 0, 8, 0x5000, room, &fault), DWCHECK_DONE);
+    IS(add(&p, 0x71f000000000), DWCHECK_DONE);
+    IS(add(&p, (uint64_t)-0x800), DWCHECK_DONE);
+    IS(walk(&p, 0x810, 8, 2), DWCHECK_DONE); IS(count, 3); IS(stop, DWCHECK_STOP_NOT_COVERED);
+    IS(frames[0].cfa.value, 0x7f10); IS(frames[0].cfa.kind, DWCHECK_VALUE); IS(frames[1].address, 0x71f000001020);
+    IS(frames[1].cfa.value, 0x7f18); IS(frames[2].address, 0x55005); IS(frames[2].cfa.kind, DWCHECK_NOT_COVERED);
+    memset(frames, 0x55, sizeof frames); /* more frames than slots: the others are as before */
+    IS(walk(&p, 0x810, 2, 2), DWCHECK_DONE); IS(count, 2); IS(stop, DWCHECK_STOP_LIMIT); IS(frames[2].address, 0x5555555555555555);
+    IS(dwcheck_row_at(&p, 0x71f0000010ff, &row, rules, 4), DWCHECK_DONE); IS(row.load_address, 0x71f000000000);
+    IS(row.start, 0x1000); IS(row.end, 0x1100); IS(row.cfa.kind, DWCHECK_RULE_VAL_OFFSET); IS(row.cfa.reg, 7); IS(row.cfa.offset, 8);
+    IS(row.return_reg, 16); IS(row.count, 1); IS(rules[0].kind, DWCHECK_RULE_OFFSET); IS(rules[0].reg, 16); IS(rules[0].offset, -8);
+    rules[0].kind = 99;
+    IS(dwcheck_row_at(&p, 0x71f0000010ff, &row, rules, 0), DWCHECK_DONE); IS(row.count, 1); IS(rules[0].kind, 99);
+    IS(dwcheck_row_at(&p, 0x71f000001100, &row, rules, 4), DWCHECK_NONE);
+    IS(dwcheck_unwind(&p, 0x810, &s, &caller, registers, 4, &fault), DWCHECK_DONE); IS(caller.cfa.value, 0x7f10);
+    IS(caller.return_address.value, 0x71f000001020); IS(caller.count, 4); IS(registers[0].number, 3); IS(registers[0].kind, DWCHECK_UNREADABLE);
+    IS(registers[2].number, 7); IS(registers[2].value, 0x7f10); IS(registers[3].number, 16); IS(registers[3].kind, DWCHECK_VALUE);
+    registers[1].number = 99;
+    IS(dwcheck_unwind(&p, 0x810, &s, &caller, registers, 1, &fault), DWCHECK_DONE); IS(caller.count, 4); IS(registers[1].number, 99);
+    IS(dwcheck_unwind(&p, 0x9999, &s, &caller, registers, 4, &fault), DWCHECK_NONE);
+    /* ABIs that are refused */
+    kept[1] = 3;
+    IS(walk(&p, 0x1010, 8, 2), DWCHECK_REFUSED); IS(fault.number, 63); IS(fault.offset, 1); IS(fault.within, DWCHECK_IN_ABI);
+    kept[1] = 7;
+    IS(walk(&p, 0x1010, 8, 2), DWCHECK_REFUSED); IS(fault.number, 63); IS(fault.offset, 2);
+    IS(dwcheck_unwind(&p, 0x810, &s, &caller, registers, 4, &fault), DWCHECK_REFUSED);
+    for (i = 0; i < 200; i++) kept[i] = (uint16_t)(100 + i);
+    IS(walk(&p, 0x1010, 8, 128), DWCHECK_REFUSED); IS(fault.number, 62);
+    IS(walk(&p, 0x810, 8, 127), DWCHECK_DONE); IS(count, 3);
+    kept[0] = 3; kept[1] = 6;
+    known[0] = 0; /* the stack pointer isn't known */
+    IS(walk(&p, 0x810, 8, 2), DWCHECK_DONE); IS(count, 1); IS(stop, DWCHECK_STOP_RETURN_UNREADABLE); IS(frames[0].cfa.kind, DWCHECK_UNREADABLE);
+    known[0] = 0x80;
+    s = state(2);
+    s.known_length = 0; /* more registers than bits that say what is known */
+    IS(dwcheck_backtrace(&p, 0x810, &s, frames, 8, &count, &stop, &fault), DWCHECK_DONE); IS(count, 1); IS(stop, DWCHECK_STOP_RETURN_UNREADABLE);
+    s = state(2);
+    s.contents_length = 7; /* more bits than registers */
+    IS(dwcheck_backtrace(&p, 0x810, &s, frames, 8, &count, &stop, &fault), DWCHECK_DONE); IS(count, 1);
+    blocks[0].length = 15; /* the return address is cut */
+    IS(walk(&p, 0x810, 8, 2), DWCHECK_DONE); IS(count, 1); IS(stop, DWCHECK_STOP_RETURN_UNREADABLE); IS(frames[0].cfa.kind, DWCHECK_VALUE);
+    blocks[0].length = 12; /* a word in two blocks, the second of which overlaps the first */
+    blocks[1].base = 0x7f0a; blocks[1].bytes = (uint8_t *)words + 10; blocks[1].length = 22;
+    s = state(2);
+    s.blocks_length = 2;
+    IS(dwcheck_backtrace(&p, 0x810, &s, frames, 8, &count, &stop, &fault), DWCHECK_DONE); IS(count, 3); IS(frames[1].address, 0x71f000001020);
+    blocks[1].bytes = (uint8_t *)words; /* where both have a byte, the first block's counts */
+    blocks[0].length = 32;
+    IS(dwcheck_backtrace(&p, 0x810, &s, frames, 8, &count, &stop, &fault), DWCHECK_DONE); IS(count, 3);
+    s.has_stack_pointer = 0; /* the second CFA needs the stack pointer */
+    IS(dwcheck_backtrace(&p, 0x810, &s, frames, 8, &count, &stop, &fault), DWCHECK_DONE); IS(count, 2); IS(frames[1].cfa.kind, DWCHECK_UNREADABLE);
+    before = asked; /* these calls ask for no memory */
+    s = state(2);
+    IS(walk(&p, 0x810, 8, 2), DWCHECK_DONE);
+    IS(dwcheck_row_at(&p, 0x810, &row, rules, 4), DWCHECK_DONE);
+    IS(dwcheck_unwind(&p, 0x810, &s, &caller, registers, 4, &fault), DWCHECK_DONE);
+    IS(dwcheck_process_remove(&p, 0x71f000000000), DWCHECK_DONE);
+    IS(asked - before, 0);
+    IS(walk(&p, 0x810, 8, 2), DWCHECK_DONE); IS(count, 2); IS(stop, DWCHECK_STOP_NOT_COVERED);
+    IS(dwcheck_process_remove(&p, 0x71f000000000), DWCHECK_NONE);
+    dwcheck_process_close(&p);
+    IS(walk(&p, 0x810, 8, 2), DWCHECK_DONE); IS(count, 1);
+    IS(dwcheck_process_add(&p, four, sizeof four, 0, 4, 0xfffff000, room, &fault), DWCHECK_DONE); /* 0x1010 is loaded at 0x10 */
+    IS(dwcheck_row_at(&p, 0x10, &row, rules, 4), DWCHECK_DONE); IS(row.start, 0x1000); IS(row.return_reg, 8);
+    dwcheck_process_close(&p);
+}
+
+/* the section's bytes may go */
+static void own_bytes(void) {
+    dwcheck_process p = DWCHECK_CLOSED;
+    dwcheck_row row;
+    uint8_t own[sizeof good];
+    memcpy(own, good, sizeof good);
+    IS(dwcheck_process_add(&p, own, sizeof own, 0, 8, 0, room, &fault), DWCHECK_DONE);
+    memset(own, 0xff, sizeof own);
+    IS(dwcheck_row_at(&p, 0x1010, &row, rules, 4), DWCHECK_DONE);
+    dwcheck_process_close(&p);
+}
+
+static void *in_thread(void *process) {
+    size_t i;
+    dwcheck_state s = state(2);
+    dwcheck_frame own[8];
+    size_t many;
+    uint32_t why;
+    dwcheck_fault f;
+    long errors = 0;
+    for (i = 0; i < 20000; i++) {
+        errors += dwcheck_backtrace(process, 0x810, &s, own, 8, &many, &why, &f) != DWCHECK_DONE || many != 3 || own[1].cfa.value != 0x7f18;
+    }
+    dwcheck_process_close(process);
+    return (void *)errors;
+}
+
+static void threads(void) {
+    dwcheck_process p = DWCHECK_CLOSED, others[4] = {DWCHECK_CLOSED, DWCHECK_CLOSED, DWCHECK_CLOSED, DWCHECK_CLOSED};
+    pthread_t ids[4];
+    void *errors;
+    size_t i;
+    IS(dwcheck_process_share(&p, &others[0]), DWCHECK_DONE);
+    IS(walk(&others[0], 0x810, 8, 2), DWCHECK_DONE); IS(count, 1);
+    IS(add(&p, 0x71f000000000), DWCHECK_DONE);
+    IS(add(&p, (uint64_t)-0x800), DWCHECK_DONE);
+    for (i = 0; i < 4; i++) IS(dwcheck_process_share(&p, &others[i]), DWCHECK_DONE);
+    IS(dwcheck_process_remove(&p, 0x71f000000000), DWCHECK_DONE); /* the others have it still */
+    for (i = 0; i < 4; i++) pthread_create(&ids[i], NULL, in_thread, &others[i]);
+    dwcheck_process_close(&p);
+    for (i = 0; i < 4; i++) { pthread_join(ids[i], &errors); IS((long)errors, 0); }
+}
+
+static long memory(void) {
+    long m, left, before = held;
+    for (m = 0;; m++) { /* each request of an add and of a share, the first add and a second one */
+        dwcheck_process p = DWCHECK_CLOSED, q = DWCHECK_CLOSED;
+        dwcheck_row row;
+        uint32_t first, second, third;
+        until = m;
+        first = add(&p, 0);
+        second = add(&p, 0x10000);
+        third = dwcheck_process_share(&p, &q);
+        left = until;
+        until = -1;
+        IS(first == DWCHECK_DONE || first == DWCHECK_NO_MEMORY, 1);
+        IS((first == DWCHECK_NO_MEMORY) + (second == DWCHECK_NO_MEMORY) + (third == DWCHECK_NO_MEMORY), left < 0);
+        IS(dwcheck_row_at(&p, 0x1010, &row, rules, 4), first == DWCHECK_DONE ? DWCHECK_DONE : DWCHECK_NONE);
+        IS(dwcheck_row_at(&p, 0x11010, &row, rules, 4), second == DWCHECK_DONE ? DWCHECK_DONE : DWCHECK_NONE);
+        IS(dwcheck_row_at(&q, 0x11010, &row, rules, 4), third == DWCHECK_DONE && second == DWCHECK_DONE ? DWCHECK_DONE : DWCHECK_NONE);
+        dwcheck_process_close(&p);
+        dwcheck_process_close(&q);
+        IS(held - before, 0);
+        if (left >= 0) return m;
+    }
+}
+
+static void names(void) {
+    uint8_t text[32];
+    size_t size = 99;
+    memset(text, '.', sizeof text);
+    IS(dwcheck_fault_name(9, text, sizeof text, &size), DWCHECK_DONE); IS(size, 9); IS(memcmp(text, "NoSuchCie.", 10), 0);
+    memset(text, '.', sizeof text);
+    IS(dwcheck_fault_name(9, text, 4, &size), DWCHECK_DONE); IS(size, 9); IS(memcmp(text, "NoSu.", 5), 0);
+    IS(dwcheck_fault_name(16, text, sizeof text, &size), DWCHECK_DONE); IS(size, 22);
+    IS(dwcheck_fault_name(8, text, sizeof text, &size), DWCHECK_NONE);
+    IS(dwcheck_fault_name(265, text, sizeof text, &size), DWCHECK_NONE); IS(size, 22);
+    IS(dwcheck_version(), DWCHECK_VERSION);
+}
+
+int main(void) {
+    long m;
+    contents[7] = 0x7f08; /* the CFA is 0x7f10, the return address is at 0x7f08 */
+    blocks[0].bytes = (uint8_t *)words;
+    closed();
+    refusals();
+    walks();
+    own_bytes();
+    names();
+    threads();
+    m = memory();
+    printf("%ld requests for memory were refused, each alone; %d wrong\n", m, wrong);
+    return wrong != 0;
+}

@@ -1,0 +1,20 @@
+#!/bin/sh
+# Builds the C cases against the static library (crates/dwcheck_c, by `rt lib`) and runs them. The header is compiled as C11
+# and as C++17. Valgrind looks on, if it is there.
+set -eu
+here=$(cd "$(dirname "$0")" && pwd)
+top=$(dirname "$(dirname "$here")")
+kit=$(dirname "$(rt doc)")
+library=$top/crates/dwcheck_c/out/libdwcheck_c.a
+out=$(mktemp -d)
+trap 'rm -rf "$out"' EXIT
+printf '#include "dwcheck.h"\n' > "$out/header.c"
+cp "$out/header.c" "$out/header.cc"
+strict="-Wall -Wextra -pedantic -Werror -I$top/c/include"
+cc -std=c11 $strict -c "$out/header.c" -o "$out/header.o"
+c++ -std=c++17 $strict -c "$out/header.cc" -o "$out/header.o"
+cc -std=gnu11 -D_GNU_SOURCE $strict -O2 -g "$here/cases.c" "$library" "$kit/c/liblibc_c.a" -o "$out/cases" -pthread -ldl
+"$out/cases"
+if command -v valgrind > /dev/null; then
+    valgrind -q --error-exitcode=1 --leak-check=full "$out/cases"
+fi

@@ -1,0 +1,31 @@
+-- Callers as C has them.
+use Rattle.std.specs.Prelude.{◌≡◌, ℕ, List, length, map, Option, Some}
+use Rattle.dw_rows.specs.Abi.{Abi}
+use Rattle.dw_unwind.specs.Caller.{Answer, Caller}
+use Rattle.dw_unwind.specs.Modules.{over_tables}
+use Rattle.dw_process.specs.Processes.{Modules}
+use Rattle.dwcheck_c.specs.Frames.{canswer_of}
+use Rattle.dwcheck_c.specs.Slots.{put_into}
+use Rattle.dwcheck_c.specs.declared.callers.CRegister.{CRegister}
+use Rattle.dwcheck_c.specs.declared.callers.CCaller.{CCaller}
+
+abbrev pub cregister_of : ℕ × Answer → CRegister
+cregister_of found = record { value = (canswer_of found.1).value; kind = (canswer_of found.1).kind; number = found.0 }
+
+-- a caller, and its registers, of which as many are in the slots as fit
+pub record ShowsCaller (caller : Caller) (out : CCaller) (old new : List CRegister) : Type 0 where
+  pub cfa : out.cfa ≡ canswer_of caller.cfa
+  pub return_address : out.return_address ≡ canswer_of caller.return_address
+  pub count : out.count ≡ length caller.registers
+  pub registers : new ≡ put_into (map cregister_of caller.registers) old
+
+-- the caller through the modules of a process, or that no module has a row for the address
+pub record Unwinds (modules : Modules) (abi : Abi) (memory registers : ℕ → Option ℕ) (address : ℕ) (caller : Option Caller) : Type 0 where
+  pub is : over_tables abi memory modules registers address caller
+
+-- there is a caller, and this is it in C's form
+pub record IsCaller (modules : Modules) (abi : Abi) (memory registers : ℕ → Option ℕ) (address : ℕ) (out : CCaller)
+    (old new : List CRegister) : Type 0 where
+  pub caller : Caller
+  pub unwinds : Unwinds modules abi memory registers address (Some caller)
+  pub shows : ShowsCaller caller out old new

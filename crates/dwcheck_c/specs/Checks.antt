@@ -1,0 +1,18 @@
+-- What a check reports.
+use Rattle.std.specs.Prelude.{◌≡◌, ℕ, Option, Some}
+use Rattle.dw_check.specs.declared.stop.Section.{Section}
+use Rattle.dw_check.specs.declared.stop.Section.TheVariants.{Frame, Lists, Expression}
+use Rattle.dw_check.specs.declared.whole_check.CheckFault.{CheckFault}
+use Rattle.dwcheck_c.specs.declared.fault.CFault.{CFault}
+use Rattle.dwcheck_c.specs.declared.fault.TheConstants.{IN_FRAME, IN_LISTS, IN_EXPRESSION}
+use Rattle.dwcheck_c.specs.Faults.{cfault_of}
+
+-- what a fault's offset counts in
+abbrev pub section_number : Section → ℕ
+section_number Frame = IN_FRAME
+section_number Lists = IN_LISTS
+section_number Expression = IN_EXPRESSION
+
+-- there is a first fault, and this is it in C's form
+abbrev pub ReportsOf : Option CheckFault → CFault → Type 0
+ReportsOf first report = (found : CheckFault) × (first ≡ Some found) × (report ≡ cfault_of (section_number found.section) found.fault)

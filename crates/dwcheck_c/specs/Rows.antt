@@ -1,0 +1,37 @@
+-- Rows as C has them.
+use Rattle.std.specs.Prelude.{◌≡◌, ℕ, pos, List, length, map, Some, option_map}
+use Rattle.dw_rows.specs.Rules.{Rule, Cfa, default, undefined, same_value, offset, val_offset, register, expression, val_expression}
+use Rattle.dw_rows.specs.Rules.{register_and_offset, cfa_expression}
+use Rattle.dw_process.specs.declared.found_row.FoundRow.{FoundRow}
+use Rattle.dwcheck_c.specs.Slots.{put_into}
+use Rattle.dwcheck_c.specs.declared.row.CRule.{CRule}
+use Rattle.dwcheck_c.specs.declared.row.CRow.{CRow}
+
+-- a register with its rule; of an expression, where it begins in the section, and how long it is
+abbrev pub coded : ℕ → Rule → CRule
+coded r default = record { offset = pos 0; length = 0; register = r; source = 0; kind = 0 }
+coded r undefined = record { offset = pos 0; length = 0; register = r; source = 0; kind = 1 }
+coded r same_value = record { offset = pos 0; length = 0; register = r; source = 0; kind = 2 }
+coded r (offset n) = record { offset = n; length = 0; register = r; source = 0; kind = 3 }
+coded r (val_offset n) = record { offset = n; length = 0; register = r; source = 0; kind = 4 }
+coded r (register other) = record { offset = pos 0; length = 0; register = r; source = other; kind = 5 }
+coded r (expression e) = record { offset = pos e.offset; length = length e.bytes; register = r; source = 0; kind = 6 }
+coded r (val_expression e) = record { offset = pos e.offset; length = length e.bytes; register = r; source = 0; kind = 7 }
+
+abbrev pub crule_of : ℕ × Rule → CRule
+crule_of x = coded x.0 x.1
+
+-- the CFA's rule, as if it were that of a register
+abbrev pub cfa_coded : Cfa → CRule
+cfa_coded (register_and_offset r n) = record { offset = n; length = 0; register = r; source = 0; kind = 4 }
+cfa_coded (cfa_expression e) = record { offset = pos e.offset; length = length e.bytes; register = 0; source = 0; kind = 7 }
+
+-- a row that was found, and its rules, of which as many are in the slots as fit
+pub record IsRowOf (found : FoundRow) (row : CRow) (old new : List CRule) : Type 0 where
+  pub load_address : row.load_address ≡ found.load_address
+  pub start : row.start ≡ found.row.start
+  pub end : row.end ≡ found.row.end
+  pub cfa : option_map cfa_coded found.row.cfa ≡ Some row.cfa
+  pub return_register : row.return_register ≡ found.return_register
+  pub count : row.count ≡ length found.row.rules
+  pub rules : new ≡ put_into (map crule_of found.row.rules) old

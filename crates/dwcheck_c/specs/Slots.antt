@@ -1,0 +1,8 @@
+-- What is written to slots of C's.
+use Rattle.std.specs.Prelude.{List, [], ◌∷◌}
+
+-- slots with these at the front, as many as fit; the others are as before
+abbrev pub put_into : {X : Type 0} → List X → List X → List X
+put_into [] slots = slots
+put_into (x ∷ xs) [] = []
+put_into (x ∷ xs) (slot ∷ slots) = x ∷ put_into xs slots

@@ -1,0 +1,82 @@
+//! Callers as C has them.
+
+ghost use Rattle.std.specs.Prelude.{◌≡◌, map, option_map};
+ghost use Rattle.dw_rows.specs.AbiViews.{roles_of};
+ghost use Rattle.dw_unwind.specs.CallerViews.{answer_in, caller_in, found_in};
+ghost use Rattle.dwcheck_c.specs.Callers.{ShowsCaller, Unwinds, cregister_of};
+ghost use Rattle.dwcheck_c.specs.Slots.{put_into};
+
+use crate::answer::{CAnswer, shown_answer};
+use crate::slots::put;
+use dw_eval::{Memory, Registers};
+use dw_process::SharedTable;
+use dw_rows::Abi;
+use dw_unwind::laws::unwindings_through_what_is_found;
+use dw_unwind::{Answer, Caller, Module, unwind_in};
+
+/// A register of a caller: its number, with what is known of it, by the kinds of `CAnswer`.
+#[repr(C)]
+#[derive(Clone, Copy, Debug)]
+pub struct CRegister {
+    pub value: u64,
+    pub kind: u32,
+    pub number: u32,
+}
+
+/// A caller: its canonical frame address, where it goes on, and how many registers have a rule.
+#[repr(C)]
+#[derive(Clone, Copy, Debug)]
+pub struct CCaller {
+    pub cfa: CAnswer,
+    pub return_address: CAnswer,
+    pub count: u64,
+}
+
+/// A register in C's form.
+fn shown_register(number: u16, answer: Answer) -> CRegister
+    ensures { result ≡ cregister_of (number, answer_in answer) }
+{
+    let shown = shown_answer(answer);
+    CRegister {
+        value: shown.value,
+        kind: shown.kind,
+        number: u32::from(number),
+    }
+}
+
+/// Writes registers to slots.
+fn write_registers(found: &[(u16, Answer)], slots: &mut [CRegister])
+    ensures { slots.new ≡ put_into (map cregister_of (map found_in found.now)) slots.old }
+{
+    for (index, register) in found.iter().enumerate() {
+        put(slots, index, shown_register(register.0, register.1));
+    }
+}
+
+/// Writes a caller, and its registers to slots.
+pub(crate) fn write_caller(caller: &Caller, out: &mut CCaller, slots: &mut [CRegister])
+    ensures { ShowsCaller (caller_in caller.now) out.new slots.old slots.new }
+{
+    let found = caller.registers.as_slice();
+    write_registers(found, slots);
+    *out = CCaller {
+        cfa: shown_answer(caller.cfa),
+        return_address: shown_answer(caller.return_address),
+        count: found.len() as u64,
+    };
+}
+
+/// The caller through the modules of a process.
+pub(crate) fn caller_through<R: Registers, M: Memory>(
+    modules: &[Module<SharedTable>],
+    abi: &Abi,
+    address: u64,
+    registers: &R,
+    memory: &M,
+) -> Option<Caller>
+    ensures { Unwinds modules.now (roles_of abi.now) (M.bytes memory.now)
+        (R.contents registers.now) address (option_map caller_in result) }
+{
+    unwindings_through_what_is_found();
+    unwind_in(modules, abi, address, registers, memory)
+}

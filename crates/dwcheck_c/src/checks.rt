@@ -1,0 +1,57 @@
+//! Sections checked.
+
+ghost use Rattle.std.specs.Prelude.{◌≡◌, ◌≢◌, ◌⊎◌, None};
+ghost use Rattle.std.specs.Option.{IsSomeAnd};
+ghost use Rattle.dw_check.specs.Checked.{AreWellFormed, check_fault};
+ghost use Rattle.dwcheck_c.specs.Checks.{ReportsOf, section_number};
+ghost use Rattle.dwcheck_c.specs.Targets.{target_by};
+
+use crate::fault::{CFault, IN_EXPRESSION, IN_FRAME, IN_LISTS, report};
+use crate::status::{BAD_TARGET, DONE, NO_MEMORY, REFUSED};
+use crate::target::target;
+use dw_bytes::FaultKind;
+use dw_check::{Section, check};
+use std::alloc::Global;
+
+/// What the offset of a fault in a section counts in.
+fn within(section: Section) -> u32
+    ensures { result ≡ section_number section }
+{
+    match section {
+        Section::Frame => IN_FRAME,
+        Section::Lists => IN_LISTS,
+        Section::Expression => IN_EXPRESSION,
+    }
+}
+
+/// Checks a frame section and location lists, either of which may be empty.
+#[unsafe(no_mangle)]
+pub extern "C" fn dwcheck_check(
+    alloc: Global,
+    frame: &[u8],
+    lists: &[u8],
+    order: u32,
+    address_size: u32,
+    fault: &mut CFault,
+) -> u32
+    ensures done { result ≡ DONE → IsSomeAnd (target_by order address_size)
+        (λ target. AreWellFormed target frame.now lists.now) }
+    ensures refused { result ≡ REFUSED → IsSomeAnd (target_by order address_size)
+        (λ target. ReportsOf (check_fault target frame.now lists.now) fault.new) }
+    ensures target { result ≡ BAD_TARGET → target_by order address_size ≡ None }
+    ensures codes { (result ≡ DONE) ⊎ (result ≡ REFUSED) ⊎ (result ≡ NO_MEMORY)
+        ⊎ (result ≡ BAD_TARGET) }
+    ensures unreported { result ≢ REFUSED → fault.new ≡ fault.old }
+{
+    let Some(target) = target(order, address_size) else {
+        return BAD_TARGET;
+    };
+    match check(alloc, frame, lists, target) {
+        Ok(_) => DONE,
+        Err(found) if found.fault.kind == FaultKind::Memory => NO_MEMORY,
+        Err(found) => {
+            *fault = report(within(found.section), found.fault);
+            REFUSED
+        }
+    }
+}

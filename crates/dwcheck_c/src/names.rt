@@ -1,0 +1,115 @@
+//! The names of faults, and the version.
+
+ghost use Rattle.std.specs.Prelude.{◌≡◌, ◌≢◌, ◌==◌, ◌⊎◌, IfSome, Some, find, length};
+ghost use Rattle.std.specs.Option.{IsSomeAnd};
+ghost use Rattle.dw_bytes.specs.Faults.{number_of};
+ghost use Rattle.dw_bytes.specs.Names.{name_of};
+ghost use Rattle.dw_bytes.specs.declared.fault.FaultKind.{FaultKind as OfKind};
+ghost use Rattle.dwcheck_c.specs.Slots.{put_into};
+
+use crate::slots::write_all;
+use crate::status::{DONE, NONE};
+use dw_bytes::FaultKind;
+
+/// The version of this interface: 65536 times the first number, plus the second. Where the first number is the same, what a program
+/// was built with goes on to work.
+const VERSION: u32 = 0x1_0000;
+
+/// All kinds of faults.
+const KINDS: [FaultKind; 47] = [
+    FaultKind::Truncated,
+    FaultKind::LebRange,
+    FaultKind::ReservedLength,
+    FaultKind::Version,
+    FaultKind::Augmentation,
+    FaultKind::AddressSize,
+    FaultKind::SegmentSize,
+    FaultKind::NoSuchCie,
+    FaultKind::RegisterNumber,
+    FaultKind::RangePastTop,
+    FaultKind::UnknownInstruction,
+    FaultKind::NotInCie,
+    FaultKind::LocationBack,
+    FaultKind::LocationPastEnd,
+    FaultKind::RestoreWithoutRemember,
+    FaultKind::Unrestored,
+    FaultKind::RememberTooDeep,
+    FaultKind::CfaNotRegister,
+    FaultKind::OffsetRange,
+    FaultKind::TooManyRules,
+    FaultKind::NoCfa,
+    FaultKind::Overlap,
+    FaultKind::UnknownOperation,
+    FaultKind::NotInFrame,
+    FaultKind::BadSize,
+    FaultKind::Backward,
+    FaultKind::TargetNotStart,
+    FaultKind::Underflow,
+    FaultKind::TooDeep,
+    FaultKind::Mismatch,
+    FaultKind::Unreachable,
+    FaultKind::NotAlone,
+    FaultKind::EndsEmpty,
+    FaultKind::TooManyPieces,
+    FaultKind::PieceSize,
+    FaultKind::ListVersion,
+    FaultKind::UnknownEntry,
+    FaultKind::BackRange,
+    FaultKind::SecondDefault,
+    FaultKind::NoEnd,
+    FaultKind::BadOffsetEntry,
+    FaultKind::Memory,
+    FaultKind::SectionTooLong,
+    FaultKind::AbiTooLarge,
+    FaultKind::AbiTwice,
+    FaultKind::CertLength,
+    FaultKind::CertState,
+];
+
+/// The first of these kinds that has a number.
+fn kind_among(kinds: &[FaultKind], number: u32) -> Option<FaultKind>
+    ensures first { result ≡ find (λ k. number_of k == number) kinds.now }
+    ensures numbered { IfSome result (λ kind. number_of kind ≡ number) }
+{
+    for kind in kinds {
+        if u32::from(kind.number()) == number {
+            return Some(*kind);
+        }
+    }
+    None
+}
+
+/// The kind with a number.
+fn kind_with(number: u32) -> Option<FaultKind>
+    ensures first { result ≡ find (λ k. number_of k == number) KINDS }
+    ensures numbered { IfSome result (λ kind. number_of kind ≡ number) }
+{
+    kind_among(&KINDS, number)
+}
+
+/// The name of the fault with a number, in slots, and how long it is.
+#[unsafe(no_mangle)]
+pub extern "C" fn dwcheck_fault_name(number: u32, text: &mut [u8], size: &mut usize) -> u32
+    ensures named { (kind : OfKind) → number_of kind ≡ number → (result ≡ DONE)
+        × (text.new ≡ put_into (name_of kind) text.old) × (size.new ≡ length (name_of kind)) }
+    ensures none { ((kind : OfKind) → number_of kind ≢ number) → (result ≡ NONE)
+        × (text.new ≡ text.old) × (size.new ≡ size.old) }
+{
+    match kind_with(number) {
+        Some(kind) => {
+            let name = kind.name().as_bytes();
+            write_all(name, text);
+            *size = name.len();
+            DONE
+        }
+        None => NONE,
+    }
+}
+
+/// The version of this interface.
+#[unsafe(no_mangle)]
+pub extern "C" fn dwcheck_version() -> u32
+    ensures { result ≡ VERSION }
+{
+    VERSION
+}

@@ -1,0 +1,144 @@
+//! Rows as C has them.
+
+ghost use Rattle.std.specs.Prelude.{◌≡◌, ◌≤◌, length, map, pos};
+ghost use Rattle.dw_rows.specs.Views.{rule_of, cfa_rule_of};
+ghost use Rattle.dw_stack.specs.Certificates.{checked_of};
+ghost use Rattle.dwcheck_c.specs.Rows.{crule_of, cfa_coded, coded, IsRowOf};
+ghost use Rattle.dwcheck_c.specs.Slots.{put_into};
+
+use crate::slots::put;
+use dw_process::FoundRow;
+use dw_rows::{CfaRule, MAX_RULES, RegisterRule, RegisterRules};
+use dw_stack::CheckedExpression;
+
+/// A register's rule. Kind 1 is undefined; 2 the same value; 3 saved at the CFA plus the offset; 4 the CFA plus the offset; 5 in the
+/// register `source`; 6 saved where an expression says; 7 what an expression gives. The expression begins at the offset in the
+/// section and has this length.
+#[repr(C)]
+#[derive(Clone, Copy, Debug)]
+pub struct CRule {
+    pub offset: i64,
+    pub length: u64,
+    pub register: u16,
+    pub source: u16,
+    pub kind: u32,
+}
+
+/// A row. The CFA's rule is of kind 4, a register plus the offset, or 7.
+#[repr(C)]
+#[derive(Clone, Copy, Debug)]
+pub struct CRow {
+    /// The load address of the module.
+    pub load_address: u64,
+    /// The addresses as linked from here on to before the end.
+    pub start: u64,
+    pub end: u64,
+    pub cfa: CRule,
+    /// The register of the return address.
+    pub return_register: u32,
+    /// How many registers have a rule.
+    pub count: u32,
+}
+
+fn length(expression: &CheckedExpression<'_>) -> u64
+    ensures { result ≡ length (checked_of expression.now).bytes }
+{
+    expression.expression().bytes().len() as u64
+}
+
+fn without_expression(register: u16, kind: u32, offset: i64, source: u16) -> CRule
+    ensures { result ≡ record {
+      offset = offset;
+      length = 0;
+      register = register;
+      source = source;
+      kind = kind;
+    } }
+{
+    CRule {
+        offset,
+        length: 0,
+        register,
+        source,
+        kind,
+    }
+}
+
+fn with_expression(register: u16, kind: u32, at: u32, e: &CheckedExpression<'_>) -> CRule
+    ensures { result ≡ record {
+      offset = pos at;
+      length = length (checked_of e.now).bytes;
+      register = register;
+      source = 0;
+      kind = kind;
+    } }
+{
+    CRule {
+        offset: i64::from(at),
+        length: length(e),
+        register,
+        source: 0,
+        kind,
+    }
+}
+
+/// A register with its rule in C's form.
+fn shown_rule(register: u16, rule: RegisterRule<'_>) -> CRule
+    ensures { result ≡ coded register (rule_of rule.entry) }
+{
+    match rule {
+        RegisterRule::Default => without_expression(register, 0, 0, 0),
+        RegisterRule::Undefined => without_expression(register, 1, 0, 0),
+        RegisterRule::SameValue => without_expression(register, 2, 0, 0),
+        RegisterRule::Offset(offset) => without_expression(register, 3, offset, 0),
+        RegisterRule::ValOffset(offset) => without_expression(register, 4, offset, 0),
+        RegisterRule::Register(source) => without_expression(register, 5, 0, source),
+        RegisterRule::Expression { offset, expression } => {
+            with_expression(register, 6, offset, &expression)
+        }
+        RegisterRule::ValExpression { offset, expression } => {
+            with_expression(register, 7, offset, &expression)
+        }
+    }
+}
+
+/// The CFA's rule in C's form.
+fn shown_cfa(rule: CfaRule<'_>) -> CRule
+    ensures { result ≡ cfa_coded (cfa_rule_of rule.entry) }
+{
+    match rule {
+        CfaRule::RegisterAndOffset { register, offset } => {
+            without_expression(register, 4, offset, 0)
+        }
+        CfaRule::Expression { offset, expression } => with_expression(0, 7, offset, &expression),
+    }
+}
+
+/// Writes rules to slots, and answers how many there are.
+fn write_rules(rules: RegisterRules<'_, '_>, slots: &mut [CRule]) -> u32
+    requires { length rules ≤ MAX_RULES }
+    ensures written { slots.new ≡ put_into (map crule_of rules.entry) slots.old }
+    ensures count { result ≡ length rules.entry }
+{
+    let mut count: u32 = 0;
+    for (register, rule) in rules {
+        put(slots, count as usize, shown_rule(register, rule));
+        count += 1;
+    }
+    count
+}
+
+/// Writes a row, and its rules to slots.
+pub(crate) fn write_row(found: &FoundRow<'_>, row: &mut CRow, rules: &mut [CRule])
+    ensures { IsRowOf found.now row.new rules.old rules.new }
+{
+    let count = write_rules(found.row.rules(), rules);
+    *row = CRow {
+        load_address: found.load_address,
+        start: found.row.start_address(),
+        end: found.row.end_address(),
+        cfa: shown_cfa(found.row.cfa()),
+        return_register: u32::from(found.return_register),
+        count,
+    };
+}

@@ -1,0 +1,22 @@
+//! Slots of C's that are filled from the front.
+
+ghost use Rattle.std.specs.Prelude.{◌≡◌, slice_set};
+ghost use Rattle.dwcheck_c.specs.Slots.{put_into};
+
+/// Writes to a slot, if there are so many.
+pub(crate) fn put<X: Copy>(slots: &mut [X], index: usize, x: X)
+    ensures { slots.new ≡ slice_set slots.old index x }
+{
+    if index < slots.len() {
+        slots[index] = x;
+    }
+}
+
+/// Writes bytes to slots.
+pub(crate) fn write_all(bytes: &[u8], slots: &mut [u8])
+    ensures { slots.new ≡ put_into bytes.now slots.old }
+{
+    for (index, byte) in bytes.iter().enumerate() {
+        put(slots, index, *byte);
+    }
+}

@@ -1,0 +1,157 @@
+//! What an evaluation comes to, as C has it.
+
+ghost use Rattle.std.specs.Prelude.{◌≡◌, map};
+ghost use Rattle.dw_eval.specs.Views.{location_description_of, outcome_of, piece_in};
+ghost use Rattle.dwcheck_c.specs.Evaluated.{ShowsOutcome, bytes_of_location, cpiece_of, kind_of_location, number_of_location};
+ghost use Rattle.dwcheck_c.specs.Slots.{put_into};
+
+use crate::slots::{put, write_all};
+use dw_eval::{Evaluation, Location, Outcome, Piece, PieceSize};
+
+/// What an expression comes to. Kind 0 is a value; 1 unreadable and 2 a division by zero, both at the offset; a location is 3 nowhere,
+/// 4 at an address, 5 in a register, 6 a value, 7 bytes, of which `value` says how many there are, and 8 pieces, of which `count` does.
+#[repr(C)]
+#[derive(Clone, Copy, Debug)]
+pub struct CValue {
+    pub value: u64,
+    pub kind: u32,
+    pub offset: u32,
+    /// How many operations were reached.
+    pub steps: u32,
+    /// How many pieces there are.
+    pub count: u32,
+}
+
+/// A piece: where it is, as in `CValue`, and how many bytes it has, or bits from an offset on.
+#[repr(C)]
+#[derive(Clone, Copy, Debug)]
+pub struct CPiece {
+    pub value: u64,
+    pub kind: u32,
+    pub size: u32,
+    pub bit_offset: u32,
+    pub is_bits: u32,
+}
+
+fn location_kind(location: &Location<'_>) -> u32
+    ensures { result ≡ kind_of_location (location_description_of location.now) }
+{
+    match location {
+        Location::Empty => 3,
+        Location::Address(_) => 4,
+        Location::Register(_) => 5,
+        Location::Value(_) => 6,
+        Location::Bytes(_) => 7,
+    }
+}
+
+fn location_number(location: &Location<'_>) -> u64
+    ensures { result ≡ number_of_location (location_description_of location.now) }
+{
+    match location {
+        Location::Empty => 0,
+        Location::Address(address) => *address,
+        Location::Register(register) => u64::from(*register),
+        Location::Value(value) => *value,
+        Location::Bytes(bytes) => bytes.len() as u64,
+    }
+}
+
+/// Writes the bytes of a location, if it is bytes.
+fn write_location(location: &Location<'_>, slots: &mut [u8])
+    ensures { slots.new
+        ≡ put_into (bytes_of_location (location_description_of location.now)) slots.old }
+{
+    if let Location::Bytes(bytes) = location {
+        write_all(bytes, slots);
+    }
+}
+
+/// A piece in C's form.
+fn shown_piece(piece: &Piece<'_>) -> CPiece
+    ensures { result ≡ cpiece_of (piece_in piece.now) }
+{
+    let value = location_number(&piece.location);
+    let kind = location_kind(&piece.location);
+    match piece.size {
+        PieceSize::Bytes(size) => CPiece {
+            value,
+            kind,
+            size,
+            bit_offset: 0,
+            is_bits: 0,
+        },
+        PieceSize::Bits { size, offset } => CPiece {
+            value,
+            kind,
+            size,
+            bit_offset: offset,
+            is_bits: 1,
+        },
+    }
+}
+
+/// Writes pieces to slots.
+fn write_pieces(pieces: &[Piece<'_>], slots: &mut [CPiece])
+    ensures { slots.new ≡ put_into (map cpiece_of (map piece_in pieces.now)) slots.old }
+{
+    for (index, piece) in pieces.iter().enumerate() {
+        put(slots, index, shown_piece(piece));
+    }
+}
+
+fn without_location(kind: u32, value: u64, offset: u32, steps: u32) -> CValue
+    ensures { result ≡ record {
+      value = value;
+      kind = kind;
+      offset = offset;
+      steps = steps;
+      count = 0;
+    } }
+{
+    CValue {
+        value,
+        kind,
+        offset,
+        steps,
+        count: 0,
+    }
+}
+
+/// Writes an outcome, its pieces, and the bytes of the location or of the n-th piece.
+pub(crate) fn write_outcome(
+    evaluation: &Evaluation<'_>,
+    n: u32,
+    out: &mut CValue,
+    pieces: &mut [CPiece],
+    bytes: &mut [u8],
+)
+    ensures shows { ShowsOutcome (outcome_of evaluation.now.outcome) evaluation.now.steps n out.new
+        pieces.old pieces.new bytes.old bytes.new }
+    ensures steps { out.new.steps ≡ evaluation.now.steps }
+{
+    let steps = evaluation.steps;
+    match &evaluation.outcome {
+        Outcome::Value(value) => *out = without_location(0, *value, 0, steps),
+        Outcome::Unreadable { at } => *out = without_location(1, 0, *at, steps),
+        Outcome::DivisionByZero { at } => *out = without_location(2, 0, *at, steps),
+        Outcome::Single(location) => {
+            *out = without_location(location_kind(location), location_number(location), 0, steps);
+            write_location(location, bytes);
+        }
+        Outcome::Pieces(found) => {
+            let found = found.as_slice();
+            write_pieces(found, pieces);
+            if let Some(piece) = found.get(n as usize) {
+                write_location(&piece.location, bytes);
+            }
+            *out = CValue {
+                value: 0,
+                kind: 8,
+                offset: 0,
+                steps,
+                count: found.len() as u32,
+            };
+        }
+    }
+}
