@@ -193,6 +193,46 @@ enum {
 uint32_t dwcheck_backtrace(dwcheck_process *process, uint64_t address, const dwcheck_state *state, dwcheck_frame *frames,
                            size_t frames_length, size_t *count, uint32_t *stop, dwcheck_fault *fault);
 
+/* ---- expressions --------------------------------------------------------------------------------------------------- */
+
+/* What an expression is used as: the rule of a CFA, the rule of a register (its run begins with the CFA), or a location. */
+enum { DWCHECK_FRAME_CFA = 0, DWCHECK_FRAME_REGISTER = 1, DWCHECK_LOCATION = 2 };
+
+/* What the place in the program gives an expression, each where its flag isn't 0. */
+typedef struct {
+    uint64_t cfa, frame_base, object;
+    uint32_t has_cfa, has_frame_base, has_object, reserved;
+} dwcheck_context;
+
+/* What an expression comes to. */
+enum {
+    DWCHECK_IS_VALUE = 0,                 /* of a frame's expression: `value` */
+    DWCHECK_IS_UNREADABLE = 1,            /* the operation at `offset` takes what isn't handed in */
+    DWCHECK_IS_DIVISION_BY_ZERO = 2,      /* the operation at `offset` divides by zero */
+    DWCHECK_LOCATION_NOWHERE = 3,         /* of a location, or of a piece of it: the object was optimized away */
+    DWCHECK_LOCATION_ADDRESS = 4,         /* in memory, at `value` */
+    DWCHECK_LOCATION_REGISTER = 5,        /* in register `value` */
+    DWCHECK_LOCATION_VALUE = 6,           /* nowhere, but its value is `value` */
+    DWCHECK_LOCATION_BYTES = 7,           /* nowhere, but its value is bytes, of which there are `value` */
+    DWCHECK_LOCATION_PIECES = 8           /* `count` pieces, 32 at most */
+};
+typedef struct { uint64_t value; uint32_t kind, offset, steps, count; } dwcheck_value;
+
+/* A piece: where it is, and how many bytes it has, or, if is_bits isn't 0, how many bits from bit_offset on. */
+typedef struct { uint64_t value; uint32_t kind, size, bit_offset, is_bits; } dwcheck_piece;
+
+#define DWCHECK_MAX_PIECES 32
+
+/* Checks an expression over all its paths, and runs it over registers and memory; the ABI of `state` is not asked. Its pieces
+   go into `pieces`, as many as fit. The bytes of a location of bytes, or of the n-th piece if that is bytes, counted from
+   0, go into `bytes`, as many as fit. DONE; REFUSED with the first fault of the expression; NO_MEMORY; BAD_TARGET;
+   TOO_LONG; BAD_KIND. Only DONE writes `value`, `pieces` and `bytes`, only REFUSED `fault`. It takes memory only for
+   expressions that branch, and gives it back. */
+uint32_t dwcheck_evaluate(const uint8_t *expression, size_t expression_length, uint32_t order, uint32_t address_size,
+                          uint32_t kind, const dwcheck_context *context, const dwcheck_state *state, uint32_t n,
+                          dwcheck_value *value, dwcheck_piece *pieces, size_t pieces_length, uint8_t *bytes,
+                          size_t bytes_length, dwcheck_fault *fault);
+
 #ifdef __cplusplus
 }
 #endif

@@ -252,6 +252,57 @@ static long memory(void) {
     }
 }
 
+static dwcheck_value value;
+static dwcheck_piece pieces[3];
+static uint8_t bytes[4];
+static uint32_t evaluate(const char *expression, size_t length, uint32_t kind, uint32_t n) {
+    static const dwcheck_context context = {0x7f10, 0, 0, 1, 0, 0, 0};
+    dwcheck_state s = state(0);
+    memset(bytes, '.', sizeof bytes);
+    memset(pieces, 0x55, sizeof pieces);
+    return dwcheck_evaluate((const uint8_t *)expression, length, DWCHECK_LITTLE, 8, kind, &context, &s, n, &value, pieces, 3,
+                            bytes, sizeof bytes, &fault);
+}
+
+static void expressions(void) {
+    long before, m, left;
+    uint32_t got;
+    IS(evaluate("\x77\x08", 2, DWCHECK_FRAME_CFA, 0), DWCHECK_DONE); IS(value.kind, DWCHECK_IS_VALUE); IS(value.value, 0x7f10); IS(value.steps, 1);
+    IS(evaluate("\x77\x08\x06", 3, DWCHECK_FRAME_CFA, 0), DWCHECK_DONE); IS(value.value, 0x55005);
+    IS(evaluate("\x73\x00", 2, DWCHECK_FRAME_CFA, 0), DWCHECK_DONE); IS(value.kind, DWCHECK_IS_UNREADABLE); IS(value.offset, 0);
+    IS(evaluate("\x31\x30\x1b", 3, DWCHECK_FRAME_CFA, 0), DWCHECK_DONE); IS(value.kind, DWCHECK_IS_DIVISION_BY_ZERO); IS(value.offset, 2);
+    IS(evaluate("\x38\x1c", 2, DWCHECK_FRAME_REGISTER, 0), DWCHECK_DONE); IS(value.value, 0x7f08); /* it begins with the CFA */
+    IS(evaluate("", 0, DWCHECK_LOCATION, 0), DWCHECK_DONE); IS(value.kind, DWCHECK_LOCATION_NOWHERE); IS(value.steps, 0);
+    IS(evaluate("\x9c\x38\x1c", 3, DWCHECK_LOCATION, 0), DWCHECK_DONE); IS(value.kind, DWCHECK_LOCATION_ADDRESS); IS(value.value, 0x7f08);
+    IS(evaluate("\x53", 1, DWCHECK_LOCATION, 0), DWCHECK_DONE); IS(value.kind, DWCHECK_LOCATION_REGISTER); IS(value.value, 3);
+    IS(evaluate("\x35\x9f", 2, DWCHECK_LOCATION, 0), DWCHECK_DONE); IS(value.kind, DWCHECK_LOCATION_VALUE); IS(value.value, 5);
+    IS(evaluate("\x9e\x05" "abcde", 7, DWCHECK_LOCATION, 0), DWCHECK_DONE); IS(value.kind, DWCHECK_LOCATION_BYTES); IS(value.value, 5);
+    IS(memcmp(bytes, "abcd", 4), 0);
+    /* pieces: register 3, 4 bytes; nowhere, 2 bytes; bytes, 3 bits from bit 1 on; register 4, 1 byte */
+    IS(evaluate("\x53\x93\x04\x93\x02\x9e\x02xy\x9d\x03\x01\x54\x93\x01", 15, DWCHECK_LOCATION, 2), DWCHECK_DONE);
+    IS(value.kind, DWCHECK_LOCATION_PIECES); IS(value.count, 4); IS(memcmp(bytes, "xy..", 4), 0);
+    IS(pieces[0].kind, DWCHECK_LOCATION_REGISTER); IS(pieces[0].value, 3); IS(pieces[0].size, 4); IS(pieces[0].is_bits, 0);
+    IS(pieces[1].kind, DWCHECK_LOCATION_NOWHERE); IS(pieces[1].size, 2);
+    IS(pieces[2].kind, DWCHECK_LOCATION_BYTES); IS(pieces[2].value, 2); IS(pieces[2].size, 3); IS(pieces[2].bit_offset, 1); IS(pieces[2].is_bits, 1);
+    IS(evaluate("\x53\x93\x04", 3, DWCHECK_LOCATION, 9), DWCHECK_DONE); IS(memcmp(bytes, "....", 4), 0); IS(pieces[1].kind, 0x55555555);
+    value.kind = 99;
+    IS(evaluate("\x13", 1, DWCHECK_LOCATION, 0), DWCHECK_REFUSED); IS(fault.number, 35); IS(fault.within, DWCHECK_IN_EXPRESSION); IS(value.kind, 99);
+    IS(evaluate("\x31", 1, 3, 0), DWCHECK_BAD_KIND);
+    IS(evaluate("\x31", (size_t)1 << 32, DWCHECK_LOCATION, 0), DWCHECK_TOO_LONG);
+    before = asked;
+    IS(evaluate("\x53\x93\x04", 3, DWCHECK_LOCATION, 0), DWCHECK_DONE);
+    IS(asked - before, 0);
+    for (m = 0;; m++) { /* one that branches takes memory: each request refused in turn */
+        until = m;
+        got = evaluate("\x31\x28\x01\x00\x96\x33", 6, DWCHECK_LOCATION, 0);
+        left = until;
+        until = -1;
+        IS(got, left >= 0 ? DWCHECK_DONE : DWCHECK_NO_MEMORY);
+        if (left >= 0) break;
+    }
+    IS(m > 0, 1); IS(value.kind, DWCHECK_LOCATION_ADDRESS); IS(value.value, 3);
+}
+
 static void names(void) {
     uint8_t text[32];
     size_t size = 99;
@@ -274,6 +325,7 @@ int main(void) {
     walks();
     own_bytes();
     names();
+    expressions();
     threads();
     m = memory();
     printf("%ld requests for memory were refused, each alone; %d wrong\n", m, wrong);
