@@ -13,8 +13,13 @@ cp "$out/header.c" "$out/header.cc"
 strict="-Wall -Wextra -pedantic -Werror -I$top/c/include"
 cc -std=c11 $strict -c "$out/header.c" -o "$out/header.o"
 c++ -std=c++17 $strict -c "$out/header.cc" -o "$out/header.o"
-cc -std=gnu11 -D_GNU_SOURCE $strict -O2 -g "$here/cases.c" "$library" "$kit/c/liblibc_c.a" -o "$out/cases" -pthread -ldl
-"$out/cases"
+build() { # NAME, then flags
+    name=$1; shift
+    cc -std=gnu11 -D_GNU_SOURCE $strict -O2 -g "$@" "$here/cases.c" "$library" "$kit/c/liblibc_c.a" -o "$out/$name" -pthread -ldl
+}
+build refusing -DREFUSING
+"$out/refusing"
 if command -v valgrind > /dev/null; then
-    valgrind -q --error-exitcode=1 --leak-check=full "$out/cases"
+    build plain
+    valgrind -q --error-exitcode=1 --leak-check=full "$out/plain"
 fi
