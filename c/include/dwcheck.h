@@ -233,6 +233,23 @@ uint32_t dwcheck_evaluate(const uint8_t *expression, size_t expression_length, u
                           dwcheck_value *value, dwcheck_piece *pieces, size_t pieces_length, uint8_t *bytes,
                           size_t bytes_length, dwcheck_fault *fault);
 
+/* ---- location lists ------------------------------------------------------------------------------------------------ */
+
+/* What is looked up: the list whose first byte is at the offset `list` of the section, over the base of its unit, at an
+   address as linked. */
+typedef struct { uint64_t base, address; uint32_t list, reserved; } dwcheck_lookup;
+
+/* An expression of the section: the offset where it begins, and how many bytes it has. */
+typedef struct { uint64_t offset, length; } dwcheck_location;
+
+/* Checks a .debug_loclists section, and writes the expressions of a list that hold at an address into `locations`, in their
+   order, as many as fit; `count` is how many were written, so where it is `locations_length` there may be more. DONE; NONE
+   where no list begins there; REFUSED with the first fault; NO_MEMORY; BAD_TARGET; TOO_LONG. Only DONE writes `locations`
+   and `count`, only REFUSED `fault`. It takes time and memory in proportion to the section, and gives the memory back. */
+uint32_t dwcheck_locations(const uint8_t *lists, size_t lists_length, uint32_t order, uint32_t address_size,
+                           const dwcheck_lookup *lookup, dwcheck_location *locations, size_t locations_length,
+                           size_t *count, dwcheck_fault *fault);
+
 #ifdef __cplusplus
 }
 #endif

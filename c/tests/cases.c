@@ -310,6 +310,42 @@ static void expressions(void) {
     IS(value.kind, DWCHECK_LOCATION_ADDRESS); IS(value.value, 3);
 }
 
+/* one table; its list at 0xc: register 0 from the base to before the base + 0x10, else the value 0 */
+static const uint8_t lists[] = {0x12, 0, 0, 0, 5, 0, 8, 0, 0, 0, 0, 0, 4, 0, 0x10, 1, 0x50, 5, 2, 0x30, 0x9f, 0};
+static dwcheck_location locations[2];
+static uint32_t look_up(size_t length, uint32_t list, uint64_t address, size_t n) {
+    dwcheck_lookup lookup = {0x1000, 0, 0, 0};
+    lookup.address = address;
+    lookup.list = list;
+    count = 99;
+    memset(locations, 0x55, sizeof locations);
+    return dwcheck_locations(lists, length, DWCHECK_LITTLE, 8, &lookup, locations, n, &count, &fault);
+}
+
+static void location_lists(void) {
+    dwcheck_lookup lookup = {0, 0, 0, 0};
+    long m, left;
+    uint32_t got;
+    IS(look_up(sizeof lists, 0xc, 0x1005, 2), DWCHECK_DONE); IS(count, 1); IS(locations[0].offset, 0x10); IS(locations[0].length, 1);
+    IS(locations[1].offset, 0x5555555555555555);
+    IS(look_up(sizeof lists, 0xc, 0x1010, 2), DWCHECK_DONE); IS(count, 1); IS(locations[0].offset, 0x13); IS(locations[0].length, 2);
+    IS(look_up(sizeof lists, 0xc, 0x1005, 0), DWCHECK_DONE); IS(count, 0);
+    IS(look_up(sizeof lists, 0xd, 0x1005, 2), DWCHECK_NONE); IS(count, 99);
+    IS(look_up(0, 0, 0x1005, 2), DWCHECK_NONE);
+    IS(look_up(sizeof lists - 1, 0xc, 0x1005, 2), DWCHECK_REFUSED); IS(fault.within, DWCHECK_IN_LISTS); IS(fault.number, 1); IS(count, 99);
+    IS(look_up((size_t)1 << 32, 0xc, 0x1005, 2), DWCHECK_TOO_LONG);
+    IS(dwcheck_locations(lists, sizeof lists, 0, 7, &lookup, locations, 2, &count, &fault), DWCHECK_BAD_TARGET);
+    for (m = 0;; m++) { /* each request refused in turn */
+        until = m;
+        got = look_up(sizeof lists, 0xc, 0x1005, 2);
+        left = until;
+        until = -1;
+        IS(got == DWCHECK_DONE || got == DWCHECK_NO_MEMORY, 1); /* some requests can be done without */
+        if (got == DWCHECK_DONE) IS(locations[0].offset, 0x10);
+        if (left >= 0) break;
+    }
+}
+
 static void names(void) {
     uint8_t text[32];
     size_t size = 99;
@@ -333,6 +369,7 @@ int main(void) {
     own_bytes();
     names();
     expressions();
+    location_lists();
     threads();
     m = memory();
     printf("%ld requests for memory were refused, each alone; %d wrong\n", m, wrong);

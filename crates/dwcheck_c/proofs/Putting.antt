@@ -1,5 +1,5 @@
 -- What is put into slots, one after the other.
-use Rattle.std.proofs.Common.{◌≡◌, ℕ, suc, ◌+◌, ◌<◌, List, [], ◌∷◌, ◌++◌, length, map, take, append_assoc, length-append, refl, sym, ap, ◌∙◌, arith}
+use Rattle.std.proofs.Common.{◌≡◌, ℕ, suc, ◌+◌, ◌<◌, ◌≤◌, List, [], ◌∷◌, ◌++◌, length, map, take, append_assoc, length-append, refl, sym, ap, ◌∙◌, arith}
 use Rattle.std.specs.Prelude.{slice_set}
 use Rattle.std.proofs.Math.ListN.{get_or}
 use Rattle.std.proofs.Math.Seq.{take-suc}
@@ -49,3 +49,11 @@ pub one_more : {X Y : Type 0} (view : X → Y) (came : List X) (x : X) (count : 
     → count + 1 ≡ length (map view (came ++ x ∷ []))
 one_more view came x count many =
     ap (λ n. n + 1) many ∙ sym (length-append (map view came) (view x ∷ [])) ∙ ap length (sym (map-append view came (x ∷ [])))
+
+-- what comes after as many as there are slots doesn't fit
+pub puts_no_more : {X : Type 0} (xs ys slots : List X) → length slots ≤ length xs → put_into (xs ++ ys) slots ≡ put_into xs slots
+puts_no_more [] [] slots few = refl
+puts_no_more [] (y ∷ ys) [] few = refl
+puts_no_more [] (y ∷ ys) (s ∷ slots) few = absurd (omega (arith, few))
+puts_no_more (x ∷ xs) ys [] few = refl
+puts_no_more (x ∷ xs) ys (s ∷ slots) few = ap (λ l. x ∷ l) (puts_no_more xs ys slots (omega (arith, few)))

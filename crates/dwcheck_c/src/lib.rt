@@ -10,6 +10,8 @@ mod expressions;
 mod fault;
 mod handle;
 mod held;
+mod lists;
+mod location;
 mod memory;
 mod names;
 mod processes;

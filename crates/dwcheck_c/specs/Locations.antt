@@ -1,0 +1,27 @@
+-- Location lists as C has them.
+use Rattle.std.specs.Prelude.{◌≡◌, ℕ, List, length, map, min, Option, Some, None, Contains}
+use Rattle.dw_loclists.specs.Lists.{Loclist, starts_of}
+use Rattle.dw_loclists.specs.Locations.{locations_of}
+use Rattle.dw_loclists.specs.Reading.{ListSection, lists_in}
+use Rattle.dw_stack.specs.Located.{LocatedExpression}
+use Rattle.dwcheck_c.specs.Slots.{put_into}
+use Rattle.dwcheck_c.specs.declared.location.CLocation.{CLocation}
+
+abbrev pub clocation_of : LocatedExpression → CLocation
+clocation_of e = record { offset = e.offset; length = length e.bytes }
+
+-- A list begins at the offset, and its expressions that hold at the address are in the slots, as many as fit, with how many these are.
+pub record AreLocated (s : ListSection) (offset base address : ℕ) (old new : List CLocation) (count : ℕ) : Type 0 where
+  pub begins : Contains (starts_of (lists_in s)) offset
+  pub locations : (list : Loclist) → Contains (lists_in s) list → list.offset ≡ offset
+      → new ≡ put_into (map clocation_of (locations_of list base address)) old
+  pub many : (list : Loclist) → Contains (lists_in s) list → list.offset ≡ offset
+      → count ≡ min (length (locations_of list base address)) (length old)
+
+-- no list begins at the offset
+pub record HasNoList (s : ListSection) (offset : ℕ) : Type 0 where
+  pub none : ¬ Contains (starts_of (lists_in s)) offset
+
+abbrev pub HasLocations : ListSection → ℕ → ℕ → ℕ → List CLocation → List CLocation → Option ℕ → Type 0
+HasLocations s offset base address old new (Some count) = AreLocated s offset base address old new count
+HasLocations s offset base address old new None = HasNoList s offset × (new ≡ old)
