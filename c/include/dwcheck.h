@@ -5,8 +5,8 @@
 
    What a caller owes for every call:
    - A pointer points to a whole, aligned value of its type, which no other argument of the call overlaps and no other
-     thread writes during the call. A pointer that comes with a length points to that many elements, and isn't null even
-     for none: any address will do then.
+     thread writes during the call. A pointer that comes with a length points to that many elements; for none it may be
+     NULL where this header's macros are used, and any other address where they aren't.
    - A process (dwcheck_process) is handed to one call at a time, and is moved only by copying it and setting the old
      one to DWCHECK_CLOSED. It may go from thread to thread, ordered by a lock, an atomic of memory_order_seq_cst, or a
      thread's start or join. For many threads at once give each a process of its own by dwcheck_process_share: they share
@@ -21,7 +21,7 @@
    Addresses, offsets and registers are numbers as DWARF has them. A target is a byte order and an address size, 4 or 8
    bytes; w is its size in bits.
 
-   Link: cc .. libdwcheck_c.a and the allocator part of the toolchain (c/tests/run.sh shows it). */
+   Link: cc .. $(pkg-config --cflags --libs dwcheck), or libdwcheck.a itself. */
 #ifndef DWCHECK_H
 #define DWCHECK_H
 
@@ -249,6 +249,70 @@ typedef struct { uint64_t offset, length; } dwcheck_location;
 uint32_t dwcheck_locations(const uint8_t *lists, size_t lists_length, uint32_t order, uint32_t address_size,
                            const dwcheck_lookup *lookup, dwcheck_location *locations, size_t locations_length,
                            size_t *count, dwcheck_fault *fault);
+
+/* ---- NULL where there is nothing ----------------------------------------------------------------------------------- */
+
+/* The calls themselves want a pointer even where a length is 0. Here each of them is called by way of a macro of its name,
+   which puts one in the place of NULL, so that C and C++ may write NULL there. DWCHECK_NO_MACROS leaves the macros out. */
+#ifndef DWCHECK_NO_MACROS
+
+#define DWCHECK_OR_NOTHING(type, pointer) ((type *)dwcheck_or_nothing(pointer))
+
+static inline void *dwcheck_or_nothing(const void *pointer) {
+    return (void *)(pointer ? (uintptr_t)pointer : (uintptr_t)16);
+}
+
+static inline dwcheck_state dwcheck_state_or_nothing(const dwcheck_state *state) {
+    dwcheck_state copy = *state;
+    copy.contents = DWCHECK_OR_NOTHING(const uint64_t, copy.contents);
+    copy.known = DWCHECK_OR_NOTHING(const uint8_t, copy.known);
+    copy.blocks = DWCHECK_OR_NOTHING(const dwcheck_block, copy.blocks);
+    copy.kept = DWCHECK_OR_NOTHING(const uint16_t, copy.kept);
+    return copy;
+}
+
+static inline uint32_t dwcheck_unwind_by(dwcheck_process *process, uint64_t address, const dwcheck_state *state,
+                                         dwcheck_caller *caller, dwcheck_register *registers, size_t length,
+                                         dwcheck_fault *fault) {
+    const dwcheck_state copy = dwcheck_state_or_nothing(state);
+    return dwcheck_unwind(process, address, &copy, caller, DWCHECK_OR_NOTHING(dwcheck_register, registers), length, fault);
+}
+
+static inline uint32_t dwcheck_backtrace_by(dwcheck_process *process, uint64_t address, const dwcheck_state *state,
+                                            dwcheck_frame *frames, size_t length, size_t *count, uint32_t *stop,
+                                            dwcheck_fault *fault) {
+    const dwcheck_state copy = dwcheck_state_or_nothing(state);
+    return dwcheck_backtrace(process, address, &copy, DWCHECK_OR_NOTHING(dwcheck_frame, frames), length, count, stop, fault);
+}
+
+static inline uint32_t dwcheck_evaluate_by(const uint8_t *expression, size_t length, uint32_t order, uint32_t address_size,
+                                           uint32_t kind, const dwcheck_context *context, const dwcheck_state *state,
+                                           uint32_t n, dwcheck_value *value, dwcheck_piece *pieces, size_t pieces_length,
+                                           uint8_t *bytes, size_t bytes_length, dwcheck_fault *fault) {
+    const dwcheck_state copy = dwcheck_state_or_nothing(state);
+    return dwcheck_evaluate(DWCHECK_OR_NOTHING(const uint8_t, expression), length, order, address_size, kind, context, &copy,
+                            n, value, DWCHECK_OR_NOTHING(dwcheck_piece, pieces), pieces_length,
+                            DWCHECK_OR_NOTHING(uint8_t, bytes), bytes_length, fault);
+}
+
+#define dwcheck_fault_name(number, text, length, size) \
+    dwcheck_fault_name(number, DWCHECK_OR_NOTHING(uint8_t, text), length, size)
+#define dwcheck_check(frame, frame_length, lists, lists_length, order, address_size, fault)                                  \
+    dwcheck_check(DWCHECK_OR_NOTHING(const uint8_t, frame), frame_length, DWCHECK_OR_NOTHING(const uint8_t, lists),          \
+                  lists_length, order, address_size, fault)
+#define dwcheck_process_add(process, frame, length, order, address_size, load_address, room, fault)                          \
+    dwcheck_process_add(process, DWCHECK_OR_NOTHING(const uint8_t, frame), length, order, address_size, load_address, room,  \
+                        fault)
+#define dwcheck_row_at(process, address, row, rules, length) \
+    dwcheck_row_at(process, address, row, DWCHECK_OR_NOTHING(dwcheck_rule, rules), length)
+#define dwcheck_unwind dwcheck_unwind_by
+#define dwcheck_backtrace dwcheck_backtrace_by
+#define dwcheck_evaluate dwcheck_evaluate_by
+#define dwcheck_locations(lists, length, order, address_size, lookup, locations, locations_length, count, fault)             \
+    dwcheck_locations(DWCHECK_OR_NOTHING(const uint8_t, lists), length, order, address_size, lookup,                         \
+                      DWCHECK_OR_NOTHING(dwcheck_location, locations), locations_length, count, fault)
+
+#endif
 
 #ifdef __cplusplus
 }

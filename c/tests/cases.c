@@ -359,6 +359,37 @@ static void names(void) {
     IS(dwcheck_version(), DWCHECK_VERSION);
 }
 
+/* NULL and 0 wherever there may be none */
+static void nothing(void) {
+    dwcheck_process p = DWCHECK_CLOSED;
+    dwcheck_state none;
+    memset(&none, 0, sizeof none);
+    dwcheck_context context;
+    memset(&context, 0, sizeof context);
+    dwcheck_row row;
+    dwcheck_caller caller;
+    dwcheck_lookup lookup = {0, 0x10, 0, 0};
+    IS(dwcheck_check(NULL, 0, NULL, 0, DWCHECK_LITTLE, 8, &fault), DWCHECK_DONE);
+    IS(dwcheck_process_add(&p, NULL, 0, DWCHECK_BIG, 4, 0, room, &fault), DWCHECK_DONE);
+    IS(add(&p, 0x5000), DWCHECK_DONE);
+    IS(dwcheck_row_at(&p, 0x6010, &row, NULL, 0), DWCHECK_DONE);
+    IS(row.count, 1);
+    IS(dwcheck_unwind(&p, 0x6010, &none, &caller, NULL, 0, &fault), DWCHECK_DONE);
+    IS(caller.cfa.kind, DWCHECK_UNREADABLE);
+    IS(caller.count, 1);
+    IS(dwcheck_backtrace(&p, 0x6010, &none, NULL, 0, &count, &stop, &fault), DWCHECK_DONE);
+    IS(count, 0);
+    IS(stop, DWCHECK_STOP_LIMIT);
+    IS(dwcheck_evaluate(NULL, 0, DWCHECK_LITTLE, 8, DWCHECK_LOCATION, &context, &none, 0, &value, NULL, 0, NULL, 0, &fault),
+       DWCHECK_DONE);
+    IS(value.kind, DWCHECK_LOCATION_NOWHERE);
+    IS(dwcheck_locations(NULL, 0, DWCHECK_LITTLE, 8, &lookup, NULL, 0, &count, &fault), DWCHECK_NONE);
+    size_t size = 0;
+    IS(dwcheck_fault_name(1, NULL, 0, &size), DWCHECK_DONE);
+    IS(size > 0, 1);
+    dwcheck_process_close(&p);
+}
+
 int main(void) {
     long m;
     contents[7] = 0x7f08; /* the CFA is 0x7f10, the return address is at 0x7f08 */
@@ -370,6 +401,7 @@ int main(void) {
     names();
     expressions();
     location_lists();
+    nothing();
     threads();
     m = memory();
     printf("%ld requests for memory were refused, each alone; %d wrong\n", m, wrong);

@@ -1,0 +1,68 @@
+# Builds and installs dwcheck: the program, the library for C, their manual pages.
+#   make            the program and both libraries, in build/
+#   make check      builds and runs the C cases and the C examples, whose frames gdb's are compared with
+#   make install    into $(DESTDIR)$(PREFIX)
+# It needs the kit's rt, and cc and ar. Nothing here proves anything: the gate is `rt ci`.
+PREFIX ?= /usr/local
+BINDIR ?= $(PREFIX)/bin
+LIBDIR ?= $(PREFIX)/lib
+INCLUDEDIR ?= $(PREFIX)/include
+MANDIR ?= $(PREFIX)/share/man
+CC ?= cc
+CXX ?= c++
+AR ?= ar
+INSTALL ?= install
+
+version := 0.1.0
+major := 0
+kit := $(dir $(shell rt doc))
+built := build/dwcheck build/libdwcheck.a build/libdwcheck.so.$(version) build/dwcheck.pc
+
+.PHONY: all check install clean FORCE
+
+all: $(built)
+
+build:
+	mkdir -p $@
+
+# rt builds again only what has changed.
+build/dwcheck: FORCE | build
+	cd crates/dwcheck && rt run -- --help >/dev/null
+	cp crates/dwcheck/out/dwcheck $@
+
+build/libdwcheck_c.a: FORCE | build
+	cd crates/dwcheck_c && rt lib >/dev/null
+	cp crates/dwcheck_c/out/libdwcheck_c.a $@
+
+# One archive: the library, and the kit's few lines of C, which call malloc and free.
+build/libdwcheck.a: build/libdwcheck_c.a
+	rm -f $@
+	printf 'create $@\naddlib $<\naddlib $(kit)c/liblibc_c.a\nsave\nend\n' | $(AR) -M
+
+build/libdwcheck.so.$(version): build/libdwcheck.a c/dwcheck.map
+	$(CC) -shared -Wl,-z,defs -Wl,-soname,libdwcheck.so.$(major) -Wl,--version-script=c/dwcheck.map \
+	    -Wl,--whole-archive $< -Wl,--no-whole-archive -o $@
+
+build/dwcheck.pc: c/dwcheck.pc.in | build
+	sed -e 's|@PREFIX@|$(PREFIX)|' -e 's|@LIBDIR@|$(LIBDIR)|' -e 's|@INCLUDEDIR@|$(INCLUDEDIR)|' \
+	    -e 's|@VERSION@|$(version)|' $< >$@
+
+check: all
+	c/tests/run.sh
+	DWCHECK_FLAGS="-I$(CURDIR)/c/include $(CURDIR)/build/libdwcheck.a" examples/c/run.sh
+
+install: all
+	$(INSTALL) -d $(DESTDIR)$(BINDIR) $(DESTDIR)$(LIBDIR)/pkgconfig $(DESTDIR)$(INCLUDEDIR) \
+	    $(DESTDIR)$(MANDIR)/man1 $(DESTDIR)$(MANDIR)/man3
+	$(INSTALL) -m 755 build/dwcheck $(DESTDIR)$(BINDIR)/
+	$(INSTALL) -m 644 build/libdwcheck.a $(DESTDIR)$(LIBDIR)/
+	$(INSTALL) -m 755 build/libdwcheck.so.$(version) $(DESTDIR)$(LIBDIR)/
+	ln -sf libdwcheck.so.$(version) $(DESTDIR)$(LIBDIR)/libdwcheck.so.$(major)
+	ln -sf libdwcheck.so.$(major) $(DESTDIR)$(LIBDIR)/libdwcheck.so
+	$(INSTALL) -m 644 build/dwcheck.pc $(DESTDIR)$(LIBDIR)/pkgconfig/
+	$(INSTALL) -m 644 c/include/dwcheck.h $(DESTDIR)$(INCLUDEDIR)/
+	$(INSTALL) -m 644 man/dwcheck.1 $(DESTDIR)$(MANDIR)/man1/
+	$(INSTALL) -m 644 man/dwcheck.3 $(DESTDIR)$(MANDIR)/man3/
+
+clean:
+	rm -rf build

@@ -1,0 +1,44 @@
+"""Compares the frames that `stack` printed with gdb's: gdb runs this file where the program stops in `printed`.
+
+Level 0 is `printed` itself, and level 1 is frame 0, which has gone on since its registers were taken: its address isn't
+compared. The last frame has no canonical frame address where no module covers it.
+"""
+import re
+import sys
+
+import gdb
+
+LINE = re.compile(r"frame (\d+) (0x[0-9a-f]{16})(?: cfa (0x[0-9a-f]{16}))?$")
+
+
+def level(number):
+    """The address and the canonical frame address of a level."""
+    gdb.execute("frame %d" % number, to_string=True)
+    text = gdb.execute("info frame", to_string=True)
+    cfa = re.search(r"frame at (0x[0-9a-f]+)", text).group(1)
+    return gdb.selected_frame().pc(), int(cfa, 16)
+
+
+def compare(path):
+    """How many frames are gdb's, or the first one that isn't."""
+    frames = [m.groups() for m in map(LINE.match, open(path)) if m]
+    for number, address, cfa in frames:
+        pc, at = level(int(number) + 1)
+        if int(number) > 0 and int(address, 16) != pc:
+            sys.exit("frame %s: %s, and gdb's is 0x%x" % (number, address, pc))
+        if cfa is not None and int(cfa, 16) != at:
+            sys.exit("frame %s: cfa %s, and gdb's is 0x%x" % (number, cfa, at))
+    print("%d frames are gdb's" % len(frames))
+    return len(frames)
+
+
+try:
+    gdb.execute("set backtrace past-main on")
+    gdb.execute("break printed")
+    gdb.execute("run > " + gdb.convenience_variable("written").string())
+    if compare(gdb.convenience_variable("written").string()) < 43:
+        sys.exit("too few frames")
+    gdb.execute("kill")
+except (SystemExit, gdb.error) as why:
+    print(why)
+    gdb.execute("quit 1")

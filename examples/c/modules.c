@@ -1,0 +1,123 @@
+/* The modules of this process, and the registers that x86-64 has. */
+#define _GNU_SOURCE
+#include "modules.h"
+
+#include <elf.h>
+#include <fcntl.h>
+#include <link.h>
+#include <pthread.h>
+#include <stdio.h>
+#include <string.h>
+#include <sys/mman.h>
+#include <sys/stat.h>
+#include <unistd.h>
+
+/* A file's bytes, mapped for as long as they are read. */
+struct file {
+    const unsigned char *bytes;
+    size_t length;
+};
+
+static struct file map_file(const char *name) {
+    struct file file = {NULL, 0};
+    int fd = open(name, O_RDONLY | O_CLOEXEC);
+    struct stat status;
+    if (fd >= 0 && fstat(fd, &status) == 0 && status.st_size > 0) {
+        void *bytes = mmap(NULL, (size_t)status.st_size, PROT_READ, MAP_PRIVATE, fd, 0);
+        if (bytes != MAP_FAILED) file = (struct file){bytes, (size_t)status.st_size};
+    }
+    if (fd >= 0) close(fd);
+    return file;
+}
+
+/* Whether a part of a file is inside it. */
+static int is_inside(const struct file *file, uint64_t offset, uint64_t length) {
+    return offset <= file->length && length <= file->length - offset;
+}
+
+/* The .debug_frame section of an ELF file of this process's own class, empty where there is none. */
+static struct file frame_section(const struct file *file) {
+    const struct file none = {(const unsigned char *)"", 0};
+    const ElfW(Ehdr) *header = (const void *)file->bytes;
+    if (file->length < sizeof *header || memcmp(file->bytes, ELFMAG, SELFMAG) != 0) return none;
+    uint64_t size = (uint64_t)header->e_shnum * sizeof(ElfW(Shdr));
+    if (!is_inside(file, header->e_shoff, size) || header->e_shstrndx >= header->e_shnum) return none;
+    const ElfW(Shdr) *sections = (const void *)(file->bytes + header->e_shoff);
+    const ElfW(Shdr) *names = &sections[header->e_shstrndx];
+    if (!is_inside(file, names->sh_offset, names->sh_size)) return none;
+    for (size_t i = 0; i < header->e_shnum; i++) {
+        const ElfW(Shdr) *section = &sections[i];
+        const char wanted[] = ".debug_frame";
+        if (section->sh_name < names->sh_size && names->sh_size - section->sh_name >= sizeof wanted
+            && memcmp(file->bytes + names->sh_offset + section->sh_name, wanted, sizeof wanted) == 0
+            && !(section->sh_flags & SHF_COMPRESSED) && is_inside(file, section->sh_offset, section->sh_size))
+            return (struct file){file->bytes + section->sh_offset, section->sh_size};
+    }
+    return none;
+}
+
+/* Where modules go, and how many went there. */
+struct adding {
+    dwcheck_process *process;
+    int count;
+};
+
+static int add_module(struct dl_phdr_info *info, size_t size, void *data) {
+    (void)size;
+    struct adding *adding = data;
+    /* The program itself has no name here. The vDSO has one, but no file. */
+    struct file file = map_file(info->dlpi_name[0] ? info->dlpi_name : "/proc/self/exe");
+    if (file.bytes == NULL) return 0;
+    struct file section = frame_section(&file);
+    dwcheck_fault fault;
+    if (section.length > 0) {
+        uint32_t status = dwcheck_process_add(adding->process, section.bytes, section.length, DWCHECK_LITTLE, sizeof(void *),
+                                              info->dlpi_addr, SIZE_MAX, &fault);
+        if (status == DWCHECK_DONE) adding->count++;
+        else if (status == DWCHECK_REFUSED)
+            fprintf(stderr, "%s: fault %u at 0x%x\n", info->dlpi_name, fault.number, fault.offset);
+        else fprintf(stderr, "%s: not added (%u)\n", info->dlpi_name, status);
+    }
+    munmap((void *)file.bytes, file.length);
+    return 0;
+}
+
+int add_modules(dwcheck_process *process) {
+    struct adding adding = {process, 0};
+    dl_iterate_phdr(add_module, &adding);
+    return adding.count;
+}
+
+void copy_registers(const ucontext_t *context, uint64_t registers[REGISTERS]) {
+    static const int places[REGISTERS] = {REG_RAX, REG_RDX, REG_RCX, REG_RBX, REG_RSI, REG_RDI, REG_RBP, REG_RSP, REG_R8,
+                                          REG_R9,  REG_R10, REG_R11, REG_R12, REG_R13, REG_R14, REG_R15, REG_RIP};
+    for (int i = 0; i < REGISTERS; i++) registers[i] = (uint64_t)context->uc_mcontext.gregs[places[i]];
+}
+
+dwcheck_state state_of(const uint64_t registers[REGISTERS], const dwcheck_block *stack) {
+    static const uint8_t known[] = {0xff, 0xff, 0x01};
+    static const uint16_t kept[] = {3, 6, 12, 13, 14, 15};
+    dwcheck_state state = {0};
+    state.contents = registers;
+    state.contents_length = REGISTERS;
+    state.known = known;
+    state.known_length = sizeof known;
+    state.blocks = stack;
+    state.blocks_length = 1;
+    state.kept = kept;
+    state.kept_length = sizeof kept / sizeof *kept;
+    state.stack_pointer = 7;
+    state.has_stack_pointer = 1;
+    return state;
+}
+
+uintptr_t stack_end(void) {
+    pthread_attr_t attributes;
+    void *start = NULL;
+    size_t size = 0;
+    if (pthread_getattr_np(pthread_self(), &attributes) == 0) {
+        pthread_attr_getstack(&attributes, &start, &size);
+        pthread_attr_destroy(&attributes);
+    }
+    return (uintptr_t)start + size;
+}

@@ -1,0 +1,25 @@
+/* What both examples need: the modules of this process, and the registers that x86-64 has. */
+#ifndef MODULES_H
+#define MODULES_H
+
+#include <dwcheck.h>
+#include <stddef.h>
+#include <stdint.h>
+#include <ucontext.h>
+
+/* DWARF's registers of x86-64: 0 to 15, and 16, the return address. */
+enum { REGISTERS = 17 };
+
+/* Adds each ELF file that the loader has mapped and that has a .debug_frame section. Returns how many were added. */
+int add_modules(dwcheck_process *process);
+
+/* Copies a context's registers in DWARF's order. */
+void copy_registers(const ucontext_t *context, uint64_t registers[REGISTERS]);
+
+/* Registers, one block of memory, and what calls keep by the ABI of x86-64. */
+dwcheck_state state_of(const uint64_t registers[REGISTERS], const dwcheck_block *stack);
+
+/* The address after the last byte of the calling thread's stack. */
+uintptr_t stack_end(void);
+
+#endif

@@ -1,0 +1,24 @@
+#!/bin/sh
+# Builds both examples and runs them: the frames that `stack` prints are compared with gdb's in the same process, and the
+# hottest stack that `profiler` prints has to be that of `often`.
+# usage: examples/c/run.sh
+# pkg-config finds the library; DWCHECK_FLAGS names it otherwise, as in DWCHECK_FLAGS="-Iinclude libdwcheck.a".
+# The examples have a .debug_frame section since they are built without tables for .eh_frame.
+set -eu
+here=$(cd "$(dirname "$0")" && pwd)
+out=$(mktemp -d)
+trap 'rm -rf "$out"' EXIT
+library=${DWCHECK_FLAGS:-$(pkg-config --cflags --libs dwcheck)}
+build="-std=gnu11 -Wall -Wextra -Werror -O2 -g -fno-asynchronous-unwind-tables -fno-optimize-sibling-calls -rdynamic"
+for program in stack profiler; do
+    # The flags are words.
+    # shellcheck disable=SC2086
+    "${CC:-cc}" $build "$here/$program.c" "$here/modules.c" $library -pthread -ldl -o "$out/$program"
+done
+if ! gdb -q -batch -ex "set \$written = \"$out/frames\"" -x "$here/compare.py" "$out/stack" > "$out/gdb" 2>&1; then
+    tail -n 3 "$out/gdb"
+    exit 1
+fi
+grep "are gdb's" "$out/gdb"
+"$out/profiler" | tee "$out/stacks"
+head -n 3 "$out/stacks" | grep -q often
