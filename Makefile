@@ -27,11 +27,11 @@ build:
 
 # rt builds again only what has changed.
 build/dwcheck: FORCE | build
-	cd crates/dwcheck && rt run -- --help >/dev/null
+	cd crates/dwcheck && rt run -- rows --hex data/frame.hex >/dev/null 2>&1
 	cp crates/dwcheck/out/dwcheck $@
 
 build/libdwcheck_c.a: FORCE | build
-	cd crates/dwcheck_c && rt lib >/dev/null
+	cd crates/dwcheck_c && rt lib >/dev/null 2>&1
 	cp crates/dwcheck_c/out/libdwcheck_c.a $@
 
 # One archive: the library, and the kit's few lines of C, which call malloc and free.
@@ -43,7 +43,7 @@ build/libdwcheck.so.$(version): build/libdwcheck.a c/dwcheck.map
 	$(CC) -shared -Wl,-z,defs -Wl,-soname,libdwcheck.so.$(major) -Wl,--version-script=c/dwcheck.map \
 	    -Wl,--whole-archive $< -Wl,--no-whole-archive -o $@
 
-build/dwcheck.pc: c/dwcheck.pc.in | build
+build/dwcheck.pc: c/dwcheck.pc.in FORCE | build
 	sed -e 's|@PREFIX@|$(PREFIX)|' -e 's|@LIBDIR@|$(LIBDIR)|' -e 's|@INCLUDEDIR@|$(INCLUDEDIR)|' \
 	    -e 's|@VERSION@|$(version)|' $< >$@
 
