@@ -1,4 +1,5 @@
 mod AsBox
 mod Assembled
+mod FirstBlock
 mod Putting
 mod WrittenFrames

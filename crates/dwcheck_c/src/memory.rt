@@ -34,7 +34,7 @@ pub(crate) struct Blocks<'m, 'a> {
 }
 
 impl<'m, 'a> Blocks<'m, 'a> {
-    ghost use Rattle.std.specs.Prelude.{◌≡◌, ◌^◌, ◌+◌, ◌≤◌};
+    ghost use Rattle.std.specs.Prelude.{◌≡◌, ◌^◌, ◌+◌, ◌≤◌, IfSome, Some};
     ghost use Rattle.dw_eval.specs.World.{IsSize, number_at};
     ghost use Rattle.dwcheck_c.specs.Machine.{byte_in};
 
@@ -47,6 +47,24 @@ impl<'m, 'a> Blocks<'m, 'a> {
             }
         }
         None
+    }
+
+    /// What `read` gives, where all bytes are the first block's: nearly always, since that is a stack.
+    #[inline(always)]
+    fn read_first(&self, address: u64, size: u8, order: Order) -> Option<u64>
+        requires size { IsSize size }
+        requires within { address + size ≤ 2 ^ 64 }
+        ensures { IfSome result (λ number.
+            number_at (byte_in self.now.blocks.now) order address size ≡ Some number) }
+    {
+        let Some((first, _)) = self.blocks.split_first() else {
+            return None;
+        };
+        let block = MemoryBlock {
+            base: first.base,
+            bytes: first.bytes,
+        };
+        block.read(address, size, order)
     }
 
     /// What `read` gives, byte by byte.
@@ -73,6 +91,9 @@ impl<'m, 'a> Memory for Blocks<'m, 'a> {
     ghost bytes = { λ b. byte_in b.blocks.now };
 
     fn read(&self, address: u64, size: u8, order: Order) -> Option<u64> {
-        self.read_by_bytes(address, size, order)
+        match self.read_first(address, size, order) {
+            Some(number) => Some(number),
+            None => self.read_by_bytes(address, size, order),
+        }
     }
 }
