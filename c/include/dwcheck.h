@@ -88,7 +88,8 @@ typedef struct { void *opaque; uint64_t opaque_open; } dwcheck_process;
 /* Checks a .debug_frame section, compiles all its rows, and adds them as the last module. Nothing of the section's bytes
    is needed any more when the call returns. `load_address` is what is added to an address as linked, modulo 2^w, to have
    the address as loaded: for a position-independent module where its first mapping begins, for another 0. `room` is how
-   many bytes the rows may take; 700 times the section's length is always enough.
+   many bytes the rows may take, SIZE_MAX for no bound: those of compilers take some 1.5 times the section's length, those of
+   a section that is made to take memory 700 times its length and more.
    DONE; REFUSED with the first fault of the section; NO_MEMORY; NO_ROOM; BAD_TARGET; TOO_LONG. Only DONE changes the
    process, only REFUSED writes `fault`. Time: n log n for n bytes of programs and rows. */
 uint32_t dwcheck_process_add(dwcheck_process *process, const uint8_t *frame, size_t frame_length, uint32_t order,
