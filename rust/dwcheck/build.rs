@@ -1,0 +1,114 @@
+//! Finds the library: in the folders of DWCHECK_LIB_DIR, or by pkg-config.
+
+use std::env;
+use std::ffi::{OsStr, OsString};
+use std::path::PathBuf;
+use std::process::{exit, Command};
+
+const DIRS: &str = "DWCHECK_LIB_DIR";
+const NAMES: &str = "DWCHECK_LIBS";
+
+/// What to link where no names are given: the whole library, or its part and that of the allocator.
+const KNOWN: [&[&str]; 2] = [&["dwcheck"], &["dwcheck_c", "libc_c"]];
+
+fn main() {
+    for name in [DIRS, NAMES, "PKG_CONFIG", "PKG_CONFIG_PATH"] {
+        println!("cargo:rerun-if-env-changed={}", name);
+    }
+    let linked = match env::var_os(DIRS) {
+        Some(dirs) => from_folders(&dirs),
+        None => from_pkg_config(),
+    };
+    if let Err(why) = linked {
+        eprintln!("dwcheck: {}", why);
+        exit(1);
+    }
+}
+
+/// A library's file, and how it is linked.
+struct Found {
+    name: String,
+    kind: &'static str,
+    folder: PathBuf,
+    file: PathBuf,
+}
+
+fn from_folders(dirs: &OsStr) -> Result<(), String> {
+    let folders: Vec<PathBuf> = env::split_paths(dirs).collect();
+    let found = match env::var(NAMES) {
+        Ok(names) => {
+            let names: Vec<&str> = names
+                .split(|c: char| c == ',' || c.is_whitespace())
+                .filter(|name| !name.is_empty())
+                .collect();
+            find_all(&folders, &names)?
+        }
+        Err(_) => find_known(&folders)?,
+    };
+    for library in found {
+        println!("cargo:rerun-if-changed={}", library.file.display());
+        println!(
+            "cargo:rustc-link-search=native={}",
+            library.folder.display()
+        );
+        println!("cargo:rustc-link-lib={}={}", library.kind, library.name);
+    }
+    Ok(())
+}
+
+fn find_known(folders: &[PathBuf]) -> Result<Vec<Found>, String> {
+    for names in KNOWN {
+        if let Ok(found) = find_all(folders, names) {
+            return Ok(found);
+        }
+    }
+    Err(format!(
+        "{} has neither libdwcheck nor both of libdwcheck_c and liblibc_c; {} gives other names",
+        DIRS, NAMES
+    ))
+}
+
+fn find_all(folders: &[PathBuf], names: &[&str]) -> Result<Vec<Found>, String> {
+    names.iter().map(|name| find(folders, name)).collect()
+}
+
+fn find(folders: &[PathBuf], name: &str) -> Result<Found, String> {
+    for (kind, ending) in [("static", "a"), ("dylib", "so"), ("dylib", "dylib")] {
+        for folder in folders {
+            let file = folder.join(format!("lib{}.{}", name, ending));
+            if file.is_file() {
+                return Ok(Found {
+                    name: name.to_string(),
+                    kind,
+                    folder: folder.clone(),
+                    file,
+                });
+            }
+        }
+    }
+    Err(format!("no library {} in {}", name, DIRS))
+}
+
+fn from_pkg_config() -> Result<(), String> {
+    let program = env::var_os("PKG_CONFIG").unwrap_or_else(|| OsString::from("pkg-config"));
+    let output = Command::new(program)
+        .args(["--libs", "dwcheck"])
+        .output()
+        .map_err(|why| format!("pkg-config doesn't run ({}); set {}", why, DIRS))?;
+    if !output.status.success() {
+        let why = String::from_utf8_lossy(&output.stderr).into_owned();
+        return Err(format!(
+            "pkg-config finds no dwcheck; set {}\n{}",
+            DIRS, why
+        ));
+    }
+    let words = String::from_utf8(output.stdout).map_err(|why| why.to_string())?;
+    for word in words.split_whitespace() {
+        if let Some(folder) = word.strip_prefix("-L") {
+            println!("cargo:rustc-link-search=native={}", folder);
+        } else if let Some(name) = word.strip_prefix("-l") {
+            println!("cargo:rustc-link-lib={}", name);
+        }
+    }
+    Ok(())
+}

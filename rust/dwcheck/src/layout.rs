@@ -1,0 +1,139 @@
+//! Sizes and offsets of what crosses to C, as rustc and a C compiler have them.
+
+use crate::ffi;
+use std::env;
+use std::fs;
+use std::mem::{align_of, size_of, MaybeUninit};
+use std::path::{Path, PathBuf};
+use std::process::Command;
+use std::ptr::addr_of;
+
+/// A line of size and alignment, and one of the offset and the size of each field, for a Rust and a C
+/// name; the same as C statements.
+macro_rules! layout {
+    ($rust:ident, $c:literal: $($field:ident)*) => {{
+        let whole = MaybeUninit::<ffi::$rust>::uninit();
+        let at = whole.as_ptr();
+        let mut lines = format!("{} {} {}\n", $c, size_of::<ffi::$rust>(), align_of::<ffi::$rust>());
+        let mut statements = format!(
+            "printf(\"{0} %zu %zu\\n\", sizeof({0}), _Alignof({0}));\n", $c
+        );
+        $(
+            // SAFETY: it is an address within `whole`, and nothing is read.
+            let place = unsafe { addr_of!((*at).$field) };
+            let offset = place as usize - at as usize;
+            lines += &format!("{}.{} {} {}\n", $c, stringify!($field), offset, size_at(place));
+            statements += &format!(
+                "printf(\"{0}.{1} %zu %zu\\n\", offsetof({0}, {1}), sizeof((({0} *)0)->{1}));\n",
+                $c, stringify!($field)
+            );
+        )*
+        (lines, statements)
+    }};
+}
+
+fn size_at<T>(_: *const T) -> usize {
+    size_of::<T>()
+}
+
+fn layouts() -> (String, String) {
+    let all = [
+        layout!(Fault, "dwcheck_fault": number offset within reserved),
+        layout!(Process, "dwcheck_process": opaque opaque_open),
+        layout!(Rule, "dwcheck_rule": offset length reg source kind),
+        layout!(Row, "dwcheck_row": load_address start end cfa return_reg count),
+        layout!(Block, "dwcheck_block": base bytes length),
+        layout!(State, "dwcheck_state": contents contents_length known known_length blocks blocks_length
+            kept kept_length stack_pointer has_stack_pointer reserved),
+        layout!(Answer, "dwcheck_answer": value kind reserved),
+        layout!(Register, "dwcheck_register": value kind number),
+        layout!(Caller, "dwcheck_caller": cfa return_address count),
+        layout!(Frame, "dwcheck_frame": address cfa),
+    ];
+    all.into_iter().unzip()
+}
+
+/// A name of the header and the number that this crate has for it.
+macro_rules! numbers {
+    ($($rust:ident $c:literal)*) => {
+        [$((concat!("DWCHECK_", $c), ffi::$rust as u64)),*]
+    };
+}
+
+fn constants() -> (String, String) {
+    let all = numbers! {
+        DONE "DONE" REFUSED "REFUSED" NO_MEMORY "NO_MEMORY" NO_ROOM "NO_ROOM" TOO_LONG "TOO_LONG"
+        NONE "NONE" LITTLE "LITTLE" BIG "BIG" IN_FRAME "IN_FRAME" IN_LISTS "IN_LISTS"
+        IN_EXPRESSION "IN_EXPRESSION" IN_ABI "IN_ABI" RULE_UNDEFINED "RULE_UNDEFINED"
+        RULE_SAME_VALUE "RULE_SAME_VALUE" RULE_OFFSET "RULE_OFFSET"
+        RULE_VAL_OFFSET "RULE_VAL_OFFSET" RULE_REGISTER "RULE_REGISTER"
+        RULE_EXPRESSION "RULE_EXPRESSION" RULE_VAL_EXPRESSION "RULE_VAL_EXPRESSION"
+        MAX_RULES "MAX_RULES" NOT_COVERED "NOT_COVERED" VALUE "VALUE" UNDEFINED "UNDEFINED"
+        UNREADABLE "UNREADABLE" DIVISION_BY_ZERO "DIVISION_BY_ZERO"
+        MAX_REGISTERS "MAX_REGISTERS" STOP_LIMIT "STOP_LIMIT" STOP_NOT_COVERED "STOP_NOT_COVERED"
+        STOP_RETURN_UNDEFINED "STOP_RETURN_UNDEFINED"
+        STOP_RETURN_UNREADABLE "STOP_RETURN_UNREADABLE"
+        STOP_RETURN_DIVISION_BY_ZERO "STOP_RETURN_DIVISION_BY_ZERO"
+    };
+    all.iter()
+        .map(|(name, number)| {
+            let line = format!("{} {}\n", name, number);
+            let statement = format!("printf(\"{0} %d\\n\", (int){0});\n", name);
+            (line, statement)
+        })
+        .unzip()
+}
+
+/// The folder of the header: that of the variable, else the repository's.
+fn include_folder() -> Option<PathBuf> {
+    let folder = match env::var_os("DWCHECK_INCLUDE_DIR") {
+        Some(folder) => PathBuf::from(folder),
+        None => Path::new(env!("CARGO_MANIFEST_DIR")).join("../../c/include"),
+    };
+    folder.join("dwcheck.h").is_file().then_some(folder)
+}
+
+/// What a C program of these statements prints; `None` where there is no C compiler.
+fn run_c(include: &Path, statements: &str) -> Option<String> {
+    let folder = env::temp_dir().join(format!("dwcheck-layout-{}", std::process::id()));
+    fs::create_dir_all(&folder).unwrap();
+    let (source, program) = (folder.join("layout.c"), folder.join("layout"));
+    let text = format!(
+        "#include <stdio.h>\n#include \"dwcheck.h\"\nint main(void) {{\n{}return 0;\n}}\n",
+        statements
+    );
+    fs::write(&source, text).unwrap();
+    let compiler = env::var_os("CC").unwrap_or_else(|| "cc".into());
+    let compiled = Command::new(compiler)
+        .arg("-std=c11")
+        .arg("-I")
+        .arg(include)
+        .arg(&source)
+        .arg("-o")
+        .arg(&program)
+        .status();
+    let printed = match compiled {
+        Ok(status) => {
+            assert!(status.success(), "the header or a name doesn't compile");
+            let output = Command::new(&program).output().unwrap();
+            Some(String::from_utf8(output.stdout).unwrap())
+        }
+        Err(_) => None,
+    };
+    fs::remove_dir_all(&folder).unwrap();
+    printed
+}
+
+#[test]
+fn c_has_the_same_layouts_and_numbers() {
+    let include = match include_folder() {
+        Some(folder) => folder,
+        None => return eprintln!("dwcheck.h isn't there: nothing is compared"),
+    };
+    let (layout_lines, layout_statements) = layouts();
+    let (number_lines, number_statements) = constants();
+    match run_c(&include, &(layout_statements + &number_statements)) {
+        Some(printed) => assert_eq!(printed, layout_lines + &number_lines),
+        None => eprintln!("no C compiler is there: nothing is compared"),
+    }
+}

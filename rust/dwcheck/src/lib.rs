@@ -1,0 +1,94 @@
+//! Checks `.debug_frame` and `.debug_loclists` sections of DWARF 5, and unwinds stacks by them.
+//!
+//! This is a safe wrapper over the C interface of `dwcheck`, a library whose every function is
+//! proved to meet its contract, to end, and to be safe on every input. What is proved is the library,
+//! not this crate: that has `unsafe` in its calls and in one file of declarations.
+//!
+//! - [`check`] judges a frame section and location lists.
+//! - A [`Process`] has modules, each a section with a load address; it gives the [`Row`] of an
+//!   address, the [`Caller`] of a frame, and the frames of a stack.
+//!
+//! Sections are bytes, as `objcopy --dump-section` or an ELF reader gives them, of a linked file and
+//! not compressed. No call panics. What is refused, and what isn't read, is in the project's
+//! `docs/PROFILE.md`.
+//!
+//! ```
+//! use dwcheck::{check, FaultKind, Target};
+//!
+//! // A CIE, and an FDE whose CIE_pointer leads nowhere.
+//! let frame = [
+//!     0x14, 0, 0, 0, 0xff, 0xff, 0xff, 0xff, 4, 0, 8, 0, 1, 0x78, 0x10, 0x0c, 7, 8, 0x90, 1, 0, 0, 0, 0,
+//!     0x14, 0, 0, 0, 4, 0, 0, 0, 0, 0x10, 0, 0, 0, 0, 0, 0, 0x20, 0, 0, 0, 0, 0, 0, 0,
+//! ];
+//! let error = check(&frame, &[], Target::LITTLE_64).unwrap_err();
+//! assert_eq!(error.fault().unwrap().kind, FaultKind::NoSuchCie);
+//! assert_eq!(error.to_string(), "frame: 9 NoSuchCie at 0x0000001c");
+//!
+//! check(&frame[..24], &[], Target::LITTLE_64)?;
+//! # Ok::<(), dwcheck::Error>(())
+//! ```
+
+#![warn(missing_docs, rust_2018_idioms, unreachable_pub)]
+#![deny(unsafe_op_in_unsafe_fn)]
+
+mod abi;
+mod caller;
+mod fault;
+#[allow(unreachable_pub)]
+mod ffi;
+#[cfg(test)]
+mod layout;
+mod process;
+mod row;
+mod state;
+mod target;
+mod walk;
+
+pub use abi::Abi;
+pub use caller::{Answer, Caller};
+pub use fault::{Error, Fault, FaultKind, Section};
+pub use process::Process;
+pub use row::{CfaRule, Row, Rule, Span};
+pub use state::{Block, Registers, State};
+pub use target::{AddressSize, Order, Target};
+pub use walk::{Backtrace, Frame, Stop};
+
+/// Checks a `.debug_frame` section and a `.debug_loclists` section, either of which may be empty.
+///
+/// `Ok` says that both are well formed by the rules of `docs/PROFILE.md`, and so are all expressions
+/// in them. It takes memory in proportion to the sections, and gives it back.
+///
+/// # Errors
+///
+/// [`Error::Refused`] with the first fault, or [`Error::NoMemory`]. A section of 2^32 bytes or more
+/// is refused by [`FaultKind::SectionTooLong`].
+pub fn check(frame: &[u8], lists: &[u8], target: Target) -> Result<(), Error> {
+    let mut fault = ffi::Fault::default();
+    // SAFETY: the pointers and lengths are those of slices that are only read, and the fault is ours.
+    let status = unsafe {
+        ffi::dwcheck_check(
+            frame.as_ptr(),
+            frame.len(),
+            lists.as_ptr(),
+            lists.len(),
+            target.order_number(),
+            target.address_bytes(),
+            &mut fault,
+        )
+    };
+    Error::check(status, fault)
+}
+
+/// The version of the library's interface. It has a greater second number where only new calls,
+/// fields or values have come.
+///
+/// This crate is for the first number 1.
+///
+/// ```
+/// assert_eq!(dwcheck::version().0, 1);
+/// ```
+pub fn version() -> (u16, u16) {
+    // SAFETY: it takes nothing.
+    let version = unsafe { ffi::dwcheck_version() };
+    ((version >> 16) as u16, version as u16)
+}

@@ -1,0 +1,147 @@
+//! Rows of unwind tables.
+
+use crate::ffi;
+use std::ops::Range;
+
+/// Where an expression is: its bytes in the frame section that the module was added from.
+#[derive(Clone, Copy, Debug, PartialEq, Eq, Hash)]
+pub struct Span {
+    /// The offset of its first byte in the section.
+    pub offset: u64,
+    /// How many bytes it has.
+    pub length: u64,
+}
+
+impl Span {
+    /// The expression's bytes, from that section. `None` where the section is too short.
+    ///
+    /// ```
+    /// let span = dwcheck::Span { offset: 1, length: 2 };
+    /// assert_eq!(span.of(&[5, 6, 7, 8]), Some(&[6, 7][..]));
+    /// assert_eq!(span.of(&[5, 6]), None);
+    /// ```
+    pub fn of<'a>(&self, section: &'a [u8]) -> Option<&'a [u8]> {
+        let start = usize::try_from(self.offset).ok()?;
+        let length = usize::try_from(self.length).ok()?;
+        section.get(start..start.checked_add(length)?)
+    }
+
+    fn in_raw(raw: &ffi::Rule) -> Option<Span> {
+        Some(Span {
+            offset: u64::try_from(raw.offset).ok()?,
+            length: raw.length,
+        })
+    }
+}
+
+/// What a register of the caller is.
+#[derive(Clone, Copy, Debug, PartialEq, Eq, Hash)]
+#[non_exhaustive]
+pub enum Rule {
+    /// It can't be had.
+    Undefined,
+    /// What the register has now.
+    SameValue,
+    /// Saved at the CFA plus so many bytes.
+    Offset(i64),
+    /// The CFA plus so many.
+    ValOffset(i64),
+    /// What that register has now.
+    Register(u16),
+    /// Saved at the address that an expression gives. The CFA is pushed before it.
+    Expression(Span),
+    /// What an expression gives. The CFA is pushed before it.
+    ValExpression(Span),
+    /// A rule that this crate doesn't know, by its number: the library is newer.
+    Other(u32),
+}
+
+impl Rule {
+    fn of(raw: &ffi::Rule) -> Rule {
+        let known = match raw.kind {
+            ffi::RULE_UNDEFINED => Some(Rule::Undefined),
+            ffi::RULE_SAME_VALUE => Some(Rule::SameValue),
+            ffi::RULE_OFFSET => Some(Rule::Offset(raw.offset)),
+            ffi::RULE_VAL_OFFSET => Some(Rule::ValOffset(raw.offset)),
+            ffi::RULE_REGISTER => Some(Rule::Register(raw.source)),
+            ffi::RULE_EXPRESSION => Span::in_raw(raw).map(Rule::Expression),
+            ffi::RULE_VAL_EXPRESSION => Span::in_raw(raw).map(Rule::ValExpression),
+            _ => None,
+        };
+        known.unwrap_or(Rule::Other(raw.kind))
+    }
+}
+
+/// What the canonical frame address (CFA) is.
+#[derive(Clone, Copy, Debug, PartialEq, Eq, Hash)]
+#[non_exhaustive]
+pub enum CfaRule {
+    /// What a register has, plus an offset in bytes.
+    RegisterAndOffset {
+        /// The register.
+        register: u16,
+        /// What is added.
+        offset: i64,
+    },
+    /// What an expression gives. Nothing is pushed before it.
+    Expression(Span),
+    /// A rule that this crate doesn't know, by its number: the library is newer.
+    Other(u32),
+}
+
+impl CfaRule {
+    fn of(raw: &ffi::Rule) -> CfaRule {
+        let known = match raw.kind {
+            ffi::RULE_VAL_OFFSET => Some(CfaRule::RegisterAndOffset {
+                register: raw.reg,
+                offset: raw.offset,
+            }),
+            ffi::RULE_VAL_EXPRESSION => Span::in_raw(raw).map(CfaRule::Expression),
+            _ => None,
+        };
+        known.unwrap_or(CfaRule::Other(raw.kind))
+    }
+}
+
+/// A row of an unwind table: what holds at some addresses of a module.
+#[derive(Clone, Debug, PartialEq, Eq, Hash)]
+#[non_exhaustive]
+pub struct Row {
+    /// The load address of the module.
+    pub load_address: u64,
+    /// The addresses that the row is for, as linked: the load address is to be added, modulo 2^w.
+    pub addresses: Range<u64>,
+    /// The rule of the CFA.
+    pub cfa: CfaRule,
+    /// The register of the return address.
+    pub return_register: u16,
+    /// The registers that have a rule, ascending, 128 at most. Of any other the ABI has the say.
+    pub rules: Vec<(u16, Rule)>,
+}
+
+impl Row {
+    /// The rule of a register, if it has one.
+    pub fn rule(&self, register: u16) -> Option<Rule> {
+        let place = self
+            .rules
+            .binary_search_by_key(&register, |(number, _)| *number)
+            .ok()?;
+        Some(self.rules[place].1)
+    }
+
+    /// What the library wrote. `None` where a register's number has more than 16 bits, which the
+    /// library never gives.
+    pub(crate) fn of(raw: &ffi::Row, rules: &[ffi::Rule]) -> Option<Row> {
+        let count = usize::try_from(raw.count).ok()?.min(rules.len());
+        Some(Row {
+            load_address: raw.load_address,
+            addresses: raw.start..raw.end,
+            cfa: CfaRule::of(&raw.cfa),
+            return_register: u16::try_from(raw.return_reg).ok()?,
+            rules: rules[..count]
+                .iter()
+                .map(|rule| (rule.reg, Rule::of(rule)))
+                .collect(),
+        })
+    }
+}

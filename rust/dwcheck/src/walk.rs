@@ -1,0 +1,127 @@
+//! Walks up a stack.
+
+use crate::caller::Answer;
+use crate::ffi;
+use std::fmt;
+use std::slice;
+use std::vec;
+
+/// A frame of a stack.
+///
+/// The first frame's address is the one that the walk began at. Any other's is a return address: the
+/// instruction behind the call. So a symbolizer looks up the address less one for these.
+#[repr(transparent)]
+#[derive(Clone, Copy, Default)]
+pub struct Frame {
+    raw: ffi::Frame,
+}
+
+impl Frame {
+    /// The frame's address, as loaded.
+    pub fn address(&self) -> u64 {
+        self.raw.address
+    }
+
+    /// Its canonical frame address (CFA). `None` where no module has a row for it.
+    pub fn cfa(&self) -> Option<Answer> {
+        match self.raw.cfa.kind {
+            ffi::NOT_COVERED => None,
+            kind => Some(Answer::of(kind, self.raw.cfa.value)),
+        }
+    }
+
+    /// Slots as the library takes them.
+    pub(crate) fn raw_slots(slots: &mut [Frame]) -> *mut ffi::Frame {
+        // a `Frame` is an `ffi::Frame`, since it is transparent
+        slots.as_mut_ptr().cast()
+    }
+}
+
+impl PartialEq for Frame {
+    fn eq(&self, other: &Frame) -> bool {
+        (self.address(), self.cfa()) == (other.address(), other.cfa())
+    }
+}
+
+impl Eq for Frame {}
+
+impl fmt::Debug for Frame {
+    fn fmt(&self, f: &mut fmt::Formatter<'_>) -> fmt::Result {
+        f.debug_struct("Frame")
+            .field("address", &self.address())
+            .field("cfa", &self.cfa())
+            .finish()
+    }
+}
+
+/// Why a walk ends.
+#[derive(Clone, Copy, Debug, PartialEq, Eq, Hash)]
+#[non_exhaustive]
+pub enum Stop {
+    /// There are as many frames as were asked for.
+    Limit,
+    /// No module has a row for the last frame.
+    NotCovered,
+    /// The last frame has no caller: the walk is complete.
+    ReturnUndefined,
+    /// The last frame's return address takes a register or memory that isn't handed in.
+    ReturnUnreadable,
+    /// The expression of the last frame's return address divides by zero.
+    ReturnDivisionByZero,
+    /// A reason that this crate doesn't know, by its number: the library is newer.
+    Other(u32),
+}
+
+impl Stop {
+    pub(crate) fn of(number: u32) -> Stop {
+        match number {
+            ffi::STOP_LIMIT => Stop::Limit,
+            ffi::STOP_NOT_COVERED => Stop::NotCovered,
+            ffi::STOP_RETURN_UNDEFINED => Stop::ReturnUndefined,
+            ffi::STOP_RETURN_UNREADABLE => Stop::ReturnUnreadable,
+            ffi::STOP_RETURN_DIVISION_BY_ZERO => Stop::ReturnDivisionByZero,
+            other => Stop::Other(other),
+        }
+    }
+}
+
+impl fmt::Display for Stop {
+    fn fmt(&self, f: &mut fmt::Formatter<'_>) -> fmt::Result {
+        match self {
+            Stop::Limit => f.pad("limit"),
+            Stop::NotCovered => f.pad("not covered"),
+            Stop::ReturnUndefined => f.pad("return undefined"),
+            Stop::ReturnUnreadable => f.pad("return unreadable"),
+            Stop::ReturnDivisionByZero => f.pad("return division by zero"),
+            Stop::Other(number) => write!(f, "unknown reason {}", number),
+        }
+    }
+}
+
+/// The frames of a stack, and why there are no more.
+#[derive(Clone, Debug, PartialEq, Eq)]
+#[non_exhaustive]
+pub struct Backtrace {
+    /// The frames, the innermost first.
+    pub frames: Vec<Frame>,
+    /// Why there are no more.
+    pub stop: Stop,
+}
+
+impl IntoIterator for Backtrace {
+    type Item = Frame;
+    type IntoIter = vec::IntoIter<Frame>;
+
+    fn into_iter(self) -> Self::IntoIter {
+        self.frames.into_iter()
+    }
+}
+
+impl<'a> IntoIterator for &'a Backtrace {
+    type Item = &'a Frame;
+    type IntoIter = slice::Iter<'a, Frame>;
+
+    fn into_iter(self) -> Self::IntoIter {
+        self.frames.iter()
+    }
+}
