@@ -337,3 +337,28 @@ impl From<Fault> for Error {
         Error::Refused(fault)
     }
 }
+
+#[cfg(test)]
+mod tests {
+    use super::{library_name, FaultKind};
+
+    #[test]
+    fn names_are_those_of_the_library() {
+        for number in (0..1000).chain([u32::MAX]) {
+            let mut text = [0; 32];
+            match (
+                FaultKind::from_number(number),
+                library_name(number, &mut text),
+            ) {
+                (FaultKind::Other(_), name) => assert_eq!(name, None),
+                (kind, name) => assert_eq!(name, Some(kind.name())),
+            }
+        }
+    }
+
+    #[test]
+    fn a_name_is_cut_where_the_text_is_short() {
+        assert_eq!(library_name(9, &mut [0; 4]), Some("NoSu"));
+        assert_eq!(library_name(9, &mut []), Some(""));
+    }
+}

@@ -1,0 +1,84 @@
+//! Sections of docs/WORKED.md, and helpers. Not every test file uses all.
+#![allow(dead_code)]
+
+use dwcheck::{Error, Process, Target};
+
+/// The bytes of hex text with spaces.
+pub fn hex(text: &str) -> Vec<u8> {
+    let digits: Vec<u8> = text
+        .chars()
+        .filter(|c| !c.is_whitespace())
+        .map(|c| c.to_digit(16).expect("hex text") as u8)
+        .collect();
+    assert_eq!(digits.len() % 2, 0, "whole bytes");
+    digits
+        .chunks(2)
+        .map(|pair| pair[0] * 16 + pair[1])
+        .collect()
+}
+
+/// The CIE that docs/WORKED.md calls C1.
+pub const C1: &str = "14000000 ffffffff 04 00 08 00 01 78 10 0c0708 9001 00000000";
+
+/// The beginning of an FDE that it calls H1, up to its program of eight bytes.
+pub const H1: &str = "1c000000 00000000 0010000000000000 2000000000000000";
+
+/// The section of C1 and H1 with a program, which is filled with 0 to eight bytes.
+pub fn with_program(program: &str) -> Vec<u8> {
+    let mut section = hex(&format!("{} {} {}", C1, H1, program));
+    section.resize(section.len().max(56), 0);
+    section
+}
+
+/// Row 1's section.
+pub fn row_1() -> Vec<u8> {
+    with_program("41 0e10 8602 43 0d06")
+}
+
+/// The section that it calls X.
+pub fn x() -> Vec<u8> {
+    with_program("10 06 02 2308 16 07 00")
+}
+
+/// Row 16's location lists.
+pub fn row_16() -> Vec<u8> {
+    hex("12000000 0500 08 00 00000000 04 00 10 01 50 05 02 309f 00")
+}
+
+/// The location lists that it calls L.
+pub fn l() -> Vec<u8> {
+    hex(
+        "36000000 0500 08 00 00000000 06 0020000000000000 04 00 10 01 50
+         08 0820000000000000 10 01 51 07 0020000000000000 0020000000000000 01 52 00",
+    )
+}
+
+/// An FDE like H1 with a range and eight `00`.
+pub fn fde(initial: u64, range: u64) -> Vec<u8> {
+    let mut bytes = hex("1c000000 00000000");
+    bytes.extend(initial.to_le_bytes());
+    bytes.extend(range.to_le_bytes());
+    bytes.extend([0; 8]);
+    bytes
+}
+
+/// A process of one module, little-endian with addresses of 8 bytes.
+pub fn process_at(section: &[u8], load_address: u64) -> Process {
+    let mut process = Process::new();
+    add(&mut process, section, load_address).expect("a good section");
+    process
+}
+
+pub fn add(process: &mut Process, section: &[u8], load_address: u64) -> Result<(), Error> {
+    let room = Process::enough_room(section);
+    process.add(section, Target::LITTLE_64, load_address, room)
+}
+
+/// What a refusal says, as `NoSuchCie` and 28.
+pub fn refusal(result: Result<(), Error>) -> Option<(&'static str, u32)> {
+    match result {
+        Ok(()) => None,
+        Err(Error::Refused(fault)) => Some((fault.name(), fault.offset)),
+        Err(other) => panic!("{}", other),
+    }
+}

@@ -1,0 +1,184 @@
+//! `check`, with what docs/WORKED.md says of each section.
+
+mod common;
+
+use common::*;
+use dwcheck::{check, Error, FaultKind, Process, Section, Target};
+
+fn frame(bytes: &[u8]) -> Option<(&'static str, u32)> {
+    refusal(check(bytes, &[], Target::LITTLE_64))
+}
+
+fn lists(bytes: &[u8]) -> Option<(&'static str, u32)> {
+    refusal(check(&[], bytes, Target::LITTLE_64))
+}
+
+#[test]
+fn good_sections_are_accepted() {
+    assert_eq!(frame(&[]), None);
+    for section in [row_1(), x(), with_program("60")] {
+        assert_eq!(check(&section, &row_16(), Target::LITTLE_64), Ok(()));
+        assert_eq!(check(&section, &l(), Target::LITTLE_64), Ok(()));
+    }
+    // row 19, and one table with one list
+    let wide = "ffffffff 1400000000000000 ffffffffffffffff 04 00 08 00 01 78 10 0c0708 9001";
+    assert_eq!(frame(&hex(wide)), None);
+    let table = "ffffffff 1100000000000000 0500 08 00 01000000 0800000000000000 00";
+    assert_eq!(lists(&hex(table)), None);
+}
+
+#[test]
+fn other_targets() {
+    let big = hex("00000010 ffffffff 04 00 04 00 04 7c 0e 0c0d00 0000
+         00000014 00000000 00008000 00000010 42 0e08 8e01 000000");
+    assert_eq!(check(&big, &[], Target::BIG_32), Ok(()));
+    assert!(check(&big, &[], Target::LITTLE_32).is_err());
+    // the address size is part of the CIE
+    let wrong = refusal(check(&row_1(), &[], Target::LITTLE_32));
+    assert_eq!(wrong, Some(("AddressSize", 10)));
+}
+
+#[test]
+fn row_1_cut() {
+    let section = row_1();
+    for length in 0..=section.len() {
+        let want = match length {
+            0 | 24 | 56 => None,
+            1..=3 => Some(("Truncated", 0)),
+            4..=23 => Some(("Truncated", 4)),
+            25..=27 => Some(("Truncated", 24)),
+            _ => Some(("Truncated", 28)),
+        };
+        assert_eq!(frame(&section[..length]), want, "{} bytes", length);
+    }
+}
+
+#[test]
+fn row_1_changed() {
+    let table = [
+        (0, 0x15, Some(("Truncated", 29))),
+        (0, 0xff, Some(("Truncated", 4))),
+        (4, 0x00, Some(("NoSuchCie", 4))),
+        (9, 0x7a, Some(("Augmentation", 9))),
+        (10, 0x04, Some(("AddressSize", 10))),
+        (11, 0x01, Some(("SegmentSize", 11))),
+        (12, 0x80, Some(("LocationPastEnd", 48))),
+        (15, 0x41, Some(("NotInCie", 15))),
+        (28, 0x18, Some(("NoSuchCie", 28))),
+        (47, 0xff, None),
+        (49, 0x1f, Some(("UnknownInstruction", 49))),
+        (52, 0xff, None),
+        (54, 0x0f, Some(("Truncated", 56))),
+        (55, 0x80, Some(("Truncated", 55))),
+    ];
+    for (place, byte, want) in table {
+        let mut section = row_1();
+        section[place] = byte;
+        assert_eq!(frame(&section), want, "{:#x} at {}", byte, place);
+        // a process refuses the same
+        let added = add(&mut Process::new(), &section, 0);
+        assert_eq!(refusal(added), want, "{:#x} at {}", byte, place);
+    }
+}
+
+#[test]
+fn row_16_changed() {
+    let table = [
+        (0, 0x11, Some(("NoEnd", 21))),
+        (4, 0x04, Some(("ListVersion", 4))),
+        (6, 0x04, Some(("AddressSize", 6))),
+        (8, 0x01, Some(("UnknownEntry", 16))),
+        (12, 0x01, Some(("UnknownEntry", 12))),
+        (13, 0x11, Some(("BackRange", 12))),
+        (15, 0x00, Some(("UnknownEntry", 16))),
+        (16, 0x12, Some(("Underflow", 16))),
+        (21, 0x05, Some(("Truncated", 22))),
+    ];
+    for (place, byte, want) in table {
+        let mut section = row_16();
+        section[place] = byte;
+        assert_eq!(lists(&section), want, "{:#x} at {}", byte, place);
+    }
+}
+
+#[test]
+fn frame_sections_that_are_refused() {
+    let overlap = [row_1(), fde(0x101f, 1)].concat();
+    assert_eq!(frame(&overlap), Some(("Overlap", 56)));
+    let two = [row_1(), fde(0x2000, 1), fde(0x1010, 1)].concat();
+    assert_eq!(frame(&two), Some(("Overlap", 88)));
+    assert_eq!(frame(&[row_1(), fde(0x1020, 1)].concat()), None);
+    assert_eq!(frame(&hex("f0ffffff")), Some(("ReservedLength", 0)));
+    for (program, name, at) in [
+        ("0b", "RestoreWithoutRemember", 48),
+        ("0a", "Unrestored", 56),
+        ("61", "LocationPastEnd", 48),
+        ("05 808004 01", "RegisterNumber", 48),
+    ] {
+        assert_eq!(frame(&with_program(program)), Some((name, at)));
+    }
+}
+
+#[test]
+fn location_lists_that_are_refused() {
+    for (section, name, at) in [
+        (
+            "0d000000 0500 08 00 00000000 04 10 00 00 00",
+            "BackRange",
+            12,
+        ),
+        ("0a000000 0500 08 00 00000000 05 00", "NoEnd", 14),
+        (
+            "0d000000 0500 08 00 01000000 05000000 00",
+            "BadOffsetEntry",
+            12,
+        ),
+        (
+            "0d000000 0500 08 00 00000000 0500 0500 00",
+            "SecondDefault",
+            14,
+        ),
+        ("0a000000 0500 08 00 00000000 01 00", "UnknownEntry", 12),
+        ("0c000000 0500 08 00 00000000 05 01 12 00", "Underflow", 14),
+        ("08000000 0400 08 00 00000000", "ListVersion", 4),
+    ] {
+        assert_eq!(lists(&hex(section)), Some((name, at)), "{}", section);
+    }
+}
+
+#[test]
+fn faults_as_text() {
+    let mut frame = row_1();
+    frame[28] = 4;
+    let error = check(&frame, &[], Target::LITTLE_64).unwrap_err();
+    assert_eq!(error.to_string(), "frame: 9 NoSuchCie at 0x0000001c");
+    let back = hex("0d000000 0500 08 00 00000000 04 10 00 00 00");
+    let error = check(&[], &back, Target::LITTLE_64).unwrap_err();
+    assert_eq!(error.to_string(), "lists: 52 BackRange at 0x0000000c");
+    let fault = error.fault().unwrap();
+    assert_eq!(fault.section, Section::Lists);
+    assert_eq!((fault.number(), fault.kind), (52, FaultKind::BackRange));
+    assert_eq!(Error::NoMemory.to_string(), "out of memory");
+    let boxed: Box<dyn std::error::Error + Send + Sync> = Box::new(error);
+    assert_eq!(boxed.to_string(), fault.to_string());
+}
+
+/// Every beginning of a section, and every change of one byte to a few others: an answer for each.
+#[test]
+fn each_small_change_has_an_answer() {
+    for section in [row_1(), x(), row_16(), l()] {
+        for length in 0..section.len() {
+            let _ = check(&section[..length], &section[length..], Target::LITTLE_64);
+        }
+        for place in 0..section.len() {
+            for byte in [0, 1, 0x7f, 0x80, 0xff, section[place] ^ 0x40] {
+                let mut changed = section.clone();
+                changed[place] = byte;
+                let _ = check(&changed, &changed, Target::BIG_32);
+                let both = check(&changed, &[], Target::LITTLE_64);
+                let added = add(&mut Process::new(), &changed, u64::MAX);
+                assert_eq!(both, added);
+            }
+        }
+    }
+}

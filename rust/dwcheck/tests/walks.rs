@@ -1,0 +1,339 @@
+//! `unwind` and `backtrace`, with what docs/WORKED.md says of each.
+
+mod common;
+
+use common::*;
+use dwcheck::{
+    Abi, Answer, Backtrace, Block, Error, Frame, Process, Registers, Section, State, Stop,
+};
+
+fn words(words: &[u64]) -> Vec<u8> {
+    words.iter().flat_map(|word| word.to_le_bytes()).collect()
+}
+
+/// A frame's address and CFA.
+fn shown(walk: &Backtrace) -> Vec<(u64, Option<u64>)> {
+    walk.into_iter()
+        .map(|frame| (frame.address(), frame.cfa().and_then(Answer::value)))
+        .collect()
+}
+
+fn value(value: u64) -> Option<Answer> {
+    Some(Answer::Value(value))
+}
+
+#[test]
+fn callers_of_row_1() {
+    let process = process_at(&row_1(), 0);
+    let registers = Registers::from([(6, 0x7f00)]);
+    let (low, high) = (words(&[0x8000]), words(&[0x1234]));
+    let memory = [Block::new(0x7f00, &low), Block::new(0x7f08, &high)];
+    let mut state = State {
+        registers: &registers,
+        memory: &memory,
+        abi: Abi::NONE,
+    };
+    let caller = process.unwind(0x1010, &state).unwrap().unwrap();
+    assert_eq!(caller.cfa, Answer::Value(0x7f10));
+    assert_eq!(
+        caller.registers,
+        [(6, Answer::Value(0x8000)), (16, Answer::Value(0x1234))]
+    );
+    assert_eq!(caller.return_address, Answer::Value(0x1234));
+    assert_eq!(caller.register(16), value(0x1234));
+    assert_eq!(caller.register(7), None);
+    assert_eq!(caller.known(), Registers::from([(6, 0x8000), (16, 0x1234)]));
+    assert_eq!(process.unwind(0x1020, &state), Ok(None));
+
+    state.memory = &[];
+    let caller = process.unwind(0x1010, &state).unwrap().unwrap();
+    assert_eq!(caller.cfa, Answer::Value(0x7f10));
+    assert_eq!(
+        caller.registers,
+        [(6, Answer::Unreadable), (16, Answer::Unreadable)]
+    );
+    assert_eq!(caller.return_address, Answer::Unreadable);
+    assert_eq!(caller.known(), Registers::new());
+
+    let nothing = Registers::new();
+    state.registers = &nothing;
+    let caller = process.unwind(0x1010, &state).unwrap().unwrap();
+    assert_eq!(caller.cfa, Answer::Unreadable);
+}
+
+#[test]
+fn callers_by_expressions() {
+    let process = process_at(&x(), 0);
+    let registers = Registers::from([(7, 0x7f00)]);
+    let (above, at) = (words(&[5]), words(&[0x1234]));
+    let memory = [Block::new(0x7f10, &above), Block::new(0x7f00, &at)];
+    let state = State {
+        registers: &registers,
+        memory: &memory,
+        abi: Abi::NONE,
+    };
+    let caller = process.unwind(0x1000, &state).unwrap().unwrap();
+    assert_eq!(caller.cfa, Answer::Value(0x7f08));
+    assert_eq!(
+        caller.registers,
+        [
+            (6, Answer::Value(5)),
+            (7, Answer::Value(0x7f08)),
+            (16, Answer::Value(0x1234))
+        ]
+    );
+}
+
+#[test]
+fn callers_under_an_abi() {
+    let process = process_at(&row_1(), 0);
+    let registers = Registers::from([(6, 5), (7, 0x7f08)]);
+    let stack = words(&[0x1234]);
+    let memory = [Block::new(0x7f08, &stack)];
+    let mut state = State {
+        registers: &registers,
+        memory: &memory,
+        abi: Abi::new(&[6], Some(7)),
+    };
+    let caller = process.unwind(0x1000, &state).unwrap().unwrap();
+    assert_eq!(
+        caller.registers,
+        [
+            (6, Answer::Value(5)),
+            (7, Answer::Value(0x7f10)),
+            (16, Answer::Value(0x1234))
+        ]
+    );
+    state.abi = Abi::NONE;
+    let caller = process.unwind(0x1000, &state).unwrap().unwrap();
+    assert_eq!(caller.registers, [(16, Answer::Value(0x1234))]);
+}
+
+#[test]
+fn abis_that_are_refused() {
+    let process = process_at(&row_1(), 0);
+    let refused = |kept: &[u16], stack_pointer| {
+        let state = State {
+            registers: &Registers::new(),
+            memory: &[],
+            abi: Abi::new(kept, stack_pointer),
+        };
+        let unwound = process.unwind(0x1000, &state).err();
+        assert_eq!(process.backtrace(0x1000, &state, 9).err(), unwound);
+        let fault = unwound?.fault().unwrap();
+        assert_eq!(fault.section, Section::Abi);
+        Some((fault.name(), fault.offset))
+    };
+    let many: Vec<u16> = (0..128).collect();
+    assert_eq!(refused(&[6, 7, 6], None), Some(("AbiTwice", 2)));
+    assert_eq!(refused(&[6, 7, 6], Some(7)), Some(("AbiTwice", 2)));
+    assert_eq!(refused(&[7], Some(7)), Some(("AbiTwice", 1)));
+    assert_eq!(refused(&[7], Some(6)), None);
+    assert_eq!(refused(&[], Some(65535)), None);
+    assert_eq!(refused(&many, None), Some(("AbiTooLarge", 127)));
+    assert_eq!(refused(&[0; 128], Some(0)), Some(("AbiTooLarge", 127)));
+    assert_eq!(refused(&many[..127], Some(127)), None);
+    assert_eq!(refused(&many[..127], Some(126)), Some(("AbiTwice", 127)));
+    for abi in [Abi::AARCH64, Abi::ARM, Abi::I386, Abi::MIPS, Abi::POWERPC] {
+        assert_eq!(refused(abi.kept, abi.stack_pointer), None);
+    }
+    for abi in [Abi::RISCV, Abi::S390X, Abi::X86_64] {
+        assert_eq!(refused(abi.kept, abi.stack_pointer), None);
+    }
+}
+
+#[test]
+fn a_walk_and_its_ends() {
+    let process = process_at(&row_1(), 0);
+    let registers = Registers::from([(6, 0x7f00)]);
+    let (first, second) = (words(&[0x7f40, 0x1020]), words(&[0, 0x2000]));
+    let memory = [Block::new(0x7f00, &first), Block::new(0x7f40, &second)];
+    let walk = |memory: &[Block<'_>], limit| {
+        let state = State {
+            registers: &registers,
+            memory,
+            abi: Abi::NONE,
+        };
+        let walk = process.backtrace(0x1010, &state, limit).unwrap();
+        (shown(&walk), walk.stop)
+    };
+    let frames = [
+        (0x1010, Some(0x7f10)),
+        (0x1020, Some(0x7f50)),
+        (0x2000, None),
+    ];
+    for limit in [4, 9, 65, usize::MAX] {
+        assert_eq!(walk(&memory, limit), (frames.to_vec(), Stop::NotCovered));
+    }
+    for limit in 0..=3 {
+        assert_eq!(
+            walk(&memory, limit),
+            (frames[..limit].to_vec(), Stop::Limit)
+        );
+    }
+    let short = [memory[0], Block::new(0x7f40, &second[..8])];
+    assert_eq!(
+        walk(&short, 9),
+        (frames[..2].to_vec(), Stop::ReturnUnreadable)
+    );
+    assert_eq!(walk(&short, 2), (frames[..2].to_vec(), Stop::Limit));
+    let only = [Block::new(0x7f08, &first[8..])];
+    let (found, stop) = walk(&only, 9);
+    assert_eq!((&found[..1], found[1]), (&frames[..1], (0x1020, None)));
+    assert_eq!(stop, Stop::ReturnUnreadable);
+}
+
+#[test]
+fn walks_into_slots() {
+    let process = process_at(&row_1(), 0);
+    let registers = Registers::from([(6, 0x7f00)]);
+    let stack = words(&[0, 0x2000]);
+    let memory = [Block::new(0x7f00, &stack)];
+    let state = State {
+        registers: &registers,
+        memory: &memory,
+        abi: Abi::X86_64,
+    };
+    let mut slots = [Frame::default(); 3];
+    let (frames, stop) = process.backtrace_into(0x1010, &state, &mut slots).unwrap();
+    assert_eq!((frames.len(), stop), (2, Stop::NotCovered));
+    assert_eq!(frames[0].cfa(), value(0x7f10));
+    assert_eq!((frames[1].address(), frames[1].cfa()), (0x2000, None));
+    let (frames, stop) = process.backtrace_into(0x1010, &state, &mut []).unwrap();
+    assert_eq!((frames.len(), stop), (0, Stop::Limit));
+}
+
+/// A process of C1 and H1 with initial location 0, and a walk from 3 with `reg 7 0x10`.
+fn walk_from_3(program: &str, limit: usize) -> Backtrace {
+    let mut section = with_program(program);
+    section[33] = 0;
+    let process = process_at(&section, 0);
+    let registers = Registers::from([(7, 0x10)]);
+    let state = State {
+        registers: &registers,
+        memory: &[],
+        abi: Abi::NONE,
+    };
+    process.backtrace(3, &state, limit).unwrap()
+}
+
+#[test]
+fn walks_that_go_on() {
+    for limit in [1, 63, 64, 65, 256, 257, 65535] {
+        let walk = walk_from_3("0f 01 3f 14 10 01", limit);
+        assert_eq!((walk.frames.len(), walk.stop), (limit, Stop::Limit));
+        let frames = shown(&walk);
+        assert_eq!(frames[0], (3, Some(0xf)));
+        assert!(frames[1..].iter().all(|frame| *frame == (7, Some(0xf))));
+    }
+}
+
+#[test]
+fn walks_that_end() {
+    let walk = walk_from_3("0f 01 3f 16 10 01 30", 9);
+    assert_eq!(shown(&walk), [(3, Some(0xf)), (0, None)]);
+    assert_eq!(walk.stop, Stop::NotCovered);
+    assert_eq!(walk_from_3("0f 01 3f 16 10 01 30", 2).stop, Stop::Limit);
+    for (program, stop) in [
+        ("07 10", Stop::ReturnUndefined),
+        ("16 10 03 31301b", Stop::ReturnDivisionByZero),
+    ] {
+        let walk = walk_from_3(program, 9);
+        assert_eq!((shown(&walk), walk.stop), (vec![(3, Some(0x18))], stop));
+        assert_eq!(walk_from_3(program, 1).stop, Stop::Limit);
+    }
+    assert_eq!(
+        Stop::ReturnDivisionByZero.to_string(),
+        "return division by zero"
+    );
+}
+
+#[test]
+fn walks_through_modules() {
+    let mut process = process_at(&row_1(), 0x100000);
+    add(&mut process, &row_1(), 0x200000).unwrap();
+    let registers = Registers::from([(6, 0x7000)]);
+    let stack = words(&[0x7020, 0x101010, 0, 0, 0, 0x5000]);
+    let memory = [Block::new(0x7000, &stack)];
+    let state = State {
+        registers: &registers,
+        memory: &memory,
+        abi: Abi::NONE,
+    };
+    let walk = process.backtrace(0x201010, &state, 9).unwrap();
+    let frames = [
+        (0x201010, Some(0x7010)),
+        (0x101010, Some(0x7030)),
+        (0x5000, None),
+    ];
+    assert_eq!(
+        (shown(&walk), walk.stop),
+        (frames.to_vec(), Stop::NotCovered)
+    );
+
+    // the same by single steps, each looked up where the call is
+    let first = process.unwind(0x201010, &state).unwrap().unwrap();
+    assert_eq!(first.register(6), value(0x7020));
+    let known = first.known();
+    let next = State {
+        registers: &known,
+        ..state
+    };
+    let second = process.unwind(0x10100f, &next).unwrap().unwrap();
+    assert_eq!(
+        (second.cfa, second.register(6)),
+        (Answer::Value(0x7030), value(0))
+    );
+    assert_eq!(second.return_address, Answer::Value(0x5000));
+    assert_eq!(process.unwind(0x4fff, &next), Ok(None));
+}
+
+#[test]
+fn without_a_module_nothing_is_covered() {
+    let process = Process::default();
+    let state = State {
+        registers: &Registers::from([(65535, 1)]),
+        memory: &[Block::new(u64::MAX, &[1, 2, 3])],
+        abi: Abi::X86_64,
+    };
+    for address in [0, 0x10, u64::MAX] {
+        let walk = process.backtrace(address, &state, usize::MAX).unwrap();
+        assert_eq!(
+            (shown(&walk), walk.stop),
+            (vec![(address, None)], Stop::NotCovered)
+        );
+        assert_eq!(process.unwind(address, &state), Ok(None));
+    }
+}
+
+/// Blocks at both ends of the address space, overlapping, and empty.
+#[test]
+fn blocks_anywhere() {
+    let bytes = words(&[0x7f40, 0x1020, 3, 4]);
+    let empty = Block::new(5, &[]);
+    let top = Block::new(u64::MAX - 3, &bytes);
+    let memory = [
+        empty,
+        top,
+        Block::new(0x7f00, &bytes),
+        Block::new(0x7f08, &bytes),
+    ];
+    let process = process_at(&row_1(), 0);
+    for base in [0, 0x7f00, u64::MAX - 7, u64::MAX - 16, u64::MAX] {
+        let state = State {
+            registers: &Registers::from([(6, base), (7, base)]),
+            memory: &memory,
+            abi: Abi::X86_64,
+        };
+        for address in 0x1000..0x1020 {
+            let result = process.backtrace(address, &state, 5);
+            assert!(!matches!(result, Err(Error::Other(_))));
+        }
+        let caller = process.unwind(0x1010, &state).unwrap().unwrap();
+        let want = match base {
+            0x7f00 => Answer::Value(0x1020),
+            _ => Answer::Unreadable,
+        };
+        assert_eq!(caller.return_address, want, "{:#x}", base);
+    }
+}
