@@ -290,7 +290,7 @@ pub enum Error {
     NoMemory,
     /// The rows of the section may take more than the room that was given.
     NoRoom,
-    /// The section has 2^32 bytes or more.
+    /// The section or the expression has 2^32 bytes or more.
     TooLong,
     /// A status that this crate doesn't know, by its number: the library is newer.
     Other(u32),
@@ -324,7 +324,7 @@ impl fmt::Display for Error {
             Error::Refused(fault) => fault.fmt(f),
             Error::NoMemory => f.pad("out of memory"),
             Error::NoRoom => f.pad("the rows of the section may take more than the room given"),
-            Error::TooLong => f.pad("the section has 2^32 bytes or more"),
+            Error::TooLong => f.pad("2^32 bytes or more"),
             Error::Other(status) => write!(f, "unknown status {}", status),
         }
     }

@@ -151,6 +151,54 @@ pub const STOP_RETURN_UNDEFINED: u32 = 2;
 pub const STOP_RETURN_UNREADABLE: u32 = 3;
 pub const STOP_RETURN_DIVISION_BY_ZERO: u32 = 4;
 
+pub const FRAME_CFA: u32 = 0;
+pub const FRAME_REGISTER: u32 = 1;
+pub const LOCATION: u32 = 2;
+
+#[repr(C)]
+#[derive(Clone, Copy, Debug, Default)]
+pub struct Context {
+    pub cfa: u64,
+    pub frame_base: u64,
+    pub object: u64,
+    pub has_cfa: u32,
+    pub has_frame_base: u32,
+    pub has_object: u32,
+    pub reserved: u32,
+}
+
+pub const IS_VALUE: u32 = 0;
+pub const IS_UNREADABLE: u32 = 1;
+pub const IS_DIVISION_BY_ZERO: u32 = 2;
+pub const LOCATION_NOWHERE: u32 = 3;
+pub const LOCATION_ADDRESS: u32 = 4;
+pub const LOCATION_REGISTER: u32 = 5;
+pub const LOCATION_VALUE: u32 = 6;
+pub const LOCATION_BYTES: u32 = 7;
+pub const LOCATION_PIECES: u32 = 8;
+
+#[repr(C)]
+#[derive(Clone, Copy, Debug, Default)]
+pub struct Value {
+    pub value: u64,
+    pub kind: u32,
+    pub offset: u32,
+    pub steps: u32,
+    pub count: u32,
+}
+
+#[repr(C)]
+#[derive(Clone, Copy, Debug, Default)]
+pub struct Piece {
+    pub value: u64,
+    pub kind: u32,
+    pub size: u32,
+    pub bit_offset: u32,
+    pub is_bits: u32,
+}
+
+pub const MAX_PIECES: usize = 32;
+
 extern "C" {
     pub fn dwcheck_version() -> u32;
 
@@ -214,6 +262,23 @@ extern "C" {
         frames_length: usize,
         count: *mut usize,
         stop: *mut u32,
+        fault: *mut Fault,
+    ) -> u32;
+
+    pub fn dwcheck_evaluate(
+        expression: *const u8,
+        expression_length: usize,
+        order: u32,
+        address_size: u32,
+        kind: u32,
+        context: *const Context,
+        state: *const State,
+        n: u32,
+        value: *mut Value,
+        pieces: *mut Piece,
+        pieces_length: usize,
+        bytes: *mut u8,
+        bytes_length: usize,
         fault: *mut Fault,
     ) -> u32;
 }

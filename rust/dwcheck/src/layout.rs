@@ -49,6 +49,10 @@ fn layouts() -> (String, String) {
         layout!(Register, "dwcheck_register": value kind number),
         layout!(Caller, "dwcheck_caller": cfa return_address count),
         layout!(Frame, "dwcheck_frame": address cfa),
+        layout!(Context, "dwcheck_context": cfa frame_base object has_cfa has_frame_base has_object
+            reserved),
+        layout!(Value, "dwcheck_value": value kind offset steps count),
+        layout!(Piece, "dwcheck_piece": value kind size bit_offset is_bits),
     ];
     all.into_iter().unzip()
 }
@@ -74,6 +78,12 @@ fn constants() -> (String, String) {
         STOP_RETURN_UNDEFINED "STOP_RETURN_UNDEFINED"
         STOP_RETURN_UNREADABLE "STOP_RETURN_UNREADABLE"
         STOP_RETURN_DIVISION_BY_ZERO "STOP_RETURN_DIVISION_BY_ZERO"
+        FRAME_CFA "FRAME_CFA" FRAME_REGISTER "FRAME_REGISTER" LOCATION "LOCATION"
+        IS_VALUE "IS_VALUE" IS_UNREADABLE "IS_UNREADABLE"
+        IS_DIVISION_BY_ZERO "IS_DIVISION_BY_ZERO" LOCATION_NOWHERE "LOCATION_NOWHERE"
+        LOCATION_ADDRESS "LOCATION_ADDRESS" LOCATION_REGISTER "LOCATION_REGISTER"
+        LOCATION_VALUE "LOCATION_VALUE" LOCATION_BYTES "LOCATION_BYTES"
+        LOCATION_PIECES "LOCATION_PIECES" MAX_PIECES "MAX_PIECES"
     };
     all.iter()
         .map(|(name, number)| {

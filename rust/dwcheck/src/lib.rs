@@ -7,6 +7,7 @@
 //! - [`check`] judges a frame section and location lists.
 //! - A [`Process`] has modules, each a section with a load address; it gives the [`Row`] of an
 //!   address, the [`Caller`] of a frame, and the frames of a stack.
+//! - [`evaluate`] gives what an expression comes to.
 //!
 //! Sections are bytes, as `objcopy --dump-section` or an ELF reader gives them, of a linked file and
 //! not compressed. No call panics. What is refused, and what isn't read, is in the project's
@@ -33,6 +34,7 @@
 
 mod abi;
 mod caller;
+mod expression;
 mod fault;
 #[allow(unreachable_pub)]
 mod ffi;
@@ -46,6 +48,9 @@ mod walk;
 
 pub use abi::Abi;
 pub use caller::{Answer, Caller};
+pub use expression::{
+    evaluate, Context, Evaluation, ExpressionKind, Location, Outcome, Piece, PieceSize,
+};
 pub use fault::{Error, Fault, FaultKind, Section};
 pub use process::Process;
 pub use row::{CfaRule, Row, Rule, Span};
