@@ -43,6 +43,8 @@ mod layout;
 mod process;
 mod row;
 mod state;
+#[cfg(test)]
+mod strange;
 mod target;
 mod walk;
 

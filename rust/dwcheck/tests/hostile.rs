@@ -1,0 +1,119 @@
+//! Input that makes no sense: each call has an answer. Valgrind is to look on.
+
+mod common;
+
+use common::*;
+use dwcheck::{
+    evaluate, Abi, Block, Context, ExpressionKind, Frame, Process, Registers, State, Target,
+};
+
+/// Numbers that look random and are the same in each run.
+struct Numbers(u64);
+
+impl Numbers {
+    fn next(&mut self) -> u64 {
+        self.0 = self
+            .0
+            .wrapping_mul(6364136223846793005)
+            .wrapping_add(1442695040888963407);
+        self.0 ^ self.0 >> 29
+    }
+
+    fn below(&mut self, end: usize) -> usize {
+        (self.next() >> 8) as usize % end
+    }
+
+    fn bytes(&mut self, length: usize) -> Vec<u8> {
+        (0..length).map(|_| self.next() as u8).collect()
+    }
+
+    fn target(&mut self) -> Target {
+        let all = [
+            Target::LITTLE_64,
+            Target::LITTLE_32,
+            Target::BIG_64,
+            Target::BIG_32,
+        ];
+        all[self.below(4)]
+    }
+
+    /// An address near those of the sections, or any.
+    fn address(&mut self) -> u64 {
+        match self.below(3) {
+            0 => self.next(),
+            1 => 0u64.wrapping_sub(self.next() % 32),
+            _ => 0x1000 + self.next() % 0x40,
+        }
+    }
+}
+
+/// A good section with some bytes changed.
+fn changed(numbers: &mut Numbers) -> Vec<u8> {
+    let mut section = if numbers.below(2) == 0 { row_1() } else { x() };
+    for _ in 0..numbers.below(3) {
+        let place = numbers.below(section.len());
+        section[place] = numbers.next() as u8;
+    }
+    section
+}
+
+fn ask_all(process: &Process, address: u64, state: &State<'_>, expression: &[u8]) {
+    let row = process.row(address);
+    let caller = process.unwind(address, state);
+    let walk = process.backtrace(address, state, 70);
+    assert_eq!(caller.is_err(), walk.is_err());
+    if let Ok(caller) = caller {
+        assert_eq!(row.is_some(), caller.is_some());
+    }
+    let mut slots = [Frame::default(); 2];
+    assert_eq!(
+        walk.is_err(),
+        process.backtrace_into(address, state, &mut slots).is_err()
+    );
+    let context = Context {
+        cfa: Some(address),
+        ..Context::default()
+    };
+    for kind in [
+        ExpressionKind::FrameCfa,
+        ExpressionKind::FrameRegister,
+        ExpressionKind::Location,
+    ] {
+        let _ = evaluate(expression, kind, Target::LITTLE_64, &context, state);
+    }
+}
+
+#[test]
+fn every_call_has_an_answer() {
+    let mut numbers = Numbers(7);
+    for _ in 0..2000 {
+        let mut process = Process::new();
+        for _ in 0..numbers.below(3) {
+            let (section, target) = (changed(&mut numbers), numbers.target());
+            let (load, room) = (numbers.address(), numbers.below(1 << 20));
+            let _ = process.add(&section, target, load, room);
+            let _ = add(&mut process, &section, 0);
+        }
+        let registers: Registers = (0..numbers.below(40))
+            .map(|_| {
+                (
+                    numbers.next() as u16 >> numbers.below(16),
+                    numbers.address(),
+                )
+            })
+            .collect();
+        let (base, length) = (numbers.address(), numbers.below(64));
+        let stack = numbers.bytes(length);
+        let memory = [Block::new(base, &stack), Block::new(0x1000, &stack)];
+        let kept: Vec<u16> = (0..numbers.below(4))
+            .map(|_| numbers.next() as u16 % 20)
+            .collect();
+        let state = State {
+            registers: &registers,
+            memory: &memory[..numbers.below(3)],
+            abi: Abi::new(&kept, Some(numbers.next() as u16 % 20)),
+        };
+        let expression = numbers.bytes(length % 7);
+        ask_all(&process, numbers.address(), &state, &expression);
+    }
+}
