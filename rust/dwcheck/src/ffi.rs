@@ -199,6 +199,22 @@ pub struct Piece {
 
 pub const MAX_PIECES: usize = 32;
 
+#[repr(C)]
+#[derive(Clone, Copy, Debug, Default)]
+pub struct Lookup {
+    pub base: u64,
+    pub address: u64,
+    pub list: u32,
+    pub reserved: u32,
+}
+
+#[repr(C)]
+#[derive(Clone, Copy, Debug, Default)]
+pub struct Location {
+    pub offset: u64,
+    pub length: u64,
+}
+
 extern "C" {
     pub fn dwcheck_version() -> u32;
 
@@ -279,6 +295,18 @@ extern "C" {
         pieces_length: usize,
         bytes: *mut u8,
         bytes_length: usize,
+        fault: *mut Fault,
+    ) -> u32;
+
+    pub fn dwcheck_locations(
+        lists: *const u8,
+        lists_length: usize,
+        order: u32,
+        address_size: u32,
+        lookup: *const Lookup,
+        locations: *mut Location,
+        locations_length: usize,
+        count: *mut usize,
         fault: *mut Fault,
     ) -> u32;
 }

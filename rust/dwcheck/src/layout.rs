@@ -53,6 +53,8 @@ fn layouts() -> (String, String) {
             reserved),
         layout!(Value, "dwcheck_value": value kind offset steps count),
         layout!(Piece, "dwcheck_piece": value kind size bit_offset is_bits),
+        layout!(Lookup, "dwcheck_lookup": base address list reserved),
+        layout!(Location, "dwcheck_location": offset length),
     ];
     all.into_iter().unzip()
 }

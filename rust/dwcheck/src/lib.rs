@@ -7,6 +7,7 @@
 //! - [`check`] judges a frame section and location lists.
 //! - A [`Process`] has modules, each a section with a load address; it gives the [`Row`] of an
 //!   address, the [`Caller`] of a frame, and the frames of a stack.
+//! - [`locations`] gives the expressions of a location list that hold at an address.
 //! - [`evaluate`] gives what an expression comes to.
 //!
 //! Sections are bytes, as `objcopy --dump-section` or an ELF reader gives them, of a linked file and
@@ -40,6 +41,7 @@ mod fault;
 mod ffi;
 #[cfg(test)]
 mod layout;
+mod lists;
 mod process;
 mod row;
 mod state;
@@ -54,6 +56,7 @@ pub use expression::{
     evaluate, Context, Evaluation, ExpressionKind, Location, Outcome, Piece, PieceSize,
 };
 pub use fault::{Error, Fault, FaultKind, Section};
+pub use lists::{locations, Lookup};
 pub use process::Process;
 pub use row::{CfaRule, Row, Rule, Span};
 pub use state::{Block, Registers, State};

@@ -3,7 +3,8 @@
 use crate::ffi;
 use std::ops::Range;
 
-/// Where an expression is: its bytes in the frame section that the module was added from.
+/// Where an expression is: its bytes in a section. For a row that is the section that the module was
+/// added from, which the [`Process`](crate::Process) doesn't keep.
 #[derive(Clone, Copy, Debug, PartialEq, Eq, Hash)]
 pub struct Span {
     /// The offset of its first byte in the section.
@@ -24,6 +25,13 @@ impl Span {
         let start = usize::try_from(self.offset).ok()?;
         let length = usize::try_from(self.length).ok()?;
         section.get(start..start.checked_add(length)?)
+    }
+
+    pub(crate) fn of_location(raw: &ffi::Location) -> Span {
+        Span {
+            offset: raw.offset,
+            length: raw.length,
+        }
     }
 
     fn in_raw(raw: &ffi::Rule) -> Option<Span> {

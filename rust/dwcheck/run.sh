@@ -1,0 +1,18 @@
+#!/bin/sh
+# Builds the wrapper against the static library (crates/dwcheck_c, by `rt lib`), and runs its tests and examples. Valgrind
+# looks on in a second run of the tests, if it is there.
+set -eu
+here=$(cd "$(dirname "$0")" && pwd)
+top=$(dirname "$(dirname "$here")")
+if [ -z "${DWCHECK_LIB_DIR:-}" ]; then
+    DWCHECK_LIB_DIR=$top/crates/dwcheck_c/out:$(dirname "$(rt doc)")/c
+    export DWCHECK_LIB_DIR
+fi
+cd "$here"
+cargo test -j1
+if command -v valgrind > /dev/null; then
+    host=$(rustc -vV | sed -n 's/^host: //p' | tr 'a-z-' 'A-Z_')
+    leaks=definite,indirect
+    export "CARGO_TARGET_${host}_RUNNER=valgrind -q --error-exitcode=1 --leak-check=full --show-leak-kinds=$leaks --errors-for-leak-kinds=$leaks"
+    cargo test -j1 --tests
+fi
