@@ -22,6 +22,9 @@ const FIRST_FRAMES: usize = 64;
 /// It may go from thread to thread, and isn't `Sync`: each thread needs one of its own, which
 /// [`share`](Process::share) makes without copying the tables. A look-up or a walk takes no lock.
 ///
+/// As measured on x86-64, [`add`](Process::add) takes 82 KB of stack, an unwinding or a walk 61 KB, and
+/// other calls less. A thread whose stack is too small ends the program, as by any overflow.
+///
 /// ```
 /// # const SECTION: &[u8] = &[
 /// #     0x14, 0, 0, 0, 0xff, 0xff, 0xff, 0xff, 4, 0, 8, 0, 1, 0x78, 0x10, 0x0c, 7, 8, 0x90, 1, 0, 0, 0, 0,
@@ -205,7 +208,7 @@ impl Process {
     ///
     /// `None` where no module has one. To go on from a caller, look it up at its return address less
     /// one, where the call is, with [`Caller::known`] as its registers; or have [`backtrace`] do so.
-    /// The library takes no memory, and some 12 KB of stack; this function takes 4 KB more.
+    /// The library takes no memory; the [`Caller`] that is made of its answer has a `Vec`.
     ///
     /// # Errors
     ///
@@ -295,7 +298,7 @@ impl Process {
     /// Walks up the stack from the frame at an address, into slots: as many frames as fit, and why
     /// there are no more.
     ///
-    /// It takes no memory, and some 20 KB of stack.
+    /// It takes no memory.
     ///
     /// # Errors
     ///

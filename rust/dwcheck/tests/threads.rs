@@ -100,19 +100,21 @@ fn a_shared_process_is_its_own() {
     assert!(process.share().unwrap().row(0x101010).is_none());
 }
 
-/// A thread of the smallest usual stack has room for every call.
+/// The threads of musl have the smallest usual stacks, of 128 KB.
 #[test]
 fn calls_fit_a_small_stack() {
     let walker = thread::Builder::new().stack_size(128 * 1024);
-    let process = two_modules();
-    let walks = walker.spawn(move || {
+    let walks = walker.spawn(|| {
+        let process = two_modules();
         let state = State {
             registers: &Registers::new(),
             memory: &[],
             abi: Abi::X86_64,
         };
         let unwound = process.unwind(0x201010, &state).unwrap();
-        walks_well(&process) && unwound.is_some() && process.row(0x201010).is_some()
+        let checked = dwcheck::check(&row_1(), &row_16(), dwcheck::Target::LITTLE_64);
+        let good = walks_well(&process) && unwound.is_some() && checked.is_ok();
+        good && process.row(0x201010).is_some()
     });
     assert!(walks.unwrap().join().unwrap());
 }
