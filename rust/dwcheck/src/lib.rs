@@ -50,6 +50,7 @@ mod lists;
 mod process;
 mod row;
 mod state;
+mod steps;
 #[cfg(test)]
 mod strange;
 mod target;
@@ -65,6 +66,7 @@ pub use lists::{locations, Lookup};
 pub use process::Process;
 pub use row::{CfaRule, Row, Rule, Span};
 pub use state::{Block, Registers, State};
+pub use steps::{Step, Steps};
 pub use target::{AddressSize, Order, Target};
 pub use walk::{Backtrace, Frame, Stop};
 

@@ -62,6 +62,16 @@ fn ask_all(process: &Process, address: u64, state: &State<'_>, expression: &[u8]
     let caller = process.unwind(address, state);
     let walk = process.backtrace(address, state, 70);
     assert_eq!(caller.is_err(), walk.is_err());
+    let steps: Result<Vec<_>, _> = process.steps(address, state).take(70).collect();
+    match (&walk, steps) {
+        (Ok(walk), Ok(steps)) => {
+            let steps = steps
+                .into_iter()
+                .map(|step| (step.address, step.caller.map(|c| c.cfa)));
+            assert!(steps.eq(walk.into_iter().map(|frame| (frame.address(), frame.cfa()))));
+        }
+        (walk, steps) => assert!(walk.is_err() && steps.is_err()),
+    }
     if let Ok(caller) = caller {
         assert_eq!(row.is_some(), caller.is_some());
     }

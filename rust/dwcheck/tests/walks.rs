@@ -4,7 +4,7 @@ mod common;
 
 use common::*;
 use dwcheck::{
-    Abi, Answer, Backtrace, Block, Error, Frame, Process, Registers, Section, State, Stop,
+    Abi, Answer, Backtrace, Block, Error, Frame, Process, Registers, Section, State, Step, Stop,
 };
 
 fn words(words: &[u64]) -> Vec<u8> {
@@ -214,7 +214,22 @@ fn walk_from_3(program: &str, limit: usize) -> Backtrace {
         memory: &[],
         abi: Abi::NONE,
     };
-    process.backtrace(3, &state, limit).unwrap()
+    let walk = process.backtrace(3, &state, limit).unwrap();
+    let steps = process.steps(3, &state).take(limit).map(Result::unwrap);
+    assert!(steps.eq_frames(&walk));
+    walk
+}
+
+/// Whether steps are the frames of a walk.
+trait EqFrames {
+    fn eq_frames(self, walk: &Backtrace) -> bool;
+}
+
+impl<T: Iterator<Item = Step>> EqFrames for T {
+    fn eq_frames(self, walk: &Backtrace) -> bool {
+        self.map(|step| (step.address, step.caller.map(|caller| caller.cfa)))
+            .eq(walk.into_iter().map(|frame| (frame.address(), frame.cfa())))
+    }
 }
 
 #[test]
@@ -271,7 +286,21 @@ fn walks_through_modules() {
         (frames.to_vec(), Stop::NotCovered)
     );
 
-    // the same by single steps, each looked up where the call is
+    // the same step by step, with registers
+    let steps: Vec<_> = process
+        .steps(0x201010, &state)
+        .map(Result::unwrap)
+        .collect();
+    let addresses: Vec<u64> = steps.iter().map(|step| step.address).collect();
+    assert_eq!(addresses, [0x201010, 0x101010, 0x5000]);
+    let caller = |n: usize| steps[n].caller.as_ref().unwrap();
+    assert_eq!(caller(0).register(6), value(0x7020));
+    assert_eq!(caller(0).register(16), value(0x101010));
+    assert_eq!(caller(1).register(6), value(0));
+    assert_eq!(caller(1).register(16), value(0x5000));
+    assert_eq!(steps[2].caller, None);
+
+    // and by single calls, each looked up where the call is
     let first = process.unwind(0x201010, &state).unwrap().unwrap();
     assert_eq!(first.register(6), value(0x7020));
     let known = first.known();

@@ -1,0 +1,111 @@
+//! Walks step by step, with all registers of each caller.
+
+use crate::abi::Abi;
+use crate::caller::{Answer, Caller};
+use crate::fault::Error;
+use crate::process::Process;
+use crate::state::{Block, Registers, State};
+
+/// A frame, and what is known of its caller.
+#[derive(Clone, Debug, PartialEq, Eq, Hash)]
+#[non_exhaustive]
+pub struct Step {
+    /// The frame's address, as loaded: the one that the walk began at, or a return address.
+    pub address: u64,
+    /// Its caller, with the frame's CFA. `None` where no module has a row for it.
+    pub caller: Option<Caller>,
+}
+
+/// The frames of a stack, each with its caller: an iterator that [`Process::steps`] makes.
+#[derive(Clone, Debug)]
+pub struct Steps<'a> {
+    process: &'a Process,
+    memory: &'a [Block<'a>],
+    abi: Abi<'a>,
+    registers: Registers,
+    /// The next frame's address, and where it is looked up, if anywhere.
+    next: Option<(u64, Option<u64>)>,
+}
+
+impl Process {
+    /// Walks up the stack from the frame at an address, a frame with all registers of its caller at a
+    /// time.
+    ///
+    /// The frames are those of [`backtrace`](Process::backtrace), which takes much less time. A step is
+    /// an [`unwind`](Process::unwind): the first frame is looked up at its address, each other at its
+    /// address less one, over the registers that its callee's caller has a value for. It ends after a
+    /// frame that isn't covered, or whose return address has no value. A walk of a stack that is astray
+    /// may go on for ever: [`take`](Iterator::take) so many.
+    ///
+    /// A step is an error, and the last, where the ABI names too many registers or one twice.
+    ///
+    /// ```
+    /// # const SECTION: &[u8] = &[
+    /// #     0x14, 0, 0, 0, 0xff, 0xff, 0xff, 0xff, 4, 0, 8, 0, 1, 0x78, 0x10, 0x0c, 7, 8, 0x90, 1, 0, 0, 0, 0,
+    /// #     0x1c, 0, 0, 0, 0, 0, 0, 0, 0, 0x10, 0, 0, 0, 0, 0, 0, 0x20, 0, 0, 0, 0, 0, 0, 0,
+    /// #     0x41, 0x0e, 0x10, 0x86, 2, 0x43, 0x0d, 6,
+    /// # ];
+    /// use dwcheck::{Abi, Answer, Block, Process, Registers, State, Target};
+    ///
+    /// let mut process = Process::new();
+    /// process.add(SECTION, Target::LITTLE_64, 0, Process::enough_room(SECTION))?;
+    /// let registers = Registers::from([(6, 0x7f00)]);
+    /// let stack = [0, 0x80, 0, 0, 0, 0, 0, 0, 0x34, 0x12, 0, 0, 0, 0, 0, 0];
+    /// let memory = [Block::new(0x7f00, &stack)];
+    /// let state = State { registers: &registers, memory: &memory, abi: Abi::NONE };
+    ///
+    /// for step in process.steps(0x1010, &state).take(50) {
+    ///     let step = step?;
+    ///     match step.caller {
+    ///         Some(caller) => assert_eq!(caller.register(6), Some(Answer::Value(0x8000))),
+    ///         None => assert_eq!(step.address, 0x1234),
+    ///     }
+    /// }
+    /// # Ok::<(), dwcheck::Error>(())
+    /// ```
+    pub fn steps<'a>(&'a self, address: u64, state: &State<'a>) -> Steps<'a> {
+        Steps {
+            process: self,
+            memory: state.memory,
+            abi: state.abi,
+            registers: state.registers.clone(),
+            next: Some((address, Some(address))),
+        }
+    }
+}
+
+impl Steps<'_> {
+    /// The caller of the frame that is looked up at an address. There is none where it is nowhere.
+    fn caller(&self, address: Option<u64>) -> Result<Option<Caller>, Error> {
+        let state = State {
+            registers: &self.registers,
+            memory: self.memory,
+            abi: self.abi,
+        };
+        match address {
+            Some(address) => self.process.unwind(address, &state),
+            None => Ok(None),
+        }
+    }
+}
+
+impl Iterator for Steps<'_> {
+    type Item = Result<Step, Error>;
+
+    fn next(&mut self) -> Option<Result<Step, Error>> {
+        let (address, looked_up) = self.next.take()?;
+        let caller = match self.caller(looked_up) {
+            Ok(caller) => caller,
+            Err(why) => return Some(Err(why)),
+        };
+        if let Some(caller) = &caller {
+            if let Answer::Value(up) = caller.return_address {
+                self.registers = caller.known();
+                self.next = Some((up, up.checked_sub(1)));
+            }
+        }
+        Some(Ok(Step { address, caller }))
+    }
+}
+
+impl std::iter::FusedIterator for Steps<'_> {}
