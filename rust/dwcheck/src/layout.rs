@@ -149,3 +149,25 @@ fn c_has_the_same_layouts_and_numbers() {
         None => eprintln!("no C compiler is there: nothing is compared"),
     }
 }
+
+/// What is cast between this crate's types and those of C.
+#[test]
+fn casts_are_between_equal_layouts() {
+    use crate::{Block, Frame, Span};
+    fn same<A, B>() {
+        assert_eq!(
+            (size_of::<A>(), align_of::<A>()),
+            (size_of::<B>(), align_of::<B>())
+        );
+    }
+    same::<Span, ffi::Location>();
+    same::<Frame, ffi::Frame>();
+    same::<Block<'_>, ffi::Block>();
+    let mut slots = [Span {
+        offset: 1,
+        length: 2,
+    }];
+    // SAFETY: the slot is there, and any two numbers are a value.
+    let raw = unsafe { *Span::raw_slots(&mut slots) };
+    assert_eq!((raw.offset, raw.length), (1, 2));
+}

@@ -54,11 +54,12 @@ pub fn locations(
     loop {
         let more = slots - found.len();
         found.try_reserve_exact(more).map_err(|_| Error::NoMemory)?;
-        found.resize(slots, ffi::Location::default());
+        found.resize(slots, Span::default());
         match look_up(lists, target, lookup, &mut found)? {
             None => return Ok(None),
             Some(count) if count < slots => {
-                return Ok(Some(found[..count].iter().map(Span::of_location).collect()))
+                found.truncate(count);
+                return Ok(Some(found));
             }
             Some(_) => slots = slots.saturating_mul(8),
         }
@@ -70,7 +71,7 @@ fn look_up(
     lists: &[u8],
     target: Target,
     lookup: &Lookup,
-    slots: &mut [ffi::Location],
+    slots: &mut [Span],
 ) -> Result<Option<usize>, Error> {
     let lookup = ffi::Lookup {
         base: lookup.base,
@@ -78,6 +79,7 @@ fn look_up(
         list: lookup.list,
         reserved: 0,
     };
+    let length = slots.len();
     let mut count = 0;
     let mut fault = ffi::Fault::default();
     // SAFETY: the section is only read, the slots are borrowed alone, and the others are ours.
@@ -88,8 +90,8 @@ fn look_up(
             target.order_number(),
             target.address_bytes(),
             &lookup,
-            slots.as_mut_ptr(),
-            slots.len(),
+            Span::raw_slots(slots),
+            length,
             &mut count,
             &mut fault,
         )
@@ -98,5 +100,5 @@ fn look_up(
         return Ok(None);
     }
     Error::check(status, fault)?;
-    Ok(Some(count.min(slots.len())))
+    Ok(Some(count.min(length)))
 }

@@ -5,7 +5,8 @@ use std::ops::Range;
 
 /// Where an expression is: its bytes in a section. For a row that is the section that the module was
 /// added from, which the [`Process`](crate::Process) doesn't keep.
-#[derive(Clone, Copy, Debug, PartialEq, Eq, Hash)]
+#[derive(Clone, Copy, Debug, Default, PartialEq, Eq, Hash)]
+#[repr(C)]
 pub struct Span {
     /// The offset of its first byte in the section.
     pub offset: u64,
@@ -27,11 +28,10 @@ impl Span {
         section.get(start..start.checked_add(length)?)
     }
 
-    pub(crate) fn of_location(raw: &ffi::Location) -> Span {
-        Span {
-            offset: raw.offset,
-            length: raw.length,
-        }
+    /// Slots as the library takes them.
+    pub(crate) fn raw_slots(slots: &mut [Span]) -> *mut ffi::Location {
+        // a `Span` has the fields of an `ffi::Location`, in C's layout
+        slots.as_mut_ptr().cast()
     }
 
     fn in_raw(raw: &ffi::Rule) -> Option<Span> {

@@ -1,0 +1,117 @@
+//! Each request for memory that a call makes is refused in turn. This file has `unsafe`: it stands in
+//! the place of the C library's allocator.
+#![cfg(all(target_os = "linux", target_env = "gnu"))]
+
+mod common;
+
+use common::*;
+use dwcheck::{
+    check, evaluate, locations, Abi, Context, Error, ExpressionKind, Lookup, Process, Registers,
+    State, Target,
+};
+use std::cell::Cell;
+use std::os::raw::c_void;
+use std::ptr::null_mut;
+
+thread_local! {
+    /// How many requests of this thread are granted before one is refused; below 0 all are.
+    static LEFT: Cell<isize> = const { Cell::new(-1) };
+}
+
+extern "C" {
+    fn __libc_malloc(size: usize) -> *mut c_void;
+    fn __libc_realloc(block: *mut c_void, size: usize) -> *mut c_void;
+}
+
+fn refuses() -> bool {
+    LEFT.with(|left| {
+        let now = left.get();
+        left.set(if now < 0 { now } else { now - 1 });
+        now == 0
+    })
+}
+
+#[no_mangle]
+extern "C" fn malloc(size: usize) -> *mut c_void {
+    if refuses() {
+        return null_mut();
+    }
+    // SAFETY: it takes any size.
+    unsafe { __libc_malloc(size) }
+}
+
+/// # Safety
+///
+/// As `realloc` of C.
+#[no_mangle]
+unsafe extern "C" fn realloc(block: *mut c_void, size: usize) -> *mut c_void {
+    if refuses() {
+        return null_mut();
+    }
+    // SAFETY: as the caller promises.
+    unsafe { __libc_realloc(block, size) }
+}
+
+/// Calls with each request refused, until there are fewer. It answers how many there were. A call may
+/// have another way that takes no memory.
+fn refuse_each<T>(mut call: impl FnMut() -> Result<T, Error>) -> isize {
+    for granted in 0.. {
+        LEFT.with(|left| left.set(granted));
+        let result = call();
+        let left = LEFT.with(|left| left.replace(-1));
+        if left >= 0 {
+            assert!(result.is_ok());
+            return granted;
+        }
+        assert!(matches!(result, Ok(_) | Err(Error::NoMemory)));
+    }
+    unreachable!()
+}
+
+#[test]
+fn sections() {
+    let (frame, lists) = (x(), l());
+    let asked = refuse_each(|| check(&frame, &lists, Target::LITTLE_64));
+    assert!(asked > 0);
+    let lookup = Lookup {
+        list: 0xc,
+        base: 0,
+        address: 0x2008,
+    };
+    let asked = refuse_each(|| locations(&lists, Target::LITTLE_64, &lookup));
+    assert!(asked > 0);
+}
+
+#[test]
+fn processes() {
+    let section = row_1();
+    let mut process = Process::new();
+    assert!(refuse_each(|| add(&mut process, &section, 0)) > 0);
+    assert!(refuse_each(|| add(&mut process, &section, 0x10000)) > 0);
+    // what was refused was not added
+    assert!(process.remove(0x10000) && !process.remove(0x10000));
+    assert!(process.row(0x1000).is_some());
+    assert!(refuse_each(|| process.share()) > 0);
+}
+
+#[test]
+fn expressions_and_walks() {
+    let state = State {
+        registers: &Registers::new(),
+        memory: &[],
+        abi: Abi::NONE,
+    };
+    let run = |text: &str| {
+        let (expression, context) = (hex(text), Context::default());
+        let kind = ExpressionKind::Location;
+        refuse_each(|| evaluate(&expression, kind, Target::LITTLE_64, &context, &state))
+    };
+    assert!(run(&"30 28 0000".repeat(100)) > 0);
+    assert_eq!(run("32 33 22"), 0);
+    let process = process_at(&row_1(), 0);
+    assert_eq!(refuse_each(|| process.backtrace(0x1000, &state, 9)), 1);
+    assert_eq!(
+        refuse_each(|| process.backtrace_into(0x1000, &state, &mut []).map(drop)),
+        0
+    );
+}
