@@ -52,6 +52,14 @@ unsafe extern "C" fn realloc(block: *mut c_void, size: usize) -> *mut c_void {
     unsafe { __libc_realloc(block, size) }
 }
 
+/// Whether this file's allocator is in place. Valgrind has its own.
+fn is_in_place() -> bool {
+    LEFT.with(|left| left.set(0));
+    let refused = Vec::<u8>::new().try_reserve_exact(1).is_err();
+    LEFT.with(|left| left.set(-1));
+    refused
+}
+
 /// Calls with each request refused, until there are fewer. It answers how many there were. A call may
 /// have another way that takes no memory.
 fn refuse_each<T>(mut call: impl FnMut() -> Result<T, Error>) -> isize {
@@ -70,6 +78,9 @@ fn refuse_each<T>(mut call: impl FnMut() -> Result<T, Error>) -> isize {
 
 #[test]
 fn sections() {
+    if !is_in_place() {
+        return eprintln!("another allocator is in place: nothing is refused");
+    }
     let (frame, lists) = (x(), l());
     let asked = refuse_each(|| check(&frame, &lists, Target::LITTLE_64));
     assert!(asked > 0);
@@ -84,6 +95,9 @@ fn sections() {
 
 #[test]
 fn processes() {
+    if !is_in_place() {
+        return eprintln!("another allocator is in place: nothing is refused");
+    }
     let section = row_1();
     let mut process = Process::new();
     assert!(refuse_each(|| add(&mut process, &section, 0)) > 0);
@@ -96,6 +110,9 @@ fn processes() {
 
 #[test]
 fn expressions_and_walks() {
+    if !is_in_place() {
+        return eprintln!("another allocator is in place: nothing is refused");
+    }
     let state = State {
         registers: &Registers::new(),
         memory: &[],
@@ -106,7 +123,7 @@ fn expressions_and_walks() {
         let kind = ExpressionKind::Location;
         refuse_each(|| evaluate(&expression, kind, Target::LITTLE_64, &context, &state))
     };
-    assert!(run(&"30 28 0000".repeat(100)) > 0);
+    assert!(run(&("30 28 0000".repeat(100) + "31")) > 0);
     assert_eq!(run("32 33 22"), 0);
     let process = process_at(&row_1(), 0);
     assert_eq!(refuse_each(|| process.backtrace(0x1000, &state, 9)), 1);

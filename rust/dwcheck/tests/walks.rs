@@ -203,11 +203,16 @@ fn walks_into_slots() {
     assert_eq!((frames.len(), stop), (0, Stop::Limit));
 }
 
-/// A process of C1 and H1 with initial location 0, and a walk from 3 with `reg 7 0x10`.
-fn walk_from_3(program: &str, limit: usize) -> Backtrace {
+/// C1 and H1 with a program and initial location 0.
+fn from_0(program: &str) -> Vec<u8> {
     let mut section = with_program(program);
     section[33] = 0;
-    let process = process_at(&section, 0);
+    section
+}
+
+/// A walk through it from 3 with `reg 7 0x10`.
+fn walk_from_3(program: &str, limit: usize) -> Backtrace {
+    let process = process_at(&from_0(program), 0);
     let registers = Registers::from([(7, 0x10)]);
     let state = State {
         registers: &registers,
@@ -249,10 +254,23 @@ fn walks_that_end() {
     assert_eq!(shown(&walk), [(3, Some(0xf)), (0, None)]);
     assert_eq!(walk.stop, Stop::NotCovered);
     assert_eq!(walk_from_3("0f 01 3f 16 10 01 30", 2).stop, Stop::Limit);
-    for (program, stop) in [
-        ("07 10", Stop::ReturnUndefined),
-        ("16 10 03 31301b", Stop::ReturnDivisionByZero),
+    for (program, stop, answer) in [
+        ("07 10", Stop::ReturnUndefined, Answer::Undefined),
+        (
+            "16 10 03 31301b",
+            Stop::ReturnDivisionByZero,
+            Answer::DivisionByZero,
+        ),
     ] {
+        let process = process_at(&from_0(program), 0);
+        let state = State {
+            registers: &Registers::from([(7, 0x10)]),
+            memory: &[],
+            abi: Abi::NONE,
+        };
+        let caller = process.unwind(3, &state).unwrap().unwrap();
+        assert_eq!(caller.return_address, answer);
+        assert_eq!(caller.registers, [(16, answer)]);
         let walk = walk_from_3(program, 9);
         assert_eq!((shown(&walk), walk.stop), (vec![(3, Some(0x18))], stop));
         assert_eq!(walk_from_3(program, 1).stop, Stop::Limit);
