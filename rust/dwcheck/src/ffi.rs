@@ -1,41 +1,55 @@
-//! What `c/include/dwcheck.h` declares: the same names without `dwcheck_`, the same order, the same
-//! fields. `layout` compares sizes and offsets with a C compiler's.
+//! What `c/include/dwcheck.h` declares, in its order and its words: the same names without `dwcheck_`,
+//! and the same fields. `layout` compares sizes, offsets and numbers with a C compiler's.
 //!
-//! What a caller owes for every call, in the header's words:
+//! What a caller owes for every call:
 //!
-//! - A pointer points to a whole, aligned value of its type, which no other argument of the call
-//!   overlaps and no other thread writes during the call. A pointer that comes with a length points
-//!   to that many elements, and isn't null even for none: any address will do then. *Here:* all come
-//!   from references and slices. Those that are `const` may overlap each other: the library takes
-//!   them as shared references.
-//! - A process is handed to one call at a time, and is moved only by copying it and setting the old
-//!   one to closed. It may go from thread to thread. *Here:* `Process` isn't `Sync`, and what Rust
-//!   moves from isn't used any more.
-//! - `malloc`, `realloc` and `free` are of one allocator and may be called from the thread. No call
-//!   is for the forked child of a process with threads. *Here:* signal handlers and `fork` take
-//!   `unsafe` of whoever uses them.
-//! - Fields called `reserved` are 0.
+//! - "A pointer points to a whole, aligned value of its type, which no other argument of the call
+//!   overlaps and no other thread writes during the call. A pointer that comes with a length points to
+//!   that many elements, and isn't null even for none: any address will do then." Here all come from
+//!   references and slices. Two that are `const` may overlap each other, as two sections that are one
+//!   slice: the library takes these as shared references, `&[u8]` or `&CState`.
+//! - "A process is handed to one call at a time, and is moved only by copying it and setting the old one
+//!   to closed. It may go from thread to thread, ordered by a lock, an atomic of memory_order_seq_cst,
+//!   or a thread's start or join." Here `Process` isn't `Sync`, Rust doesn't use what it moved from, and
+//!   whatever safe Rust hands a value over by orders what was before with what is after.
+//! - "malloc, realloc and free are of one allocator and may be called from the thread. So calls that are
+//!   said to take memory are not for signal handlers, nor is any call for the forked child of a process
+//!   with threads." Signal handlers and `fork` take `unsafe` of whoever uses them.
+//! - "There is stack enough." The library touches each page of its stack in turn, so a stack that is too
+//!   small ends the program at the guard page that Rust's threads have.
+//! - "Fields called `reserved` are set to 0."
 //!
-//! No export has a precondition beyond these.
+//! No export has a precondition beyond these. "Enumerations may gain values: take one that you don't
+//! know as something else."
 
 use std::mem::MaybeUninit;
 use std::os::raw::c_void;
 
+/// What the call writes is there.
 pub const DONE: u32 = 0;
+/// `fault` says why.
 pub const REFUSED: u32 = 1;
+/// malloc or realloc gave nothing.
 pub const NO_MEMORY: u32 = 2;
+/// The rows of the section may take more than `room`.
 pub const NO_ROOM: u32 = 3;
+/// 2^32 bytes or more. (4 and 6 are for orders, sizes and kinds that this crate never hands in.)
 pub const TOO_LONG: u32 = 5;
+/// There is none of what was asked for.
 pub const NONE: u32 = 7;
 
+/// Byte orders.
 pub const LITTLE: u32 = 0;
 pub const BIG: u32 = 1;
 
+/// What a fault's offset counts in: bytes of the frame section, ..
 pub const IN_FRAME: u32 = 0;
 pub const IN_LISTS: u32 = 1;
 pub const IN_EXPRESSION: u32 = 2;
+/// Places among the registers that are kept; the stack pointer is after them.
 pub const IN_ABI: u32 = 3;
 
+/// Why something is refused: the number of the fault (docs/PROFILE.md lists them) and its offset.
 #[repr(C)]
 #[derive(Clone, Copy, Debug, Default)]
 pub struct Fault {
@@ -45,6 +59,8 @@ pub struct Fault {
     pub reserved: u32,
 }
 
+/// A process: its modules, each a compiled .debug_frame section with a load address. The fields are
+/// the library's own. Where all of it is 0 it is closed: it has no module, and every call takes it.
 /// The library writes one byte of `opaque_open` and may leave the others without a value.
 #[repr(C)]
 pub struct Process {
@@ -52,14 +68,22 @@ pub struct Process {
     pub opaque_open: MaybeUninit<u64>,
 }
 
+/// Kinds of rules.
 pub const RULE_UNDEFINED: u32 = 1;
 pub const RULE_SAME_VALUE: u32 = 2;
+/// Saved at CFA + offset.
 pub const RULE_OFFSET: u32 = 3;
+/// CFA + offset.
 pub const RULE_VAL_OFFSET: u32 = 4;
+/// The content of register `source`.
 pub const RULE_REGISTER: u32 = 5;
+/// Saved where the expression says.
 pub const RULE_EXPRESSION: u32 = 6;
+/// What the expression gives.
 pub const RULE_VAL_EXPRESSION: u32 = 7;
 
+/// What a register of the caller is. An expression begins at `offset` in the section, and has
+/// `length` bytes.
 #[repr(C)]
 #[derive(Clone, Copy, Debug, Default)]
 pub struct Rule {
@@ -72,6 +96,10 @@ pub struct Rule {
 
 pub const MAX_RULES: usize = 128;
 
+/// The addresses as linked from `start` to before `end`, of the module at a load address. The CFA
+/// is register cfa.reg plus cfa.offset (kind RULE_VAL_OFFSET), or what an expression gives
+/// (RULE_VAL_EXPRESSION). `return_reg` is the register of the return address, `count` how many
+/// registers have a rule.
 #[repr(C)]
 #[derive(Clone, Copy, Debug, Default)]
 pub struct Row {
@@ -83,6 +111,7 @@ pub struct Row {
     pub count: u32,
 }
 
+/// Memory from an address on.
 #[repr(C)]
 #[derive(Clone, Copy)]
 pub struct Block {
@@ -91,6 +120,10 @@ pub struct Block {
     pub length: usize,
 }
 
+/// What a stopped thread has. Register n has contents[n] where bit n % 8 of known[n / 8] is set,
+/// both being there. Memory is the blocks' bytes; an address that two blocks have is that of the
+/// first. Calls keep the registers `kept`, 127 at most; if has_stack_pointer isn't 0, the stack
+/// pointer's value in a caller is the CFA. No register stands there twice.
 #[repr(C)]
 pub struct State {
     pub contents: *const u64,
@@ -106,12 +139,18 @@ pub struct State {
     pub reserved: u32,
 }
 
+/// No FDE covers the address that is looked up.
 pub const NOT_COVERED: u32 = 0;
+/// It is `value`, below 2^w.
 pub const VALUE: u32 = 1;
+/// It can't be had.
 pub const UNDEFINED: u32 = 2;
+/// It takes a register or memory that isn't handed in.
 pub const UNREADABLE: u32 = 3;
+/// Its expression divides by zero.
 pub const DIVISION_BY_ZERO: u32 = 4;
 
+/// What is known of a number.
 #[repr(C)]
 #[derive(Clone, Copy, Debug, Default)]
 pub struct Answer {
@@ -120,6 +159,7 @@ pub struct Answer {
     pub reserved: u32,
 }
 
+/// What is known of a register, by its number.
 #[repr(C)]
 #[derive(Clone, Copy, Debug, Default)]
 pub struct Register {
@@ -128,6 +168,8 @@ pub struct Register {
     pub number: u32,
 }
 
+/// A caller: its canonical frame address, where it goes on, and how many registers have a rule of
+/// the row or of the ABI.
 #[repr(C)]
 #[derive(Clone, Copy, Debug, Default)]
 pub struct Caller {
@@ -138,6 +180,7 @@ pub struct Caller {
 
 pub const MAX_REGISTERS: usize = 256;
 
+/// A frame: its address, and its canonical frame address.
 #[repr(C)]
 #[derive(Clone, Copy, Debug, Default)]
 pub struct Frame {
@@ -145,16 +188,22 @@ pub struct Frame {
     pub cfa: Answer,
 }
 
+/// Why a walk ends: there are as many frames as slots.
 pub const STOP_LIMIT: u32 = 0;
+/// No module has a row for the last frame.
 pub const STOP_NOT_COVERED: u32 = 1;
+/// The walk is complete.
 pub const STOP_RETURN_UNDEFINED: u32 = 2;
 pub const STOP_RETURN_UNREADABLE: u32 = 3;
 pub const STOP_RETURN_DIVISION_BY_ZERO: u32 = 4;
 
+/// What an expression is used as: the rule of a CFA, ..
 pub const FRAME_CFA: u32 = 0;
+/// The rule of a register: its run begins with the CFA.
 pub const FRAME_REGISTER: u32 = 1;
 pub const LOCATION: u32 = 2;
 
+/// What the place in the program gives an expression, each where its flag isn't 0.
 #[repr(C)]
 #[derive(Clone, Copy, Debug, Default)]
 pub struct Context {
@@ -167,16 +216,26 @@ pub struct Context {
     pub reserved: u32,
 }
 
+/// Of a frame's expression: `value`.
 pub const IS_VALUE: u32 = 0;
+/// The operation at `offset` takes what isn't handed in.
 pub const IS_UNREADABLE: u32 = 1;
+/// The operation at `offset` divides by zero.
 pub const IS_DIVISION_BY_ZERO: u32 = 2;
+/// Of a location, or of a piece of it: the object was optimized away.
 pub const LOCATION_NOWHERE: u32 = 3;
+/// In memory, at `value`.
 pub const LOCATION_ADDRESS: u32 = 4;
+/// In register `value`.
 pub const LOCATION_REGISTER: u32 = 5;
+/// Nowhere, but its value is `value`.
 pub const LOCATION_VALUE: u32 = 6;
+/// Nowhere, but its value is bytes, of which there are `value`.
 pub const LOCATION_BYTES: u32 = 7;
+/// `count` pieces, 32 at most.
 pub const LOCATION_PIECES: u32 = 8;
 
+/// What an expression comes to.
 #[repr(C)]
 #[derive(Clone, Copy, Debug, Default)]
 pub struct Value {
@@ -187,6 +246,8 @@ pub struct Value {
     pub count: u32,
 }
 
+/// A piece: where it is, and how many bytes it has, or, if is_bits isn't 0, how many bits from
+/// bit_offset on.
 #[repr(C)]
 #[derive(Clone, Copy, Debug, Default)]
 pub struct Piece {
@@ -199,6 +260,8 @@ pub struct Piece {
 
 pub const MAX_PIECES: usize = 32;
 
+/// What is looked up: the list whose first byte is at the offset `list` of the section, over the
+/// base of its unit, at an address as linked.
 #[repr(C)]
 #[derive(Clone, Copy, Debug, Default)]
 pub struct Lookup {
@@ -208,6 +271,7 @@ pub struct Lookup {
     pub reserved: u32,
 }
 
+/// An expression of the section: the offset where it begins, and how many bytes it has.
 #[repr(C)]
 #[derive(Clone, Copy, Debug, Default)]
 pub struct Location {
@@ -216,8 +280,14 @@ pub struct Location {
 }
 
 extern "C" {
+    /// The version of this interface: 65536 times the first number, plus the second. Where the
+    /// first numbers are the same, a program goes on to work with a library of a later second
+    /// number.
     pub fn dwcheck_version() -> u32;
 
+    /// The name of a fault, as "NoSuchCie", without a 0 at its end: as much of it as fits goes into
+    /// `text`, and `size` is how long all of it is, at most 22. DONE, or NONE where no fault has
+    /// the number, and then nothing is written. No memory.
     pub fn dwcheck_fault_name(
         number: u32,
         text: *mut u8,
@@ -225,6 +295,10 @@ extern "C" {
         size: *mut usize,
     ) -> u32;
 
+    /// Checks a .debug_frame section and a .debug_loclists section, either of which may be empty.
+    /// DONE where both are well formed; REFUSED with the first fault; NO_MEMORY; BAD_TARGET. A
+    /// section of 2^32 bytes is refused with fault 61. It takes memory in proportion to the
+    /// sections, and gives it back.
     pub fn dwcheck_check(
         frame: *const u8,
         frame_length: usize,
@@ -235,6 +309,11 @@ extern "C" {
         fault: *mut Fault,
     ) -> u32;
 
+    /// Checks a .debug_frame section, compiles all its rows, and adds them as the last module.
+    /// Nothing of the section's bytes is needed any more when the call returns. `room` is how many
+    /// bytes the rows may take; 700 times the section's length is always enough. DONE; REFUSED with
+    /// the first fault of the section; NO_MEMORY; NO_ROOM; BAD_TARGET; TOO_LONG. Only DONE changes
+    /// the process, only REFUSED writes `fault`.
     pub fn dwcheck_process_add(
         process: *mut Process,
         frame: *const u8,
@@ -246,12 +325,21 @@ extern "C" {
         fault: *mut Fault,
     ) -> u32;
 
+    /// Removes the first module with a load address: DONE, or NONE where no module has it. It takes
+    /// no memory.
     pub fn dwcheck_process_remove(process: *mut Process, load_address: u64) -> u32;
 
+    /// Makes `other` a process of the same modules, in the place of what it is, which is closed.
+    /// The tables are shared, not copied, and go with the last process that has them. DONE or
+    /// NO_MEMORY, and then `other` is as it was. `process` is as it was in either case.
     pub fn dwcheck_process_share(process: *mut Process, other: *mut Process) -> u32;
 
+    /// Lets all modules go. A closed process may be closed again.
     pub fn dwcheck_process_close(process: *mut Process);
 
+    /// The row of an address as loaded, by the first module that has one. The rules of its
+    /// registers go into `rules` by ascending registers, as many as fit. DONE, or NONE, and then
+    /// nothing is written. It takes no memory.
     pub fn dwcheck_row_at(
         process: *mut Process,
         address: u64,
@@ -260,6 +348,10 @@ extern "C" {
         rules_length: usize,
     ) -> u32;
 
+    /// The caller of the frame at an address as loaded, by the first module that has a row for it.
+    /// Its registers go into `registers` by ascending numbers, as many as fit. DONE; NONE where no
+    /// module has a row; REFUSED where the ABI names too many registers or one twice, and then
+    /// alone `fault` is written. It takes no memory.
     pub fn dwcheck_unwind(
         process: *mut Process,
         address: u64,
@@ -270,6 +362,10 @@ extern "C" {
         fault: *mut Fault,
     ) -> u32;
 
+    /// Walks up the stack from the frame at `address`, into `frames`, as many as fit; `count` is
+    /// how many there are, and `stop` why there are no more. The first frame is looked up at its
+    /// address, each other at the address before its own. DONE, or REFUSED as dwcheck_unwind; only
+    /// DONE writes `frames`, `count` and `stop`. It takes no memory.
     pub fn dwcheck_backtrace(
         process: *mut Process,
         address: u64,
@@ -281,6 +377,12 @@ extern "C" {
         fault: *mut Fault,
     ) -> u32;
 
+    /// Checks an expression over all its paths, and runs it over registers and memory; the ABI of
+    /// `state` is not asked. Its pieces go into `pieces`, as many as fit. The bytes of a location
+    /// of bytes, or of the n-th piece if that is bytes, counted from 0, go into `bytes`, as many as
+    /// fit. DONE; REFUSED with the first fault of the expression; NO_MEMORY; BAD_TARGET; TOO_LONG;
+    /// BAD_KIND. Only DONE writes `value`, `pieces` and `bytes`, only REFUSED `fault`. It takes
+    /// memory only for expressions that branch, and gives it back.
     pub fn dwcheck_evaluate(
         expression: *const u8,
         expression_length: usize,
@@ -298,6 +400,12 @@ extern "C" {
         fault: *mut Fault,
     ) -> u32;
 
+    /// Checks a .debug_loclists section, and writes the expressions of a list that hold at an
+    /// address into `locations`, in their order, as many as fit; `count` is how many were written,
+    /// so where it is `locations_length` there may be more. DONE; NONE where no list begins there;
+    /// REFUSED with the first fault; NO_MEMORY; BAD_TARGET; TOO_LONG. Only DONE writes `locations`
+    /// and `count`, only REFUSED `fault`. It takes time and memory in proportion to the section,
+    /// and gives the memory back.
     pub fn dwcheck_locations(
         lists: *const u8,
         lists_length: usize,

@@ -143,7 +143,12 @@ fn c_has_the_same_layouts_and_numbers() {
         None => return eprintln!("dwcheck.h isn't there: nothing is compared"),
     };
     let (layout_lines, layout_statements) = layouts();
-    let (number_lines, number_statements) = constants();
+    let (mut number_lines, mut number_statements) = constants();
+    // the library that is linked has the header's version
+    let (first, second) = crate::version();
+    number_lines += &format!("version {}.{}\n", first, second);
+    number_statements +=
+        "printf(\"version %d.%d\\n\", DWCHECK_VERSION >> 16, DWCHECK_VERSION & 0xffff);\n";
     match run_c(&include, &(layout_statements + &number_statements)) {
         Some(printed) => assert_eq!(printed, layout_lines + &number_lines),
         None => eprintln!("no C compiler is there: nothing is compared"),

@@ -23,7 +23,7 @@ const FIRST_FRAMES: usize = 64;
 /// [`share`](Process::share) makes without copying the tables. A look-up or a walk takes no lock.
 ///
 /// As measured on x86-64, [`add`](Process::add) takes 82 KB of stack, an unwinding or a walk 61 KB and
-/// up to 12 KB more where a rule is an expression. A thread whose stack is too small ends the program,
+/// up to 14 KB more where a rule is an expression. A thread whose stack is too small ends the program,
 /// as by any overflow.
 ///
 /// ```

@@ -1,6 +1,7 @@
 //! Each request for memory that a call makes is refused in turn. This file has `unsafe`: it stands in
 //! the place of the C library's allocator.
 #![cfg(all(target_os = "linux", target_env = "gnu"))]
+#![deny(unsafe_op_in_unsafe_fn)]
 
 mod common;
 
