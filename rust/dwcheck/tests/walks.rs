@@ -281,12 +281,24 @@ fn walks_that_end() {
     );
 }
 
-#[test]
-fn walks_through_modules() {
+/// Row 1's section at two addresses, and the frames of the walk through both.
+fn two_modules() -> (Process, [(u64, Option<u64>); 3]) {
     let mut process = process_at(&row_1(), 0x100000);
     add(&mut process, &row_1(), 0x200000).unwrap();
-    let registers = Registers::from([(6, 0x7000)]);
-    let stack = words(&[0x7020, 0x101010, 0, 0, 0, 0x5000]);
+    let frames = [
+        (0x201010, Some(0x7010)),
+        (0x101010, Some(0x7030)),
+        (0x5000, None),
+    ];
+    (process, frames)
+}
+
+const STACK: [u64; 6] = [0x7020, 0x101010, 0, 0, 0, 0x5000];
+
+#[test]
+fn walks_through_modules() {
+    let (process, frames) = two_modules();
+    let (registers, stack) = (Registers::from([(6, 0x7000)]), words(&STACK));
     let memory = [Block::new(0x7000, &stack)];
     let state = State {
         registers: &registers,
@@ -294,45 +306,48 @@ fn walks_through_modules() {
         abi: Abi::NONE,
     };
     let walk = process.backtrace(0x201010, &state, 9).unwrap();
-    let frames = [
-        (0x201010, Some(0x7010)),
-        (0x101010, Some(0x7030)),
-        (0x5000, None),
-    ];
     assert_eq!(
         (shown(&walk), walk.stop),
         (frames.to_vec(), Stop::NotCovered)
     );
 
-    // the same step by step, with registers
+    // step by step, with registers
     let steps: Vec<_> = process
         .steps(0x201010, &state)
         .map(Result::unwrap)
         .collect();
-    let addresses: Vec<u64> = steps.iter().map(|step| step.address).collect();
-    assert_eq!(addresses, [0x201010, 0x101010, 0x5000]);
-    let caller = |n: usize| steps[n].caller.as_ref().unwrap();
-    assert_eq!(caller(0).register(6), value(0x7020));
-    assert_eq!(caller(0).register(16), value(0x101010));
-    assert_eq!(caller(1).register(6), value(0));
-    assert_eq!(caller(1).register(16), value(0x5000));
+    assert!(steps.iter().cloned().eq_frames(&walk));
+    let register = |n: usize, number| steps[n].caller.as_ref().unwrap().register(number);
+    assert_eq!(
+        [register(0, 6), register(0, 16)],
+        [value(0x7020), value(0x101010)]
+    );
+    assert_eq!([register(1, 6), register(1, 16)], [value(0), value(0x5000)]);
     assert_eq!(steps[2].caller, None);
+}
 
-    // and by single calls, each looked up where the call is
-    let first = process.unwind(0x201010, &state).unwrap().unwrap();
-    assert_eq!(first.register(6), value(0x7020));
-    let known = first.known();
-    let next = State {
-        registers: &known,
-        ..state
+#[test]
+fn single_calls_through_modules() {
+    let (process, _) = two_modules();
+    let (registers, stack) = (Registers::from([(6, 0x7000)]), words(&STACK));
+    let memory = [Block::new(0x7000, &stack)];
+    let mut state = State {
+        registers: &registers,
+        memory: &memory,
+        abi: Abi::NONE,
     };
-    let second = process.unwind(0x10100f, &next).unwrap().unwrap();
+    let first = process.unwind(0x201010, &state).unwrap().unwrap();
+    let known = first.known();
+    assert_eq!(known, Registers::from([(6, 0x7020), (16, 0x101010)]));
+    // looked up where the call is
+    state.registers = &known;
+    let second = process.unwind(0x10100f, &state).unwrap().unwrap();
     assert_eq!(
         (second.cfa, second.register(6)),
         (Answer::Value(0x7030), value(0))
     );
     assert_eq!(second.return_address, Answer::Value(0x5000));
-    assert_eq!(process.unwind(0x4fff, &next), Ok(None));
+    assert_eq!(process.unwind(0x4fff, &state), Ok(None));
 }
 
 #[test]
