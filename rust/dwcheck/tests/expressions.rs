@@ -112,6 +112,11 @@ fn what_is_handed_in() {
     assert_eq!(big.unwrap().outcome, address(0x3412));
     let machine = Machine::default().frame(0x7f40);
     assert_eq!(machine.locate("914e"), (address(0x7f0e), 1));
+    let mut machine = Machine::default().cfa(0x7f50);
+    machine.context.object = Some(0x8000);
+    assert_eq!(machine.locate("9c"), (address(0x7f50), 1));
+    assert_eq!(machine.locate("97"), (address(0x8000), 1));
+    assert_eq!(locate("97"), (Outcome::Unreadable { at: 0 }, 1));
     let machine = Machine::default()
         .reg(54, 0x7f00)
         .mem(0x7f20, "5c04d08000000000");

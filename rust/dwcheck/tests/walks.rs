@@ -295,6 +295,24 @@ fn two_modules() -> (Process, [(u64, Option<u64>); 3]) {
 
 const STACK: [u64; 6] = [0x7020, 0x101010, 0, 0, 0, 0x5000];
 
+/// There is no address before 0, so a frame at 0 is looked up nowhere, though the last address is
+/// covered.
+#[test]
+fn a_frame_at_0_is_not_covered() {
+    let mut process = process_at(&from_0("0f 01 3f 16 10 01 30"), 0);
+    add(&mut process, &row_1(), 0u64.wrapping_sub(0x1020)).unwrap();
+    assert!(process.row(u64::MAX).is_some());
+    let state = State {
+        registers: &Registers::from([(7, 0x10)]),
+        memory: &[],
+        abi: Abi::NONE,
+    };
+    let walk = process.backtrace(3, &state, 9).unwrap();
+    assert_eq!(shown(&walk), [(3, Some(0xf)), (0, None)]);
+    let steps = process.steps(3, &state).take(9).map(Result::unwrap);
+    assert!(steps.eq_frames(&walk));
+}
+
 #[test]
 fn walks_through_modules() {
     let (process, frames) = two_modules();
@@ -314,6 +332,7 @@ fn walks_through_modules() {
     // step by step, with registers
     let steps: Vec<_> = process
         .steps(0x201010, &state)
+        .take(9)
         .map(Result::unwrap)
         .collect();
     assert!(steps.iter().cloned().eq_frames(&walk));
