@@ -36,7 +36,7 @@ const FIRST_FRAMES: usize = 64;
 ///
 /// // SECTION covers the addresses 0x1000 to 0x1020; the module is loaded at 0x40_0000.
 /// let mut process = Process::new();
-/// process.add(SECTION, Target::LITTLE_64, 0x40_0000, Process::enough_room(SECTION))?;
+/// process.add(SECTION, Target::LITTLE_64, 0x40_0000, Process::NO_BOUND)?;
 ///
 /// // The stopped thread: the instruction pointer, rbp, and a copy of the top of the stack.
 /// let registers = Registers::from([(6, 0x7f00)]);
@@ -65,6 +65,12 @@ pub struct Process {
 unsafe impl Send for Process {}
 
 impl Process {
+    /// No bound for the bytes that the rows of a section may take.
+    ///
+    /// Those of compilers take some 1.5 times the section's length, those of a section that is made to
+    /// take memory 700 times its length and more.
+    pub const NO_BOUND: usize = usize::MAX;
+
     /// A process without a module. It takes no memory.
     pub const fn new() -> Process {
         Process {
@@ -73,11 +79,6 @@ impl Process {
                 opaque_open: MaybeUninit::new(0),
             }),
         }
-    }
-
-    /// How many bytes always suffice for the rows of a section: 700 times its length.
-    pub const fn enough_room(section: &[u8]) -> usize {
-        section.len().saturating_mul(700)
     }
 
     /// The process for one call.
@@ -92,8 +93,8 @@ impl Process {
     ///
     /// The section isn't needed any more afterwards. `load_address` is what is added to an address
     /// as linked, modulo 2^w, to have the address as loaded: for a module that can lie anywhere
-    /// where its first mapping begins, for another 0. `room` is how many bytes the rows may take;
-    /// [`enough_room`](Process::enough_room) always suffices, and is no request for memory.
+    /// where its first mapping begins, for another 0. `room` is how many bytes the rows may take,
+    /// [`NO_BOUND`](Process::NO_BOUND) for any number.
     ///
     /// Time is n log n for n bytes of programs and rows; a section of n bytes may have n rows.
     ///
@@ -179,7 +180,7 @@ impl Process {
     /// use dwcheck::{CfaRule, Process, Rule, Target};
     ///
     /// let mut process = Process::new();
-    /// process.add(SECTION, Target::LITTLE_64, 0, Process::enough_room(SECTION))?;
+    /// process.add(SECTION, Target::LITTLE_64, 0, Process::NO_BOUND)?;
     /// let row = process.row(0x1003).unwrap();
     /// assert_eq!(row.addresses, 0x1001..0x1004);
     /// assert_eq!(row.cfa, CfaRule::RegisterAndOffset { register: 7, offset: 16 });
@@ -226,7 +227,7 @@ impl Process {
     /// use dwcheck::{Abi, Answer, Block, Process, Registers, State, Target};
     ///
     /// let mut process = Process::new();
-    /// process.add(SECTION, Target::LITTLE_64, 0, Process::enough_room(SECTION))?;
+    /// process.add(SECTION, Target::LITTLE_64, 0, Process::NO_BOUND)?;
     /// let registers = Registers::from([(6, 5), (7, 0x7f08)]);
     /// let memory = [Block::new(0x7f08, &[0x34, 0x12, 0, 0, 0, 0, 0, 0])];
     /// let abi = Abi::new(&[6], Some(7));

@@ -48,7 +48,7 @@ impl Process {
     /// use dwcheck::{Abi, Answer, Block, Process, Registers, State, Target};
     ///
     /// let mut process = Process::new();
-    /// process.add(SECTION, Target::LITTLE_64, 0, Process::enough_room(SECTION))?;
+    /// process.add(SECTION, Target::LITTLE_64, 0, Process::NO_BOUND)?;
     /// let registers = Registers::from([(6, 0x7f00)]);
     /// let stack = [0, 0x80, 0, 0, 0, 0, 0, 0, 0x34, 0x12, 0, 0, 0, 0, 0, 0];
     /// let memory = [Block::new(0x7f00, &stack)];

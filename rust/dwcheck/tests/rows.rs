@@ -127,7 +127,7 @@ fn other_targets() {
     let section = hex("00000010 ffffffff 04 00 04 00 04 7c 0e 0c0d00 0000
          00000014 00000000 00008000 00000010 42 0e08 8e01 000000");
     let mut process = Process::new();
-    let room = Process::enough_room(&section);
+    let room = Process::NO_BOUND;
     process
         .add(&section, Target::BIG_32, 0xffff_8000, room)
         .unwrap();

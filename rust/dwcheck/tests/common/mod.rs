@@ -70,7 +70,7 @@ pub fn process_at(section: &[u8], load_address: u64) -> Process {
 }
 
 pub fn add(process: &mut Process, section: &[u8], load_address: u64) -> Result<(), Error> {
-    let room = Process::enough_room(section);
+    let room = Process::NO_BOUND;
     process.add(section, Target::LITTLE_64, load_address, room)
 }
 
