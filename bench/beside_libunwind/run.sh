@@ -3,6 +3,7 @@
 # deep, a third of them a shared library's that calls back. unw_step keeps what it found for an address; unw_backtrace keeps even where a return
 # address has its frame's registers, and follows no rules. Some seconds, once crates/dw_times is built.
 #   bench/beside_libunwind/run.sh [SECTION]..    each SECTION, a raw .debug_frame, is a module more that every look-up asks first
+# PREFIX=FOLDER, where `make install` put libdwcheck, times its dwcheck_backtrace too.
 # WORK=FOLDER keeps what was built, LIBRARY=FILE is linked in the place of crates/dw_times. It needs x86-64, gcc and Debian's libunwind-dev
 # (apt-get install libunwind-dev).
 set -eu
@@ -20,8 +21,13 @@ fi
 nm "$library" 2> /dev/null | grep -q ' T bench_walk$' || { echo "no bench_walk in $library" >&2; exit 1; }
 
 flags=(-std=gnu11 -Wall -Wextra -O2 -g)
+through_c=()
+if [ -n "${PREFIX:-}" ]; then
+    through_c=(-DTHROUGH_C "-I$PREFIX/include" "-L$PREFIX/lib" -ldwcheck "-Wl,-rpath,$PREFIX/lib")
+fi
 gcc "${flags[@]}" -shared -fPIC "$here/through.c" -o "$work/libthrough.so"
-gcc "${flags[@]}" -pie -fPIE "$here/walks.c" "$library" "$kit/c/liblibc_c.a" -L"$work" -lthrough -Wl,-rpath,"$work" -lunwind -pthread -o "$work/walks"
+gcc "${flags[@]}" -pie -fPIE "$here/walks.c" "$library" "$kit/c/liblibc_c.a" -L"$work" -lthrough -Wl,-rpath,"$work" -lunwind -pthread \
+    "${through_c[@]}" -o "$work/walks"
 for file in walks libthrough.so; do
     objcopy --dump-section ".debug_frame=$work/$file.frame" "$work/$file" /dev/null
 done

@@ -10,6 +10,9 @@
 #include <stdlib.h>
 #include <string.h>
 #include <time.h>
+#ifdef THROUGH_C
+#include <dwcheck.h>
+#endif
 
 enum { LEVELS = 400, PLACES = 1024, SECTIONS = 64, ROUNDS = 100, WALKS = 20 };
 
@@ -142,6 +145,37 @@ static void compared(const char *said, const LoadedSection *first, size_t count,
                time_of_steps(context, UNW_CACHE_GLOBAL), time_of_steps(context, UNW_CACHE_NONE), time_of_backtrace());
 }
 
+#ifdef THROUGH_C
+/* The same walk through libdwcheck, as a C program has it: it has to have our frames. */
+static void through_c(const LoadedSection *first, size_t count, const WalkStart *start)
+{
+    static const uint8_t known[] = {0xff, 0xff, 0x01};
+    static const uint16_t kept[] = {3, 6, 12, 13, 14, 15};
+    static dwcheck_frame found[PLACES];
+    dwcheck_process process = DWCHECK_CLOSED;
+    dwcheck_fault fault;
+    dwcheck_block stack = {start->base, start->stack, start->stack_count};
+    dwcheck_state state = {start->contents, start->register_count, known, sizeof known, &stack, 1, kept, 6, 7, 1, 0};
+    size_t frame_count = 0;
+    uint32_t stop;
+    double time = 1e30;
+    for (size_t i = 0; i < count; i++)
+        if (dwcheck_process_add(&process, first[i].bytes, first[i].count, DWCHECK_LITTLE, 8, first[i].load_address, SIZE_MAX, &fault) != DWCHECK_DONE)
+            status = 1;
+    for (int round = 0; round < ROUNDS * WALKS; round++) {
+        double begun = now();
+        if (dwcheck_backtrace(&process, start->address, &state, found, PLACES, &frame_count, &stop, &fault) != DWCHECK_DONE)
+            status = 1;
+        time = least(time, (now() - begun) / (double)frame_count);
+    }
+    for (size_t i = 0; i < frame_count; i++)
+        if (found[i].address != frames[i].address || found[i].cfa.value != frames[i].cfa)
+            status = 1;
+    printf("  ns a frame through C: %.1f; %zu frames, stop %u; %s\n", time, frame_count, stop, status ? "not ours" : "ours");
+    dwcheck_process_close(&process);
+}
+#endif
+
 /* At the innermost frame. The stack is copied, since a walk writes on it. */
 static __attribute__((noinline)) int measured(void)
 {
@@ -156,6 +190,9 @@ static __attribute__((noinline)) int measured(void)
     memcpy(copy, (const void *)base, count);
     WalkStart start = {contents[16], contents, 17, base, copy, count, 1};
     compared("two modules", sections + section_count - 2, 2, &start, &context);
+#ifdef THROUGH_C
+    through_c(sections + section_count - 2, 2, &start);
+#endif
     if (section_count > 2)
         compared("with the others in front", sections, section_count, &start, &context);
     free(copy);
