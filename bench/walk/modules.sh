@@ -1,6 +1,6 @@
 #!/usr/bin/env bash
 # Compares walks through two modules with gdb's: a program that can lie anywhere (PIE) and a library that calls back, some six frames each, by gcc
-# and clang, where it is there, at -O0 and -O2, on x86-64. Half a minute. Needs gdb with Python.
+# and clang, where it is there, at six levels of optimization, on x86-64. Two minutes. Needs gdb with Python.
 #     bench/walk/modules.sh DWCHECK [STOPS]
 # Load addresses are gdb's, and each has to be what `nm` and gdb say of a symbol. DWCHECK may be bench/module_model.py, the model of such walks.
 set -eu
@@ -35,7 +35,8 @@ beside_gdb() {
 
 for compiler in gcc clang; do
     command -v "$compiler" > /dev/null || continue
-    for flags in -O0 -O2; do
-        beside_gdb "$compiler" "$flags"
+    for flags in -O0 -O1 -O2 -Os "-O2 -fomit-frame-pointer" "-O2 -fno-omit-frame-pointer"; do
+        # shellcheck disable=SC2086
+        beside_gdb "$compiler" $flags
     done
 done
