@@ -4,9 +4,10 @@
    what is written here; nothing checks that they do.
 
    What a caller owes for every call:
-   - A pointer points to a whole, aligned value of its type, which no other argument of the call overlaps and no other
-     thread writes during the call. A pointer that comes with a length points to that many elements; for none it may be
-     NULL where this header's macros are used, and any other address where they aren't.
+   - A pointer points to a whole, aligned value of its type, which no other thread writes during the call. What a pointer
+     without const points to overlaps no other argument; the others may overlap. A pointer that comes with a length points
+     to that many elements; for none it may be NULL where this header's macros are used, and any other address where they
+     aren't.
    - A process (dwcheck_process) is handed to one call at a time, and is moved only by copying it and setting the old
      one to DWCHECK_CLOSED. It may go from thread to thread, ordered by a lock, an atomic of memory_order_seq_cst, or a
      thread's start or join. For many threads at once give each a process of its own by dwcheck_process_share: they share
