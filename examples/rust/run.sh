@@ -1,0 +1,23 @@
+#!/usr/bin/env bash
+# Builds the crash reporter, makes a core file of a program with two threads, prints their stacks, and compares the addresses
+# of all frames with those of elfutils' eu-stack.
+# usage: examples/rust/run.sh        pkg-config finds libdwcheck, or DWCHECK_LIB_DIR names its folder
+# It needs cargo, gcc, gdb, elfutils and the packages that build.sh names.
+set -euo pipefail
+here=$(cd "$(dirname "$0")" && pwd)
+work=$(mktemp -d)
+trap 'rm -rf "$work"' EXIT
+"$here/build.sh" build --quiet --release
+gcc -O1 -g "$here/crash.c" -o "$work/crash" -pthread
+cd "$work"
+gdb --batch -ex 'set startup-with-shell off' -ex run -ex 'gcore core' ./crash < /dev/null > gdb.log 2>&1
+"${CARGO_TARGET_DIR:-$here/target}/release/stack" crash core | tee ours
+
+addresses() { # the threads and the addresses of their frames, a line each
+    awk 'tolower($1) ~ /^(thread|tid)$/ { print "thread", $2 + 0 } /^#/ { print $2 }' "$1"
+}
+addresses ours > ours.addresses
+eu-stack --core core -e crash > theirs
+addresses theirs > theirs.addresses
+diff ours.addresses theirs.addresses
+echo "$(grep -c ^0x ours.addresses) frames are eu-stack's"
