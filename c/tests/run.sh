@@ -1,6 +1,7 @@
 #!/bin/sh
 # Builds the C cases against the static library (crates/dwcheck_c, by `rt lib`) and runs them. The header is compiled as C11
-# and as C++17. Valgrind looks on, if it is there.
+# and as C++17. Sanitizers look on,
+# and valgrind, if it is there.
 set -eu
 here=$(cd "$(dirname "$0")" && pwd)
 top=$(dirname "$(dirname "$here")")
@@ -19,6 +20,10 @@ build() { # NAME, then flags
 }
 build refusing -DREFUSING
 "$out/refusing"
+# AddressSanitizer and ThreadSanitizer see the C side alone.
+for sanitizers in address,undefined thread; do
+    build sanitized "-fsanitize=$sanitizers" && "$out/sanitized"
+done
 if command -v valgrind > /dev/null; then
     build plain
     valgrind -q --error-exitcode=1 --leak-check=full "$out/plain"
