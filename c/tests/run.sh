@@ -1,7 +1,6 @@
 #!/bin/sh
 # Builds the C cases against the static library (crates/dwcheck_c, by `rt lib`) and runs them. The header is compiled as C11
-# and as C++17. Sanitizers look on,
-# and valgrind, if it is there.
+# and as C++17. Sanitizers look on, and valgrind, if it is there.
 set -eu
 here=$(cd "$(dirname "$0")" && pwd)
 top=$(dirname "$(dirname "$here")")
