@@ -1,4 +1,4 @@
--- What is behind the pointer that C holds.
+-- What the pointer that C holds leads to.
 use Rattle.std.specs.Prelude.{Option, None, Some}
 use Rattle.std.specs.Coded.{coded_option}
 use base.Fml.{Fml, ftrue}

@@ -1,4 +1,4 @@
-//! A process behind a pointer, as C holds it.
+//! A process that C holds by a pointer.
 
 ghost use Rattle.std.specs.Prelude.{◌≡◌, None, Some, Option, IsSome};
 ghost use Rattle.dw_process.specs.Processes.{Modules};

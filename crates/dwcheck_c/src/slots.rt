@@ -3,7 +3,7 @@
 ghost use Rattle.std.specs.Prelude.{◌≡◌, slice_set};
 ghost use Rattle.dwcheck_c.specs.Slots.{put_into};
 
-/// Writes to a slot, if there are so many.
+/// Writes to the slot at an index, if it is there.
 pub(crate) fn put<X: Copy>(slots: &mut [X], index: usize, x: X)
     ensures { slots.new ≡ slice_set slots.old index x }
 {

@@ -190,7 +190,8 @@ pub extern "C" fn dwcheck_backtrace(
         stop.new }
     ensures refused { result ≡ REFUSED → Reports IN_ABI (abi_fault_of state.now) fault.new }
     ensures codes { (result ≡ DONE) ⊎ (result ≡ REFUSED) }
-    ensures unwritten { result ≡ REFUSED → frames.new ≡ frames.old }
+    ensures unwritten { result ≡ REFUSED → (frames.new ≡ frames.old) × (count.new ≡ count.old)
+        × (stop.new ≡ stop.old) }
     ensures unreported { result ≡ DONE → fault.new ≡ fault.old }
     ensures same { modules_of process.new ≡ modules_of process.old }
 {
