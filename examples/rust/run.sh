@@ -2,12 +2,12 @@
 # Builds the crash reporter, makes a core file of a program with two threads, prints their stacks, and compares the addresses
 # of all frames with those of elfutils' eu-stack.
 # usage: examples/rust/run.sh        pkg-config finds libdwcheck, or DWCHECK_LIB_DIR names its folder
-# It needs cargo, gcc, gdb, elfutils and the packages that build.sh names.
+# It needs cargo, gcc, gdb, elfutils and the packages that rust/cargo.sh names.
 set -euo pipefail
 here=$(cd "$(dirname "$0")" && pwd)
 work=$(mktemp -d)
 trap 'rm -rf "$work"' EXIT
-"$here/build.sh" build --quiet --release
+(cd "$here" && ../../rust/cargo.sh build --quiet --release)
 gcc -O1 -g "$here/crash.c" -o "$work/crash" -pthread
 cd "$work"
 gdb --batch -ex 'set startup-with-shell off' -ex run -ex 'gcore core' ./crash < /dev/null > gdb.log 2>&1

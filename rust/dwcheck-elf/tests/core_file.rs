@@ -290,7 +290,7 @@ fn names_that_are_wrong() {
         let files = Files::read(&CoreFile::read(&changed).unwrap(), Path::new("/"));
         format!("{:?}", files.all()[0].bytes.as_ref().unwrap_err())
     };
-    assert_eq!(error_of("/tmp/../etc/passwd"), "Name");
+    assert_eq!(error_of("/usr/../etc/passwd"), "Name");
     assert_eq!(error_of("etc/passwd"), "Name");
     assert_eq!(error_of("/dev/zero"), "NotRegular");
     assert_eq!(error_of("/proc/kmsg"), "NotRegular");

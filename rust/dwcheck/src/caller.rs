@@ -58,7 +58,7 @@ impl fmt::Display for Answer {
 pub struct Caller {
     /// The canonical frame address (CFA) of the frame that was called.
     pub cfa: Answer,
-    /// Where the caller goes on: the address behind the call.
+    /// Where the caller goes on: the address after the call.
     pub return_address: Answer,
     /// The registers that have a rule of the row or of the ABI, ascending, 256 at most.
     pub registers: Vec<(u16, Answer)>,

@@ -147,7 +147,7 @@ fault_kinds! {
     /// An ABI that keeps more than 127 registers. At the first number past them.
     AbiTooLarge = 62,
     /// An ABI that names a register twice. At the place of the later number; the stack
-    /// pointer's place is behind all kept numbers.
+    /// pointer's place is after all kept numbers.
     AbiTwice = 63,
     /// A certificate has not as many states as the expression has operations. At 0.
     CertLength = 70,

@@ -50,9 +50,9 @@ pub enum Rule {
     Undefined,
     /// What the register has now.
     SameValue,
-    /// Saved at the CFA plus so many bytes.
+    /// Saved at the CFA plus this many bytes.
     Offset(i64),
-    /// The CFA plus so many.
+    /// The CFA plus this many bytes.
     ValOffset(i64),
     /// What that register has now.
     Register(u16),

@@ -35,7 +35,7 @@ impl Process {
     /// an [`unwind`](Process::unwind): the first frame is looked up at its address, each other at its
     /// address less one, over the registers that its callee's caller has a value for. It ends after a
     /// frame that isn't covered, or whose return address has no value. A walk of a stack that is astray
-    /// may go on for ever: [`take`](Iterator::take) so many.
+    /// may go on for ever: [`take`](Iterator::take) as many as you want.
     ///
     /// A step is an error, and the last, where the ABI names too many registers or one twice.
     ///

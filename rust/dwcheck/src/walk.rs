@@ -9,7 +9,7 @@ use std::vec;
 /// A frame of a stack.
 ///
 /// The first frame's address is the one that the walk began at. Any other's is a return address: the
-/// instruction behind the call. So a symbolizer looks up the address less one for these.
+/// instruction after the call. So a symbolizer looks up the address less one for these.
 #[repr(transparent)]
 #[derive(Clone, Copy, Default)]
 pub struct Frame {

@@ -21,7 +21,7 @@ fn what_is_send_and_sync() {
     is_send::<dwcheck::Backtrace>();
     is_sync::<dwcheck::Row>();
     is_sync::<dwcheck::Error>();
-    // behind a lock it is for all threads
+    // with a lock around it, it is for all threads
     is_sync::<Mutex<Process>>();
 }
 

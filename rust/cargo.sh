@@ -1,10 +1,9 @@
 #!/usr/bin/env bash
-# Runs cargo on this crate, offline, with the packages that Debian 12 installs.
-#   ./build.sh build --release
-#   ./build.sh test
-# CARGO names another cargo. It needs librust-object-dev, librust-gimli-dev and librust-flate2-dev.
+# Runs cargo on the crate in the current folder, offline, with the packages that Debian 12 installs:
+#   ../cargo.sh build --release
+#   ../cargo.sh test
+# CARGO names another cargo, JOBS how many jobs it may run. It needs librust-object-dev, librust-gimli-dev and librust-flate2-dev.
 set -eu
-cd "$(dirname "$0")"
 registry=$(dpkg -L librust-object-dev | sed -n 's#/object-[0-9.]*/Cargo.toml$##p')
 command=$1
 shift
