@@ -9,12 +9,12 @@ LIBDIR ?= $(PREFIX)/lib
 INCLUDEDIR ?= $(PREFIX)/include
 MANDIR ?= $(PREFIX)/share/man
 CC ?= cc
-CXX ?= c++
 AR ?= ar
 INSTALL ?= install
 
-version := 0.1.0
-major := 0
+# That of the interface: DWCHECK_VERSION of the header.
+version := 1.0.0
+major := 1
 kit := $(dir $(shell rt doc))
 built := build/dwcheck build/libdwcheck.a build/libdwcheck.so.$(version) build/dwcheck.pc
 
@@ -27,11 +27,11 @@ build:
 
 # rt builds again only what has changed.
 build/dwcheck: FORCE | build
-	cd crates/dwcheck && rt run -- rows --hex data/frame.hex >/dev/null 2>&1
+	(cd crates/dwcheck && rt run -- rows --hex data/frame.hex) >build/log 2>&1 || { tail -n 5 build/log >&2; exit 1; }
 	cp crates/dwcheck/out/dwcheck $@
 
 build/libdwcheck_c.a: FORCE | build
-	cd crates/dwcheck_c && rt lib >/dev/null 2>&1
+	(cd crates/dwcheck_c && rt lib) >build/log 2>&1 || { tail -n 5 build/log >&2; exit 1; }
 	cp crates/dwcheck_c/out/libdwcheck_c.a $@
 
 # One archive: the library, and the kit's few lines of C, which call malloc and free.
