@@ -282,7 +282,7 @@ impl Lists {
         case.bytes.extend(body.bytes);
     }
 
-    /// One to three expressions of lists, one behind the other.
+    /// One to three expressions of lists, one after the other.
     pub fn expression(&self, random: &mut Random, target: Target) -> Vec<u8> {
         let mut bytes = Vec::new();
         for _ in 0..1 + random.below(3) {

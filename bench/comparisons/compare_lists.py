@@ -1,10 +1,11 @@
 #!/usr/bin/env python3
-"""Random location lists, queries and state files: what the program writes, against the model in list_model.py.
+"""Random location lists, queries and state files: compares what the program writes with models/list_model.py.
 
-    bench/compare_lists.py DWCHECK COUNT [SEED]
+    bench/comparisons/compare_lists.py DWCHECK COUNT [SEED]
 
 Most sections are good ones, some with a byte changed or cut.
 """
+import with_models  # noqa: F401
 from compare_expressions import Maker
 from comparing import Case, Run, compare, refusal
 from list_model import answer

@@ -3,13 +3,14 @@
 All modules are for one target and use the same few registers. Their load addresses put them apart, over one another, one just after the
 other, through the top address, or anywhere; some sections cover nothing, are empty or refused, or are another module's.
 """
+import with_models  # noqa: F401
 from module_model import rows_in_modules
 from walk_maker import WalkMaker
 from walks import BAD_ADDRESSES
 
 
 class Module:
-    """A section and its load address, and how both are handed in."""
+    """A section and its load address, and how both are passed."""
 
     def __init__(self, section, load, name):
         self.section, self.load, self.name = section, load, name
@@ -121,7 +122,7 @@ class ModuleMaker(WalkMaker):
     def address(self):
         return (super().address() + self.random.choice(self.loads)) % (self.top + 1)
 
-    # How it is handed in.
+    # How it is passed.
 
     def hex_text(self, section):
         digits = "".join(self.random.choice([f"{byte:02x}", f"{byte:02X}"]) for byte in section)

@@ -1,12 +1,13 @@
 #!/usr/bin/env python3
-"""Random expressions and state files: what the program writes, against the model in expression_model.py.
+"""Random expressions and state files: compares what the program writes with the model, models/expression_model.py.
 
-    bench/compare_expressions.py DWCHECK COUNT [SEED]
+    bench/comparisons/compare_expressions.py DWCHECK COUNT [SEED]
 
 Most expressions are good ones with branches, the others operations and bytes in any order.
 """
 import random
 
+import with_models  # noqa: F401
 from comparing import Case, Run, compare, refusal
 from expression_model import answer
 

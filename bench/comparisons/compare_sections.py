@@ -1,11 +1,12 @@
 #!/usr/bin/env python3
-"""Random frame sections and addresses: what the program writes, against the model in frame_model.py.
+"""Random frame sections and addresses: compares what the program writes with models/frame_model.py.
 
-    bench/compare_sections.py DWCHECK COUNT [SEED]
+    bench/comparisons/compare_sections.py DWCHECK COUNT [SEED]
 
 Each section goes through `rows`, and through `row` with one address. Half of the sections are made to be good ones, the others with
 slips here and there; and some of either have a few bytes changed, or are cut.
 """
+import with_models  # noqa: F401
 from compare_expressions import Maker
 from comparing import Case, Run, compare, refusal
 from expression_model import MAX_HEIGHT
@@ -197,7 +198,7 @@ class SectionMaker(Maker):
         return code, self.random.choice([-8, -8, -4, -1, 1, 4, 0, (1 << 63) - 1, -1 << 63, self.random.getrandbits(62)])
 
     def cie(self):
-        """What is behind its id, and what its FDEs have to know."""
+        """What follows its id, and what its FDEs have to know."""
         self.code, self.data = self.factors()
         self.common, self.cfa, self.saved, self.at, self.end = True, None, [], 0, 0
         version = self.random.choice([1, 1, 3, 3, 4, 4])
@@ -210,7 +211,7 @@ class SectionMaker(Maker):
         return bytes(head) + self.program(), (self.code, self.data, self.cfa)
 
     def fde(self, known, start, end):
-        """What is behind its pointer."""
+        """What follows its pointer."""
         self.code, self.data, self.cfa = known
         self.common, self.saved, self.at, self.end = False, [], start, end
         self.marks += [start, end, start + self.random.randrange(max(end - start, 1)), min(end, start + 4)]

@@ -1,8 +1,8 @@
 #!/usr/bin/env python3
-"""Random walks through one to five modules: what `backtrace`, `unwind` and `row` write of them, and how they end, against module_model.py.
+"""Random walks through one to five modules: compares what `backtrace`, `unwind` and `row` write with models/module_model.py.
 
-    bench/modules.py DWCHECK COUNT [SEED] [--jobs N] [--first N]               50,000 walks take some four minutes with --jobs 4
-    bench/modules.py DWCHECK COUNT [SEED] [--jobs N] [--first N] --reference   the model alone, beside a program without --load and --module
+    bench/comparisons/modules.py DWCHECK COUNT [SEED] [--jobs N] [--first N]               50,000 walks take some four minutes with --jobs 4
+    bench/comparisons/modules.py DWCHECK COUNT [SEED] [--jobs N] [--first N] --reference   the model alone, beside a program without --load and --module
 
 Each case is a process: sections and load addresses, an address, a state file and a limit; it is the same for every number of jobs. Each case
 that differs is shown with its number, and --first N with a COUNT of 1 runs it again; the exit status is then 1. With --reference, FRAME
@@ -16,6 +16,7 @@ import os
 import sys
 import tempfile
 
+import with_models  # noqa: F401
 import walk_model
 from expression_model import Fault
 from joined import joined

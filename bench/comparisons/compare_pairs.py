@@ -1,13 +1,14 @@
 #!/usr/bin/env python3
-"""Random pairs of sections, state files and queries: what the program writes, against the model in pair_model.py and those it is made of.
+"""Random pairs of sections, state files and queries: compares what the program writes with models/pair_model.py.
 
-    bench/compare_pairs.py DWCHECK COUNT [SEED]
+    bench/comparisons/compare_pairs.py DWCHECK COUNT [SEED]
 
 Each pair goes through `check`, and its sections through `unwind`, `row` and `locs`. Most sections are good ones, with expressions in rules;
-some have slips, or are changed or cut. Few state files have a line that is none.
+some have slips, or are changed or cut. Few state files have a malformed line.
 """
 import re
 
+import with_models  # noqa: F401
 from compare_lists import ListMaker
 from compare_sections import SectionMaker
 from comparing import Case, Run, compare
@@ -83,7 +84,7 @@ class PairMaker(SectionMaker):
         return [f"mem {address:#x} {held[:room].hex()}"] + [f"mem 0x0 {held[room:].hex()}"] * (len(held) > room)
 
     def odd(self):
-        """Any line, mostly one that is none."""
+        """Any line, mostly a malformed one."""
         past = [f"{name} {self.top + 1:#x}" for name in ["reg 7", "cfa", "frame", "object"]] + [f"mem {self.top:#x} 0102"]
         odd_but_good = ["", "mem 0x7F00 AbCd", "reg 00007 0x0000000000007f08", f"mem {self.top:#x} 7f"]
         return self.random.choice([*BAD_LINES, *past, *odd_but_good * 3])

@@ -1,10 +1,10 @@
 #!/usr/bin/env python3
 """Times `dwcheck check` on frames and lists of real programs beside readelf on the frames alone, in turn.
 
-    bench/whole.py DWCHECK FRAME_BYTES LISTS_BYTES SECTION ..
+    bench/times/whole.py DWCHECK FRAME_BYTES LISTS_BYTES SECTION ..
 
 Sections are raw and little-endian with addresses of 8 bytes, those of lists with names that end with .lists. They are put one
-behind the other, again and again, as long as one fits into so many bytes, each copy of an FDE at addresses of its own.
+after the other, again and again, as long as one fits into that number of bytes, each copy of an FDE at addresses of its own.
 """
 import os
 import resource
@@ -38,7 +38,7 @@ def moved(section, offset, distance):
 
 
 def chosen(sections, size):
-    """Sections in turn, as long as one fits into so many bytes."""
+    """Sections in turn, as long as one fits into a number of bytes."""
     left, place = size, 0
     while any(len(section) <= left for section in sections):
         section = sections[place % len(sections)]

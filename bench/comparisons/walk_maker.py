@@ -3,6 +3,7 @@
 A section is made first. Then a walk through it is dreamt: what it asks for and isn't there yet is made up so that the walk goes on,
 until it has had its frames. What was made up is written into a state file, some of it left out or changed.
 """
+import with_models  # noqa: F401
 from compare_pairs import PairMaker
 from pair_model import MAX_KEPT, Caller
 
@@ -186,7 +187,7 @@ class WalkMaker(PairMaker):
         return None if isinstance(returns, str) else returns, held
 
     def inside(self, beyond):
-        """An address of a row, or so much behind one."""
+        """An address of a row, or one at a distance after a row."""
         low, high = self.random.choice(self.rows)
         return self.random.choice([low, high - 1, self.random.randrange(low, high)]) + beyond
 

@@ -3,6 +3,7 @@
 joined(sections, loads, big, size) writes each section's FDEs and set_loc instructions anew, and puts the sections one after the other. It
 gives None where that isn't the same process: where a range goes through the top address, or ranges of two modules meet.
 """
+import with_models  # noqa: F401
 from frame_model import body, checked, instruction, reader
 
 

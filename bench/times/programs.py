@@ -1,7 +1,7 @@
 #!/usr/bin/env python3
 """Writes a program in C whose frames gcc describes with expressions: N functions, most with locals that need a realigned stack.
 
-    bench/programs.py N > FILE.c
+    bench/times/programs.py N > FILE.c
     gcc -g -gdwarf-5 -O2 -fno-inline -fno-asynchronous-unwind-tables -fno-unwind-tables -Wa,--gdwarf-cie-version=4 FILE.c -o PROGRAM
     objcopy --dump-section .debug_frame=FILE.frame PROGRAM /dev/null
 """

@@ -127,7 +127,7 @@ MAX_KEPT = 127
 
 
 def state_of(content, size):
-    """What the lines of a state file give, or the number of the first that is none."""
+    """What the lines of a state file give, or the number of the first malformed one."""
     state = {"reg": {}, "mem": {}, "cfa": None, "frame": None, "object": None, "keep": [], "sp": None}
     for number, line in enumerate(content.split(b"\n"), 1):
         if line and not added(state, line, 1 << 8 * size):

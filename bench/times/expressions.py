@@ -1,7 +1,7 @@
 #!/usr/bin/env python3
 """Writes an expression, or a state file, of a shape and a size.
 
-    bench/expressions.py SHAPE N > FILE
+    bench/times/expressions.py SHAPE N > FILE
 
 sums        N additions to a constant
 branches    N branches, each of which takes one of two ways

@@ -8,9 +8,9 @@ address, each other one at its address less one, where there is one. All else is
 
 As a program of its own the model answers as `dwcheck` has to, so that bench/walk/modules.sh can hold it against gdb, in seconds a walk:
 
-    bench/module_model.py backtrace FRAME ADDRESS STATE LIMIT [--load 0xL] [--module 0xL=FILE].. [--big] [--addr4]
-    bench/module_model.py unwind FRAME ADDRESS STATE [..]
-    bench/module_model.py row FRAME ADDRESS [..]
+    bench/models/module_model.py backtrace FRAME ADDRESS STATE LIMIT [--load 0xL] [--module 0xL=FILE].. [--big] [--addr4]
+    bench/models/module_model.py unwind FRAME ADDRESS STATE [..]
+    bench/models/module_model.py row FRAME ADDRESS [..]
 """
 import argparse
 import sys

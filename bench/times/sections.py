@@ -1,7 +1,7 @@
 #!/usr/bin/env python3
 """Writes a raw .debug_frame or .debug_loclists section (little-endian, addresses of 8 bytes) of a shape and a size.
 
-    bench/sections.py SHAPE N > FILE
+    bench/times/sections.py SHAPE N > FILE
 
 Frames:
 ordinary        N FDEs, each with the six instructions of a function with a frame pointer

@@ -1,9 +1,9 @@
 #!/usr/bin/env python3
 """Runs the program as a user would, on files, words and standard output that are not as they should be.
 
-    bench/hostile.py DWCHECK
+    bench/stress/hostile.py DWCHECK
 
-It prints each run that ends otherwise than docs and README say, in its status, its line on standard error or its text, and then ends
+It prints each run that ends otherwise than docs/OUTPUT.md says, in its status, its line on standard error or its text, and then ends
 with status 1. The largest file is sparse, but the program reads it whole: that run needs 6 GiB of free memory, and is left out with less.
 """
 import os
@@ -14,6 +14,7 @@ import sys
 import tempfile
 import threading
 
+TIMES = os.path.join(os.path.dirname(os.path.dirname(os.path.abspath(__file__))), "times")
 CIE = "14000000ffffffff04000800017810" + "0c0708900100000000"
 FRAME = bytes.fromhex(CIE + "1c0000000000000000100000000000002000000000000000410e108602430d06")
 EMPTY_REPORT = "accepted\ncies 0 fdes 0 rows 0\ntables 0 lists 0 expressions 0\n"
@@ -260,7 +261,7 @@ def make_files(folder):
     os.symlink("frame", "link")
     os.symlink("loop", "loop")
     os.chmod(folder, 0o755)
-    words = [sys.executable, f"{os.path.dirname(os.path.abspath(__file__))}/sections.py", "ordinary", "5000"]
+    words = [sys.executable, f"{TIMES}/sections.py", "ordinary", "5000"]
     with open("big", "wb") as file:
         subprocess.run(words, stdout=file, check=True)
 

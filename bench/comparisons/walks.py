@@ -1,7 +1,7 @@
 #!/usr/bin/env python3
-"""Random walks: what `backtrace` and `unwind` write of them, and how they end, against the model in walk_model.py.
+"""Random walks: compares what `backtrace` and `unwind` write of them, and how they end, with models/walk_model.py.
 
-    bench/walks.py DWCHECK COUNT [SEED] [--jobs N] [--first N]
+    bench/comparisons/walks.py DWCHECK COUNT [SEED] [--jobs N] [--first N]
 
 Each case is a section, an address, a state file and a limit, and is the same for every number of jobs. A case that differs is shown with
 its number, and --first N begins with the case of that number. Some state files are handed to `eval` and `locs` too, which judge all their
@@ -13,6 +13,7 @@ import concurrent.futures
 import subprocess
 import tempfile
 
+import with_models  # noqa: F401
 from expression_model import Fault
 from expression_model import answer as expression_text
 from frame_model import checked
@@ -147,7 +148,7 @@ def compared(program, seed, number, folder):
 
 
 def compare(program, seed, first, count, step):
-    """Each so many-th case of a count, from one on: counts, and the first that differs."""
+    """Every step-th case of a count, from one on: counts, and the first that differs."""
     counts = collections.Counter()
     with tempfile.TemporaryDirectory() as folder:
         for number in range(first, first + count, step):
