@@ -127,19 +127,22 @@ impl<'w, U: Unwinder, M: Memory> Walk<'w, U, M> {
         ensures fits { (bound : ℕ) → U.is_bound unwinder bound
             → IfSome (frame_at result.progress).caller (CallerFits bound) }
     {
-        let mut one = FrameRegisters::none();
-        let unwound = unwinder.unwind_into(abi, address, registers, memory, &mut one);
-        Walk {
+        // The registers are written where they stay, since each copy of them takes 6 KB of stack.
+        let mut walk = Walk {
             unwinder,
             abi,
             memory,
             address,
-            unwound,
+            unwound: None,
             is_given: false,
             is_other: false,
-            one,
+            one: FrameRegisters::none(),
             other: FrameRegisters::none(),
-        }
+        };
+        walk.unwound = walk
+            .unwinder
+            .unwind_into(abi, address, registers, memory, &mut walk.one);
+        walk
     }
 
     /// Goes to the caller of the frame that was given last, which goes on at this address.
