@@ -6,7 +6,7 @@ use crate::mixed::Mixed;
 use crate::{TARGET, number_of};
 use dw_bytes::Target;
 use dw_check::unwind_by;
-use dw_rows::{Abi, UnwindRow, UnwindTable, check_frame};
+use dw_rows::{Abi, RegisterRule, UnwindRow, UnwindTable, check_frame};
 use std::alloc::Global;
 
 /// Room for any table.
@@ -44,6 +44,45 @@ pub extern "C" fn bench_look_up_by_table(
 ) -> u64 {
     match compiled(alloc, section, TARGET) {
         Some(table) => found_sum(&table, addresses, times),
+        None => 0,
+    }
+}
+
+/// The registers of all rules of the rows of all these addresses, looked up a number of times and added up.
+fn read_sum(table: &UnwindTable, addresses: &[u64], times: u32) -> u64 {
+    let mut sum = 0u64;
+    for _ in 0..times {
+        for address in addresses {
+            if let Some((row, _)) = table.row_and_return_register(*address) {
+                sum = sum.wrapping_add(rules_sum(&row));
+            }
+        }
+    }
+    sum
+}
+
+/// The registers and offsets of a row's rules, added up.
+fn rules_sum(row: &UnwindRow<'_, '_>) -> u64 {
+    let mut sum = row.end_address();
+    for (register, rule) in row.rules() {
+        sum = sum.wrapping_add(u64::from(register));
+        if let RegisterRule::Offset(offset) = rule {
+            sum = sum.wrapping_add(offset as u64);
+        }
+    }
+    sum
+}
+
+/// The check, the table, and the rows of all these addresses with their rules, a number of times.
+#[unsafe(no_mangle)]
+pub extern "C" fn bench_read_by_table(
+    alloc: Global,
+    section: &[u8],
+    addresses: &[u64],
+    times: u32,
+) -> u64 {
+    match compiled(alloc, section, TARGET) {
+        Some(table) => read_sum(&table, addresses, times),
         None => 0,
     }
 }
