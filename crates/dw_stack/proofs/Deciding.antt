@@ -99,7 +99,7 @@ answered_no : (b : Bool) (f : FaultKind) (at : ℕ) (rest : List Question) → b
     → first_no (else_fault b f at ∷ rest) ≡ Some (fault_of f at)
 answered_no b f at rest is = ap (λ (c : Bool). first_no (else_fault c f at ∷ rest)) is
 
--- the questions of an operation name the first judgement that it doesn't pass
+-- the questions about an operation name the first judgement that it doesn't pass
 first_no-map : (p : FaultKind → Bool) (at : ℕ) (fs : List FaultKind)
     → first_no (map (λ f. else_fault (p f) f at) fs) ≡ option_map (λ f. fault_of f at) (find (λ f. not (p f)) fs)
 first_no-map p at [] = refl

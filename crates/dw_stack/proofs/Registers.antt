@@ -46,7 +46,7 @@ reg_read e b is low high =
     (sym (ap (drop 1) is)) in
     rw (code, reg_line b low high) (ap (λ (r : ReadPosition). Ok (reg (b - 0x50), r)) end)
 
--- bytes of which there is one
+-- a list of exactly one byte
 single : (bs : List ℕ) → length bs ≡ 1 → bs ≡ get_or bs 0 0 ∷ []
 single [] is = absurd (omega arith)
 single (b ∷ []) is = refl

@@ -59,7 +59,7 @@ module _ (kind : Kind) (ops : List Placed) (len : ℕ) where
   pub last_edge : (b : ℕ) (g : StackState) → Reaches kind ops len b g → ((0 ≡ b) × (start_of kind ≡ g)) ⊎ LastEdge kind ops len b g
   last_edge b g r = last_from r.path 0 (start_of kind) b g at_start r.follows
 
--- the place where an edge ends
+-- the offset where an edge ends
 pub record Lands (ops : List Placed) (len k b : ℕ) : Type 0 where
   pub number : ℕ
   pub later : k < number

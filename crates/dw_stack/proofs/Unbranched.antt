@@ -1,4 +1,4 @@
--- Operations of which none branches: one state after the other.
+-- Operations without branches: one state after another.
 use Rattle.std.proofs.Common.{◌≡◌, ◌∙◌, ℕ, ℤ, zero, suc, ◌+◌, ◌<◌, ◌≤◌, Bool, true, false, cond, List, [], ◌∷◌, ◌++◌, length, get_or}
 use Rattle.std.proofs.Common.{get_or-set_same, get_or-set_other, length-append, Option, Some, None, Ok, refl, sym, ap, subst, arith}
 use Rattle.std.specs.Prelude.{slice_get, slice_set, replicate, max, ◌==◌}
@@ -124,7 +124,7 @@ module _ (kind : Kind) (ops : List Placed) (len : ℕ) (laid : IsLaidOut ops len
         passes = record { mid = new; next = receives; target = refl };
       }
 
--- so much of an expression was read, and judged as if all of it could be read
+-- this much of an expression was read, and judged as if all of it could be read
 pub record JudgedSoFar (kind : Kind) (e : Expression) (at count : ℕ) (state : StackState) (depth pieces : ℕ) : Type 0 where
   pub within : at ≤ length (bytes_of e)
   pub before : List Placed

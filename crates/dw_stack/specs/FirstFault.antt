@@ -1,7 +1,7 @@
 -- The first fault of an expression as a function of its bytes. First all is read. Then the operations are judged in order
--- of offset, and last the end, each by questions in a fixed order; the first that isn't answered with yes names the fault.
--- The questions ask what DWARF 5, sections 2.5 and 2.6, and this checker's rule on paths demand; their order is this
--- checker's.
+-- of offset, and last the end, each by questions in a fixed order; the first that isn't answered with yes names the
+-- fault. The questions ask what DWARF 5, sections 2.5 and 2.6, and this checker's rule on paths require; their order is
+-- this checker's.
 use Rattle.std.specs.Prelude.{ℕ, zero, suc, ◌+◌, ◌==◌, ◌&&◌, Bool, true, false, not, if◌then◌else◌, List, [], ◌∷◌, ◌++◌, length, map}
 use Rattle.std.specs.Prelude.{Option, Some, None, slice_get}
 use Rattle.std.specs.Option.{option_or}
@@ -70,7 +70,7 @@ same_state s t =
 abbrev pub Question : Type 0
 Question = Bool × Fault
 
--- is it so, and if not, this is the fault
+-- it is so, or else this is the fault
 abbrev pub else_fault : Bool → FaultKind → ℕ → Question
 else_fault b kind at = (b, record { kind = kind; at = at })
 
@@ -109,7 +109,7 @@ asked_from kind ops len k (x ∷ left) =
 unfoldable pub first_fault : Kind → List Placed → ℕ → Option Fault
 first_fault kind ops len = first_no (asked_from kind ops len 0 ops)
 
--- The first fault of an expression: none exactly for a good one, and f exactly where the relation `IsFaultOf` has f (the law
+-- The first fault of an expression: none exactly for a good one, and f exactly if the relation `IsFaultOf` has f (the law
 -- `the_fault_is_the_first`).
 unfoldable pub expression_fault : Kind → Target → List ℕ → Option Fault
 expression_fault kind target bytes =

@@ -1,5 +1,5 @@
--- Paths of an expression, the states on them, and what makes an expression good. Paths that go forward alone and take
--- both ways of a branch, whatever its value, are a rule of this checker.
+-- Paths of an expression, the states on them, and what makes an expression good. That paths only go forward and take both
+-- ways of a branch, whatever its value, is a rule of this checker.
 use Rattle.std.specs.Prelude.{◌≡◌, ℕ, ℤ, pos, negsuc, zero, suc, ◌+◌, ◌==◌, ◌<◌, ◌≤◌, ◌⊎◌, Bool, true, false, List, [], ◌∷◌, length, take}
 use Rattle.std.specs.Prelude.{count_by, IsTrue, Option, Some, None, slice_get}
 use Rattle.dw_ops.specs.Operations.{Operation}

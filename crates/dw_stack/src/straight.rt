@@ -18,16 +18,16 @@ use dw_ops::{Expression, Operation, decode_one};
 /// What an operation that doesn't branch leaves.
 #[derive(Clone, Copy)]
 struct Left {
-    /// The state behind it.
+    /// The state after it.
     state: StackState,
-    /// The height behind it, before a piece clears it.
+    /// The height after it, before a piece clears it.
     height: u8,
     /// Whether it names a piece.
     piece: bool,
 }
 
-/// Judges an operation at this state, behind so many pieces, if it doesn't branch; nothing if it branches, or may not stand
-/// there.
+/// Judges an operation at this state, after this number of pieces, if it doesn't branch; nothing if it branches, or isn't
+/// allowed there.
 #[inline(always)]
 fn judge_straight(
     kind: Kind,

@@ -20,7 +20,7 @@ use std::alloc::Global;
 /// Why states are refused: as `Fault`.
 pub type CertFault = Fault;
 
-/// Whether there are so many given states, if there are some.
+/// Whether the given states, if there are some, are `count`.
 fn are_as_many_states(given: Option<&[State]>, count: usize) -> bool
     ensures { IsTrue result ↔ IfSome given.entry (λ states. length states.now ≡ count) }
 {
@@ -66,12 +66,13 @@ fn check_with_states<'a>(
 
 /// Certifies an expression: it is good over all paths, and these are the states on them.
 ///
-/// A refusal is the first fault. The whole expression is read first (`dw_ops::operations`). Then the operations are judged
-/// in order of offset, each by: no path leads to it (38), paths come with two states (37), the kind doesn't have it (31),
-/// it stands beside a location that has to stand alone (39), the stack is too low (35) or gets too high (36), it is the
-/// 33rd piece (41), it branches back (33) or to where no operation begins (34). Last the end: two states (37), no result
-/// (40). Each stands at its operation, those of the end at the expression's length; offsets count from the expression's first
-/// byte. `Memory` stands at 0. For n operations with b branches it takes time n + b log n, and for up to 16 no memory.
+/// A refusal is the first fault. The whole expression is read first (`dw_ops::operations`). Then the operations are
+/// judged in order of offset. Each is refused if no path leads to it (38), paths come with two states (37), the kind
+/// doesn't have it (31), it is next to a location that must be alone (39), the stack is too low (35) or gets too high
+/// (36), it is the 33rd piece (41), or it branches back (33) or to where no operation begins (34). Last comes the end:
+/// two states (37), no result (40). Each fault is at its operation, those of the end at the expression's length; offsets
+/// count from the expression's first byte. `Memory` is at 0. For n operations with b branches it takes time n + b log n,
+/// and for up to 16 no memory.
 ///
 /// Laws say the rest: no fault is the first exactly where the expression is good (`the_fault_is_the_first`), and every run
 /// of a good one is well (`good_expressions_run_well`).
@@ -116,10 +117,11 @@ pub fn check_expression<'a>(
 /// Takes states that anyone made: they are accepted exactly where the expression is good and they are the states on its
 /// paths, their offsets included.
 ///
-/// A refusal is the first fault. The whole expression is read first; then there have to be as many states as operations
-/// (70, at 0); then all is judged as by `certify`, with one more question behind 37: the given state is the one that paths
-/// have (71, at the operation). Time and memory as `certify`. Laws say that there is one first fault, none where all is good and
-/// right, and one where it isn't (`first_faults_are_unique`, `good_expressions_have_no_fault`, `every_expression_has_a_verdict`).
+/// A refusal is the first fault. The whole expression is read first; then there must be as many states as operations (70,
+/// at 0); then all is judged as by `certify`, with one more question after 37: the given state is the one that paths have
+/// (71, at the operation). Time and memory as `certify`. Laws say that there is one first fault, none where all is good
+/// and right, and one where it isn't (`first_faults_are_unique`, `good_expressions_have_no_fault`,
+/// `every_expression_has_a_verdict`).
 pub fn recheck<'a>(
     alloc: Global,
     expression: Expression<'a>,
