@@ -73,7 +73,7 @@ impl<'f, 'a> Rows<'f, 'a> {
         }
     }
 
-    /// Begins with the rows of an FDE of a checked section, in the same place, and gives its CIE.
+    /// Restarts in place with the rows of an FDE of a checked section, and gives its CIE.
     pub(crate) fn restart_in(
         &mut self,
         frame: &'f CheckedFrame<'a>,
@@ -93,8 +93,8 @@ impl<'f, 'a> Rows<'f, 'a> {
         cie
     }
 
-    /// Writes the next row into the place of another, if there is one, and answers whether there was. Only
-    /// the rules that are there are copied, so one place serves for many rows.
+    /// Overwrites `row` with the next row, if there is one, and returns whether there was. Only the rules that are there
+    /// are copied, so one row serves for many.
     #[inline(always)]
     pub fn next_into(&mut self, row: &mut UnwindTableRow<'f, 'a>) -> bool
         ensures some { OnTrue result (self.old ≡ row.new ∷ self.new) }
