@@ -1,4 +1,4 @@
--- ---- To be believed: the standard's words. Who checks the headline against DWARF 5 reads these.
+-- ---- To be believed: the standard's words. To check the headline against DWARF 5, read these.
 -- the operations (2.5, 2.6)
 pub mod Operations
 -- which bytes encode which operation (7.7.1), and their reading
