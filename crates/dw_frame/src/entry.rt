@@ -18,7 +18,7 @@ pub struct CommonInformationEntry<'a> {
     pub code_alignment_factor: u64,
     /// What a factored offset is multiplied by.
     pub data_alignment_factor: i64,
-    /// The column of the rules that stands for the return address.
+    /// The column of the rules that represents the return address.
     pub return_address_register: u16,
     /// The initial instructions.
     pub program: Program<'a>,

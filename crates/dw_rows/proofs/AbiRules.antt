@@ -117,7 +117,7 @@ pub no-fault : (registers : List ℕ) (pointer : Option ℕ) → length register
     → place_of_second [] (registers ++ option_to_list pointer) ≡ None → abi_fault registers pointer ≡ None
 no-fault registers pointer few is = rw (le-ltb MAX_KEPT (length registers) few, is) refl
 
--- ---- the loop over what is registers: where it stands, and what it has done
+-- ---- the loop over what is registers: its state, and what it has done
 
 pub record KeepsUpTo (registers behind : List ℕ) (place : ℕ) (rules : List (ℕ × PlacedRule)) : Type 0 where
   pub are : rules ≡ rule_list (abi_rule (take place registers) None)
@@ -163,7 +163,7 @@ keeps-all registers behind place rules k ge le =
       k.second ∙ ap (λ l. place_of_second l (drop place registers ++ behind)) all ∙ ap (λ l. place_of_second registers (l ++ behind)) none,
     )
 
--- ---- what it comes to
+-- ---- its result
 
 -- registers are below 2^16
 abbrev pub AreRegisters : List ℕ → Type 0
@@ -274,7 +274,7 @@ made-with registers pointer place rules new n few k ge le is fits none made =
       made ∙ points-more registers rules n all.0 ∙ ap (λ (o : Option ℕ). rule_list (abi_rule registers o)) (sym is),
     )
 
--- ---- a second stands among what is named
+-- ---- a second occurrence is among what is named
 
 second-inside : (before rest : List ℕ) (at : ℕ) → place_of_second before rest ≡ Some at → at < length before + length rest
 second-inside before [] at is = absurd (cc)

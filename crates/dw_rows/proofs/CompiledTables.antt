@@ -126,7 +126,7 @@ found-lends es a rows x all = go rows (recursion_from_All (LendsFound es) rows a
         by true later e = let same : y ≡ x = cc in subst (LendsFound es) same lends.0
         by false later e = later e
 
--- ---- the entry that a look-up comes to, with what is read of it
+-- ---- the entry that a look-up finds, with what is read of it
 
 start-of : (entries : List TableEntry) (n x : ℕ) (d : TableEntry) → n < length entries
     → option_map entry_start (slice_get entries n) ≡ Some x → (get_or entries n d).start ≡ x

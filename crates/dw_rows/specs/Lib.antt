@@ -42,7 +42,7 @@ pub mod LentExpressions
 pub mod RuleSet
 -- the index of a register in a table of rules, and remembered rules
 pub mod RememberStack
--- where a program is
+-- the position of a program
 pub mod ProgramState
 -- programs that are judged as they are read
 pub mod Judging

@@ -19,7 +19,7 @@ pub struct IndexEntry {
     pub place: usize,
 }
 
-/// The entries of the FDEs that cover any address.
+/// The entries of the FDEs that cover at least one address.
 fn covering_some(
     alloc: Global,
     fdes: &[FrameDescriptionEntry<'_>],
@@ -38,7 +38,7 @@ fn covering_some(
     Ok(index)
 }
 
-/// The FDEs that cover any address, in order of address: n log n for n FDEs.
+/// The FDEs that cover at least one address, in order of address: n log n for n FDEs.
 pub fn index_of(
     alloc: Global,
     fdes: &[FrameDescriptionEntry<'_>],

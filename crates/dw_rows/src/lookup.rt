@@ -64,9 +64,9 @@ pub(crate) fn write_row_at<'f, 'a>(
     }
 }
 
-/// The same from after a remember_state up to the matching restore_state: returns whether the row is there. If it isn't,
-/// the cursor is after the restore_state, and the rules are restored. Only here are rules remembered, those of one pair;
-/// nested pairs recurse.
+/// Searches one remember/restore pair, from after the remember_state. True if the row was found and written; else the
+/// cursor is after the matching restore_state, with the rules restored. Only here are rules remembered, those of one
+/// pair; nested pairs recurse.
 #[inline(never)]
 fn write_row_in_bracket<'f, 'a>(
     state: &mut UnwindState,

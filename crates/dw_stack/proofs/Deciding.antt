@@ -1,4 +1,4 @@
--- The questions that are asked of an expression, in their order: either all are answered with yes, and it is good, or the
+-- The questions about an expression, in their order: either all are answered with yes, and it is good, or the
 -- first that isn't names the first fault. Where states are given, each is compared before its operation is judged.
 use Rattle.std.proofs.Common.{◌≡◌, ◌≢◌, ◌∙◌, ◌⊎◌, ℕ, ℤ, pos, negsuc, zero, suc, ◌+◌, ◌<◌, ◌≤◌, Bool, true, false, not, cond, map, List, []}
 use Rattle.std.proofs.Common.{◌∷◌, ◌++◌, length, get_or, Option, Some, None, refl, sym, ap, subst, inl, inr, arith, length-append}

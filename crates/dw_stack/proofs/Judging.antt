@@ -34,7 +34,7 @@ failed p (x ∷ xs) f is = by (p x) refl is (failed p xs f)
     by false here found later = ap p (sym (same_Some x f found)) ∙ here
     by true here found later = later found
 
--- they are asked in the order of their ranks
+-- they are checked in the order of their ranks
 abbrev Ascends : ℕ → List FaultKind → Type 0
 Ascends n [] = Unit {0}
 Ascends n (x ∷ xs) = (n < rank x) × Ascends (rank x) xs
@@ -225,7 +225,7 @@ module _ (kind : Kind) (ops : List Placed) (len k pieces : ℕ) (s : StackState)
             (subst (λ (d : StackEffect). TargetIs ops len k d.jump target) at.is is);
       }
 
--- where one state comes to an operation, the first judgement of it is what its step objects to
+-- where one state reaches an operation, the first judgement of it is what its step objects to
 pub step_objects : (kind : Kind) (ops : List Placed) (len : ℕ) (given : Option (List State)) (i pieces : ℕ) (old : List InState)
     (f : FaultKind) (s : StackState) → slice_index_or old i Unreached ≡ Known s → Given ops len given i s
     → Objects kind ops len i pieces s f → StepObjects kind ops len given i pieces old f

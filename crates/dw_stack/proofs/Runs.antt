@@ -200,7 +200,7 @@ module _ (kind : Kind) (ops : List Placed) (len : ℕ) (laid : IsLaidOut ops len
     agrees_at_start c s,
   )
 
-  -- each step comes to a later operation, and where a run comes to has its number
+  -- each step goes to a later operation, and what a run reaches has its number
   run_later : (m : Meaning) (n i : ℕ) (c d : Configuration) → i ≤ length ops → place ops len i ≡ c.offset → Run m ops len n c d
       → (j : ℕ) × (i + n ≤ j) × (j ≤ length ops) × (place ops len j ≡ d.offset)
   run_later m zero i c d le at run = (i, omega arith, le, at ∙ ap (λ (e : Configuration). e.offset) run)
@@ -287,7 +287,7 @@ module _ (kind : Kind) (ops : List Placed) (len : ℕ) (laid : IsLaidOut ops len
   answer_of m c t (Ok new) is = inr (inl (go_to m c new t (jumps t.placed.1 c.stack) is refl (branches t.placed.1 c.stack)))
   answer_of m c t (Err why) is = inr (inr (why, record { meets = t; answered = is }))
 
-  -- where a path comes to an operation, all that it needs is there
+  -- where a path reaches an operation, all that it needs is there
   pub meets_at : (c : Configuration) (s : StackState) → Reaches kind ops len c.offset s → Agrees s c → (k : ℕ) (x : Placed)
       → slice_get ops k ≡ Some x → x.0 ≡ c.offset → Meets ops c
   meets_at c s there agrees k x stands at =

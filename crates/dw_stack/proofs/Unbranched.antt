@@ -35,7 +35,7 @@ falls (bra z) none = absurd (cc)
 falls (skip z) none = absurd (cc)
 falls _ none = refl
 
--- the first i operations were judged, and this state alone comes to the next one; nothing comes beyond
+-- the first i operations were judged, and this state alone reaches the next one; nothing reaches further
 pub record Straight (kind : Kind) (ops : List Placed) (len i : ℕ) (state : StackState) (depth pieces : ℕ) : Type 0 where
   pub states : List State
   pub in_states : List InState

@@ -314,7 +314,7 @@ module _ (kind : Kind) (ops : List Placed) (len : ℕ) (laid : IsLaidOut ops len
       end_described = subst (λ (n : ℕ). Describes (get_or in_states (length ops) Unreached)
           (Comes kind ops len n (place ops len (length ops)))) all (w.described (length ops) (omega arith) (omega arith))
 
-      -- some path comes to the end
+      -- some path reaches the end
       pub end_not_nothing : get_or in_states (length ops) Unreached ≡ Unreached → ⊥
       end_not_nothing e =
           let r = end_reached i (length ops) refl all states in_states depth pieces w in

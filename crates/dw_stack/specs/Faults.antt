@@ -24,7 +24,7 @@ Given ops len given k s = Keeps given k (at_offset (place ops len k) s)
 
 -- ---- the judgements of one operation
 
--- in their order, where paths come to it with one state
+-- in their order, where paths reach it with one state
 abbrev pub judgements : List FaultKind
 judgements = fault.NotInFrame ∷ fault.NotAlone ∷ fault.Underflow ∷ fault.TooDeep ∷ fault.TooManyPieces ∷ fault.Backward
     ∷ fault.TargetNotStart ∷ []

@@ -29,7 +29,7 @@ pub enum Mode {
     AfterPiece,
 }
 
-/// The state before an operation, on every path that comes to it.
+/// The state before an operation, on every path that reaches it.
 #[derive(Clone, Copy, Debug, PartialEq, Eq)]
 pub struct State {
     /// The operation's offset, in bytes from the expression's first byte.
