@@ -95,9 +95,9 @@ pub fn entry<'a>(section: &'a [u8], target: Target, at: u32) -> Result<(Entry<'a
 ///
 /// Each record is checked in this order: its length (1, 3); that its body is there (1, at the body's first byte); then
 /// the fields of its header, one after another within its body. Each field must be there and in range (1, 2, at its first
-/// byte). Each of these faults is at its field: for a CIE its version (4), its augmentation (5), in version 4 its address
-/// size (6) and segment selector size (7), and its return address register (10); for an FDE that its range ends in the
-/// address space (11). A record's program isn't read, nor is its CIE looked up. Allocates no memory.
+/// byte). For a CIE its version (4), its augmentation (5), in version 4 its address size (6) and segment selector size
+/// (7), and its return address register (10) are checked; for an FDE, that its range ends in the address space (11). Each
+/// of these faults is at that field. A record's program isn't read, nor is its CIE looked up. Allocates no memory.
 pub fn entries<'a>(section: &'a [u8], target: Target) -> Entries<'a>
     requires { length section.now < 2 ^ 32 }
     ensures { result ≡ entries_of target section.now }
