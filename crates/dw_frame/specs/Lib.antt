@@ -9,7 +9,7 @@ pub mod Codes
 pub mod Sections
 -- where records and instructions are
 pub mod Bounds
--- ---- What the code's own values stand for, and what its calls answer.
+-- ---- What the code's own values stand for, and what its calls return.
 -- headers of the code
 pub mod Headers
 -- records and instructions of the code

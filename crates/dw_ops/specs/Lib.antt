@@ -3,6 +3,6 @@
 pub mod Operations
 -- which bytes encode which operation (7.7.1), and their reading
 pub mod Opcodes
--- ---- What the code's own values stand for, and what its calls answer.
+-- ---- What the code's own values stand for, and what its calls return.
 -- operations and expressions of the code
 pub mod Views

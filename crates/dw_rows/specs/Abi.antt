@@ -33,7 +33,7 @@ no_abi r = unnamed
 
 -- ---- a row's rules under an ABI
 
--- The rule of a register that the row gives none: a callee-saved one has its present value, and the stack pointer's value
+-- The rule of a register to which the row gives none: a callee-saved one has its present value, and the stack pointer's value
 -- was the CFA.
 abbrev pub rule_of_role : {E : Type 0} → Role → RuleOver E
 rule_of_role unnamed = default

@@ -27,7 +27,7 @@ pub record HasOneRow (s : FrameSection) (a : ℕ) : Type 0 where
   pub longest : IsLast (start_in cie fde good) (program_in cie fde good) a last
   pub placed : PlacedRow
   pub standard : IsRowAt (start_in cie fde good) (program_in cie fde good) last placed
-  -- no other row is so
+  -- no other row has these rules and this range
   pub only : (other : PlacedRow) → IsRowAt (start_in cie fde good) (program_in cie fde good) last other → other ≡ placed
   -- instead of each offset that its rules name it has the expression of the section that begins there, of the rule's kind
   pub given : row ≡ given_row s.expressions placed

@@ -30,7 +30,7 @@ pub mod UnwindTables
 -- ---- The first fault, as a function of the bytes. Laws tie it to what is to be believed.
 -- the first fault of a program
 pub mod Judgement
--- ---- What the code's own values stand for, and what its calls answer.
+-- ---- What the code's own values stand for, and what its calls return.
 -- rules and rows of the code
 pub mod Views
 -- roles of registers, as the code has them

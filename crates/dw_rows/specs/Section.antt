@@ -62,7 +62,7 @@ SharesAddress f g = (a : ℕ) × Covers f a × Covers g a
 abbrev pub CoversOnce : List Fde → Type 0
 CoversOnce fdes = (a : ℕ) (f g : Fde) → Contains fdes f → Contains fdes g → Covers f a → Covers g a → f ≡ g
 
--- the FDE that covers an address, which is the only one, or that none does
+-- the only FDE that covers an address, or none if none does
 abbrev pub IsCoverOf : List Fde → ℕ → Option Fde → Type 0
 IsCoverOf fdes a None = (f : Fde) → Contains fdes f → ¬ Covers f a
 IsCoverOf fdes a (Some f) = Contains fdes f × Covers f a × ((g : Fde) → Contains fdes g → Covers g a → g ≡ f)

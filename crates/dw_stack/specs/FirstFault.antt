@@ -52,7 +52,7 @@ arrivals kind ops len (suc k) =
 abbrev pub states_to : Kind → List Placed → ℕ → ℕ → List StackState
 states_to kind ops len k = states_at (place ops len k) (arrivals kind ops len k)
 
--- ---- the questions
+-- ---- whether states are the same
 
 abbrev pub number_of : Mode → ℕ
 number_of mode.Stack = 0

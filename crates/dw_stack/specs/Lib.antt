@@ -16,7 +16,7 @@ pub mod Located
 pub mod Faults
 -- the first fault from the bytes
 pub mod FirstFault
--- ---- What the code's own values stand for, and what its calls answer.
+-- ---- What the code's own values stand for, and what its calls return.
 -- what certificates and checked expressions are
 pub mod Certificates
 -- operations of the code, with their offsets

@@ -18,7 +18,7 @@ use Rattle.dw_stack.specs.States.{start_of, StandsAlone, height_after, state_aft
 abbrev pub Placed : Type 0
 Placed = ℕ × Operation
 
--- where the operation numbered j begins; the length where there is none
+-- where the operation numbered j begins; the length if there is none
 abbrev pub place : List Placed → ℕ → ℕ → ℕ
 place [] len j = len
 place (x ∷ xs) len zero = x.0
