@@ -24,7 +24,7 @@ pub fn operations_use_the_top_alone()
         → location_of s None ≡ AtAddress a → s ≡ a ∷ [] }
 {}
 
-/// An evaluation of a good expression has exactly one outcome and one number of steps.
+/// The evaluation of a good expression is determined: it has at most one outcome, after one number of steps.
 pub fn evaluations_are_determined()
     ensures { (c : Checked) (e : World) (o p : Outcome) (n k : ℕ)
         → IsGoodExpression c.kind c.target c.bytes → IsEvaluation c e o n → IsEvaluation c e p k
