@@ -55,7 +55,7 @@ module _ (u : CallerRelation) (size : AddressSize) (begin : WalkedFrame) where
   WritesWalk first limit old new r = (frames : List WalkedFrame) × (stop : Stop) × Walks u first limit frames stop
       × Writes old new r (walk_text size frames stop)
 
-  -- What is said of frames that are given: after some comes the next one; and they are a walk with a limit, or its beginning.
+  -- What is known of given frames: after some comes the next one; and they are a walk with a limit, or its beginning.
   module _
       (more : (p : Progress) (xs : List WalkedFrame) (f : WalkedFrame) → GivesFrames u p xs → GivesFrame u (after p xs) f
       → GivesFrames u p (xs ++ f ∷ []) × (after p (xs ++ f ∷ []) ≡ has_given f)) where
@@ -120,7 +120,7 @@ module _ (u : CallerRelation) (size : AddressSize) (begin : WalkedFrame) where
         last_written p n stop old mid new r s
         (ends s.frames stop s.given (ap stop_of s.comes ∙ ended) (omega (arith, few, s.count))) line
 
-    -- and where there are as many as the limit
+    -- and the limit was reached
     pub filled_written : ((xs : List WalkedFrame) → GivesFrames u (about_to_give begin) xs → length xs ≡ limit → Walks u first limit xs Limit)
         → (p : Progress) (n : ℕ) (old mid new : Option (List ℕ)) (r : Result (Unit {0}) ReportFault)
         → Shown u size begin p n old mid → n ≡ limit → Writes mid new r (last_line Limit) → WritesWalk first limit old new r
