@@ -171,8 +171,8 @@ enum {
 typedef struct { uint64_t value; uint32_t kind, reserved; } dwcheck_answer;
 typedef struct { uint64_t value; uint32_t kind, number; } dwcheck_register;
 
-/* A caller: its canonical frame address, where it goes on, and the number of registers that have a rule from the row or
-   the ABI. */
+/* A caller: its canonical frame address, its return address, and the number of registers that have a rule from the row
+   or the ABI. */
 typedef struct { dwcheck_answer cfa, return_address; uint64_t count; } dwcheck_caller;
 
 #define DWCHECK_MAX_REGISTERS 256

@@ -31,7 +31,7 @@ module _ (sections : List (Module FrameSection)) (abi : Abi) (k : KnownState) (f
       (subst (λ m. over_sections (abi_given facts) m sections k.registers address caller) same_memory
       (subst (λ (a : Abi). over_sections a k.memory sections k.registers address caller) same_abi h))
 
-  -- and a walk likewise
+  -- and so is a walk
   pub same_walk : (address limit : ℕ) (frames : List WalkedFrame) (stop : Stop)
       → Walks (over_sections abi k.memory sections) (first_place address k.registers) limit frames stop
       → Walks (over_sections (abi_given facts) (memory_given facts) sections) (first_place address (registers_given facts)) limit frames stop

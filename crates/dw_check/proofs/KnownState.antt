@@ -84,7 +84,7 @@ byte_added m i bs a old now new h is added =
     added ∙ ap (λ o. option_or o one) is ∙ or_or old (byte_in a (bytes m (take i bs))) one
     ∙ ap (option_or old) (sym (bytes_more m i bs a h))
 
--- ---- a map that got a value where it had none
+-- ---- a map that got its first value for a key
 
 new_here : {V : Type 0} → (old new : BTreeMap ℕ V) (k q : ℕ) (v : V) → get nat_cmp old k ≡ None
     → get nat_cmp new q ≡ (if is_eq (nat_cmp k q) then Some v else get nat_cmp old q) → (t : Bool) → (k == q) ≡ t

@@ -193,7 +193,7 @@ module _ (Shows : AddressSize → List StateFact → List (Module FrameSection) 
       goes_process target load loads hex files count modules facts Is a a (Err stop) gives
       (goes_refusal count Frame (modules_refusal target modules) (Is facts modules) a stop (λ fault k. (refl, k)) h)
 
-  -- where there is one text to be shown
+  -- if there is one text to show
   pub goes_shown : (sections : List (Module FrameSection)) (old new : Option (List ℕ)) (r : Result (Unit {0}) ReportFault)
       (written : List ℕ) → OneShown Shows → modules_refusal target modules ≡ None → sections ≡ modules_of_sections target modules
       → Shows target.address_size facts sections written → Writes old new r written

@@ -1,4 +1,4 @@
--- Two sections have no fault exactly where they are well formed.
+-- Two sections have no fault exactly if they are well formed.
 use Rattle.std.proofs.Common.{◌≡◌, ◌⊎◌, ℕ, ◌^◌, ◌<◌, ◌↔◌, List, length, refl, arith, inl, inr}
 use Rattle.std.specs.Prelude.{Option, Some, None, Result, Ok, Err, IfOk, IfErr}
 use Rattle.std.specs.Option.{option_or}

@@ -50,7 +50,7 @@ module _ (u : CallerRelation) (size : AddressSize) (begin : WalkedFrame) where
   pub shown_none : (p : Progress) (old : Option (List ℕ)) → p ≡ about_to_give begin → Shown u size begin p 0 old old
   shown_none p old is = record { frames = []; given = tt; comes = sym is; count = refl; text = appends_nothing old }
 
-  -- a walk of which this is written
+  -- a walk, and what a call with this result has written of it
   abbrev pub WritesWalk : Place → ℕ → Option (List ℕ) → Option (List ℕ) → Result (Unit {0}) ReportFault → Type 0
   WritesWalk first limit old new r = (frames : List WalkedFrame) × (stop : Stop) × Walks u first limit frames stop
       × Writes old new r (walk_text size frames stop)
@@ -110,7 +110,7 @@ module _ (u : CallerRelation) (size : AddressSize) (begin : WalkedFrame) where
     last_written p n stop old mid new r s walks line =
         (s.frames, stop, walks, writes_then old mid new r (frames_text size 0 s.frames) (last_line stop) s.text line)
 
-    -- the last line, where no frame is given
+    -- the last line, if no frame is given
     pub ended_written : ((xs : List WalkedFrame) (stop : Stop) → GivesFrames u (about_to_give begin) xs
         → stop_of (after (about_to_give begin) xs) ≡ Some stop → length xs < limit → Walks u first limit xs stop)
         → (p : Progress) (n : ℕ) (stop : Stop) (old mid new : Option (List ℕ)) (r : Result (Unit {0}) ReportFault)

@@ -1,4 +1,5 @@
--- The text of a caller: a line for its CFA, one for each of its registers, and one for where it goes on.
+-- The text of a caller: a line for its CFA, one for each of its registers, and one for its return
+-- address.
 use Rattle.std.specs.Prelude.{ℕ, List, ◌++◌, Option, Some, None, codes, decimal}
 use Rattle.std.specs.List.{flat_map}
 use Rattle.dw_bytes.specs.declared.target.AddressSize.{AddressSize}

@@ -1,4 +1,4 @@
--- The outcome of an expression on a machine of which something is known.
+-- The outcome of an expression on a partly known machine.
 use Rattle.std.specs.Prelude.{◌≡◌, ℕ, ◌<◌, ◌^◌, List, length}
 use Rattle.dw_bytes.specs.declared.target.Target.{Target}
 use Rattle.dw_stack.specs.declared.state.Kind.{Kind}
@@ -8,7 +8,7 @@ use Rattle.dw_eval.specs.Results.{Outcome, IsRun}
 use Rattle.dw_check.specs.StateFile.{StateFact, first_that, content_in, byte_in, cfa_in, frame_base_in, object_in}
 use Rattle.dw_check.specs.Outcomes.{evaluation_text}
 
--- a machine of which this was given, under a target
+-- a machine with this given state, under a target
 abbrev pub world_of : Target → List StateFact → World
 world_of target facts = record {
   target = target;

@@ -15,8 +15,8 @@ is_blank b = b == 9 || b == 10 || b == 13 || b == 32
 abbrev pub without_blanks : List ℕ → List ℕ
 without_blanks text = filter (λ b. not (is_blank b)) text
 
--- The bytes of a section or of an expression: decoded if they must be hex text and are, or as they are; none if there is
--- no file or the text is malformed.
+-- The bytes of a section or of an expression: decoded if they must be hex text, or none if they aren't; else as they
+-- are. Without a file they are empty.
 abbrev pub section_bytes : Bool → Option (List ℕ) → Option (List ℕ)
 section_bytes hex None = Some []
 section_bytes hex (Some file) = if hex then result_ok (decode_of (without_blanks file)) else Some file

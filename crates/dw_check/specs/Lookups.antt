@@ -1,5 +1,4 @@
--- What a location list gives at an address (DWARF 5, section 2.6.2), on a machine of which something is
--- known.
+-- What a location list gives at an address (DWARF 5, section 2.6.2), on a partly known machine.
 use Rattle.std.specs.Prelude.{◌≡◌, ℕ, ◌<◌, ◌^◌, ◌==◌, List, [], ◌∷◌, ◌++◌, length, Option, Some, None, codes}
 use Rattle.std.specs.List.{find}
 use Rattle.dw_bytes.specs.declared.target.AddressSize.{AddressSize}

@@ -40,8 +40,8 @@ lists_counts_line tables lists expressions = count_text (codes "tables ") tables
 abbrev pub frame_line : FrameSection → List ℕ
 frame_line frame = frame_counts_line (length frame.cies) (length frame.fdes) (row_count frame)
 
--- the number of expressions, a line of each of which follows: those of the frame section and those
--- of lists
+-- the counts of tables, lists and expressions; each expression counted, of the frame section or of
+-- lists, has a line in the report
 abbrev pub lists_line : FrameSection → ListSection → List ℕ
 lists_line frame lists = lists_counts_line (length (tables_in lists)) (length (lists_in lists))
     (length frame.expressions + length (located_in lists))

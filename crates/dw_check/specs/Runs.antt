@@ -98,7 +98,7 @@ frame_reply text_for target section = text_unless (frame_refusal target section)
 abbrev pub expression_refusal : Kind → Target → List ℕ → Option Fault
 expression_refusal kind target bytes = option_or (length_fault bytes) (expression_fault kind target bytes)
 
--- the outcome of an expression, on a machine of which this was given
+-- the outcome of an expression, on a machine with this given state
 abbrev pub IsOutcome : Kind → Target → List ℕ → List StateFact → Reply → Type 0
 IsOutcome kind target bytes facts (text written) = Evaluates kind target bytes facts written
 IsOutcome kind target bytes facts (refusal section fault) = (section ≡ sections.Expression)
@@ -111,7 +111,7 @@ IsOutcome kind target bytes facts _ = ⊥
 abbrev pub lists_refusal : Target → List ℕ → Option Fault
 lists_refusal target section = option_or (length_fault section) (lists_fault target section)
 
--- the result of a look-up in a section, on a machine of which this was given
+-- the result of a look-up in a section, on a machine with this given state
 abbrev pub IsFound : ListLookup → Target → List ℕ → List StateFact → Reply → Type 0
 IsFound lookup target section facts (text written) = (lists_refusal target section ≡ None)
     × ShowsList facts (list_that_begins_at (record { target = target; section = section }) lookup.list) lookup.base lookup.address written
@@ -128,7 +128,7 @@ OfChecked target frame lists Shows (refusal section fault) =
     check_fault target frame lists ≡ Some (record { section = section; fault = fault })
 OfChecked target frame lists Shows _ = ⊥
 
--- registers and memory, of which this was given
+-- the registers and memory that were given
 abbrev pub registers_given : List StateFact → ℕ → Option ℕ
 registers_given facts n = first_that (content_in n) facts
 
@@ -139,7 +139,7 @@ memory_given facts a = first_that (byte_in a) facts
 abbrev pub abi_given : List StateFact → Abi
 abi_given facts = abi_of (kept_in facts) (first_that stack_pointer_in facts)
 
--- the text shows the caller at an address of these modules, or that no FDE covers it, on a machine of which this was given
+-- the text shows the caller at an address of these modules, or that no FDE covers it, on a machine with this given state
 abbrev pub ShowsCaller : ℕ → AddressSize → List StateFact → List (Module FrameSection) → List ℕ → Type 0
 ShowsCaller address size facts modules written = (caller : Option Caller)
     × over_sections (abi_given facts) (memory_given facts) modules (registers_given facts) address caller

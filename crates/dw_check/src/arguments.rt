@@ -350,9 +350,8 @@ fn usage_of_clap_error(alloc: Global, error: Error) -> Usage
     }
 }
 
-/// The request of a command line, whose first word is the program's name. It is `Line` exactly if clap rejects the words,
-/// and `BadArgument` exactly if a word or an option's value is malformed; out of memory aside.
-/// aside.
+/// The request of a command line, whose first word is the program's name. Unless memory runs out, the error is `Line`
+/// exactly if clap rejects the words, and `BadArgument` exactly if a word or an option's value is malformed.
 pub fn request(alloc: Global, words: Vec<String>) -> Result<Request, Usage>
     ensures { AsksFor (map (λ w. string_bytes w) words.items) result }
 {

@@ -41,8 +41,8 @@ fn drop_blanks(alloc: Global, text: &[u8]) -> Result<Vec<u8>, AllocError>
 }
 
 impl<'a> Files<'a> {
-    /// The bytes of the section or expression in the file with an index, none if there is no such file. Hex text is
-    /// decoded without its spaces, tabs, CRs and LFs; other bytes are borrowed.
+    /// The bytes of the section or expression in the file with an index, empty if there is no such file. Hex text
+    /// is decoded without its spaces, tabs, CRs and LFs; other bytes are borrowed.
     pub fn section(&self, alloc: Global, index: usize) -> Result<CowSlice<'a, u8, Global>, RunFault>
         ensures bytes { IfOk result (λ bytes.
             section_bytes self.now.hex

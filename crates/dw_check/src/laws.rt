@@ -38,7 +38,7 @@ pub fn needed_parts_decide()
         ↔ IsReply asked (needed_parts asked.task asked.hex 0 files) reply }
 {}
 
-/// Two sections have no fault exactly where they are well formed.
+/// Two sections have no fault exactly if they are well formed.
 pub fn sections_without_fault_are_well_formed()
     ensures { (target : Target) (frame lists : List ℕ)
         → (check_fault target frame lists ≡ None) ↔ AreWellFormed target frame lists }

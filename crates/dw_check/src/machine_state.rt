@@ -73,7 +73,7 @@ fn add_memory_bytes(
 }
 
 impl MachineState {
-    /// A machine of which nothing is known.
+    /// A machine with nothing known.
     pub fn new(alloc: Global) -> Self
         ensures { IsGivenBy (known_state_of result) [] }
     {

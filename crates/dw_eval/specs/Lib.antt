@@ -11,7 +11,7 @@ pub mod Needs
 pub mod Meaning
 -- the outcomes of runs (2.6)
 pub mod Results
--- memory of which one block is known
+-- memory with one known block
 pub mod MemoryBlocks
 -- which numbers are below 2^w
 pub mod Fits

@@ -63,8 +63,8 @@ fn run_location_on<'a, R: Registers, M: Memory, const PLACES: usize>(
     }
 }
 
-/// Runs a location from its start. The array of pieces is made only when the first piece ends: most locations have
-/// none, and making the array takes longer than their steps.
+/// Runs a location from its start; `run` is new. The array of pieces is made only when the first piece ends: most
+/// locations have none, and making the array takes longer than their steps.
 pub fn run_location<'a, R: Registers, M: Memory, const PLACES: usize>(
     expression: &Expression<'a>,
     environment: &Environment<'_, R, M>,

@@ -14,7 +14,7 @@ pub enum Location<'a> {
     Address(u64),
     /// In this register.
     Register(u16),
-    /// Nowhere, but its value is this number (`DW_OP_stack_value`).
+    /// Nowhere, but its value is this number.
     Value(u64),
     /// Nowhere, but its value is these bytes.
     Bytes(&'a [u8]),

@@ -1,4 +1,4 @@
-//! Memory of which one block is known, such as a stack.
+//! Memory with one known block, such as a stack.
 
 ghost use Rattle.std.specs.Prelude.{◌≡◌, ◌≤◌, IfSome, length, option_map};
 ghost use Rattle.dw_bytes.specs.Encoding.{number};
@@ -9,7 +9,7 @@ use crate::context::Memory;
 use byteorder::{BigEndian, ByteOrder, LittleEndian};
 use dw_bytes::Order;
 
-/// Memory of which one block is known, such as the top of a stack. A read that isn't wholly inside it has no
+/// Memory with one known block, such as the top of a stack. A read that isn't wholly inside it has no
 /// answer.
 ///
 /// ```rust

@@ -32,7 +32,7 @@ pub record StandsWithin (target : Target) (at end : ℕ) (b : Block) : Type 0 wh
   pub ends : b.offset + length b.bytes ≡ end
   pub of_target : b.target ≡ target
 
--- the same where there is one
+-- the same if there is one
 abbrev pub AllWithin : Target → ℕ → ℕ → Option Block → Type 0
 AllWithin target at end None = Unit {0}
 AllWithin target at end (Some b) = StandsWithin target at end b

@@ -45,7 +45,7 @@ entry_fault has_default at entry =
     else if is_back_range entry then Some (record { kind = BackRange; at = at })
     else location_fault (expression_in entry)
 
--- what is read, where there is no fault
+-- the value, unless there is a fault
 abbrev pub unless_fault : {X : Type 0} → Option Fault → X → Result X Fault
 unless_fault None x = Ok x
 unless_fault (Some fault) x = Err fault

@@ -30,14 +30,14 @@ pub fn list_reads_are_exact()
     ensures tables { (r : ReadPosition) → IsExact table_at (IsTable r.target r.position) r }
 {}
 
-/// A section is read without a fault exactly where its bytes are the encodings of tables without a gap; the result is
-/// these tables.
+/// A section is read without a fault exactly if its bytes are the encodings of tables without a gap; the result is these
+/// tables.
 pub fn sections_are_tables()
     ensures { (target : Target) (section : List ℕ) (tables : List Table) →
         (tables_of target section ≡ map Ok tables) ↔ AreTables target 0 section tables }
 {}
 
-/// A section has no fault exactly where it is well formed.
+/// A section has no fault exactly if it is well formed.
 pub fn list_sections_without_fault_are_well_formed()
     ensures { (target : Target) (section : List ℕ) →
         (lists_fault target section ≡ None) ↔ IsWellFormed target section }

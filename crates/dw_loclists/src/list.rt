@@ -158,9 +158,9 @@ fn keep_location(alloc: Global, block: Block<'_>, expressions: &mut Vec<KeptExpr
     true
 }
 
-/// A shortcut for the common case of `check_next`: end_of_list, base_address, offset_pair and start_length, the latter
-/// with short numbers. Tells whether the list ends there. For anything else, for a fault, or if there is no room, it
-/// gives none and changes nothing; the caller then calls `check_next`.
+/// A shortcut for the common cases of `check_next`: end_of_list, base_address, and offset_pair and start_length with
+/// short numbers. Tells whether the list ends there. For anything else, for a fault, or if there is no room, it gives
+/// none and changes nothing; the caller then calls `check_next`.
 #[inline(always)]
 fn check_common(
     alloc: Global,

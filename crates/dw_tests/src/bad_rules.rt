@@ -6,12 +6,13 @@ use dw_check::{CheckFault, Section, check};
 use dw_stack::MAX_HEIGHT;
 use std::alloc::{AllocError, Global};
 
-/// A CIE from its length to its program: the CFA is register 7 plus 8, and register 16 is saved 8 below it.
+/// The part of a CIE between its length and its program: the CFA is register 7 plus 8, and register 16 is saved 8 below
+/// it.
 const CIE: [u8; 16] = [
     0xff, 0xff, 0xff, 0xff, 4, 0, 8, 0, 1, 0x78, 0x10, 0x0c, 7, 8, 0x90, 1,
 ];
 
-/// An FDE of that CIE from its length to its program: it covers 0x1000 to 0x1020.
+/// The part of an FDE of that CIE between its length and its program: it covers 0x1000 to 0x1020.
 const FDE: [u8; 20] = [
     0, 0, 0, 0, 0, 0x10, 0, 0, 0, 0, 0, 0, 0x20, 0, 0, 0, 0, 0, 0, 0,
 ];

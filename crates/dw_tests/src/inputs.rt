@@ -43,7 +43,7 @@ pub(crate) const EXPRESSIONS: [u8; 56] = [
     0x23, 8, 0x16, 7, 0,
 ];
 
-/// The CIE, and an FDE of 0 to 0x20 whose caller goes on at 7, whatever is known: an endless walk.
+/// The CIE, and an FDE of 0 to 0x20 whose return address is 7, whatever is known: an endless walk.
 pub(crate) const ROUND: [u8; 56] = [
     0x14, 0, 0, 0, 0xff, 0xff, 0xff, 0xff, 4, 0, 8, 0, 1, 0x78, 0x10, 0x0c, 7, 8, 0x90, 1, 0, 0, 0,
     0, 0x1c, 0, 0, 0, 0, 0, 0, 0, 0, 0, 0, 0, 0, 0, 0, 0, 0x20, 0, 0, 0, 0, 0, 0, 0, 0x0f, 1, 0x3f,

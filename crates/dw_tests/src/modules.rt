@@ -20,7 +20,7 @@ impl Registers for FramePointer {
     }
 }
 
-/// The saved frame pointer and the return address of two frames: the first goes on at 0x101010, the second at 0x5000.
+/// The saved frame pointer and the return address of two frames: the first returns to 0x101010, the second to 0x5000.
 const STACK: MemoryBlock<'static> = MemoryBlock {
     base: 0x7000,
     bytes: &[

@@ -90,7 +90,7 @@ fn row_count(alloc: Global, section: &[u8]) -> Option<u32>
     Some(count)
 }
 
-/// Where the first two rows of an FDE end, and where the first one ends again when it is read into a used row.
+/// Where the first two rows of an FDE end, and where the first one ends again, from the reused iterator.
 fn ends_at(frame: &CheckedFrame<'_>, address: u64) -> Option<(u64, u64, u64)> {
     let fde = frame.fde_for_address(address)?;
     let mut rows = frame.rows(&fde);
@@ -105,8 +105,8 @@ fn ends_at(frame: &CheckedFrame<'_>, address: u64) -> Option<(u64, u64, u64)> {
     }
 }
 
-/// Where the CIE and the FDE of an address begin, and where its row ends; then where the row of another address ends,
-/// read into the same variable.
+/// Where the CIE and the FDE of an address begin, and where its row ends; then where the row in the same variable
+/// ends after a look-up of another address.
 fn places_at(frame: &CheckedFrame<'_>, address: u64, other: u64) -> Option<(u32, u32, u64, u64)> {
     let mut row = UnwindTableRow::empty();
     let (cie, fde) = frame.row_for_address_into(address, &mut row)?;

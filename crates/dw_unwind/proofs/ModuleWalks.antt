@@ -155,7 +155,7 @@ module _ {T : Type 0} (target_of : T → Target) (over : T → CallerRelation) (
   by_one_module registers a c fits h =
       (c, subst (λ (n : ℕ). over rows registers n c) (sym (as_loaded (target_of rows) a fits)) h, none_or c)
 
--- a caller that goes on below a bound goes on where the address before is below it
+-- if a caller's return address is below a bound, so is the address before it
 pub leads_below : (bound : ℕ) (c : Caller) → CallerFits bound c
     → IfSome (content_of c.return_address) (λ n. IfSome (address_before n) (λ (a : ℕ). a < bound))
 leads_below bound c fits = of_answer c.return_address fits.return_address

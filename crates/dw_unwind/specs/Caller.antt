@@ -1,4 +1,4 @@
--- The calling frame: its registers, its CFA, and where it goes on (DWARF 5, section 6.4.1).
+-- The calling frame: its registers, its CFA, and its return address (DWARF 5, section 6.4.1).
 use Rattle.std.specs.Prelude.{◌≡◌, ℕ, ◌+◌, ◌^◌, nat_le, ℤ, pos, ◌+ℤ◌, if◌then◌else◌, List, [], ◌∷◌, length, Option, Some, None, Contains}
 use Rattle.dw_bytes.specs.declared.target.Target.{Target}
 use Rattle.dw_bytes.specs.Encoding.{bytes_of_address}
@@ -116,7 +116,7 @@ AreRegisters e cfa _ _ = ⊥
 
 -- ---- the caller
 
--- Its CFA; each register that has a rule, from the row or from the ABI, by ascending numbers; and where it goes on.
+-- Its CFA; each register that has a rule, from the row or from the ABI, by ascending numbers; and its return address.
 pub record Caller : Type 0 where
   pub cfa : Answer
   pub registers : List (ℕ × Answer)

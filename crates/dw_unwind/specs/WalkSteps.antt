@@ -55,7 +55,7 @@ having_given frame w =
 abbrev pub GivesNext : {U M : Type 0} → CallerRelation → WalkState U M → WalkState U M → Type 0
 GivesNext u old new = (frame : WalkedFrame) × GivesFrame u old.progress frame × (new ≡ having_given frame old)
 
--- The caller of a frame that is a caller itself and goes on at an address. States nothing if there was no caller.
+-- The caller of a frame at an address that is itself a caller. States nothing if there was no caller.
 abbrev pub UnwindsFrom : CallerRelation → Option Caller → ℕ → Option Caller → Type 0
 UnwindsFrom u None address next = Unit {0}
 UnwindsFrom u (Some caller) address next = UnwindsAt u (contents_of caller.registers) (address_before address) next

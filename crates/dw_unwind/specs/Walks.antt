@@ -66,7 +66,7 @@ address_before (suc a) = Some a
 abbrev pub first_place : ℕ → (ℕ → Option ℕ) → Place
 first_place address registers = record { address = address; looked_up = Some address; registers = registers }
 
--- The position of a caller. It goes on after a call, which lies before that address: its frame is looked up there.
+-- The position of a caller at an address. Its call lies before the address, so its frame is looked up there.
 abbrev pub place_of_caller : Caller → ℕ → Place
 place_of_caller caller address =
     record { address = address; looked_up = address_before address; registers = contents_of caller.registers }

@@ -5,7 +5,7 @@ use crate::unwinding::{Answer, Caller};
 /// A frame of a walk up the stack.
 #[derive(Clone, Debug, Drop, PartialEq, Eq)]
 pub struct Frame {
-    /// Its address. Frame 0's is given; that of each later frame is where it goes on after a call.
+    /// Its address. Frame 0's is given; that of each later frame is the return address of the frame before it.
     pub address: u64,
     /// Its caller, none exactly if no FDE covers the address that is looked up. Frame 0 looks up its address, later
     /// frames their address minus 1, since a call may be the last instruction that an FDE covers (DWARF 5, section

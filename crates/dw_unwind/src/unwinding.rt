@@ -56,7 +56,7 @@ pub struct Caller {
     pub cfa: Answer,
     /// Each register that has a rule other than `Default`, or that the ABI names, ascending.
     pub registers: FoundRegisters,
-    /// Where the caller goes on: the value of the CIE's return_address_register.
+    /// The return address: the value of the CIE's return_address_register.
     pub return_address: Answer,
 }
 
@@ -65,11 +65,11 @@ pub struct Caller {
 pub struct Unwound {
     /// The canonical frame address.
     pub cfa: Answer,
-    /// Where the caller goes on.
+    /// The return address.
     pub return_address: Answer,
 }
 
-/// Where the caller goes on, which may be among its registers.
+/// The return address, which may be that of one of the caller's registers.
 #[inline(always)]
 fn return_address<R: Registers, M: Memory, L: RegisterList>(
     present: &Present<'_, R, M>,

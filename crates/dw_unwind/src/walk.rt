@@ -68,8 +68,8 @@ impl<'w, U: Unwinder, M: Memory> Model for Walk<'w, U, M> {
     } };
 }
 
-/// The caller of a frame that is itself a caller, given its return address and its registers. The look-up uses the
-/// address before it, which is inside the call.
+/// The caller of a frame at an address that is itself a caller, given its registers. The look-up uses the address before,
+/// which is inside the call.
 #[inline(always)]
 fn unwind_caller<U: Unwinder, M: Memory>(
     unwinder: &U,
@@ -146,7 +146,7 @@ impl<'w, U: Unwinder, M: Memory> Walk<'w, U, M> {
         walk
     }
 
-    /// Moves to the caller of the frame that was given last, which goes on at this address.
+    /// Moves to the caller of the frame that was given last. This is the caller's address.
     #[inline(always)]
     fn go_to(&mut self, address: u64)
         requires { self.old.progress ≡ has_given (frame_at self.old.progress) }

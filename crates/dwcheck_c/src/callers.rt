@@ -23,8 +23,8 @@ pub struct CRegister {
     pub number: u32,
 }
 
-/// A caller: its canonical frame address, where it goes on, and the number of registers that have a
-/// rule.
+/// A caller: its canonical frame address, its return address, and the number of registers that have
+/// a rule.
 #[repr(C)]
 #[derive(Clone, Copy, Debug)]
 pub struct CCaller {

@@ -36,7 +36,7 @@ impl Held {
         }
     }
 
-    /// Takes the contents of a box.
+    /// Holds the process of a box.
     pub fn of(process: Box<Process>) -> Held
         ensures { result.modules ≡ Some process.value }
     {

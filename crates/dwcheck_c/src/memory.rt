@@ -27,8 +27,7 @@ impl<'a> CBlock<'a> {
     }
 }
 
-/// Memory of which several blocks are known. If two blocks have an address, the first one's byte
-/// counts.
+/// Memory with several known blocks. If two blocks have an address, the first one's byte counts.
 #[derive(Drop)]
 pub(crate) struct Blocks<'m, 'a> {
     pub blocks: &'m [CBlock<'a>],

@@ -49,7 +49,7 @@ pub(crate) fn evaluate_to(
     Ok(())
 }
 
-/// Locations on a machine of which nothing is known, and their text but for its last LF.
+/// Locations on a machine with nothing known, and their text without its last LF.
 const LOCATIONS: &str = "\
 32 33 22: address 0x0000000000000005/steps 3 depth 2
 31 32 28 0000: address 0x0000000000000001/steps 3 depth 2

@@ -56,8 +56,9 @@ frame 1 0x0000000000001020 cfa unreadable
 stop return unreadable
 ";
 
-/// Walks from 3 with an FDE of 0 to 0x20: endless, as the CFA is 15 and the caller goes on at 7; to 0, which is not an
+/// Walks from 3 with an FDE of 0 to 0x20: endless, as the CFA is 15 and the return address 7; to 0, which is not an
 /// address after a call although an FDE covers it; and to where the return address is undefined, or its expression
+/// divides by zero.
 /// divides by zero.
 const FROM_THREE: &str = "\
 {CIE} {FDE_AT_ZERO} 0f013f 141001 0000 | reg 7 0x10
