@@ -1,4 +1,4 @@
-//! The command line as clap sees it: a subcommand for each task.
+//! The command line for clap: a subcommand for each task.
 
 ghost use Rattle.std.specs.Prelude.{◌≡◌, IfOk, map, true, false};
 ghost use Rattle.clap.specs.Words.{with_subcommand, app_of, rule_of};
@@ -130,8 +130,8 @@ How state files are written: docs/OUTPUT.md. A gdb script writes one: tools/.";
 /// The version that `--version` shows: that of the libraries' interface.
 const VERSION: &str = "1.0.0";
 
-/// A command in outline: its name, what it does, the end of its help, its words in their order, each with what it is, and whether it takes a state
-/// file, where its module is loaded, and further modules. Every command has the same flags.
+/// A command in outline: its name, what it does, the end of its help, its words in order, each with its meaning, and whether
+/// it takes a state file, the load address of its module, and further modules. Every command has the same flags.
 struct Outline<'a> {
     name: &'a str,
     about: &'a str,
@@ -264,7 +264,7 @@ fn with_flags<'a>(alloc: Global, command: Command<'a>) -> Result<Command<'a>, Al
         .arg(clap_flag(alloc, HEX, "Sections and expressions are hex text"))
 }
 
-/// With words that have to be there, each with its help, in this order.
+/// Adds required words, each with its help, in this order.
 fn with_words<'a>(
     alloc: Global,
     command: Command<'a>,
@@ -282,7 +282,7 @@ fn with_words<'a>(
     Ok(command)
 }
 
-/// With an option, if it is taken.
+/// Adds an option, if the command takes it.
 fn with_option<'a>(
     command: Command<'a>,
     option: Arg<'a>,
@@ -301,7 +301,7 @@ fn with_option<'a>(
     }
 }
 
-/// With the options that the command of an outline takes.
+/// Adds the options that the command of an outline takes.
 fn with_options<'a>(
     alloc: Global,
     command: Command<'a>,
@@ -335,7 +335,7 @@ fn clap_command<'a>(alloc: Global, outline: &Outline<'a>) -> Result<Command<'a>,
     with_options(alloc, command, outline)
 }
 
-/// With the command of an outline.
+/// Adds the command of an outline.
 fn with_command<'a>(
     alloc: Global,
     command: Command<'a>,
@@ -349,7 +349,7 @@ fn with_command<'a>(
     command.subcommand(clap_command(alloc, outline)?)
 }
 
-/// With the commands of these outlines.
+/// Adds the commands of these outlines.
 fn with_commands<'a>(
     alloc: Global,
     command: Command<'a>,
@@ -367,7 +367,7 @@ fn with_commands<'a>(
     Ok(command)
 }
 
-/// The whole command line. One of its subcommands has to be named.
+/// The whole command line. A subcommand is required.
 pub(crate) fn whole_command<'a>(alloc: Global) -> Result<Command<'a>, AllocError>
     ensures app { IfOk result (λ c. app_of c ≡ dwcheck) }
     ensures local { IfOk result (λ c. (fields_of c).has_globals ≡ false) }

@@ -12,7 +12,7 @@ use std::alloc::Global;
 /// Room for any table.
 const AMPLE: usize = 1 << 40;
 
-/// The table of a section, where that is short enough and accepted. The checked section is gone.
+/// The table of a section, if that is short enough and accepted. The checked section is gone.
 fn compiled(alloc: Global, section: &[u8], target: Target) -> Option<UnwindTable> {
     if section.len() >= 1 << 32 {
         return None;
@@ -139,7 +139,7 @@ fn add_found(mixed: &mut Mixed, table: &UnwindTable, address: u64) {
     }
 }
 
-/// What the table of a section gives at these addresses, 0 where the section is refused.
+/// What the table of a section gives at these addresses, 0 if the section is refused.
 #[unsafe(no_mangle)]
 pub extern "C" fn bench_table_answer(
     alloc: Global,
