@@ -12,7 +12,7 @@ use crate::certificate::Certificate;
 use crate::checked::CheckedExpression;
 use crate::pass::pass;
 use crate::state::{Kind, State};
-use crate::straight::check_straight;
+use crate::straight::{certify_straight, check_straight};
 use dw_bytes::{Fault, FaultKind};
 use dw_ops::{Expression, operations};
 use std::alloc::Global;
@@ -64,6 +64,24 @@ fn check_with_states<'a>(
     })
 }
 
+/// As `certify`, over all paths at once: for what its short way doesn't answer.
+fn certify_all_paths<'a>(
+    alloc: Global,
+    expression: Expression<'a>,
+    kind: Kind,
+) -> Result<Certificate<'a>, Fault>
+    ensures checked { IfOk result (λ c. IsChecked (checked_in c)) }
+    ensures same { IfOk result (λ c. IsOf kind (target_of expression.entry)
+        (bytes_of expression.entry) (checked_in c)) }
+    ensures states { IfOk result (λ c. AreStatesOf kind (target_of expression.entry)
+        (bytes_of expression.entry) (states_in c)) }
+    ensures answer { Answers (expression_fault kind (target_of expression.entry)
+        (bytes_of expression.entry)) result }
+    ensures inside { IfErr result (λ f. f.at ≤ length (bytes_of expression.entry)) }
+{
+    check_with_states(alloc, expression, kind, None)
+}
+
 /// Certifies an expression: it is good over all paths, and these are the states on them.
 ///
 /// A refusal is the first fault. The whole expression is read first (`dw_ops::operations`). Then the operations are
@@ -90,7 +108,10 @@ pub fn certify<'a>(
         (bytes_of expression.entry)) result }
     ensures inside { IfErr result (λ f. f.at ≤ length (bytes_of expression.entry)) }
 {
-    check_with_states(alloc, expression, kind, None)
+    if let Some(certificate) = certify_straight(alloc, expression, kind) {
+        return Ok(certificate);
+    }
+    certify_all_paths(alloc, expression, kind)
 }
 
 /// Checks an expression: as `certify` and then `Certificate::into_checked`, but no state is kept. Where nothing branches and
@@ -110,7 +131,7 @@ pub fn check_expression<'a>(
     if let Some(checked) = check_straight(expression, kind) {
         return Ok(checked);
     }
-    let certificate = certify(alloc, expression, kind)?;
+    let certificate = certify_all_paths(alloc, expression, kind)?;
     Ok(certificate.into_checked())
 }
 
