@@ -150,8 +150,7 @@ impl RegisterRuleMap {
     pub fn copy_from(&mut self, other: &RegisterRuleMap)
         ensures { self.new ≡ other.now }
     {
-        self.entries.clear();
-        let _ = self.entries.try_extend_from_slice(other.entries.as_slice());
+        write_entries(&mut self.entries, other.entries.as_slice());
     }
 
     /// Takes on the rules of some entries. Its cost is that of the rules that are there and of those that come.
@@ -160,8 +159,7 @@ impl RegisterRuleMap {
         requires table { IsTable 0 (entries_of entries.now) }
         ensures { self.new ≡ entries_of entries.now }
     {
-        self.entries.clear();
-        let _ = self.entries.try_extend_from_slice(entries);
+        write_entries(&mut self.entries, entries);
     }
 
     /// The entries of the rules other than `Default`, by ascending registers.
@@ -201,6 +199,20 @@ pub fn rule_of_register(entries: &[RuleEntry], register: u16) -> KeptRule
         }
     }
     KeptRule::Default
+}
+
+/// Writes these entries over those of a table. Each place is written once, and only those that are left over are made blank.
+#[inline(always)]
+fn write_entries(table: &mut ArrayVec<RuleEntry, MAX_RULES>, entries: &[RuleEntry])
+    requires { length entries.now ≤ MAX_RULES }
+    ensures { table.new.items ≡ entries.now }
+{
+    table.truncate(entries.len());
+    let (front, rest) = entries.split_at(table.len());
+    table.as_mut_slice().copy_from_slice(front);
+    if !rest.is_empty() {
+        let _ = table.try_extend_from_slice(rest);
+    }
 }
 
 /// How many entries are below the register.
