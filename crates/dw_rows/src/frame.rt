@@ -308,10 +308,11 @@ impl<'a> CheckedFrame<'a> {
     }
 
     /// The CIE of one of the FDEs, as `cie_of`. The rules that it leaves are stored in the state, as those that programs
-    /// begin with.
+    /// begin with. It is looked for first at the index `near`, which becomes its index.
     pub(crate) fn begin_with_cie(
         &self,
         state: &mut UnwindState,
+        near: &mut usize,
         fde: &FrameDescriptionEntry<'a>,
     ) -> CommonInformationEntry<'a>
         requires { Contains self.now.fdes (fde_of fde.now) }
@@ -320,7 +321,7 @@ impl<'a> CheckedFrame<'a> {
         ensures left { IsLeftBy (cie_of result) state.new.initial_rules }
         ensures lends { Lends self.now.expressions (cie_of result) (fde_of fde.now) }
     {
-        match begin_with_rules_of_cie(state, &self.cies, &self.initial, fde.cie_pointer) {
+        match begin_with_rules_of_cie(state, &self.cies, &self.initial, near, fde.cie_pointer) {
             Some(cie) => cie,
             None => unreachable!(),
         }
@@ -447,7 +448,8 @@ impl<'a> CheckedFrame<'a> {
             ≡ Some row.new }
     {
         let mut state = UnwindState::new();
-        let cie = self.begin_with_cie(&mut state, fde);
+        let mut near = usize::MAX;
+        let cie = self.begin_with_cie(&mut state, &mut near, fde);
         write_row_at(&mut state, &cie, fde, address, self.lent(), row);
         cie
     }

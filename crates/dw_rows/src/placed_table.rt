@@ -110,7 +110,8 @@ fn fill(
         (fde_bytes frame.now (fde_of fde.now))) }
 {
     table.begin_at(fde.initial_location)?;
-    let cie = frame.begin_with_cie(&mut context.state, fde);
+    let mut near = usize::MAX;
+    let cie = frame.begin_with_cie(&mut context.state, &mut near, fde);
     let mut instructions = begin_rows(context, fde);
     let limit = fde.initial_location + fde.address_range;
     while let Some((start, _)) = next_range(context, &mut instructions, &cie, limit) {

@@ -65,10 +65,12 @@ pub fn find_cie<'a>(
 }
 
 /// The CIE that begins at an offset. The rules that it leaves are stored in the state, as those that programs begin with.
+/// It is looked for first at the index `near`, which becomes its index.
 pub fn begin_with_rules_of_cie<'a>(
     state: &mut UnwindState,
     cies: &[CommonInformationEntry<'a>],
     initial: &InitialRules,
+    near: &mut usize,
     offset: u64,
 ) -> Option<CommonInformationEntry<'a>>
     requires order { Ascends cie_offset (map cie_of cies.now) }
@@ -76,7 +78,8 @@ pub fn begin_with_rules_of_cie<'a>(
     ensures cie { option_map cie_of result ≡ cie_at (map cie_of cies.now) offset }
     ensures first { IfSome result (λ cie. IsLeftBy (cie_of cie) state.new.initial_rules) }
 {
-    let place = place_of_cie(cies, offset)?;
+    let place = place_near(cies, *near, offset)?;
+    *near = place;
     state.set_initial_rules(initial, place);
     Some(cies[place])
 }
