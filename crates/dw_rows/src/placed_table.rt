@@ -93,6 +93,7 @@ fn fill(
     fde: &FrameDescriptionEntry<'_>,
     context: &mut UnwindContext,
     table: &mut GrowingTable,
+    near: &mut usize,
 ) -> Result<(), Unmade>
     requires among { Contains frame.now.fdes (fde_of fde.now) }
     requires table { IsTableUpTo frame.now.expressions table.old.end
@@ -110,8 +111,7 @@ fn fill(
         (fde_bytes frame.now (fde_of fde.now))) }
 {
     table.begin_at(fde.initial_location)?;
-    let mut near = usize::MAX;
-    let cie = frame.begin_with_cie(&mut context.state, &mut near, fde);
+    let cie = frame.begin_with_cie(&mut context.state, near, fde);
     let mut instructions = begin_rows(context, fde);
     let limit = fde.initial_location + fde.address_range;
     while let Some((start, _)) = next_range(context, &mut instructions, &cie, limit) {
@@ -139,11 +139,12 @@ fn fill_all(alloc: Global, frame: &CheckedFrame<'_>, room: usize) -> Result<Grow
         end: 0,
     };
     let mut context = UnwindContext::new();
+    let mut near = 0;
     let fdes = frame.fdes();
     let index = frame.index();
     for entry in index {
         let fde = fdes[entry.place];
-        fill(frame, &fde, &mut context, &mut table)?;
+        fill(frame, &fde, &mut context, &mut table, &mut near)?;
     }
     table.close()?;
     table.entries.finish(alloc)?;
