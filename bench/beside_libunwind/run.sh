@@ -3,7 +3,8 @@
 # deep, a third of them a shared library's that calls back. unw_step keeps what it found for an address; unw_backtrace keeps even where a return
 # address has its frame's registers, and follows no rules. Some seconds, once crates/dw_times is built.
 #   bench/beside_libunwind/run.sh [SECTION]..    each SECTION, a raw .debug_frame, is a module more that every look-up asks first
-# PREFIX=FOLDER, where `make install` put libdwcheck, times its dwcheck_backtrace too.
+# PREFIX=FOLDER, where `make install` put libdwcheck, times its dwcheck_backtrace and dwcheck_row_at too. Where Debian's libdw-dev
+# is installed, elfutils' dwfl_getthread_frames is timed on the same stack.
 # WORK=FOLDER keeps what was built, LIBRARY=FILE is linked in the place of crates/dw_times. It needs x86-64, gcc and Debian's libunwind-dev
 # (apt-get install libunwind-dev).
 set -eu
@@ -25,9 +26,13 @@ through_c=()
 if [ -n "${PREFIX:-}" ]; then
     through_c=(-DTHROUGH_C "-I$PREFIX/include" "-L$PREFIX/lib" -ldwcheck "-Wl,-rpath,$PREFIX/lib")
 fi
+elfutils=()
+if echo '#include <elfutils/libdwfl.h>' | gcc -E - > /dev/null 2>&1; then
+    elfutils=(-DWITH_ELFUTILS "$here/elfutils.c" -ldw)
+fi
 gcc "${flags[@]}" -shared -fPIC "$here/through.c" -o "$work/libthrough.so"
 gcc "${flags[@]}" -pie -fPIE "$here/walks.c" "$library" "$kit/c/liblibc_c.a" -L"$work" -lthrough -Wl,-rpath,"$work" -lunwind -pthread \
-    "${through_c[@]}" -o "$work/walks"
+    "${elfutils[@]}" "${through_c[@]}" -o "$work/walks"
 for file in walks libthrough.so; do
     objcopy --dump-section ".debug_frame=$work/$file.frame" "$work/$file" /dev/null
 done

@@ -13,6 +13,9 @@
 #ifdef THROUGH_C
 #include <dwcheck.h>
 #endif
+#ifdef WITH_ELFUTILS
+#include "elfutils.h"
+#endif
 
 enum { LEVELS = 400, PLACES = 1024, SECTIONS = 64, ROUNDS = 100, WALKS = 20 };
 
@@ -128,13 +131,14 @@ static void read_registers(const unw_context_t *context, uint64_t contents[17])
         contents[i] = (uint64_t)context->uc_mcontext.gregs[order[i]];
 }
 
-static void compared(const char *said, const LoadedSection *first, size_t count, WalkStart *start, unw_context_t *context)
+/* How many frames ours has, 0 where a section is refused. */
+static uint64_t compared(const char *said, const LoadedSection *first, size_t count, WalkStart *start, unw_context_t *context)
 {
     WalkEnd end = {0, 0};
     if (!bench_walk(first, count, start, frames, PLACES, &end)) {
         printf("%s: refused\n", said);
         status = 1;
-        return;
+        return 0;
     }
     uint64_t theirs = (uint64_t)stepped(context), different = differing(end.count, theirs);
     if (different || end.count < LEVELS)
@@ -143,9 +147,67 @@ static void compared(const char *said, const LoadedSection *first, size_t count,
     for (int pass = 0; pass < 3; pass++)
         printf("  ns a frame: %.1f; unw_step %.1f, without its cache %.1f; unw_backtrace %.1f\n", time_of_ours(first, count, start, &end),
                time_of_steps(context, UNW_CACHE_GLOBAL), time_of_steps(context, UNW_CACHE_NONE), time_of_backtrace());
+    return end.count;
 }
 
+#ifdef WITH_ELFUTILS
+/* elfutils' walk of the same stack: it has to have our addresses. */
+static void by_elfutils(const WalkStart *start, uint64_t our_count)
+{
+    static uint64_t found[PLACES];
+    Dwfl *dwfl = elfutils_begin(start);
+    double time = 1e30;
+    size_t count = 0;
+    for (int round = 0; dwfl && round < ROUNDS; round++) {
+        double begun = now();
+        count = elfutils_walk(dwfl, found, PLACES);
+        time = least(time, (now() - begun) / (double)(count ? count : 1));
+    }
+    uint64_t different = 0;
+    for (uint64_t i = 0; i < our_count && i < count; i++)
+        different += found[i] != frames[i].address;
+    if (different || count < our_count)
+        status = 1;
+    printf("  ns a frame by dwfl_getthread_frames: %.1f; %zu frames; %lu differ\n", time, count, different);
+    elfutils_end(dwfl);
+}
+#endif
+
 #ifdef THROUGH_C
+/* Nanoseconds a row of our frames in one module: by the library with its rules read, and through libdwcheck. */
+static void rows_through_c(const LoadedSection *module, uint64_t frame_count)
+{
+    enum { TIMES = 200, RULES = 128 };
+    static uint64_t linked[PLACES];
+    static dwcheck_rule rules[RULES];
+    dwcheck_process process = DWCHECK_CLOSED;
+    dwcheck_fault fault;
+    dwcheck_row row;
+    size_t count = 0;
+    double once = 1e30, more = 1e30, through = 1e30;
+    if (dwcheck_process_add(&process, module->bytes, module->count, DWCHECK_LITTLE, 8, 0, SIZE_MAX, &fault) != DWCHECK_DONE)
+        status = 1;
+    for (uint64_t i = 0; i < frame_count; i++)
+        if (dwcheck_row_at(&process, frames[i].address - module->load_address, &row, rules, RULES) == DWCHECK_DONE)
+            linked[count++] = frames[i].address - module->load_address;
+    for (int round = 0; round < ROUNDS; round++) {
+        double begun = now();
+        bench_read_by_table(module->bytes, module->count, linked, count, 1);
+        double middle = now();
+        bench_read_by_table(module->bytes, module->count, linked, count, 1 + TIMES);
+        double end = now();
+        for (int time = 0; time < TIMES; time++)
+            for (size_t i = 0; i < count; i++)
+                dwcheck_row_at(&process, linked[i], &row, rules, RULES);
+        through = least(through, now() - end);
+        once = least(once, middle - begun);
+        more = least(more, end - middle);
+    }
+    double rows = TIMES * (double)count;
+    printf("  ns a row with its rules: %.1f; through C %.1f; %zu rows\n", (more - once) / rows, through / rows, count);
+    dwcheck_process_close(&process);
+}
+
 /* The same walk through libdwcheck, as a C program has it: it has to have our frames. */
 static void through_c(const LoadedSection *first, size_t count, const WalkStart *start)
 {
@@ -189,10 +251,15 @@ static __attribute__((noinline)) int measured(void)
         exit(2);
     memcpy(copy, (const void *)base, count);
     WalkStart start = {contents[16], contents, 17, base, copy, count, 1};
-    compared("two modules", sections + section_count - 2, 2, &start, &context);
+    uint64_t frame_count = compared("two modules", sections + section_count - 2, 2, &start, &context);
+#ifdef WITH_ELFUTILS
+    by_elfutils(&start, frame_count);
+#endif
 #ifdef THROUGH_C
     through_c(sections + section_count - 2, 2, &start);
+    rows_through_c(sections + section_count - 2, frame_count);
 #endif
+    (void)frame_count;
     if (section_count > 2)
         compared("with the others in front", sections, section_count, &start, &context);
     free(copy);

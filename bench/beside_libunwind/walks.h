@@ -1,4 +1,4 @@
-/* The export of crates/dw_times that is timed, and what it is handed. Slices are a pointer and a count. */
+/* The exports of crates/dw_times that are timed, and what they are handed. Slices are a pointer and a count. */
 #ifndef WALKS_H
 #define WALKS_H
 
@@ -47,7 +47,10 @@ typedef struct {
 bool bench_walk(const LoadedSection *sections, size_t section_count, const WalkStart *start, WalkFrame *frames, size_t frame_count,
                 WalkEnd *end);
 
-/* Of the library: calls back some levels further up, from a frame of its own. */
+/* The check of a section, its table, and the rows of all these addresses with their rules, a number of times. */
+uint64_t bench_read_by_table(const uint8_t *section, size_t size, const uint64_t *addresses, size_t count, uint32_t times);
+
+/* Of libthrough.so: calls back some levels further up, from a frame of its own. */
 int through(int levels, int (*down)(int));
 
 #ifdef __GNUC__

@@ -6,9 +6,9 @@
 TESTS is the tests' program that `rt test` leaves in crates/dw_tests/out, DWCHECK the program. It needs cc and glibc.
 
 A library that is loaded before the C library's refuses the Nth request. Each test of `refused_memory` then has to pass for every N from 1
-until none is refused: the call answers that memory ran out, or it does without that request and its answer is right. So does the check
-of lists where a short way lacks memory for an expression: the general way then reads the entry. Each line says how many requests were
-done without. Each run of the program has to end with its text, or with status 3, the line "out of memory", and a beginning
+until none is refused: the call answers that memory ran out, or it does without that request and its answer is right. So do the check
+of lists where a short way lacks memory for an expression, and `certify` where its short way lacks memory for the states: the general way
+then does all of it. Each line says how many requests were done without. Each run of the program has to end with its text, or with status 3, the line "out of memory", and a beginning
 of its text; and with nothing written where its text is a refusal's line.
 """
 import os

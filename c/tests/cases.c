@@ -1,4 +1,4 @@
-/* Each call on good input and at the edges. It prints what is wrong, and a last line. */
+/* Tests each call with good input and at the edges. It prints each failure, and a last line. */
 #include "dwcheck.h"
 #include <dlfcn.h>
 #include <pthread.h>
@@ -7,7 +7,7 @@
 #include <string.h>
 
 static long until = -1, asked, held;
-#ifdef REFUSING /* each request for memory may be refused; requests and what is held are counted */
+#ifdef REFUSING /* each allocation may be refused; allocations and memory in use are counted */
 void *malloc(size_t n) {
     static void *(*real)(size_t);
     if (!real) *(void **)&real = dlsym(RTLD_NEXT, "malloc");
@@ -103,7 +103,7 @@ static void refusals(void) {
     IS(fault.number, 9);
     IS(dwcheck_process_add(&p, bad, sizeof bad, 0, 8, 0, room, &fault), DWCHECK_REFUSED);
     IS(fault.number, 1); IS(fault.within, DWCHECK_IN_FRAME);
-    IS(p.opaque == NULL, 1); /* it is closed still: nothing is to be let go */
+    IS(p.opaque == NULL, 1); /* it is still closed: there is nothing to release */
     IS(dwcheck_check(good, sizeof good, bad, 0, 0, 8, &fault), DWCHECK_DONE);
     IS(dwcheck_check(good, 0, bad, 0, 0, 8, &fault), DWCHECK_DONE);
     IS(dwcheck_check(good, sizeof good, bad, 0, 3, 8, &fault), DWCHECK_BAD_TARGET);
@@ -118,14 +118,14 @@ static void walks(void) {
     dwcheck_state s = state(2);
     long before;
     size_t i;
-    /* an empty section is a module, too; the others are loaded at 0x71f000000000, and at -0x800 modulo 2^64 */
+    /* an empty section is a module too; the others are loaded at 0x71f000000000, and at -0x800 modulo 2^64 */
     IS(dwcheck_process_add(&p, good, 0, 0, 8, 0x5000, room, &fault), DWCHECK_DONE);
     IS(add(&p, 0x71f000000000), DWCHECK_DONE);
     IS(add(&p, (uint64_t)-0x800), DWCHECK_DONE);
     IS(walk(&p, 0x810, 8, 2), DWCHECK_DONE); IS(count, 3); IS(stop, DWCHECK_STOP_NOT_COVERED);
     IS(frames[0].cfa.value, 0x7f10); IS(frames[0].cfa.kind, DWCHECK_VALUE); IS(frames[1].address, 0x71f000001020);
     IS(frames[1].cfa.value, 0x7f18); IS(frames[2].address, 0x55005); IS(frames[2].cfa.kind, DWCHECK_NOT_COVERED);
-    memset(frames, 0x55, sizeof frames); /* more frames than slots: the others are as before */
+    memset(frames, 0x55, sizeof frames); /* more frames than slots: those after the slots are unchanged */
     IS(walk(&p, 0x810, 2, 2), DWCHECK_DONE); IS(count, 2); IS(stop, DWCHECK_STOP_LIMIT); IS(frames[2].address, 0x5555555555555555);
     IS(dwcheck_row_at(&p, 0x71f0000010ff, &row, rules, 4), DWCHECK_DONE); IS(row.load_address, 0x71f000000000);
     IS(row.start, 0x1000); IS(row.end, 0x1100); IS(row.cfa.kind, DWCHECK_RULE_VAL_OFFSET); IS(row.cfa.reg, 7); IS(row.cfa.offset, 8);
@@ -153,7 +153,7 @@ static void walks(void) {
     IS(walk(&p, 0x810, 8, 2), DWCHECK_DONE); IS(count, 1); IS(stop, DWCHECK_STOP_RETURN_UNREADABLE); IS(frames[0].cfa.kind, DWCHECK_UNREADABLE);
     known[0] = 0x80;
     s = state(2);
-    s.known_length = 0; /* more registers than bits that say what is known */
+    s.known_length = 0; /* more registers than known bits */
     IS(dwcheck_backtrace(&p, 0x810, &s, frames, 8, &count, &stop, &fault), DWCHECK_DONE); IS(count, 1); IS(stop, DWCHECK_STOP_RETURN_UNREADABLE);
     s = state(2);
     s.contents_length = 7; /* more bits than registers */
@@ -170,7 +170,7 @@ static void walks(void) {
     IS(dwcheck_backtrace(&p, 0x810, &s, frames, 8, &count, &stop, &fault), DWCHECK_DONE); IS(count, 3);
     s.has_stack_pointer = 0; /* the second CFA needs the stack pointer */
     IS(dwcheck_backtrace(&p, 0x810, &s, frames, 8, &count, &stop, &fault), DWCHECK_DONE); IS(count, 2); IS(frames[1].cfa.kind, DWCHECK_UNREADABLE);
-    before = asked; /* these calls ask for no memory */
+    before = asked; /* these calls don't allocate */
     s = state(2);
     IS(walk(&p, 0x810, 8, 2), DWCHECK_DONE);
     IS(dwcheck_row_at(&p, 0x810, &row, rules, 4), DWCHECK_DONE);
@@ -186,7 +186,7 @@ static void walks(void) {
     dwcheck_process_close(&p);
 }
 
-/* the section's bytes may go */
+/* the section's bytes aren't needed any more */
 static void own_bytes(void) {
     dwcheck_process p = DWCHECK_CLOSED;
     dwcheck_row row;
@@ -223,7 +223,7 @@ static void threads(void) {
     IS(add(&p, 0x71f000000000), DWCHECK_DONE);
     IS(add(&p, (uint64_t)-0x800), DWCHECK_DONE);
     for (i = 0; i < 4; i++) IS(dwcheck_process_share(&p, &others[i]), DWCHECK_DONE);
-    IS(dwcheck_process_remove(&p, 0x71f000000000), DWCHECK_DONE); /* the others have it still */
+    IS(dwcheck_process_remove(&p, 0x71f000000000), DWCHECK_DONE); /* the others still have it */
     for (i = 0; i < 4; i++) pthread_create(&ids[i], NULL, in_thread, &others[i]);
     dwcheck_process_close(&p);
     for (i = 0; i < 4; i++) { pthread_join(ids[i], &errors); IS((long)errors, 0); }
@@ -231,7 +231,7 @@ static void threads(void) {
 
 static long memory(void) {
     long m, left, before = held;
-    for (m = 0;; m++) { /* each request of an add and of a share, the first add and a second one */
+    for (m = 0;; m++) { /* each allocation of an add and of a share, the first add and a second one */
         dwcheck_process p = DWCHECK_CLOSED, q = DWCHECK_CLOSED;
         dwcheck_row row;
         uint32_t first, second, third;
@@ -266,7 +266,7 @@ static uint32_t evaluate(const char *expression, size_t length, uint32_t kind, u
 }
 
 static void expressions(void) {
-    char branches[305] = {0x31, 0x28, 0x01, 0x00}; /* lit1, bra over an operation, and many that do nothing */
+    char branches[305] = {0x31, 0x28, 0x01, 0x00}; /* lit1, bra over an operation, and many nops */
     long before, m, left;
     uint32_t got;
     memset(branches + 4, 0x96, sizeof branches - 5);
@@ -296,7 +296,7 @@ static void expressions(void) {
     before = asked;
     IS(evaluate("\x53\x93\x04", 3, DWCHECK_LOCATION, 0), DWCHECK_DONE);
     IS(asked - before, 0);
-    for (m = 0;; m++) { /* one that branches takes memory: each request refused in turn */
+    for (m = 0;; m++) { /* one that branches allocates: each allocation refused in turn */
         until = m;
         got = evaluate(branches, sizeof branches, DWCHECK_LOCATION, 0);
         left = until;
@@ -310,7 +310,7 @@ static void expressions(void) {
     IS(value.kind, DWCHECK_LOCATION_ADDRESS); IS(value.value, 3);
 }
 
-/* one table; its list at 0xc: register 0 from the base to before the base + 0x10, else the value 0 */
+/* one table; its list at 0xc: register 0 from the base up to, not including, the base + 0x10, else the value 0 */
 static const uint8_t lists[] = {0x12, 0, 0, 0, 5, 0, 8, 0, 0, 0, 0, 0, 4, 0, 0x10, 1, 0x50, 5, 2, 0x30, 0x9f, 0};
 static dwcheck_location locations[2];
 static uint32_t look_up(size_t length, uint32_t list, uint64_t address, size_t n) {
@@ -335,12 +335,12 @@ static void location_lists(void) {
     IS(look_up(sizeof lists - 1, 0xc, 0x1005, 2), DWCHECK_REFUSED); IS(fault.within, DWCHECK_IN_LISTS); IS(fault.number, 1); IS(count, 99);
     IS(look_up((size_t)1 << 32, 0xc, 0x1005, 2), DWCHECK_TOO_LONG);
     IS(dwcheck_locations(lists, sizeof lists, 0, 7, &lookup, locations, 2, &count, &fault), DWCHECK_BAD_TARGET);
-    for (m = 0;; m++) { /* each request refused in turn */
+    for (m = 0;; m++) { /* each allocation refused in turn */
         until = m;
         got = look_up(sizeof lists, 0xc, 0x1005, 2);
         left = until;
         until = -1;
-        IS(got == DWCHECK_DONE || got == DWCHECK_NO_MEMORY, 1); /* some requests can be done without */
+        IS(got == DWCHECK_DONE || got == DWCHECK_NO_MEMORY, 1); /* it can do without some allocations */
         if (got == DWCHECK_DONE) IS(locations[0].offset, 0x10);
         if (left >= 0) break;
     }
@@ -359,7 +359,7 @@ static void names(void) {
     IS(dwcheck_version(), DWCHECK_VERSION);
 }
 
-/* NULL and 0 wherever there may be none */
+/* NULL and 0 for every array that may be empty */
 static void nothing(void) {
     dwcheck_process p = DWCHECK_CLOSED;
     dwcheck_state none;

@@ -1,6 +1,6 @@
 #!/bin/sh
 # Builds the C cases against the static library (crates/dwcheck_c, by `rt lib`) and runs them. The header is compiled as C11
-# and as C++17. Sanitizers look on, and valgrind, if it is there.
+# and as C++17. They also run under sanitizers, and under valgrind if it is installed.
 set -eu
 here=$(cd "$(dirname "$0")" && pwd)
 top=$(dirname "$(dirname "$here")")
@@ -19,7 +19,7 @@ build() { # NAME, then flags
 }
 build refusing -DREFUSING
 "$out/refusing"
-# AddressSanitizer and ThreadSanitizer see the C side alone.
+# AddressSanitizer and ThreadSanitizer see only the C side.
 for sanitizers in address,undefined thread; do
     build sanitized "-fsanitize=$sanitizers" && "$out/sanitized"
 done

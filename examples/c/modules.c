@@ -1,4 +1,4 @@
-/* The modules of this process, and the registers that x86-64 has. */
+/* The modules of this process, and the registers of x86-64. */
 #define _GNU_SOURCE
 #include "modules.h"
 
@@ -30,12 +30,12 @@ static struct file map_file(const char *name) {
     return file;
 }
 
-/* Whether a part of a file is inside it. */
+/* Whether a range is inside a file. */
 static int is_inside(const struct file *file, uint64_t offset, uint64_t length) {
     return offset <= file->length && length <= file->length - offset;
 }
 
-/* The .debug_frame section of an ELF file of this process's own class, empty where there is none. */
+/* The .debug_frame section of an ELF file of this process's own class, empty if there is none. */
 static struct file frame_section(const struct file *file) {
     const struct file none = {(const unsigned char *)"", 0};
     const ElfW(Ehdr) *header = (const void *)file->bytes;
@@ -56,7 +56,7 @@ static struct file frame_section(const struct file *file) {
     return none;
 }
 
-/* Where modules go, and how many went there. */
+/* The process that modules are added to, and the number added. */
 struct adding {
     dwcheck_process *process;
     int count;

@@ -1,4 +1,4 @@
-/* What both examples need: the modules of this process, and the registers that x86-64 has. */
+/* Shared by both examples: the modules of this process, and the registers of x86-64. */
 #ifndef MODULES_H
 #define MODULES_H
 
@@ -10,13 +10,13 @@
 /* DWARF's registers of x86-64: 0 to 15, and 16, the return address. */
 enum { REGISTERS = 17 };
 
-/* Adds each ELF file that the loader has mapped and that has a .debug_frame section. Returns how many were added. */
+/* Adds each ELF file that the loader has mapped and that has a .debug_frame section. Returns the number added. */
 int add_modules(dwcheck_process *process);
 
 /* Copies a context's registers in DWARF's order. */
 void copy_registers(const ucontext_t *context, uint64_t registers[REGISTERS]);
 
-/* Registers, one block of memory, and what calls keep by the ABI of x86-64. */
+/* Registers, one block of memory, and the callee-saved registers of the x86-64 ABI. */
 dwcheck_state state_of(const uint64_t registers[REGISTERS], const dwcheck_block *stack);
 
 /* The address after the last byte of the calling thread's stack. */

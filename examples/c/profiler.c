@@ -1,4 +1,4 @@
-/* A sampling profiler in a page. A signal handler copies the registers and the top of the stack; the main thread walks
+/* A small sampling profiler. A signal handler copies the registers and the top of the stack; the main thread walks
    the copies and counts; the hottest stacks are printed. */
 #define _GNU_SOURCE
 #include "modules.h"
@@ -15,7 +15,7 @@
 
 enum { SLOTS = 64, STACK = 16384, FRAMES = 32, STACKS = 1000, SHOWN = 3 };
 
-/* What the handler saw. It is written while `full` is 0, and read while it is 1. */
+/* A sample, taken by the handler. It is written while `full` is 0, and read while it is 1. */
 struct sample {
     atomic_int full;
     uint64_t registers[REGISTERS];
@@ -27,7 +27,7 @@ static struct sample samples[SLOTS];
 static uintptr_t end_of_stack;
 static atomic_int is_done;
 
-/* Only copies: no lock, no memory, no call into the library. */
+/* Only copies: no lock, no allocation, no call into the library. */
 static void on_profile(int signal, siginfo_t *info, void *context) {
     (void)signal, (void)info;
     for (int i = 0; i < SLOTS; i++) {
@@ -86,7 +86,7 @@ static void count_stack(const uint64_t *frames, size_t length) {
     stack->length = length, stack->count = 1;
 }
 
-/* The first address of the function that an address is in, so that samples of one loop are one stack. */
+/* The first address of the function that an address is in, so that all samples of a loop count as one stack. */
 static uint64_t function_of(uint64_t address) {
     Dl_info info;
     return dladdr((void *)(uintptr_t)address, &info) && info.dli_saddr ? (uintptr_t)info.dli_saddr : address;
@@ -130,7 +130,7 @@ int main(void) {
     sigset_t profile;
     sigemptyset(&profile);
     sigaddset(&profile, SIGPROF);
-    pthread_sigmask(SIG_BLOCK, &profile, NULL); /* the worker alone is stopped */
+    pthread_sigmask(SIG_BLOCK, &profile, NULL); /* only the worker is interrupted */
     pthread_t worker;
     if (pthread_create(&worker, NULL, work, NULL) != 0) return 1;
     struct itimerval every = {{0, 1000}, {0, 1000}};

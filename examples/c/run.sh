@@ -1,9 +1,9 @@
 #!/bin/sh
 # Builds both examples and runs them: the frames that `stack` prints are compared with gdb's in the same process, and the
-# hottest stack that `profiler` prints has to be that of `often`.
+# hottest stack that `profiler` prints must be that of `often`.
 # usage: examples/c/run.sh
-# pkg-config finds the library; DWCHECK_FLAGS names it otherwise, as in DWCHECK_FLAGS="-Iinclude libdwcheck.a".
-# The examples have a .debug_frame section since they are built without tables for .eh_frame.
+# pkg-config finds the library, unless DWCHECK_FLAGS names it, as in DWCHECK_FLAGS="-Iinclude libdwcheck.a".
+# The examples are built without .eh_frame tables, so that they have a .debug_frame section.
 set -eu
 here=$(cd "$(dirname "$0")" && pwd)
 out=$(mktemp -d)

@@ -11,7 +11,7 @@ enum { DEPTH = 40, FRAMES = 100 };
 static const char *const stops[] = {"limit", "not covered", "return undefined", "return unreadable",
                                     "return division by zero"};
 
-/* A place for a debugger to stop at: everything is printed by then. */
+/* A function for a debugger's breakpoint: everything is printed by then. */
 __attribute__((noinline)) void printed(void) { __asm__ volatile(""); }
 
 __attribute__((noinline)) static void print_stack(dwcheck_process *process) {

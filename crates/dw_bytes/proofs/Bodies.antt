@@ -113,7 +113,7 @@ err-is A f g e = cc
 pub not-err : {A : Type 0} {x : A} {fault : Fault} → Ok x ≡ Err fault → ⊥
 not-err e = cc
 
--- where a step fails, or what is behind it
+-- where a step fails, or what comes after it
 pub bind-err : {A B : Type 0} (x : Result A Fault) (f : A → Result B Fault) (fault : Fault) → (x >>= f) ≡ Err fault
     → (x ≡ Err fault) ⊎ ((a : A) × (x ≡ Ok a) × (f a ≡ Err fault))
 bind-err (Ok a) f fault is = inr (a, refl, is)

@@ -1,4 +1,4 @@
--- What is read goes forward towards the same end, and is refused between where it began and that end.
+-- Reading goes forward towards the same end, and is refused between where it began and that end.
 use Rattle.std.proofs.Common.{◌≡◌, ℕ, zero, suc, ◌+◌, ◌≤◌, Bool, true, false, cond, ltb, List, [], length, take, Result, Ok, Err, refl, ap}
 use Rattle.std.proofs.Common.{subst, arith}
 use Rattle.std.specs.Prelude.{Contains}
@@ -21,7 +21,7 @@ abbrev pub Stays : {X : Type 0} → ℕ → ReadPosition → Result (X × ReadPo
 Stays from r (Ok x) = (r.position ≤ x.1.position) × (end-of x.1 ≡ end-of r)
 Stays from r (Err fault) = (from ≤ fault.at) × (fault.at ≤ end-of r)
 
--- a reader that is refused at an offset or behind it, wherever it begins behind that
+-- a reader that is refused at an offset or after it, wherever it begins after that
 abbrev pub AlwaysStays : {X : Type 0} → ℕ → (ReadPosition → Result (X × ReadPosition) Fault) → Type 0
 AlwaysStays from read = (r : ReadPosition) → from ≤ r.position → Stays from r (read r)
 
@@ -103,7 +103,7 @@ step : {X : Type 0} (read : ReadPosition → Result (X × ReadPosition) Fault) (
 step read On P good bad others behind r (Ok x) is on = let h = good r x.0 x.1 on is in (h.0, behind x.1 h.1)
 step read On P good bad others behind r (Err fault) is on = (bad r fault on is, tt)
 
--- What holds of each thing that is read on the way holds of all of them.
+-- What holds of each thing that is read on the way holds for all of them.
 all-along : {X : Type 0} (read : ReadPosition → Result (X × ReadPosition) Fault) (On : ReadPosition → Type 0) (P : Result X Fault → Type 0)
     → ((r : ReadPosition) (x : X) (after : ReadPosition) → On r → read r ≡ Ok (x, after) → P (Ok x) × On after)
     → ((r : ReadPosition) (fault : Fault) → On r → read r ≡ Err fault → P (Err fault))

@@ -1,4 +1,4 @@
--- What is coded, and the faults of reading it, stand in what is read.
+-- Codes and operands, and the faults of reading them, are within what is read.
 use Rattle.std.proofs.Common.{◌≡◌, ℕ, ◌≤◌, Bool, true, false, cond, List, [], ◌∷◌, Option, Some, None, Result, Ok, Err, refl, arith}
 use Rattle.std.specs.Int.{byte_len, cast_signed}
 use Rattle.dw_bytes.specs.declared.target.Target.{Target}

@@ -19,7 +19,7 @@ use Rattle.dw_bytes.proofs.Readers.{ExactAt, bind-ok, ok-is, same-reading, fixed
 abbrev pub finish : {A : Type 0} → A → ReadPosition → Result (A × ReadPosition) Fault
 finish a r = Ok (a, r)
 
--- what was read, as what the reader answers
+-- what was read, as the reader's answer
 pub given : {A : Type 0} (IsEncoding : List ℕ → A → Type 0) (r : ReadPosition) (a b : A) (x y : ReadPosition) → finish a x ≡ finish b y
     → Next IsEncoding r a x → Next IsEncoding r b y
 given {A} IsEncoding r a b x y is h = subst (λ (p : A × ReadPosition). Next IsEncoding r p.0 p.1) (ok-is (a, x) (b, y) is) h
@@ -102,7 +102,7 @@ operand-exact target read_size = fixed-exact target 1
 operand-exact target piece_size = uleb-exact target
 operand-exact target block = λ r same. subst (λ (t : Target). IsExact block_at (IsBlock t r.position) r) same (block-own r)
 
--- ---- operands one behind the other
+-- ---- operands one after the other
 
 values-exact : (target : Target) (kinds : List OperandKind) → ExactAt target (values_at kinds) (AreEncoded target kinds)
 values-exact target [] r same = record {
@@ -261,7 +261,7 @@ coded-exact target table unknown r same = record {
       ap (λ x. x >>= λ (code : ℕ × ReadPosition). operands_at unknown r.position (table code.0) code.1) one ∙ others;
 }
 
--- what is coded has a byte at least
+-- a code and its operands have at least one byte
 pub coded-some : {I : Type 0} (target : Target) (table : ℕ → Option (Line I)) (at : ℕ) (bytes : List ℕ) (i : I)
     → Coded table target at bytes i → 0 < length bytes
 coded-some target table at bytes i (code, front, operands, parts, first, second) =

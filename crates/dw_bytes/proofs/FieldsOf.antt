@@ -1,4 +1,4 @@
--- Fields are read exactly where bytes encode them, and their faults stand in what is read.
+-- Fields are read exactly where bytes encode them, and their faults are within what is read.
 use Rattle.std.proofs.Common.{◌≡◌, ℕ, ◌+◌, ◌≤◌, Bool, true, false, List, [], ◌++◌, length, Option, Some, None, Result, Ok, Err, refl, sym}
 use Rattle.std.proofs.Common.{ap, subst, ◌∙◌, append_assoc, arith}
 use Rattle.std.proofs.lemmas.List.{length-append}

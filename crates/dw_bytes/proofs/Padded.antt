@@ -28,7 +28,7 @@ unfolding hex_digits
 length-hex zero n = refl
 length-hex (suc k) n = length-append (hex_digits k (n / 16)) (digit (n % 16) ∷ []) ∙ let e = length-hex k (n / 16) in omega (arith, e)
 
--- the digits behind some zeros
+-- the digits after some zeros
 abbrev Behind : ℕ → ℕ → ℕ → List ℕ → Type 0
 Behind j k n acc = (p : ℕ) × (hex_digits (suc j) n ++ acc ≡ replicate p 48 ++ digits_onto k 16 false n acc)
 

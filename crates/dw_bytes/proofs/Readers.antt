@@ -1,4 +1,4 @@
--- Readers that are exact, and what follows of each.
+-- Readers that are exact, and what follows from each.
 use Rattle.std.proofs.Common.{◌≡◌, ℕ, ◌+◌, ◌≤◌, List, ◌++◌, length, take, drop, Result, Ok, Err, refl, sym, ap, subst, ◌∙◌, arith}
 use Rattle.std.proofs.Math.Seq.{drop-append-add, drop-append_seam}
 use Rattle.std.proofs.lemmas.List.{length-take, take-append-drop, take_at}

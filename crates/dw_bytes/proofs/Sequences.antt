@@ -80,7 +80,7 @@ turn-of {X} read forward n r x after long is =
     ∙ (ap (λ y. and_then y (at_most_of read n)) is ∙ ap (λ (items : List (Result X Fault)). Ok x ∷ items)
     (enough-same read forward n (length after.rest) after (omega (arith, less)) (omega arith))))
 
--- what is read comes first, and then what is behind it
+-- what is read comes first, and then what is after it
 pub goes-on : {X : Type 0} (read : ReadPosition → Result (X × ReadPosition) Fault) → Forward read
     → (r : ReadPosition) (x : X) (after : ReadPosition) → read r ≡ Ok (x, after) → sequence_of read r ≡ Ok x ∷ sequence_of read after
 goes-on read forward r x after is = let less = forward r x after is in
@@ -176,7 +176,7 @@ forward read IsEncoding each r x after is =
     let some = here.some r.position next.bytes x next.encoded in
     omega (arith, some, ap length next.parts, length-append next.bytes after.rest)
 
--- ---- exactly so many things
+-- ---- a given number of things
 
 abbrev finish : {A : Type 0} → A → ReadPosition → Result (A × ReadPosition) Fault
 finish a r = Ok (a, r)

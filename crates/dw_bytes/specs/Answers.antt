@@ -1,4 +1,4 @@
--- What a judgement answers.
+-- The result of a judgement.
 use Rattle.std.specs.Prelude.{◌≡◌, ◌⊎◌, List, [], ◌∷◌, Option, Some, None, Result, Ok, Err}
 use Rattle.dw_bytes.specs.declared.fault.Fault.{Fault}
 use Rattle.dw_bytes.specs.declared.fault.FaultKind.TheVariants.{Memory}
@@ -8,16 +8,16 @@ abbrev pub Judges : {X : Type 0} → Option Fault → Result X Fault → Type 0
 Judges fault (Ok _) = fault ≡ None
 Judges fault (Err f) = fault ≡ Some f
 
--- want of memory
+-- out of memory
 abbrev pub memory : Fault
 memory = record { kind = Memory; at = 0 }
 
--- The same of one that may lack memory.
+-- The same for a judgement that may run out of memory.
 abbrev pub Answers : {X : Type 0} → Option Fault → Result X Fault → Type 0
 Answers fault (Ok _) = fault ≡ None
 Answers fault (Err f) = (f ≡ memory) ⊎ (fault ≡ Some f)
 
--- of things that are read one after the other: those that were read, and the fault that ended the reading
+-- of things that are read one after another: those that were read, and the fault that ended the reading
 abbrev pub values_in : {X : Type 0} → List (Result X Fault) → List X
 values_in [] = []
 values_in (Ok x ∷ items) = x ∷ values_in items

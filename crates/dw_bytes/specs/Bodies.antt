@@ -1,4 +1,4 @@
--- A body with its length before it, as a record or a table has one (DWARF 5, section 7.4).
+-- A body preceded by its length, as in a record or a table (DWARF 5, section 7.4).
 use Rattle.std.specs.Prelude.{◌≡◌, ℕ, ◌+◌, List, ◌++◌, length, take, Result, Ok}
 use Rattle.dw_bytes.specs.declared.target.Target.{Target}
 use Rattle.dw_bytes.specs.declared.target.Format.{Format}
@@ -10,7 +10,7 @@ use Rattle.dw_bytes.specs.Reading.{ReadPosition, ◌>>=◌, section_from, take_a
 abbrev pub body_of : ReadPosition → List ℕ → ReadPosition
 body_of r bytes = record { target = r.target; position = r.position; rest = bytes }
 
--- The length, and the body of so many bytes: what is read in it ends with it.
+-- The length, and a body of that many bytes: what is read in it ends with it.
 unfoldable pub framed_at : ReadPosition → Result ((Format × ReadPosition) × ReadPosition) Fault
 framed_at r = do
   size ← initial_length_at r

@@ -1,5 +1,5 @@
--- Fields one behind the other, as a header has them. There is one grammar, and two readings of it: which bytes encode what,
--- and what is read from left to right, with the first fault.
+-- Fields one after the other, as in a header. There is one grammar, and two readings of it: which bytes encode what, and
+-- what is read from left to right, with the first fault.
 use Rattle.std.specs.Prelude.{◌≡◌, ◌+◌, ◌==◌, ℕ, Bool, if◌then◌else◌, List, [], ◌++◌, length, Option, Some, None, Result, Ok, Err}
 use Rattle.dw_bytes.specs.declared.target.Target.{Target}
 use Rattle.dw_bytes.specs.declared.fault.Fault.{Fault}
@@ -7,13 +7,13 @@ use Rattle.dw_bytes.specs.declared.fault.FaultKind.{FaultKind}
 use Rattle.dw_bytes.specs.Reading.{ReadPosition, ◌>>=◌}
 use Rattle.dw_bytes.specs.Operands.{OperandKind, fixed, Operand, IsOperand, operand_at}
 
--- Nothing more, and a value; or a field of a kind, what is wrong with its value if anything is, and what comes behind it,
+-- Nothing more, and a value; or a field of a kind, what is wrong with its value if anything is, and what comes after it,
 -- which may depend on the value.
 pub data Fields (B : Type 0) : Type 0 where
   made : B → Fields B
   field : (kind : OperandKind) → (Operand kind → Option FaultKind) → (Operand kind → Fields B) → Fields B
 
--- a field of any value, one that has to pass a test, and a byte that can have one value alone
+-- a field of any value, one that must pass a test, and a byte that can have only one value
 abbrev pub any : {B : Type 0} (kind : OperandKind) → (Operand kind → Fields B) → Fields B
 any kind next = field kind (λ v. None) next
 
@@ -30,7 +30,7 @@ Encodes target (made b) at bytes v = (bytes ≡ []) × (v ≡ b)
 Encodes target (field kind fault next) at bytes v = (x : Operand kind) × (first : List ℕ) × (rest : List ℕ) × (bytes ≡ first ++ rest)
     × IsOperand target kind at first x × (fault x ≡ None) × Encodes target (next x) (at + length first) rest v
 
--- ---- reading them: each field is judged as soon as it is read, and refused at its first byte
+-- ---- reading them: each field is checked as soon as it is read, and refused at its first byte
 
 abbrev pub ok_unless : {X : Type 0} → Option FaultKind → ℕ → X → Result X Fault
 ok_unless None at x = Ok x

@@ -1,9 +1,9 @@
--- Things that are encoded one after the other: the records of a section, the instructions of a program.
+-- Things that are encoded one after another: the records of a section, the instructions of a program.
 use Rattle.std.specs.Prelude.{◌≡◌, ◌+◌, ℕ, zero, suc, List, [], ◌∷◌, ◌++◌, length, nat_lt, if◌then◌else◌, Result, Ok, Err}
 use Rattle.dw_bytes.specs.declared.fault.Fault.{Fault}
 use Rattle.dw_bytes.specs.Reading.{ReadPosition, ◌>>=◌}
 
--- The bytes are the encodings of the things, without a gap, from an offset on. What encodes a thing may depend on its offset.
+-- The bytes are the encodings of the things, without gaps, starting at an offset. A thing's encoding may depend on its offset.
 abbrev pub Sequence : {X : Type 0} → (ℕ → List ℕ → X → Type 0) → ℕ → List ℕ → List X → Type 0
 Sequence IsEncoding at bytes [] = bytes ≡ []
 Sequence IsEncoding at bytes (x ∷ xs) = (first rest : List ℕ) × (bytes ≡ first ++ rest) × IsEncoding at first x
@@ -27,11 +27,11 @@ abbrev pub at_most_of : {X : Type 0} → (ReadPosition → Result (X × ReadPosi
 at_most_of read zero r = []
 at_most_of read (suc count) r = if nat_lt 0 (length r.rest) then and_then (read r) (at_most_of read count) else []
 
--- The things from left to right, up to the end or the first fault: there are no more of them than bytes.
+-- The things from left to right, up to the end or the first fault. There are no more of them than bytes.
 unfoldable pub sequence_of : {X : Type 0} → (ReadPosition → Result (X × ReadPosition) Fault) → ReadPosition → List (Result X Fault)
 sequence_of read r = at_most_of read (length r.rest) r
 
--- Exactly so many things, as an array has them: which bytes encode them, and reading them.
+-- A given number of things, as in an array: which bytes encode them, and reading them.
 abbrev pub Exactly : {X : Type 0} → (ℕ → List ℕ → X → Type 0) → ℕ → ℕ → List ℕ → List X → Type 0
 Exactly IsEncoding count at bytes xs = Sequence IsEncoding at bytes xs × (length xs ≡ count)
 

@@ -1,15 +1,15 @@
-//! Blocks: counted bytes.
+//! Blocks: bytes preceded by their count.
 
 ghost use Rattle.std.specs.Prelude.{◌<◌, ◌+◌, ◌^◌, length};
 
 use crate::target::Target;
 
-/// A block where it stands: bytes that have their count before them, as an expression has in an instruction.
+/// A block in place: bytes preceded by their count, such as the expression in an instruction.
 #[derive(Clone, Copy, Debug)]
 pub struct Block<'a> {
-    /// The offset of its first byte, behind the count, from where the cursor's offsets count.
+    /// The offset of its first byte, after the count, in the cursor's offsets.
     pub offset: u32,
-    /// What its numbers are read under.
+    /// The byte order and address size that its numbers are read with.
     pub target: Target,
     pub bytes: &'a [u8],
     pub ghost inside: { offset + length bytes.now < 2 ^ 32 },

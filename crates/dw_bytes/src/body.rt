@@ -1,4 +1,4 @@
-//! Bodies: what has its length before it.
+//! Bodies: bytes preceded by their length.
 
 ghost use Rattle.std.specs.Prelude.{◌≡◌, ◌<◌, ◌≤◌, ◌^◌, length, IfErr, IfOk, MatchResult, Ok, Err};
 ghost use Rattle.dw_bytes.specs.Reading.{section_from};
@@ -13,15 +13,15 @@ use crate::target::{Format, Target};
 #[derive(Clone, Copy, Debug, PartialEq, Eq)]
 pub struct Body {
     pub format: Format,
-    /// The offset of its first byte, behind the length.
+    /// The offset of its first byte, after the length.
     pub start: u32,
-    /// The offset behind its last byte.
+    /// The offset after its last byte.
     pub end: u32,
 }
 
 impl Body {
-    /// The body of the record at an offset of a section. Its length is read first (`Truncated`, `ReservedLength` at
-    /// the offset), and then that so many bytes are there (`Truncated` at the body's first byte).
+    /// The body of the record at an offset of a section. Its length is read first (`Truncated` or `ReservedLength` at the
+    /// offset); then the section must have that many bytes left (`Truncated` at the body's first byte).
     #[tactic(auto, unfolding(crate::specs::Bodies::framed_at))]
     pub fn read(section: &[u8], target: Target, at: u32) -> Result<Self, Fault>
         requires inside { at ≤ length section.now }

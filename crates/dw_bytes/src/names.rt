@@ -8,7 +8,7 @@ use std::error::Error;
 use std::fmt;
 
 impl FaultKind {
-    /// The name that a refusal is shown by. Each kind has its own.
+    /// The name that a refusal shows. Each kind has its own.
     pub fn name(self) -> &'static str
         ensures { result.now ≡ name_of self }
     {

@@ -1,7 +1,7 @@
-//! Operands that have to be in a range. All operands of a code are read before any is judged: `Truncated` and `LebRange` stand at
-//! the operand. Where one isn't in its range, the fault stands at the code that they follow, whose offset `at` each call is given:
-//! `RegisterNumber` for a register above 65535, `PieceSize` for a size or offset of a piece above 2^32 - 1, `BadSize` for the size of
-//! a read. A refused read leaves the cursor where it was.
+//! Operands that must be in a range. All operands of a code are read before any range is checked: `Truncated` and
+//! `LebRange` are at the operand. If one is out of its range, the fault is at the code before them, whose offset is
+//! passed to each call as `at`: `RegisterNumber` for a register above 65535, `PieceSize` for a size or offset of a piece
+//! above 2^32 - 1, `BadSize` for the size of a read. A refused read leaves the cursor where it was.
 
 ghost use Rattle.std.specs.Prelude.{◌≡◌, ◌≤◌, [], ◌∷◌, MatchOption, Ok};
 ghost use Rattle.dw_bytes.specs.Reading.{MovesForward, ReadsBy};
@@ -143,7 +143,7 @@ pub fn register_and_block<'a>(cursor: &mut Cursor<'a>, at: u32) -> Result<(u16, 
     Ok((register, block))
 }
 
-/// A block, which has the count of its bytes as unsigned LEB128 before it. It is always in its range, so `at` says nothing.
+/// A block, preceded by the count of its bytes as unsigned LEB128. It is always in range, so `at` has no effect.
 pub fn block<'a>(cursor: &mut Cursor<'a>, at: u32) -> Result<Block<'a>, Fault>
     ensures exact { ReadsBy (λ v. one_value (block_of v))
         (operands_in_range_at at (block ∷ [])) cursor.old result cursor.new }
@@ -163,8 +163,8 @@ pub fn block<'a>(cursor: &mut Cursor<'a>, at: u32) -> Result<Block<'a>, Fault>
     })
 }
 
-/// As `block`, for a block whose count has at most three bytes: none where it has more or the block isn't there, and then the
-/// cursor stays. It is a shortcut: who gets none asks `block`.
+/// Like `block`, for a block whose count has at most three bytes: `None` if it has more or the block isn't there, and
+/// then the cursor stays. This is a shortcut: on `None`, call `block`.
 #[inline(always)]
 pub fn short_block<'a>(cursor: &mut Cursor<'a>) -> Option<Block<'a>>
     ensures exact { MatchOption result (cursor.new ≡ cursor.old)
@@ -220,7 +220,7 @@ pub fn two_piece_sizes(cursor: &mut Cursor<'_>, at: u32) -> Result<(u32, u32), F
     Ok(sizes)
 }
 
-/// The size of a read in one byte: 1, 2, 4 or 8 and at most that of an address, else `BadSize` at the code.
+/// The size of a read in one byte: 1, 2, 4 or 8 and at most the size of an address, else `BadSize` at the code.
 pub fn read_size(cursor: &mut Cursor<'_>, at: u32) -> Result<u8, Fault>
     requires { at ≤ cursor.old.position }
     ensures exact { ReadsBy one_value

@@ -1,4 +1,4 @@
--- What two sections come to, and what refuses them.
+-- The reply for two sections, and what refuses them.
 use Rattle.std.proofs.Common.{◌≡◌, ◌⊎◌, ℕ, List, ap, ap₂, sym, refl, ◌∙◌, inl, inr}
 use Rattle.std.specs.Prelude.{Option, Some, None}
 use Rattle.dw_bytes.specs.declared.target.Target.{Target}
@@ -36,7 +36,7 @@ named first found (BadHex n) is h = absurd h
 named first found (StateLine n) is h = absurd h
 named first found Output is h = absurd h
 
--- what stops a run for a section's fault stops it for the first of both
+-- the stop for a section's fault is the stop for the first fault of both
 pub stopped : (first : Option CheckFault) (found : CheckFault) (stop : RunFault)
     → ((own : Option Fault) → (found.fault ≡ memory) ⊎ (own ≡ Some found.fault) → IsRefusal found.section own stop)
     → (found.fault ≡ memory) ⊎ (first ≡ Some found) → RefusesBoth first stop

@@ -1,4 +1,4 @@
--- What the parse of digits gives.
+-- What parsing digits gives.
 use Rattle.std.proofs.Common.{◌≡◌, ℕ, zero, suc, ◌^◌, ◌<◌, ◌≤◌, ◌⊎◌, inl, inr, Bool, true, false, List, [], ◌∷◌, nat_lt, length, get_or}
 use Rattle.std.proofs.Common.{ap, refl, arith}
 use Rattle.std.specs.Prelude.{Some, None, ◌&&◌}
@@ -48,7 +48,7 @@ pub read_ok : (r most : ℕ) (ds : List ℕ) (n : ℕ) → 0 < length ds → len
     → Some n ≡ number_of r most ds
 read_ok r most ds n some short all e = rw (lt-ltb 0 (length ds) some, le-leb (length ds) most short, test_from_digits r ds all) (ap Some e)
 
--- none was
+-- none was read
 pub read_none : (r most : ℕ) (ds : List ℕ) → 0 < length ds → length ds ≤ most → (AllDigits r ds → ⊥) → None ≡ number_of r most ds
 read_none r most ds some short bad = rw (lt-ltb 0 (length ds) some, le-leb (length ds) most short, none_wrong r ds bad) refl
 

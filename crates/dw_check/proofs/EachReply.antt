@@ -88,7 +88,7 @@ each_locs lookup target hex files =
     (λ section. OfState (state_facts target (slice_get files 1)) (IsFound lookup target section))
     (λ section. each_of_state (state_facts target (slice_get files 1)) (IsFound lookup target section) (each_found lookup target section))
 
--- by what is said of reports
+-- given what is known of reports
 abbrev EachReport : Type 0
 EachReport = (frame : FrameSection) (lists : ListSection) → rows.IsChecked frame → IsChecked lists → (t : List ℕ) × IsReport frame lists t
 
@@ -102,7 +102,7 @@ abbrev pub EachWalk : Type 0
 EachWalk = (sections : List (Module FrameSection)) (abi : Abi) (memory : ℕ → Option ℕ) (first : Place) (limit : ℕ)
     → AreChecked sections → (xs : List WalkedFrame) × (stop : Stop) × Walks (over_sections abi memory sections) first limit xs stop
 
--- of modules that are checked, and of what a state file gives, there is a text
+-- for checked modules and what a state file gives, there is a text
 abbrev EachShown : (AddressSize → List StateFact → List (Module FrameSection) → List ℕ → Type 0) → Type 0
 EachShown Shows = (size : AddressSize) (facts : List StateFact) (sections : List (Module FrameSection)) → AreChecked sections
     → (t : List ℕ) × Shows size facts sections t

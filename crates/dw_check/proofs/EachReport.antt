@@ -1,4 +1,4 @@
--- There is a report on two sections, by what is said of accepted sections and of depths.
+-- There is a report on two sections, given what is known of accepted sections and of depths.
 use Rattle.std.proofs.Common.{◌≡◌, ℕ, zero, suc, List, [], ◌∷◌, ◌++◌, refl, arith}
 use Rattle.std.specs.Prelude.{Option, Some, None, Contains}
 use Rattle.std.specs.List.{AllByRecursion}
@@ -31,7 +31,7 @@ both : (xs ys : List LocatedExpression) → AllByRecursion Good xs → AllByRecu
 both [] ys h k = k
 both (x ∷ xs) ys h k = (h.0, both xs ys h.1 k)
 
--- that of an entry, if it has one, and those behind it
+-- that of an entry, if it has one, and those after it
 entry_good : (e : Entry) (es : List Entry) (o : Option Block) → expression_in e ≡ o
     → ((b : Block) → expression_in e ≡ Some b → IsGoodExpression Location b.target b.bytes)
     → AllByRecursion Good (expressions_of es) → AllByRecursion Good (expressions_of (e ∷ es))

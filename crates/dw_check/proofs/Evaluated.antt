@@ -1,4 +1,4 @@
--- What evaluating a checked expression comes to.
+-- The result of evaluating a checked expression.
 use Rattle.std.proofs.Common.{◌≡◌, ℕ, ◌^◌, ◌<◌, ◌≤◌, List, length, refl, sym, ap, ◌∙◌, subst}
 use Rattle.std.specs.Prelude.{Some}
 use Rattle.dw_bytes.specs.declared.target.Target.{Target}
@@ -28,7 +28,7 @@ pub same_bound : (size : AddressSize) → 2 ^ width_of size ≡ 16 ^ digits_of s
 same_bound Four = refl
 same_bound Eight = refl
 
--- what is good is the checked expression of it
+-- what is good is the expression's checked form
 pub good_checked : (kind : Kind) (target : Target) (bytes : List ℕ) (c : Checked) → IsOf kind target bytes c
     → IsGoodExpression kind target bytes → IsGoodExpression c.kind c.target c.bytes
 good_checked kind target bytes c same good = rw (same.kind_is, same.target_is, same.bytes_are) good
@@ -75,7 +75,7 @@ pub refused_long : (kind : Kind) (target : Target) (bytes : List ℕ) (gs : List
     → IsOutcome kind target bytes gs (refusal Expression too_long)
 refused_long kind target bytes gs h = (refl, long_fault bytes _ h)
 
--- what holds for the checked expression holds for what was handed in
+-- what holds for the checked expression holds for the given bytes
 pub written_same : (kind : Kind) (target : Target) (bytes : List ℕ) (c : Checked) (gs : List StateFact) (W : List ℕ → Type 0)
     → IsOf kind target bytes c → ((t : List ℕ) × Evaluates c.kind c.target c.bytes gs t × W t)
     → (t : List ℕ) × Evaluates kind target bytes gs t × W t
@@ -109,7 +109,7 @@ each_text kind target bytes gs short good =
       },
     )
 
--- and one alone
+-- and only one
 pub same_text : (kind : Kind) (target : Target) (bytes : List ℕ) (gs : List StateFact) (a b : List ℕ) → Evaluates kind target bytes gs a
     → Evaluates kind target bytes gs b → a ≡ b
 same_text kind target bytes gs a b h k =

@@ -1,4 +1,4 @@
--- What a look-up in a section of location lists comes to: one text, whatever the machine has.
+-- The result of a look-up in a section of location lists: one text, whatever the machine's state.
 use Rattle.std.proofs.Common.{◌≡◌, ℕ, zero, suc, ◌^◌, ◌<◌, ◌==◌, Bool, true, false, cond, nat_lt, List, [], ◌∷◌, ◌++◌, length, Contains}
 use Rattle.std.proofs.Common.{Option, Some, None, refl, sym, ap, ap₂, subst, ◌∙◌, arith, inl, inr, codes}
 use Rattle.std.specs.Prelude.{◌⊎◌}
@@ -115,7 +115,7 @@ module _ (lookup : ListLookup) (target : Target) (section : List ℕ) (gs : List
   pub each_found : (r : Reply) × IsFound lookup target section gs r
   each_found = by_fault (lists_refusal target section) refl
 
--- ---- and one alone
+-- ---- and only one
 
 pub one_evaluated : (gs : List StateFact) (xs : List LocatedExpression) (a b : List ℕ) → AreEvaluated gs xs a → AreEvaluated gs xs b
     → a ≡ b

@@ -1,4 +1,4 @@
--- Further modules, read and judged one after the other.
+-- Further modules, read and checked one by one.
 use Rattle.std.proofs.Common.{◌≡◌, ℕ, ◌<◌, List, [], ◌∷◌, ◌++◌, refl, ap, sym, subst, ◌∙◌}
 use Rattle.std.proofs.lemmas.List.{append_assoc}
 use Rattle.std.specs.Prelude.{Option, Some, None, Result, Ok, Err}

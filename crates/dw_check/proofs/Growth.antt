@@ -1,4 +1,4 @@
--- Growth by one text after the other.
+-- Growth by texts, one by one.
 use Rattle.std.proofs.Common.{◌≡◌, ℕ, ◌+◌, List, [], ◌++◌, Option, None, Some, ap, sym, ◌∙◌, append_assoc, take, drop, length}
 use Rattle.std.proofs.Common.{◌-◌, arith, length-drop}
 use Rattle.std.proofs.lemmas.List.{append-nil, take-append-drop, take_all}
@@ -26,11 +26,11 @@ keeps_more (Some xs) (Some ys) (Some zs) x h k = k ∙ h
 pub front_more : (a b c : Option (List ℕ)) (x y : List ℕ) → Appends a b x → AppendsFront b c y → AppendsFront a c (x ++ y)
 front_more a b c x y h k = (x ++ k.0, k.1, append_assoc x k.0 k.1 ∙ ap (λ (l : List ℕ). x ++ l) k.2, appends_more a b c x k.0 h k.3)
 
--- a beginning of a text is one of the text with more behind it
+-- a beginning of a text is one of the text followed by more
 pub front_wider : (a b : Option (List ℕ)) (x y : List ℕ) → AppendsFront a b x → AppendsFront a b (x ++ y)
 front_wider a b x y k = (k.0, k.1 ++ y, sym (append_assoc k.0 k.1 y) ∙ ap (λ (l : List ℕ). l ++ y) k.2, k.3)
 
--- what is left of a list from i on, as a slice says it
+-- what is left of a list from i on, as a slice
 pub rest_of_slice : (xs : List ℕ) (i : ℕ) → take (length xs - i) (drop i xs) ≡ drop i xs
 rest_of_slice xs i = take_all (length xs - i) (drop i xs) (omega (arith, length-drop i xs))
 

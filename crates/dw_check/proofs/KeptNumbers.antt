@@ -1,4 +1,4 @@
--- Numbers that calls keep, and one more.
+-- The numbers of callee-saved registers, and one more.
 use Rattle.std.proofs.Common.{◌≡◌, ℕ, ◌<◌, ◌==◌, nat_eq, nat_lt, Bool, true, false, ◌||◌, Option, Some, None, List, [], ◌∷◌, ◌++◌, length}
 use Rattle.std.proofs.Common.{ap, refl, sym, ◌∙◌, arith, append_assoc, append-nil, length-append}
 use Rattle.std.specs.Prelude.{if◌then◌else◌, option_map}
@@ -17,9 +17,9 @@ or_true : (a : Bool) → (a || true) ≡ true
 or_true true = refl
 or_true false = refl
 
--- ---- a number that stands a second time
+-- ---- a number that occurs a second time
 
--- in one list, or in another behind it
+-- in one list, or in another after it
 second_of_both : (before xs ys : List ℕ)
     → place_of_second before (xs ++ ys) ≡ option_or (place_of_second before xs) (place_of_second (before ++ xs) ys)
 second_of_both before [] ys = rw (append-nil before) refl
@@ -72,7 +72,7 @@ long kept n h = let more = length-append kept (n ∷ []) in grind (arith, nat_te
 
 -- ---- numbers without a fault, and one more
 
--- one more is kept where there is room, unless it is there or is the stack pointer
+-- one more is added if there is room, unless it is there or is the stack pointer
 pub one_more_fits : (kept : List ℕ) (sp : Option ℕ) (n : ℕ) → abi_fault kept sp ≡ None → is_among n kept ≡ false
     → is_among n (option_to_list sp) ≡ false → length kept < MAX_KEPT → abi_fault (kept ++ n ∷ []) sp ≡ None
 one_more_fits kept None n fit new other small =
@@ -103,7 +103,7 @@ pub is_stack_pointer : (sp : Option ℕ) (n : ℕ) → is_among n (option_to_lis
 is_stack_pointer None n = refl
 is_stack_pointer (Some m) n = or_false (m == n)
 
--- the stack pointer is another register than those that are kept
+-- the stack pointer is none of the callee-saved registers
 pub stack_pointer_fits : (kept : List ℕ) (n : ℕ) → abi_fault kept None ≡ None → is_among n kept ≡ false
     → abi_fault kept (Some n) ≡ None
 stack_pointer_fits kept n fit new =

@@ -1,4 +1,4 @@
--- Which refusal the length of a section leaves.
+-- The refusal of a section, given its length.
 use Rattle.std.proofs.Common.{◌≡◌, ℕ, ◌^◌, ◌<◌, ◌≤◌, Bool, List, length, ap, arith, nat_lt, if◌then◌else◌}
 use Rattle.std.specs.Prelude.{Option, Some, None, false}
 use Rattle.std.specs.Option.{option_or}
@@ -16,15 +16,15 @@ long_length bytes h =
     let chosen : Bool → Option Fault = λ b. if b then None else Some too_long in
     ap chosen e
 
--- of a short one that of its bytes
+-- for a short one that of its bytes
 pub short_fault : (bytes : List ℕ) (own : Option Fault) → length bytes < 2 ^ 32 → option_or (length_fault bytes) own ≡ own
 short_fault bytes own h = ap (λ (l : Option Fault). option_or l own) (short_length bytes h)
 
--- of a long one that of its length
+-- for a long one that of its length
 pub long_fault : (bytes : List ℕ) (own : Option Fault) → 2 ^ 32 ≤ length bytes → option_or (length_fault bytes) own ≡ Some too_long
 long_fault bytes own h = ap (λ (l : Option Fault). option_or l own) (long_length bytes h)
 
--- where neither refuses, its bytes have no fault
+-- if neither refuses, its bytes have no fault
 pub no_fault : (bytes : List ℕ) (own : Option Fault) → option_or (length_fault bytes) own ≡ None → own ≡ None
 no_fault bytes own = by (length_fault bytes)
   where

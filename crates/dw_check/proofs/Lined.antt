@@ -15,7 +15,8 @@ use Rattle.dw_check.specs.SinkBytes.{AppendsFront}
 use Rattle.dw_check.specs.declared.stop.Section.{Section}
 use Rattle.dw_check.proofs.Growth.{appends_nothing, appends_more, front_more, front_wider}
 
--- Of a text, which has a line for each, those of the expressions that came are written, and behind them it has those of the rest.
+-- Of a text with a line for each expression, the lines of those visited are written, and those of the rest come after
+-- them.
 pub record Lined (section : Section) (text : List ℕ) (rest : List LocatedExpression) (old new : Option (List ℕ)) : Type 0 where
   pub came : List ℕ
   pub left : List ℕ
@@ -27,7 +28,7 @@ pub lined_none : (section : Section) (text : List ℕ) (all : List LocatedExpres
     → Lined section text all a a
 lined_none section text all a are = record { came = []; left = text; whole = refl; sent = appends_nothing a; ahead = are }
 
--- the line of the next one, and those behind it
+-- the line of the next one, and those after it
 record Next (section : Section) (rest : List LocatedExpression) (y : ℕ × CheckedExpression) (left : List ℕ) : Type 0 where
   pub behind : List ℕ
   pub ahead : AreLines section rest behind

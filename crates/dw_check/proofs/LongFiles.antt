@@ -1,4 +1,4 @@
--- What follows the needed part of a long file changes no reply.
+-- What follows the needed part of a long file doesn't change any reply.
 use Rattle.std.proofs.Common.{◌≡◌, ◌⊎◌, ℕ, zero, suc, ◌^◌, ◌<◌, ◌≤◌, ◌↔◌, Bool, true, false, List, [], ◌∷◌, length, take, inl, inr}
 use Rattle.std.proofs.Common.{refl, ap, sym, ◌∙◌, subst, arith, take_all, length-take-le}
 use Rattle.std.proofs.lemmas.Bool.{cases_lt}
@@ -44,7 +44,7 @@ turned : (xs ys : List ℕ) → Alike xs ys → Alike ys xs
 turned xs ys (inl same) = inl (sym same)
 turned xs ys (inr long) = inr (long.1, long.0)
 
--- ---- each kind of judgement
+-- ---- each kind of check
 
 long_frame : (text_for : FrameSection → List ℕ) (target : Target) (xs : List ℕ) → 2 ^ 32 ≤ length xs
     → frame_reply text_for target xs ≡ refusal sections.Frame too_long
@@ -103,7 +103,7 @@ long_second target frame lists short long =
     (option_or (fault_within sections.Frame (section_fault target frame)) (fault_within sections.Lists (lists_fault target lists))))
     (long_length lists long)
 
--- two pairs of sections with one fault come to one reply
+-- two pairs of sections with the same fault have the same reply
 faulty : (target : Target) (frame lists others more : List ℕ) (fault : CheckFault) (Shows : FrameSection → ListSection → List ℕ → Type 0)
     → check_fault target frame lists ≡ Some fault → check_fault target others more ≡ Some fault → (r : Reply)
     → OfChecked target frame lists Shows r → OfChecked target others more Shows r
@@ -219,7 +219,7 @@ further_plain files place (load ∷ loads) =
     ap (λ o. module_before place load o (further_modules false files (suc place) loads)) (plain (slice_get files place))
     ∙ ap (module_before place load (Some (bytes_at files place))) (further_plain files (suc place) loads)
 
--- files that are alike, each at its place
+-- files that are alike, index by index
 abbrev FilesAlike : List (List ℕ) → List (List ℕ) → Type 0
 FilesAlike files others = (place : ℕ) → Alike (bytes_at files place) (bytes_at others place)
 
@@ -238,18 +238,18 @@ further_alike files others loads A B each r h =
 
 -- ---- replies
 
--- hex text is needed whole
+-- hex text is needed in full
 whole_hex : (task : Task) (place : ℕ) (files : List (List ℕ)) → needed_parts task true place files ≡ files
 unfolding needed_parts
 whole_hex task place [] = refl
 whole_hex task place (file ∷ files) = ap (λ (more : List (List ℕ)). file ∷ more) (whole_hex task (suc place) files)
 
--- files that say the same of a state, where the task has one
+-- files that give the same state, if the task has one
 abbrev SameState : Task → List (List ℕ) → List (List ℕ) → Type 0
 SameState Check files others = Unit {0}
 SameState task files others = slice_get files 1 ≡ slice_get others 1
 
--- all modules of a process, and what they come to by what its state file gives
+-- all modules of a process, and their reply given the state in its state file
 abbrev all_modules : ℕ → List ℕ → List (List ℕ) → List (Module (List ℕ))
 all_modules load loads files = loaded_at load (bytes_at files 0) ∷ plain_modules files 2 loads
 
@@ -311,7 +311,7 @@ needed_alike task from (file ∷ files) zero = by (is_state task from)
     by false = alike_part file
 needed_alike task from (file ∷ files) (suc place) = needed_alike task (suc from) files place
 
--- and a state file whole
+-- and a state file in full
 second_whole : (task : Task) → needed_length task false 1 ≡ None → (files : List (List ℕ))
     → slice_get files 1 ≡ slice_get (needed_parts task false 0 files) 1
 unfolding needed_parts

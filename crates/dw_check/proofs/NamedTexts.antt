@@ -1,4 +1,4 @@
--- Texts that spell modules, one after the other.
+-- Texts that give modules, one by one.
 use Rattle.std.proofs.Common.{◌≡◌, List, [], ◌∷◌, ◌++◌, refl, ap, sym}
 use Rattle.std.proofs.lemmas.List.{append_assoc}
 use Rattle.std.specs.Prelude.{Option, Some, None, option_map}

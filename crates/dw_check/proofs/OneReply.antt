@@ -1,4 +1,4 @@
--- A request has one reply.
+-- A request has at most one reply.
 use Rattle.std.proofs.Common.{◌≡◌, ℕ, List, ◌∷◌, Option, Some, None, Result, Ok, Err, ap, sym, ◌∙◌}
 use Rattle.dw_bytes.specs.declared.target.Target.{Target}
 use Rattle.dw_bytes.specs.declared.fault.Fault.{Fault}
@@ -93,7 +93,7 @@ one_locs lookup target hex files r s h k =
     (λ section. one_of_state (state_facts target (slice_get files 1)) (IsFound lookup target section) (one_found lookup target section)) r s
     h k
 
--- by what is said of reports
+-- given what is known of reports
 abbrev OneReport : Type 0
 OneReport = (frame : FrameSection) (lists : ListSection) (s t : List ℕ) → IsReport frame lists s → IsReport frame lists t → s ≡ t
 

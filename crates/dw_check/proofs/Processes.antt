@@ -1,4 +1,4 @@
--- What the files of a process come to, and its modules.
+-- The reply for the files of a process, and for its modules.
 use Rattle.std.proofs.Common.{◌≡◌, ◌∙◌, ℕ, ◌<◌, Bool, List, [], ◌∷◌, ap, sym, subst, refl}
 use Rattle.std.specs.Prelude.{All, Option, Some, None, Result, Ok, Err, slice_get}
 use Rattle.std.specs.Result.{IsErr, IsErrAnd, IfErr}
@@ -27,7 +27,7 @@ use Rattle.dw_check.proofs.Replies.{front_none, goes_section, goes_state, goes_r
 
 -- ---- files that can't be read
 
--- what a `?` hands on
+-- what a `?` passes on
 pub err_from : {T : Type 0} (P : RunFault → Type 0) (r : Result T RunFault) (e : RunFault) → IsErr r × IsErrAnd r (λ x. x ≡ e) → P e
     → IfErr r P
 err_from P (Ok _) e h p = let f = h.0 in cc
@@ -67,7 +67,7 @@ pub after_state : (count : ℕ) (given : Result (List StateFact) ℕ) (facts : L
     (stop : RunFault) → given ≡ Ok facts → IsBadProcess (Is facts) count stop → IsBadProcess (OfState given Is) count stop
 after_state count given facts Is stop e h = subst (λ s. IsBadProcess (OfState s Is) count stop) (sym e) h
 
--- ---- what is a reply by fewer is one by more
+-- ---- a reply under a stronger condition is one under a weaker condition
 
 section_more : (place : ℕ) (found : Option (List ℕ)) (A B : List ℕ → Reply → Type 0) → ((bytes : List ℕ) (r : Reply) → A bytes r → B bytes r)
     → (r : Reply) → OfSection place found A r → OfSection place found B r
@@ -176,7 +176,7 @@ module _ (target : Target) where
         by None e = let shown = some (accepted modules e) in (text shown.0, (e, shown.1))
         by (Some fault) e = (refusal Frame fault, (refl, e))
 
--- of modules that are checked, and of what a state file gives, there is one text
+-- for checked modules and what a state file gives, there is one text
 abbrev pub OneShown : (AddressSize → List StateFact → List (Module FrameSection) → List ℕ → Type 0) → Type 0
 OneShown Shows = (size : AddressSize) (facts : List StateFact) (sections : List (Module FrameSection)) → AreChecked sections
     → (s t : List ℕ) → Shows size facts sections s → Shows size facts sections t → s ≡ t
@@ -193,7 +193,7 @@ module _ (Shows : AddressSize → List StateFact → List (Module FrameSection) 
       goes_process target load loads hex files count modules facts Is a a (Err stop) gives
       (goes_refusal count Frame (modules_refusal target modules) (Is facts modules) a stop (λ fault k. (refl, k)) h)
 
-  -- where there is one text to be shown
+  -- if there is one text to show
   pub goes_shown : (sections : List (Module FrameSection)) (old new : Option (List ℕ)) (r : Result (Unit {0}) ReportFault)
       (written : List ℕ) → OneShown Shows → modules_refusal target modules ≡ None → sections ≡ modules_of_sections target modules
       → Shows target.address_size facts sections written → Writes old new r written

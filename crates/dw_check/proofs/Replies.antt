@@ -17,7 +17,7 @@ use Rattle.dw_check.specs.declared.stop.RunFault.{RunFault}
 use Rattle.dw_check.specs.declared.stop.RunFault.TheVariants.{Refused, BadHex, StateLine, Memory, Output}
 use Rattle.dw_check.proofs.Growth.{appends_nothing}
 
--- nothing is a beginning of anything
+-- the empty text is a beginning of any text
 pub front_none : (old new : Option (List ℕ)) (all : List ℕ) → Appends old new [] → AppendsFront old new all
 front_none old new all h = ([], all, refl, h)
 
@@ -83,21 +83,21 @@ goes_text count Is bytes old new (Err faults.Memory) is only h =
     λ reply i. subst (λ x. AppendsFront old new (accepted_text x)) (sym (only reply i)) h
 goes_text count Is bytes old new (Err faults.Write) is only h = (text bytes, is, tt, h)
 
--- a text that is handed over whole, or a beginning of it
+-- a text that is sent whole, or a beginning of it
 pub goes_whole : (count : ℕ) (Is : Reply → Type 0) (bytes : List ℕ) (old new : Option (List ℕ)) (r : Result (Unit {0}) ReportFault)
     → Is (text bytes) → WritesWhole old new r bytes → Goes count Is old new (ended_by r)
 goes_whole count Is bytes old new (Ok _) is h = (bytes, is, h)
 goes_whole count Is bytes old new (Err faults.Memory) is h = λ reply i. front_none old new (accepted_text reply) h
 goes_whole count Is bytes old new (Err faults.Write) is h = (text bytes, is, tt, h)
 
--- what is handed over whole is written
+-- what is sent whole is written
 pub writes_if_whole : (old new : Option (List ℕ)) (r : Result (Unit {0}) ReportFault) (bytes : List ℕ) → WritesWhole old new r bytes
     → Writes old new r bytes
 writes_if_whole old new (Ok _) bytes h = h
 writes_if_whole old new (Err faults.Memory) bytes h = front_none old new bytes h
 writes_if_whole old new (Err faults.Write) bytes h = h
 
--- what a `?` hands on
+-- what a `?` passes on
 pub handed_on : (P : Result (Unit {0}) RunFault → Type 0) (r : Result (Unit {0}) RunFault) (e : RunFault)
     → IsErr r × IsErrAnd r (λ x. x ≡ e)
     → P (Err e) → P r

@@ -1,4 +1,4 @@
--- How many things there are, and the lines of expressions.
+-- The counts, and the lines of expressions.
 use Rattle.std.proofs.Common.{◌≡◌, ℕ, suc, ◌+◌, ◌*◌, ◌^◌, ◌<◌, ◌≤◌, List, [], ◌∷◌, ◌++◌, length, map, drop, refl, ap, sym, subst, ◌∙◌}
 use Rattle.std.proofs.Common.{arith, length-append, get_or, drop-cons, add-one}
 use Rattle.std.specs.Prelude.{Some}
@@ -23,7 +23,7 @@ use Rattle.dw_check.specs.ReportViews.{line_of}
 use Rattle.dw_check.specs.declared.stop.Section.{Section}
 use Rattle.dw_check.specs.declared.stop.Section.TheVariants as sections
 
--- ---- how many
+-- ---- counts
 
 pub of_mapped : {X Y : Type 0} (f : X → Y) (xs : List X) (ys : List Y) → map f xs ≡ ys → length xs ≡ length ys
 of_mapped f xs ys e = sym (length-map xs f) ∙ ap length e
@@ -36,7 +36,7 @@ both_mapped f g xs ys e = sym (length-map xs f) ∙ ap length e ∙ length-map y
 
 -- ---- rows
 
--- rows have an address each
+-- each row has an address
 cover_count : (from to : ℕ) (rows : List PlacedRow) → Cover from rows to → from + length rows ≤ to
 cover_count from to [] h = omega (arith, h)
 cover_count from to (row ∷ rows) h =
@@ -54,7 +54,7 @@ few_rows frame cie fde rows cover is all short =
     let many : length rows ≡ length (rows_of cie fde) = ap length same ∙ length-map (rows_of cie fde) (given_row frame.expressions) in
     omega (arith, few, many, short)
 
--- The rows of the FDEs that came are counted, and the rest is to come.
+-- The rows of the FDEs visited are counted, and the rest is to come.
 pub record Counted {X Y : Type 0} (f : X → List Y) (all rest : List X) (n : ℕ) : Type 0 where
   pub came : List X
   pub whole : came ++ rest ≡ all
@@ -83,7 +83,7 @@ counted_all f all left n e s =
     let whole : s.came ≡ all = sym (append-nil s.came) ∙ ap (λ l. s.came ++ l) (sym e) ∙ s.whole in
     s.count ∙ ap (λ l. length (flat_map f l)) whole
 
--- there is room for the next ones
+-- the count has room for the next ones
 pub counted_fits : {X Y : Type 0} (f : X → List Y) (all left rest : List X) (x : X) (n m : ℕ) → left ≡ x ∷ rest → Counted f all left n
     → m < 2 ^ 64 → length all < 2 ^ 64 → n + m < 2 ^ 128
 counted_fits f all left rest x n m e s few short =
@@ -125,7 +125,7 @@ reported frame lists xs lines d are = record {
   whole = refl;
 }
 
--- ---- one report, by what is said of depths
+-- ---- one report, given what is known of depths
 
 pub lines_one : ((kind : Kind) (target : Target) (bytes : List ℕ) (d e : ℕ) → IsDepthOf kind target bytes d → IsDepthOf kind target bytes e
     → d ≡ e) → (section : Section) (xs : List LocatedExpression) (s t : List ℕ) → AreLines section xs s → AreLines section xs t → s ≡ t

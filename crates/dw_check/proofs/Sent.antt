@@ -1,4 +1,4 @@
--- What a loop over things has sent: the texts of those that came.
+-- What a loop has sent: the texts of the elements visited.
 use Rattle.std.proofs.Common.{◌≡◌, ℕ, suc, ◌+◌, ◌<◌, ◌≤◌, List, [], ◌∷◌, ◌++◌, length, map, drop, get_or, ap, sym, ◌∙◌, subst, arith}
 use Rattle.std.proofs.Common.{length-append, drop-cons, add-one}
 use Rattle.std.specs.Prelude.{Option}
@@ -10,7 +10,7 @@ use Rattle.std.specs.Io.KnownBytes.{Appends}
 use Rattle.dw_check.specs.SinkBytes.{AppendsFront}
 use Rattle.dw_check.proofs.Growth.{appends_nothing, appends_more, front_wider, front_more}
 
--- The texts of those that came are written, and the rest is to come.
+-- The texts of those visited are written, and the rest is to come.
 pub record Sent {X : Type 0} (f : X → List ℕ) (all rest : List X) (old new : Option (List ℕ)) : Type 0 where
   pub came : List X
   pub whole : came ++ rest ≡ all
@@ -46,7 +46,7 @@ sent_all f all left a b e s =
     let whole : s.came ≡ all = sym (append-nil s.came) ∙ ap (λ l. s.came ++ l) (sym e) ∙ s.whole in
     subst (λ l. Appends a b (flat_map f l)) whole s.text
 
--- where the next one stands
+-- the index of the next one
 pub sent_place : {X : Type 0} (f : X → List ℕ) (all left rest : List X) (x : X) (a b : Option (List ℕ)) → left ≡ x ∷ rest
     → Sent f all left a b → Contains all x
 sent_place f all left rest x a b e s =
@@ -55,11 +55,11 @@ sent_place f all left rest x a b e s =
     (length s.came, omega (arith, length-append s.came (x ∷ rest)), get_or-append_seam s.came x rest x) in
     subst (λ l. Contains l x) cut here
 
--- what holds of each holds of one that stands there
+-- what holds of each holds of the one at this index
 pub all_here : {X : Type 0} (P : X → Type 0) (all : List X) (x : X) → All P all → Contains all x → P x
 all_here P all x each at = subst P at.2 (each at.0 x at.1)
 
--- ---- things that a list of others stands for
+-- ---- elements as views of others
 
 -- the next one to come
 pub next_seen : {X Y : Type 0} (view : X → Y) (xs : List X) (i : ℕ) (x : X) → i < length xs → x ≡ get_or xs i x
@@ -72,7 +72,7 @@ next_seen view xs i x h e =
 pub none_seen : {X Y : Type 0} (view : X → Y) (xs : List X) (i : ℕ) → length xs ≤ i → map view (drop i xs) ≡ []
 none_seen view xs i h = ap (map view) (drop_all i xs h)
 
--- the same of a thing with its number
+-- the same for an element with its number
 pub next_numbered : {X Y : Type 0} (view : X → Y) (xs : List X) (i : ℕ) (x : X) → i < length xs → x ≡ get_or xs i x
     → enumerate_from i (map view (drop i xs)) ≡ (i, view x) ∷ enumerate_from (i + 1) (map view (drop (i + 1) xs))
 next_numbered view xs i x h e = ap (enumerate_from i) (next_seen view xs i x h e)

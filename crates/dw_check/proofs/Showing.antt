@@ -1,4 +1,4 @@
--- What a loop over expressions has written: those that came, each with what it comes to.
+-- What a loop over expressions has written: those visited, each with its outcome.
 use Rattle.std.proofs.Common.{◌≡◌, ℕ, List, [], ◌∷◌, ◌++◌, refl, sym, subst, append_assoc}
 use Rattle.std.specs.Prelude.{Option}
 use Rattle.std.specs.List.{All}
@@ -15,7 +15,7 @@ use Rattle.dw_check.specs.Lookups.{IsShowable, AreEvaluated}
 use Rattle.dw_check.proofs.Found.{each_evaluated}
 use Rattle.dw_check.proofs.Growth.{appends_nothing, appends_more, front_more, front_wider}
 
--- What came is written, and any text of the rest behind it is one of all.
+-- The text of those visited is written; followed by any text of the rest it is a text of all.
 pub record Shown (gs : List StateFact) (all rest : List LocatedExpression) (old new : Option (List ℕ)) : Type 0 where
   pub came : List ℕ
   pub sent : Appends old new came

@@ -1,4 +1,4 @@
--- What an answer to clap's has to be.
+-- What the answer to clap's result must be.
 use Rattle.std.proofs.Common.{◌≡◌, ◌⊎◌, List, [], inl, inr, subst}
 use Rattle.std.specs.Prelude.{Option, Some, Result, Ok, Err, IfOk, IfErr}
 use Rattle.std.specs.Option.{IsSomeAnd}
@@ -8,7 +8,7 @@ use Rattle.dw_check.specs.Requests.{Asked, asked_by, AsksBy, IsUsageOf, HasBadWo
 use Rattle.dw_check.specs.declared.requests.Usage.{Usage}
 use Rattle.dw_check.specs.declared.requests.Usage.TheVariants.{Line, BadArgument, Memory}
 
--- the answer where clap found matches
+-- the answer if clap found matches
 pub answered : (faults : Kinds) (matches : Option (Text × List Row)) (r : Result Asked Usage) → faults ≡ []
     → IfOk r (λ q. IsSomeAnd matches (λ (name, rows). asked_by name rows ≡ Some q))
     → IfErr r (λ e. (e ≡ Memory) ⊎ ((e ≡ BadArgument) × IsSomeAnd matches (λ (name, rows). HasBadWord name rows)))
@@ -20,7 +20,7 @@ answered faults matches (Err BadArgument) none ok (inl e) = cc
 answered faults matches (Err BadArgument) none ok (inr e) = (none, e.1)
 answered faults matches (Err Memory) none ok err = tt
 
--- the answer where it found a fault
+-- the answer if it found a fault
 pub refused : (faults : Kinds) (matches : Option (Text × List Row)) (e : Error) (u : Usage) → HasKind faults e → IsUsageOf (kind_of e) u
     → AsksBy faults matches (Err u)
 refused faults matches e (Line text) (inl h) k = absurd (k h)

@@ -1,4 +1,4 @@
--- What holds of two sections that a check accepts, by what is said of each layer.
+-- What holds of two sections that a check accepts, given what is known of each layer.
 use Rattle.std.proofs.Common.{◌≡◌, ℕ, ◌≤◌, List, [], ◌∷◌, length, map, refl, ap, ◌∙◌}
 use Rattle.std.specs.Prelude.{Result, Ok}
 use Rattle.dw_bytes.specs.declared.target.Target.{Target}
@@ -16,7 +16,7 @@ values_given : {X : Type 0} (xs : List X) → values_in {X = X} (map Ok xs) ≡ 
 values_given [] = refl
 values_given (x ∷ xs) = ap (λ l. x ∷ l) (values_given xs)
 
--- what is made of the values of items that are without a fault
+-- what is made of the values of items without a fault
 pub made_of : {X Y : Type 0} (make : List X → Y) (items : List (Result X Fault)) (xs : List X) → items ≡ map Ok xs
     → make (values_in items) ≡ make xs
 made_of make items xs are = ap (λ its. make (values_in its)) are ∙ ap make (values_given xs)

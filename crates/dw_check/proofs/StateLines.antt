@@ -1,4 +1,4 @@
--- The lines of a state file, one after the other.
+-- The lines of a state file, one by one.
 use Rattle.std.proofs.Common.{◌≡◌, ℕ, suc, ◌+◌, ◌≤◌, ◌==◌, Bool, true, false, not, ◌&&◌, Err, List, [], ◌∷◌, ◌++◌, length, take, find}
 use Rattle.std.proofs.Common.{ap, refl, sym, ◌∙◌, arith, append_assoc, length-append}
 use Rattle.std.specs.List.{list_all, range_with_len}
@@ -25,23 +25,23 @@ parts_step : (s b : ℕ) (bytes : List ℕ) (t : Bool) → (b == s) ≡ t → le
 parts_step s b bytes true e h = rw e (omega (arith, h))
 parts_step s b bytes false e h = rw e (omega (arith, joined_long b (parts_of s bytes) (length bytes) h))
 
--- there is one part more than separators at most
+-- there is at most one more part than separators
 pub few_parts : (s : ℕ) (bytes : List ℕ) → length (parts_of s bytes) ≤ length bytes + 1
 few_parts s [] = omega arith
 few_parts s (b ∷ bytes) = parts_step s b bytes (b == s) refl (few_parts s bytes)
 
--- whether the first n of a file's lines are bad together
+-- whether the first n lines of a file are not good together
 abbrev pub is_bad : Target → List ℕ → ℕ → Bool
 is_bad target text n = not (are_good target (take n (parts_of 10 text)))
 
--- of the file's lines those before are good, there are n of them, and these are to come
+-- of the file's lines, the first n are good, and these are to come
 pub record Reading (target : Target) (text : List ℕ) (before : List (List ℕ)) (n : ℕ) (lines : List (List ℕ)) : Type 0 where
   pub is : parts_of 10 text ≡ before ++ lines
   pub count : length before ≡ n
   pub each : list_all (is_line target) before ≡ true
   pub first : first_bad_line target (parts_of 10 text) ≡ find (is_bad target text) (range_with_len (n + 1) (length lines))
 
--- whether a line goes behind those that are good
+-- whether a line can follow the good ones
 abbrev pub goes_behind : Target → List (List ℕ) → List ℕ → Bool
 goes_behind target before line = is_line target line && go_together (facts_of_lines target before ++ facts_of_lines target (line ∷ []))
 

@@ -1,4 +1,4 @@
--- Two sections have no fault exactly where they are well formed.
+-- Two sections have no fault exactly if they are well formed.
 use Rattle.std.proofs.Common.{◌≡◌, ◌⊎◌, ℕ, ◌^◌, ◌<◌, ◌↔◌, List, length, refl, arith, inl, inr}
 use Rattle.std.specs.Prelude.{Option, Some, None, Result, Ok, Err, IfOk, IfErr}
 use Rattle.std.specs.Option.{option_or}
@@ -45,7 +45,7 @@ each_without_fault target frame lists h =
     let c = option_or_none (fault_within Frame (section_fault target frame)) _ b.1 in
     (within_none Frame _ c.0, within_none Lists _ c.1)
 
--- by what is said of each section alone
+-- given what is known of each section alone
 pub without_fault : ((target : Target) (section : List ℕ) → (section_fault target section ≡ None) ↔ frames.IsWellFormed target section)
     → ((target : Target) (section : List ℕ) → (lists_fault target section ≡ None) ↔ tables.IsWellFormed target section)
     → (target : Target) (frame lists : List ℕ) → (check_fault target frame lists ≡ None) ↔ AreWellFormed target frame lists
@@ -73,7 +73,7 @@ without_fault of_frames of_lists target frame lists = (to, from)
           (of_lists target lists).1 right.lists_are_right,
         ) refl
 
--- ---- a check that names the first fault accepts exactly what is well formed
+-- ---- a check that names the first fault accepts exactly the well-formed sections
 
 pub accepts : {X : Type 0} (first : Option CheckFault) (W : Type 0) (answer : Result X CheckFault) → Checks first answer
     → (first ≡ None) ↔ W → IfOk answer (λ _. W)

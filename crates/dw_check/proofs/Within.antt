@@ -1,4 +1,4 @@
--- The addresses of a checked section are ones of its target.
+-- The addresses of a checked section have the size of its target.
 use Rattle.std.proofs.Common.{◌≡◌, ℕ, ◌+◌, ◌*◌, ◌-◌, ◌^◌, ◌<◌, ◌≤◌, List, [], ◌∷◌, map, sym, subst, arith}
 use Rattle.std.specs.Prelude.{None}
 use Rattle.std.specs.List.{All}
@@ -22,7 +22,7 @@ below : (size : AddressSize) (n : ℕ) → n ≤ 2 ^ (8 * bytes_of_address size)
 below Four n h = omega arith
 below Eight n h = omega arith
 
--- an address of a target has so many digits
+-- an address of a target has this many digits
 pub below_top : (target : Target) (size : AddressSize) (n : ℕ) → size ≡ target.address_size → n ≤ top_of target → n < 16 ^ digits_of size
 below_top target size n e h = subst (λ s. n < 16 ^ digits_of s) (sym e) (below target.address_size n h)
 

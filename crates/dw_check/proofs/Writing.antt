@@ -1,4 +1,4 @@
--- One text written behind another.
+-- One text written after another.
 use Rattle.std.proofs.Common.{◌≡◌, ℕ, List, [], ◌++◌, ap, map, refl, subst, sym, ◌∙◌}
 use Rattle.std.specs.Prelude.{Option, Some, None, Result, Ok, Err, codes}
 use Rattle.std.specs.Result.{IsErr}
@@ -28,7 +28,7 @@ pub writes_front : (a b : Option (List ℕ)) (r : Result (Unit {0}) ReportFault)
 writes_front a b (Ok _) x failed h = cc
 writes_front a b (Err _) x failed h = h
 
--- nothing of a text that is handed over whole is a beginning too
+-- a text that is sent whole: writing none of it is a beginning too
 pub writes_whole : (a b : Option (List ℕ)) (r : Result (Unit {0}) ReportFault) (x : List ℕ) → WritesWhole a b r x → Writes a b r x
 writes_whole a b (Ok _) x h = h
 writes_whole a b (Err Memory) x h = ([], x, refl, h)
@@ -64,7 +64,7 @@ fde_front frame size cie fde a b r z e failed h =
 
 -- ---- the row of an address
 
--- its line, where it is there
+-- its line, if there is a row
 pub row_written : (frame : FrameSection) (address : ℕ) (size : AddressSize) (row : Row) (a b : Option (List ℕ))
     (r : Result (Unit {0}) ReportFault)
     → size ≡ frame.target.address_size → Some row ≡ row_of frame address → Writes a b r (row_line size row)

@@ -1,4 +1,4 @@
--- The numbers and addresses that digits spell.
+-- Numbers and addresses written in digits.
 use Rattle.std.specs.Prelude.{◌&&◌, ℕ, nat_lt, nat_le, if◌then◌else◌, List, length, take, drop, Option, Some, None, option_and_then, codes}
 use Rattle.std.specs.List.{list_all}
 use Rattle.std.specs.Char.{digit_value}
@@ -7,12 +7,12 @@ use Rattle.std.specs.Str.Parse.{digits_value}
 use Rattle.dw_bytes.specs.declared.target.Target.{Target}
 use Rattle.dw_frame.specs.Sections.{top_of}
 
--- the number that digits of this radix spell, at least one of them and no more than are allowed
+-- the number written in digits of this radix, at least one and no more than allowed
 abbrev pub number_of : ℕ → ℕ → List ℕ → Option ℕ
 number_of radix most ds = if nat_lt 0 (length ds) && nat_le (length ds) most && list_all (λ c. nat_lt (digit_value c) radix) ds
     then Some (digits_value radix ds) else None
 
--- the number that 1 to 16 hex digits of either case spell
+-- the number written in 1 to 16 hex digits of either case
 abbrev pub hex_of : List ℕ → Option ℕ
 hex_of ds = number_of 16 16 ds
 
@@ -20,11 +20,11 @@ hex_of ds = number_of 16 16 ds
 abbrev pub at_most : ℕ → ℕ → Option ℕ
 at_most top n = if nat_le n top then Some n else None
 
--- the number that 1 to 5 decimal digits spell, if it is at most 65535
+-- the number written in 1 to 5 decimal digits, if it is at most 65535
 abbrev pub short_number : List ℕ → Option ℕ
 short_number digits = option_and_then (at_most 65535) (number_of 10 5 digits)
 
--- the number that `0x` and hex digits spell, if it is at most another
+-- the number written as `0x` and hex digits, if it is at most another
 abbrev pub hex_up_to : ℕ → List ℕ → Option ℕ
 hex_up_to top text = if bytes_eq (take 2 text) (codes "0x") then option_and_then (at_most top) (hex_of (drop 2 text))
     else None

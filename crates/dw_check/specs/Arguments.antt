@@ -1,4 +1,4 @@
--- What the flags and the words of a command say.
+-- The meaning of the flags and words of a command.
 use Rattle.std.specs.Prelude.{◌≡◌, Bool, false, if◌then◌else◌, List, [], ℕ, Option, Some, None, option_and_then, unwrap_or, codes}
 use Rattle.std.specs.Option.{option_map_or, IsSomeAnd}
 use Rattle.std.specs.List.{Any}
@@ -16,7 +16,7 @@ use Rattle.dw_check.specs.NamedModules.{NamedModule, module_of, modules_of}
 abbrev pub flag_of : Text → List Row → Bool
 flag_of name rows = option_map_or (λ text. bytes_eq text (codes "true")) (first_of name rows) false
 
--- little-endian with addresses of eight bytes, unless flags say otherwise
+-- little-endian with addresses of eight bytes, unless flags change that
 abbrev pub target_by_flags : List Row → Target
 target_by_flags rows = record {
   order = (if flag_of (codes "big") rows then Big else Little);
@@ -31,8 +31,8 @@ kind_of name =
     else (if bytes_eq name (codes "location") then Some Location
     else None))
 
--- What a word or the value of an option is: the name of a file; an address of the target; an offset in a section; a kind of expressions;
--- how many frames are shown at most; or a further module, of which there may be several.
+-- What a word or the value of an option is: the name of a file; an address of the target; an offset in a section; a kind
+-- of expressions; the limit of frames shown; or a further module, of which there may be several.
 pub data Word : Type 0 where
   file : Word
   address : Word
@@ -58,19 +58,19 @@ kind_at name rows = option_and_then kind_of (first_of name rows)
 abbrev pub limit_at : Text → List Row → Option ℕ
 limit_at name rows = option_and_then short_number (first_of name rows)
 
--- where the module of FRAME is loaded: at 0 unless `--load` says otherwise
+-- where the module of FRAME is loaded: at 0 unless `--load` gives another address
 abbrev pub load_in : List Row → Option ℕ
 load_in rows = option_map_or (address_of (target_by_flags rows)) (first_of (codes "load") rows) (Some 0)
 
--- all values of an option, in their order
+-- all values of an option, in order
 abbrev pub values_of : Text → List Row → List Text
 values_of name rows = unwrap_or (all_of name rows) []
 
--- the further modules, in their order
+-- the further modules, in order
 abbrev pub modules_in : List Row → Option (List NamedModule)
 modules_in rows = modules_of (target_by_flags rows) (values_of (codes "module") rows)
 
--- a word is there, and is none of those that its place takes
+-- a word is there, and is malformed
 abbrev pub IsBad : List Row → Text × Word → Type 0
 IsBad rows (name, file) = ⊥
 IsBad rows (name, address) = IsSomeAnd (first_of name rows) (λ text. address_of (target_by_flags rows) text ≡ None)

@@ -1,4 +1,5 @@
--- The text of a caller: a line for its CFA, one for each of its registers, and one for where it goes on.
+-- The text of a caller: a line for its CFA, one for each of its registers, and one for its return
+-- address.
 use Rattle.std.specs.Prelude.{ℕ, List, ◌++◌, Option, Some, None, codes, decimal}
 use Rattle.std.specs.List.{flat_map}
 use Rattle.dw_bytes.specs.declared.target.AddressSize.{AddressSize}
@@ -12,7 +13,7 @@ answer_text size undefined = codes "undefined"
 answer_text size unreadable = codes "unreadable"
 answer_text size division_by_zero = codes "division by zero"
 
--- what it is, and what is known of it
+-- its name, and what is known of it
 unfoldable pub answer_line : AddressSize → List ℕ → Answer → List ℕ
 answer_line size what answer = what ++ codes " " ++ answer_text size answer ++ codes "\n"
 
@@ -20,7 +21,7 @@ answer_line size what answer = what ++ codes " " ++ answer_text size answer ++ c
 unfoldable pub found_line : AddressSize → ℕ × Answer → List ℕ
 found_line size found = codes "r" ++ decimal found.0 ++ codes " " ++ answer_text size found.1 ++ codes "\n"
 
--- the registers stand in the caller's order, which is ascending
+-- the registers are in the caller's order, which is ascending
 unfoldable pub caller_text : AddressSize → Option Caller → List ℕ
 caller_text size (Some caller) = answer_line size (codes "cfa") caller.cfa ++ flat_map (found_line size) caller.registers
     ++ answer_line size (codes "return") caller.return_address

@@ -1,4 +1,4 @@
--- Two sections that are right, and the first fault of two (DWARF 5, sections 6.4.1 and 7.29).
+-- Two well-formed sections, and the first fault of two (DWARF 5, sections 6.4.1 and 7.29).
 use Rattle.std.specs.Prelude.{◌≡◌, ◌⊎◌, ℕ, ◌<◌, ◌^◌, nat_lt, if◌then◌else◌, List, [], length, Option, Some, None, Result, Ok, Err}
 use Rattle.std.specs.Option.{option_or}
 use Rattle.dw_bytes.specs.declared.target.Target.{Target}
@@ -13,8 +13,8 @@ use Rattle.dw_check.specs.declared.whole_check.CheckFault.{CheckFault}
 use Rattle.dw_check.specs.declared.stop.Section.{Section}
 use Rattle.dw_check.specs.declared.stop.Section.TheVariants.{Frame, Lists, Expression}
 
--- Both are shorter than 2^32 bytes (own), and each is right by itself: the one is records with good programs of which no two
--- cover an address, and the other is tables of lists with good expressions.
+-- Both are shorter than 2^32 bytes (own), and each is well formed by itself: one is records with good programs, no two of
+-- which cover the same address, and the other is tables of lists with good expressions.
 pub record AreWellFormed (target : Target) (frame_bytes list_bytes : List ℕ) : Type 0 where
   pub frame_is_short : length frame_bytes < 2 ^ 32
   pub lists_are_short : length list_bytes < 2 ^ 32
@@ -23,7 +23,7 @@ pub record AreWellFormed (target : Target) (frame_bytes list_bytes : List ℕ) :
 
 -- ---- the first fault
 
--- a fault, and the section that it stands in
+-- a fault, and the section that it is in
 abbrev pub fault_within : Section → Option Fault → Option CheckFault
 fault_within section None = None
 fault_within section (Some fault) = Some (record { section = section; fault = fault })
@@ -35,7 +35,7 @@ too_long = record { kind = SectionTooLong; at = 0 }
 abbrev pub length_fault : List ℕ → Option Fault
 length_fault bytes = if nat_lt (length bytes) (2 ^ 32) then None else Some too_long
 
--- the lengths, and then what each section has
+-- the lengths, and then the contents of each section
 unfoldable pub check_fault : Target → List ℕ → List ℕ → Option CheckFault
 check_fault target frame_bytes list_bytes =
     option_or (fault_within Frame (length_fault frame_bytes))
@@ -43,7 +43,7 @@ check_fault target frame_bytes list_bytes =
     (option_or (fault_within Frame (section_fault target frame_bytes))
     (fault_within Lists (lists_fault target list_bytes))))
 
--- A check passes where there is no fault. Otherwise it names the fault, or memory ran out.
+-- A check passes if there is no fault. Otherwise it names the fault, or memory ran out.
 abbrev pub Checks : {X : Type 0} → Option CheckFault → Result X CheckFault → Type 0
 Checks first (Ok _) = first ≡ None
 Checks first (Err found) = (found.fault ≡ memory) ⊎ (first ≡ Some found)

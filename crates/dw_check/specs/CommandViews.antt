@@ -1,4 +1,4 @@
--- The table of the command line in the words of Commands. clap isn't told what a word names, nor what a command does.
+-- The table of the command line as in Commands. clap doesn't know what a word names, nor what a command does.
 use Rattle.std.specs.Prelude.{ℕ, List, map, None}
 use Rattle.std.specs.Borrow.{Bor}
 use Rattle.clap.specs.Words.{Text}

@@ -1,4 +1,4 @@
--- The command line: a table of commands, and the app in clap's words that it makes.
+-- The command line: a table of commands, and the app it makes for clap.
 use Rattle.std.specs.Prelude.{ℕ, Bool, true, false, if◌then◌else◌, List, [], ◌∷◌, ◌++◌, Option, Some, None, option_map, option_and_then}
 use Rattle.std.specs.Prelude.{codes}
 use Rattle.clap.specs.declared.builder.ArgAction.TheVariants.{Append, Set, SetTrue}
@@ -9,8 +9,8 @@ use Rattle.dw_check.specs.declared.requests.ListLookup.{ListLookup}
 use Rattle.dw_check.specs.declared.requests.Task.{Task}
 use Rattle.dw_check.specs.declared.requests.Task.TheVariants as tasks
 
--- A command by its name: its words in their order, each with a name of its own; whether it takes the option of a state file, that of
--- where its module is loaded and that of further modules; and what it does.
+-- A command by its name: its words in order, each with a name of its own; whether it takes a state file, the load address
+-- of its module, and further modules, as options; and what it does.
 pub record Command : Type 0 where
   pub name : Text
   pub words : List (Text × Word)
@@ -87,7 +87,7 @@ unwind_command = record {
   task = λ rows. option_map tasks.Unwind (address_at (codes "ADDRESS") rows);
 }
 
--- what `backtrace` does: it walks up from an address, a number of frames at most
+-- what `backtrace` does: it walks up from an address, up to a number of frames
 abbrev pub backtrace_in : List Row → Option Task
 backtrace_in rows = option_and_then (λ a. option_map (tasks.Backtrace a) (limit_at (codes "LIMIT") rows))
     (address_at (codes "ADDRESS") rows)
@@ -110,7 +110,7 @@ arguments_of c = c.words ++ ((if c.has_load then (codes "load", address) ∷ [] 
 abbrev pub commands : List Command
 commands = check_command ∷ rows_command ∷ row_command ∷ locs_command ∷ eval_command ∷ unwind_command ∷ backtrace_command ∷ []
 
--- ---- in clap's words
+-- ---- for clap
 
 -- a flag by its long name
 abbrev pub flag_rule : Text → Rule
@@ -120,11 +120,11 @@ flag_rule name = record (new_rule name) { long = Some name; action = Some SetTru
 abbrev pub option_rule : Text → Rule
 option_rule name = record (new_rule name) { long = Some name; action = Some Set }
 
--- an option that may be given any number of times, each with a value
+-- an option that can be given any number of times, each with a value
 abbrev pub list_rule : Text → Rule
 list_rule name = record (new_rule name) { long = Some name; action = Some Append }
 
--- a word that has to be there
+-- a required word
 abbrev pub word_rule : Text → Rule
 word_rule name = record (new_rule name) { required = true }
 
@@ -153,6 +153,6 @@ abbrev pub with_commands : App → List Command → App
 with_commands app [] = app
 with_commands app (c ∷ cs) = with_commands (with_subcommand app (app_of_command c).top) cs
 
--- The whole command line. One of its subcommands has to be named.
+-- The whole command line. A subcommand is required.
 abbrev pub dwcheck : App
 dwcheck = on_top (λ s. record s { subcommand_required = true }) (with_commands (new_app (codes "dwcheck")) commands)

@@ -1,4 +1,4 @@
--- What an expression comes to on a machine of which something is known.
+-- The outcome of an expression on a partly known machine.
 use Rattle.std.specs.Prelude.{◌≡◌, ℕ, ◌<◌, ◌^◌, List, length}
 use Rattle.dw_bytes.specs.declared.target.Target.{Target}
 use Rattle.dw_stack.specs.declared.state.Kind.{Kind}
@@ -8,7 +8,7 @@ use Rattle.dw_eval.specs.Results.{Outcome, IsRun}
 use Rattle.dw_check.specs.StateFile.{StateFact, first_that, content_in, byte_in, cfa_in, frame_base_in, object_in}
 use Rattle.dw_check.specs.Outcomes.{evaluation_text}
 
--- a machine of which this was given, under a target
+-- a machine with this given state, under a target
 abbrev pub world_of : Target → List StateFact → World
 world_of target facts = record {
   target = target;
@@ -19,7 +19,7 @@ world_of target facts = record {
   object = first_that object_in facts;
 }
 
--- The expression is good, its run on what was given comes to this outcome after this many steps, and this is its depth.
+-- The expression is good, its run on what was given has this outcome after this many steps, and this is its depth.
 pub record ComesTo (kind : Kind) (target : Target) (bytes : List ℕ) (facts : List StateFact) (outcome : Outcome)
     (steps depth : ℕ) : Type 0 where
   pub short : length bytes < 2 ^ 32
@@ -27,7 +27,7 @@ pub record ComesTo (kind : Kind) (target : Target) (bytes : List ℕ) (facts : L
   pub run : IsRun (world_of target facts) kind (operations_in target bytes) (length bytes) outcome steps
   pub deepest : IsDepthOf kind target bytes depth
 
--- The text shows what it comes to.
+-- The text shows its outcome.
 pub record Evaluates (kind : Kind) (target : Target) (bytes : List ℕ) (facts : List StateFact) (written : List ℕ) : Type 0 where
   pub outcome : Outcome
   pub steps : ℕ

@@ -15,12 +15,13 @@ is_blank b = b == 9 || b == 10 || b == 13 || b == 32
 abbrev pub without_blanks : List ℕ → List ℕ
 without_blanks text = filter (λ b. not (is_blank b)) text
 
--- The bytes of a section or of an expression, if it is to be hex text and is, or isn't to be; those of no file are none.
+-- The bytes of a section or of an expression: decoded if they must be hex text, or none if they aren't; else as they
+-- are. Without a file they are empty.
 abbrev pub section_bytes : Bool → Option (List ℕ) → Option (List ℕ)
 section_bytes hex None = Some []
 section_bytes hex (Some file) = if hex then result_ok (decode_of (without_blanks file)) else Some file
 
--- what a state file gives, or its first bad line; no file gives nothing
+-- what a state file gives, or its first bad line; without a file it is empty
 abbrev pub state_facts : Target → Option (List ℕ) → Result (List StateFact) ℕ
 state_facts target None = Ok []
 state_facts target (Some text) = facts_of_file target text
@@ -31,19 +32,20 @@ state_facts target (Some text) = facts_of_file target text
 abbrev pub loaded_at : ℕ → List ℕ → Module (List ℕ)
 loaded_at load section = record { rows = section; load_address = load }
 
--- one whose file is at a place, before others; or that place, if the bytes of the section aren't there
+-- one whose file is at an index, before others; or that index, if the bytes of the section aren't available
 abbrev pub module_before : ℕ → ℕ → Option (List ℕ) → Result (List (Module (List ℕ))) ℕ → Result (List (Module (List ℕ))) ℕ
 module_before place load None others = Err place
 module_before place load (Some section) (Err n) = Err n
 module_before place load (Some section) (Ok others) = Ok (loaded_at load section ∷ others)
 
--- Further modules that are loaded so, the file of the first at a place; or the place of the first file that is to be hex text and isn't.
+-- Further modules with these load addresses, the file of the first at an index; or the index of the first file that must
+-- be hex text and isn't.
 abbrev pub further_modules : Bool → List (List ℕ) → ℕ → List ℕ → Result (List (Module (List ℕ))) ℕ
 further_modules hex files place [] = Ok []
 further_modules hex files place (load ∷ loads) =
     module_before place load (section_bytes hex (slice_get files place)) (further_modules hex files (suc place) loads)
 
--- The files of a process give its modules, FRAME's first, and what the state file says.
+-- The files of a process give its modules, FRAME's first, and the state in the state file.
 pub record GivesProcess (target : Target) (load : ℕ) (loads : List ℕ) (hex : Bool) (files : List (List ℕ))
     (modules : List (Module (List ℕ))) (facts : List StateFact) : Type 0 where
   pub section : List ℕ

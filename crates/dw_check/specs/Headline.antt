@@ -17,7 +17,7 @@ use Rattle.dw_eval.specs.World.{World}
 use Rattle.dw_eval.specs.Results.{Outcome, IsRun}
 use Rattle.dw_unwind.specs.Caller.{under}
 
--- With what is handed in, the expression comes to one outcome, within its number of operations.
+-- With these registers, memory and context, the expression has one outcome, within its number of operations.
 pub record ComesToOne (kind : Kind) (target : Target) (bytes : List ℕ) (e : World) : Type 0 where
   pub outcome : Outcome
   pub steps : ℕ

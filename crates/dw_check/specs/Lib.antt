@@ -1,9 +1,10 @@
--- ---- To be believed: the standard's words. Who checks the headline against DWARF 5 reads these.
--- two sections that are right, and their first fault
+-- ---- To be believed: the standard's words. Read these to check the headline against DWARF 5.
+-- two well-formed sections, and their first fault
 pub mod Checked
 -- what holds of sections that are accepted
 pub mod Headline
--- ---- To be believed: docs/PROFILE.md's words, of texts, command lines, files and statuses. The headline needs none of these.
+-- ---- To be believed: what docs/PROFILE.md states of texts, command lines, files and statuses. The headline needs none
+-- of these.
 -- the text of a report
 pub mod Report
 -- the lines of sections and rows
@@ -14,33 +15,33 @@ pub mod Outcomes
 pub mod CallerText
 -- the text of a walk
 pub mod WalkText
--- the numbers and addresses that digits spell
+-- parsing numbers and addresses
 pub mod Addresses
 -- modules as the command line names them
 pub mod NamedModules
 -- lines and words
 pub mod Parts
--- what flags and words say
+-- the meaning of flags and words
 pub mod Arguments
--- the table of commands, in clap's words
+-- the table of commands, for clap
 pub mod Commands
--- what a command line asks for
+-- the request of a command line
 pub mod Requests
 -- what the files of a request contain
 pub mod Files
 -- how much of a long file decides
 pub mod LongFiles
--- what a state file says
+-- what a state file gives
 pub mod StateFile
--- the text of what an expression comes to
+-- the text of an expression's outcome
 pub mod Evaluations
--- the text of what a location list says of an address
+-- the text of what a location list gives at an address
 pub mod Lookups
 -- exit statuses
 pub mod Statuses
 -- what a run writes, and how it ends
 pub mod Runs
--- ---- What the code's own values stand for, and what its calls answer.
+-- ---- What the code's own values mean, and what its calls answer.
 -- the code's table of commands
 pub mod CommandViews
 -- the report's line of an expression of the code
@@ -49,7 +50,7 @@ pub mod ReportViews
 pub mod FileViews
 -- why a run stops
 pub mod Stops
--- what a sink has taken
+-- what a sink has accepted
 pub mod SinkBytes
 -- what a source has left
 pub mod SourceBytes

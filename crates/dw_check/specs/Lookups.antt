@@ -1,4 +1,4 @@
--- What a location list says of an address (DWARF 5, section 2.6.2), on a machine of which something is known.
+-- What a location list gives at an address (DWARF 5, section 2.6.2), on a partly known machine.
 use Rattle.std.specs.Prelude.{◌≡◌, ℕ, ◌<◌, ◌^◌, ◌==◌, List, [], ◌∷◌, ◌++◌, length, Option, Some, None, codes}
 use Rattle.std.specs.List.{find}
 use Rattle.dw_bytes.specs.declared.target.AddressSize.{AddressSize}
@@ -11,11 +11,11 @@ use Rattle.dw_check.specs.StateFile.{StateFact}
 use Rattle.dw_check.specs.Text.{expression_offset_line}
 use Rattle.dw_check.specs.Evaluations.{Evaluates}
 
--- the list of a section whose first byte is at an offset, if one's is
+-- the list of a section whose first byte is at an offset, if there is one
 abbrev pub list_that_begins_at : ListSection → ℕ → Option Loclist
 list_that_begins_at s at = find (λ l. l.offset == at) (lists_in s)
 
--- The text shows expressions in their order, each with its offset in the section and what it comes to.
+-- The text shows expressions in order, each with its offset in the section and its outcome.
 abbrev pub AreEvaluated : List StateFact → List LocatedExpression → List ℕ → Type 0
 AreEvaluated facts [] written = written ≡ []
 AreEvaluated facts (x ∷ xs) written = (own rest : List ℕ) × (written ≡ (expression_offset_line x.offset ++ own) ++ rest)
@@ -26,7 +26,7 @@ abbrev pub ShowsLocations : List StateFact → List LocatedExpression → List �
 ShowsLocations facts [] written = written ≡ codes "none\n"
 ShowsLocations facts (x ∷ xs) written = AreEvaluated facts (x ∷ xs) written
 
--- it shows what a list says of an address, where the base is the unit's, or that there is no list
+-- it shows what a list gives at an address, where the base is the unit's, or that there is no list
 abbrev pub ShowsList : List StateFact → Option Loclist → ℕ → ℕ → List ℕ → Type 0
 ShowsList facts None base address written = written ≡ codes "no list\n"
 ShowsList facts (Some l) base address written = ShowsLocations facts (locations_of l base address) written

@@ -18,11 +18,11 @@ abbrev pub module_with : Option ℕ → List ℕ → Option NamedModule
 module_with load [] = None
 module_with load (byte ∷ name) = option_map (λ a. record { load = a; file = byte ∷ name }) load
 
--- the module that an address, = and the name of a file spell; a text without = has no name
+-- the module that an address, = and the name of a file give; a text without = has no name
 abbrev pub module_of : Target → List ℕ → Option NamedModule
 module_of target text = module_with (address_of target (before_first is_equals_sign text)) (after_first is_equals_sign text)
 
--- the modules that these texts spell, if each spells one
+-- the modules that these texts give, if each is well formed
 abbrev pub modules_of : Target → List (List ℕ) → Option (List NamedModule)
 modules_of target [] = Some []
 modules_of target (text ∷ texts) =

@@ -35,7 +35,7 @@ outcome_text size (pieces ps) = codes "pieces " ++ decimal (length ps) ++ codes 
 outcome_text size (unreadable at) = stop_line (codes "unreadable") at
 outcome_text size (division_by_zero at) = stop_line (codes "division by zero") at
 
--- the steps that were taken, and the depth
+-- the number of steps taken, and the depth
 unfoldable pub counts_line : ℕ → ℕ → List ℕ
 counts_line steps depth = codes "steps " ++ decimal steps ++ codes " depth " ++ decimal depth ++ codes "\n"
 

@@ -6,12 +6,12 @@ abbrev pub joined_on : ℕ → List (List ℕ) → List (List ℕ)
 joined_on b [] = (b ∷ []) ∷ []
 joined_on b (part ∷ parts) = (b ∷ part) ∷ parts
 
--- the parts of bytes, the empty ones too
+-- the parts of bytes, including empty ones
 abbrev pub parts_of : ℕ → List ℕ → List (List ℕ)
 parts_of separator [] = [] ∷ []
 parts_of separator (b ∷ bytes) = if b == separator then [] ∷ parts_of separator bytes else joined_on b (parts_of separator bytes)
 
--- those of what is left, if something is
+-- the parts of the remaining bytes, if any
 abbrev pub parts_left : ℕ → Option (List ℕ) → List (List ℕ)
 parts_left separator None = []
 parts_left separator (Some bytes) = parts_of separator bytes

@@ -12,13 +12,13 @@ use Rattle.dw_check.specs.Text.{section_text}
 use Rattle.dw_check.specs.declared.stop.Section.{Section}
 use Rattle.dw_check.specs.declared.stop.Section.TheVariants as sections
 
--- ---- how many there are
+-- ---- the counts
 
--- how many rows all FDEs have together
+-- the number of rows of all FDEs together
 abbrev pub row_count : FrameSection → ℕ
 row_count frame = length (flat_map (rows_in frame) frame.fdes)
 
--- a number after what it counts
+-- a number after the name of what it counts
 unfoldable pub count_text : List ℕ → ℕ → List ℕ
 count_text name number = name ++ decimal number
 
@@ -40,7 +40,8 @@ lists_counts_line tables lists expressions = count_text (codes "tables ") tables
 abbrev pub frame_line : FrameSection → List ℕ
 frame_line frame = frame_counts_line (length frame.cies) (length frame.fdes) (row_count frame)
 
--- as many expressions as lines follow: those of the frame section and those of lists
+-- the counts of tables, lists and expressions; each expression counted, of the frame section or of
+-- lists, has a line in the report
 abbrev pub lists_line : FrameSection → ListSection → List ℕ
 lists_line frame lists = lists_counts_line (length (tables_in lists)) (length (lists_in lists))
     (length frame.expressions + length (located_in lists))
@@ -55,7 +56,7 @@ expression_kind_text FrameCfa = codes "cfa"
 expression_kind_text FrameRegister = codes "register"
 expression_kind_text Location = codes "location"
 
--- the section and the offset of its first byte, its kind, how many operations it has, and its depth
+-- the section and the offset of its first byte, its kind, its number of operations, and its depth
 unfoldable pub expression_line : Section → LocatedExpression → ℕ → List ℕ
 expression_line section x depth = codes "expr " ++ section_text section ++ codes " " ++ offset_text x.offset ++ codes " "
     ++ expression_kind_text x.kind ++ codes " ops " ++ decimal (length (operations_in x.target x.bytes))

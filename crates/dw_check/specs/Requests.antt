@@ -1,4 +1,4 @@
--- What a command line asks for.
+-- The request of a command line.
 use Rattle.std.specs.Prelude.{◌≡◌, ◌⊎◌, ℕ, Bool, true, false, List, [], ◌∷◌, ◌++◌, map, Option, Some, None, option_and_then, Result}
 use Rattle.std.specs.Prelude.{Ok, Err, codes}
 use Rattle.std.specs.Option.{IsSomeAnd, option_to_list}
@@ -15,8 +15,8 @@ use Rattle.dw_check.specs.declared.requests.Task.{Task}
 use Rattle.dw_check.specs.declared.requests.Usage.{Usage}
 use Rattle.dw_check.specs.declared.requests.Usage.TheVariants.{Line, BadArgument, Memory}
 
--- A task, what its numbers are read under, where the module of a frame section is loaded and where each further module is, whether
--- sections and expressions are hex text, and the names of the files, those of the further modules last.
+-- A task, the target of its numbers, where the module of a frame section is loaded and where each further module is,
+-- whether sections and expressions are hex text, and the names of the files, those of the further modules last.
 pub record Asked : Type 0 where
   pub task : Task
   pub target : Target
@@ -34,7 +34,7 @@ state_at true rows = first_of (codes "state") rows
 abbrev pub files_of : Command → List Row → List Text
 files_of c rows = filter_map (file_at rows) c.words ++ option_to_list (state_at c.has_state rows)
 
--- where a command's own module is loaded: at 0 unless the option says otherwise
+-- where a command's own module is loaded: at 0 unless the option gives another address
 abbrev pub load_at : Bool → List Row → Option ℕ
 load_at false rows = Some 0
 load_at true rows = load_in rows
@@ -44,7 +44,7 @@ abbrev pub modules_at : Bool → List Row → Option (List NamedModule)
 modules_at false rows = Some []
 modules_at true rows = modules_in rows
 
--- the request for a task over these files, with modules that are loaded so
+-- the request for a task with these files and these load addresses
 abbrev pub asked_with : List Row → List Text → Option Task → Option ℕ → Option (List NamedModule) → Option Asked
 asked_with rows files (Some task) (Some load) (Some modules) = Some (record {
   task = task;
@@ -76,20 +76,20 @@ HasBad rows (word ∷ words) = IsBad rows word ⊎ HasBad rows words
 abbrev pub HasBadWord : Text → List Row → Type 0
 HasBadWord name rows = IsSomeAnd (command_of name) (λ c. HasBad rows (arguments_of c))
 
--- ---- what an answer has to be
+-- ---- what an answer must be
 
--- What an answer has to be where the words have these faults and these matches.
+-- What an answer must be if the words have these faults and these matches.
 abbrev pub AsksBy : Kinds → Option (Text × List Row) → Result Asked Usage → Type 0
 AsksBy faults matches (Ok asked) = (faults ≡ []) × IsSomeAnd matches (λ (name, rows). asked_by name rows ≡ Some asked)
 AsksBy faults matches (Err BadArgument) = (faults ≡ []) × IsSomeAnd matches (λ (name, rows). HasBadWord name rows)
 AsksBy faults matches (Err (Line _)) = ¬ (faults ≡ [])
 AsksBy faults matches (Err Memory) = Unit {0}
 
--- what an answer to these words has to be, by what clap promises of them
+-- what an answer to these words must be, given what clap promises of them
 abbrev pub AsksFor : List Text → Result Asked Usage → Type 0
 AsksFor words r = AsksBy (fault_of dwcheck words) (subcommand_of dwcheck words) r
 
--- a lack of memory, or the text of an error of another kind
+-- out of memory, or the text of an error of another kind
 abbrev pub IsUsageOf : ErrorKind → Usage → Type 0
 IsUsageOf kind (Line _) = ¬ (kind ≡ OutOfMemory)
 IsUsageOf kind BadArgument = ⊥

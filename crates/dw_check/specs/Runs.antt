@@ -37,8 +37,8 @@ use Rattle.dw_check.specs.declared.requests.Task.TheVariants.{Check, Rows, Row, 
 use Rattle.dw_check.specs.declared.requests.End.{End}
 use Rattle.dw_check.specs.declared.requests.End.TheVariants.{Done, Refused, BadHex, StateLine, Memory, Output}
 
--- What a run comes to: a text; the line of a refusal; or nothing, where the file with this index is to be hex text and isn't, or
--- where this line of the state file is malformed or contradicts those before it.
+-- The result of a run: a text; the line of a refusal; or nothing, if the file with this index must be hex text and isn't,
+-- or if this line of the state file is malformed or contradicts those before it.
 pub data Reply : Type 0 where
   text : List ℕ → Reply
   refusal : Section → Fault → Reply
@@ -52,35 +52,35 @@ text_of (refusal section fault) = refused_line section fault
 text_of (not_hex n) = []
 text_of (bad_line n) = []
 
--- What is written before memory can run out: of a text any beginning, and nothing of a refusal, whose line is handed over whole.
+-- What is written before memory can run out: any beginning of a text, and nothing of a refusal, whose line is sent whole.
 abbrev pub accepted_text : Reply → List ℕ
 accepted_text (text bytes) = bytes
 accepted_text (refusal section fault) = []
 accepted_text (not_hex n) = []
 accepted_text (bad_line n) = []
 
--- A text or a refusal: a reply that is written. Of the others nothing is, so no write of theirs can stop the sink.
+-- A text or a refusal: a reply that is written. For the others nothing is written, so they can't stop the sink.
 abbrev pub IsWritten : Reply → Type 0
 IsWritten (text bytes) = Unit {0}
 IsWritten (refusal section fault) = Unit {0}
 IsWritten (not_hex n) = ⊥
 IsWritten (bad_line n) = ⊥
 
--- ---- files, judged in their order
+-- ---- files, checked in order
 
--- what the bytes of the section at a place come to, if they are there
+-- the reply for the bytes of the section at an index, if they are available
 abbrev pub OfSection : ℕ → Option (List ℕ) → (List ℕ → Reply → Type 0) → Reply → Type 0
 OfSection place None Is reply = reply ≡ not_hex place
 OfSection place (Some bytes) Is reply = Is bytes reply
 
--- what a state comes to, if each of its lines is one
+-- the reply for a state, if each of its lines is good
 abbrev pub OfState : Result (List StateFact) ℕ → (List StateFact → Reply → Type 0) → Reply → Type 0
 OfState (Err n) Is reply = reply ≡ bad_line n
 OfState (Ok facts) Is reply = Is facts reply
 
 -- ---- frame sections
 
--- the first fault of a frame section: its length, and then what it has
+-- the first fault of a frame section: its length, and then its contents
 abbrev pub frame_refusal : Target → List ℕ → Option Fault
 frame_refusal target section = option_or (length_fault section) (section_fault target section)
 
@@ -98,7 +98,7 @@ frame_reply text_for target section = text_unless (frame_refusal target section)
 abbrev pub expression_refusal : Kind → Target → List ℕ → Option Fault
 expression_refusal kind target bytes = option_or (length_fault bytes) (expression_fault kind target bytes)
 
--- what an expression comes to, on a machine of which this was given
+-- the outcome of an expression, on a machine with this given state
 abbrev pub IsOutcome : Kind → Target → List ℕ → List StateFact → Reply → Type 0
 IsOutcome kind target bytes facts (text written) = Evaluates kind target bytes facts written
 IsOutcome kind target bytes facts (refusal section fault) = (section ≡ sections.Expression)
@@ -111,7 +111,7 @@ IsOutcome kind target bytes facts _ = ⊥
 abbrev pub lists_refusal : Target → List ℕ → Option Fault
 lists_refusal target section = option_or (length_fault section) (lists_fault target section)
 
--- what a look-up in a section comes to, on a machine of which this was given
+-- the result of a look-up in a section, on a machine with this given state
 abbrev pub IsFound : ListLookup → Target → List ℕ → List StateFact → Reply → Type 0
 IsFound lookup target section facts (text written) = (lists_refusal target section ≡ None)
     × ShowsList facts (list_that_begins_at (record { target = target; section = section }) lookup.list) lookup.base lookup.address written
@@ -120,7 +120,7 @@ IsFound lookup target section facts _ = ⊥
 
 -- ---- two sections
 
--- what two sections come to: a text of both, or their first fault
+-- the reply for two sections: a text of both, or their first fault
 abbrev pub OfChecked : Target → List ℕ → List ℕ → (FrameSection → ListSection → List ℕ → Type 0) → Reply → Type 0
 OfChecked target frame lists Shows (text written) = (check_fault target frame lists ≡ None)
     × Shows (frame_of target frame) (record { target = target; section = lists }) written
@@ -128,18 +128,18 @@ OfChecked target frame lists Shows (refusal section fault) =
     check_fault target frame lists ≡ Some (record { section = section; fault = fault })
 OfChecked target frame lists Shows _ = ⊥
 
--- registers and memory, of which this was given
+-- the registers and memory that were given
 abbrev pub registers_given : List StateFact → ℕ → Option ℕ
 registers_given facts n = first_that (content_in n) facts
 
 abbrev pub memory_given : List StateFact → ℕ → Option ℕ
 memory_given facts a = first_that (byte_in a) facts
 
--- the ABI that this was said of
+-- the ABI that was given
 abbrev pub abi_given : List StateFact → Abi
 abi_given facts = abi_of (kept_in facts) (first_that stack_pointer_in facts)
 
--- the text shows the caller at an address of these modules, or that no FDE covers it, on a machine of which this was given
+-- the text shows the caller at an address of these modules, or that no FDE covers it, on a machine with this given state
 abbrev pub ShowsCaller : ℕ → AddressSize → List StateFact → List (Module FrameSection) → List ℕ → Type 0
 ShowsCaller address size facts modules written = (caller : Option Caller)
     × over_sections (abi_given facts) (memory_given facts) modules (registers_given facts) address caller
@@ -158,23 +158,23 @@ abbrev pub modules_refusal : Target → List (Module (List ℕ)) → Option Faul
 modules_refusal target [] = None
 modules_refusal target (m ∷ modules) = option_or (frame_refusal target m.rows) (modules_refusal target modules)
 
--- the modules with what their frame sections are
+-- the modules with the values of their frame sections
 abbrev pub modules_of_sections : Target → List (Module (List ℕ)) → List (Module FrameSection)
 modules_of_sections target modules = map (λ m. record { rows = frame_of target m.rows; load_address = m.load_address }) modules
 
--- what modules come to: a text of them, or their first fault
+-- the reply for modules: a text of them, or their first fault
 abbrev pub OfModules : Target → List (Module (List ℕ)) → (List (Module FrameSection) → List ℕ → Type 0) → Reply → Type 0
 OfModules target modules Shows (text written) =
     (modules_refusal target modules ≡ None) × Shows (modules_of_sections target modules) written
 OfModules target modules Shows (refusal refused fault) = (refused ≡ sections.Frame) × (modules_refusal target modules ≡ Some fault)
 OfModules target modules Shows _ = ⊥
 
--- what further modules come to, if the bytes of each are there
+-- the reply for further modules, if the bytes of each are available
 abbrev pub OfFurther : Result (List (Module (List ℕ))) ℕ → (List (Module (List ℕ)) → Reply → Type 0) → Reply → Type 0
 OfFurther (Err n) Is reply = reply ≡ not_hex n
 OfFurther (Ok modules) Is reply = Is modules reply
 
--- What the files of a process come to, judged in their order: FRAME, the state file, and those of the further modules.
+-- The reply for the files of a process, checked in order: FRAME, the state file, and those of the further modules.
 abbrev pub OfProcess : Target → ℕ → List ℕ → Bool → List (List ℕ) → (List StateFact → List (Module (List ℕ)) → Reply → Type 0)
     → Reply → Type 0
 OfProcess target load loads hex files Is reply =
@@ -182,7 +182,7 @@ OfProcess target load loads hex files Is reply =
     (λ section. OfState (state_facts target (slice_get files 1))
     (λ facts. OfFurther (further_modules hex files 2 loads) (λ others. Is facts (loaded_at load section ∷ others)))) reply
 
--- the reply where one of these files can't be read, and else none
+-- the reply if one of these files can't be read, and else none
 abbrev pub IsUnreadProcess : Target → ℕ → List ℕ → Bool → List (List ℕ) → Reply → Type 0
 IsUnreadProcess target load loads hex files reply = OfProcess target load loads hex files (λ facts modules r. ⊥) reply
 
@@ -218,7 +218,7 @@ IsCheckReply target hex files reply =
 abbrev pub IsRowsReply : Target → Bool → List (List ℕ) → Reply → Type 0
 IsRowsReply target hex files reply = OfFrame frame_text target hex files reply
 
--- `row`, of a module that is loaded at an address: the row is shown as it is linked
+-- `row`, of a module loaded at an address: the row is shown as linked
 abbrev pub IsRowReply : ℕ → ℕ → Target → Bool → List (List ℕ) → Reply → Type 0
 IsRowReply load address target hex files reply =
     OfFrame (λ frame. lookup_text frame (as_linked target load address)) target hex files reply
@@ -244,7 +244,7 @@ abbrev pub IsBacktraceReply : ℕ → ℕ → ℕ → List ℕ → Target → Bo
 IsBacktraceReply address limit load loads target hex files reply =
     OfModulesAndState (ShowsWalk address limit) load loads target hex files reply
 
--- the reply to a task, with FRAME's module and the further ones loaded so
+-- the reply to a task, given the load addresses of FRAME's module and of the further ones
 abbrev pub IsReplyTo : Task → ℕ → List ℕ → Target → Bool → List (List ℕ) → Reply → Type 0
 IsReplyTo Check load loads target hex files reply = IsCheckReply target hex files reply
 IsReplyTo Rows load loads target hex files reply = IsRowsReply target hex files reply
@@ -254,7 +254,7 @@ IsReplyTo (Eval kind) load loads target hex files reply = IsEvalReply kind targe
 IsReplyTo (Unwind address) load loads target hex files reply = IsUnwindReply address load loads target hex files reply
 IsReplyTo (Backtrace address limit) load loads target hex files reply = IsBacktraceReply address limit load loads target hex files reply
 
--- The reply to a request with one content for each of its files.
+-- The reply to a request, given the contents of each of its files.
 abbrev pub IsReply : Asked → List (List ℕ) → Reply → Type 0
 IsReply asked files reply = IsReplyTo asked.task asked.load asked.module_loads asked.target asked.hex files reply
 
@@ -265,9 +265,9 @@ abbrev pub IsPlaceIn : ℕ → End → Type 0
 IsPlaceIn count (BadHex place) = place < count
 IsPlaceIn count other = Unit {0}
 
--- How a run goes, where `Is` says what its reply may be and there are `count` files: it has written all of a text, or nothing yet of a
--- reply that is no text. Where memory ran out it has written a beginning of whatever text is the reply, and where the sink stopped a
--- beginning of the text or the refusal that is the reply.
+-- The result of a run, where `Is` holds of its possible replies and there are `count` files: it has written all of a
+-- text, or nothing yet of a reply that is no text. If memory ran out it has written a beginning of whatever text is the
+-- reply; if the sink stopped, a beginning of the text or the refusal that is the reply.
 abbrev pub Goes : ℕ → (Reply → Type 0) → Option (List ℕ) → Option (List ℕ) → Result (Unit {0}) RunFault → Type 0
 Goes count Is old new (Ok _) = (bytes : List ℕ) × Is (text bytes) × Appends old new bytes
 Goes count Is old new (Err (stops.Refused section fault)) = Is (refusal section fault) × Appends old new []
@@ -276,9 +276,9 @@ Goes count Is old new (Err (stops.StateLine n)) = Is (bad_line n) × Appends old
 Goes count Is old new (Err stops.Memory) = (reply : Reply) → Is reply → AppendsFront old new (accepted_text reply)
 Goes count Is old new (Err stops.Output) = (reply : Reply) × Is reply × IsWritten reply × AppendsFront old new (text_of reply)
 
--- How a run ends, where `Is` says what its reply may be: it has written all of the reply's text. Where memory ran out it has written a
--- beginning of it, whichever it is, and nothing of a refusal; where the sink stopped, which it has in that case alone, a beginning of
--- the text or the refusal.
+-- How a run ends, where `Is` holds of its possible replies: it has written all of the reply's text. If memory ran out it
+-- has written a beginning of the text, if there is one, and nothing of a refusal; if the sink stopped, and only then, a
+-- beginning of the text or the refusal.
 abbrev pub Ends : (Reply → Type 0) → Option (List ℕ) → Option (List ℕ) → Bool → End → Type 0
 Ends Is old new stopped Done = (bytes : List ℕ) × Is (text bytes) × Appends old new bytes × (stopped ≡ false)
 Ends Is old new stopped Refused = (section : Section) × (fault : Fault) × Is (refusal section fault)

@@ -1,4 +1,4 @@
--- What a sink has taken, where its bytes are known.
+-- The bytes that a sink has accepted, if they are known.
 use Rattle.std.specs.Prelude.{◌≡◌, ℕ, ◌==◌, ◌&&◌, not, Bool, true, List, ◌++◌, Option, Result, Ok, Err}
 use Rattle.std.specs.Io.KnownBytes.{Appends}
 use Rattle.dw_check.specs.declared.sink.Stopped.{Stopped}
@@ -8,12 +8,13 @@ use Rattle.dw_check.specs.declared.sink.Through.{Through}
 abbrev pub AppendsFront : Option (List ℕ) → Option (List ℕ) → List ℕ → Type 0
 AppendsFront old new text = (front : List ℕ) × (rest : List ℕ) × (front ++ rest ≡ text) × Appends old new front
 
--- A write that answers this of a piece of this many bytes stops the sink: it failed, or took nothing of a piece that isn't empty.
+-- A write of a piece of this many bytes stops the sink if it has this result: it failed, or accepted nothing of a
+-- non-empty piece.
 abbrev pub stops : Result ℕ Stopped → ℕ → Bool
 stops (Err _) len = true
 stops (Ok n) len = n == 0 && not (len == 0)
 
--- the writer that a sink hands its bytes to
+-- the writer that a sink passes its bytes to
 abbrev pub writer_of : {W : Type 0} → Through W → W
 writer_of t = t.inner
 

@@ -1,4 +1,4 @@
--- What a source has left, where its bytes are known, and how far it was read.
+-- The bytes that a source has left, if they are known, and how far it has been read.
 use Rattle.std.specs.Prelude.{ℕ, ◌==◌, if◌then◌else◌, List, Option, Result, Ok, Err}
 use Rattle.std.specs.Io.KnownBytes.{Consumes, IsAtEnd}
 use Rattle.dw_check.specs.declared.sink.Stopped.{Stopped}
@@ -12,25 +12,26 @@ use Rattle.dw_check.specs.declared.source.LoadFault.TheVariants.{Read, Memory}
 abbrev pub GivesAll : Option (List ℕ) → Option (List ℕ) → List ℕ → Type 0
 GivesAll old new bytes = Consumes old new bytes × IsAtEnd new
 
--- a beginning of the known bytes is gone
+-- a beginning of the known bytes was consumed
 abbrev pub GivesFront : Option (List ℕ) → Option (List ℕ) → Type 0
 GivesFront old new = (front : List ℕ) × Consumes old new front
 
--- A read that answers this leaves a source so: it has failed, or gave nothing and has ended, or is open.
+-- The state in which a read with this result leaves a source: it has failed, or gave nothing and has
+-- ended, or is open.
 abbrev pub reading_after : Result ℕ Stopped → Reading
 reading_after (Err _) = Failed
 reading_after (Ok n) = if n == 0 then Ended else Open
 
--- a load that answers this leaves a source so
+-- the state in which a load with this result leaves a source
 abbrev pub reading_after_load : {A : Type 0} → Result A LoadFault → Reading
 reading_after_load (Ok _) = Ended
 reading_after_load (Err Read) = Failed
 reading_after_load (Err Memory) = Open
 
--- the reader that a source asks
+-- the reader under a source
 abbrev pub reader_of : {R : Type 0} → Reads R → R
 reader_of r = r.inner
 
--- how far that reader was read
+-- how far that reader has been read
 abbrev pub reading_of : {R : Type 0} → Reads R → Reading
 reading_of r = r.reading

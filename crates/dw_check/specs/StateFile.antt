@@ -1,4 +1,4 @@
--- What a state file says of a machine, line by line.
+-- The machine state in a state file, line by line.
 use Rattle.std.specs.Prelude.{◌≡◌, ℕ, suc, ◌+◌, ◌-◌, ◌≤◌, ◌^◌, ◌==◌, nat_lt, nat_le, Bool, not, ◌&&◌, ◌||◌, if◌then◌else◌}
 use Rattle.std.specs.Prelude.{List, [], ◌∷◌, ◌++◌, length, take, find, fold, slice_get}
 use Rattle.std.specs.Prelude.{Option, Some, None, is_some, option_map, option_and_then, Result, Ok, Err, codes}
@@ -13,8 +13,8 @@ use Rattle.dw_rows.specs.Abi.{is_among, abi_fault}
 use Rattle.dw_check.specs.Addresses.{short_number, address_of}
 use Rattle.dw_check.specs.Parts.{parts_of}
 
--- what a line gives: a register's content, the bytes at an address, the CFA, the frame base, the object's address, a register that
--- calls keep, or the one that is the stack pointer
+-- what a line gives: a register's content, the bytes at an address, the CFA, the frame base, the object's address, a
+-- callee-saved register, or the stack pointer register
 pub data StateFact : Type 0 where
   register : ℕ → ℕ → StateFact
   bytes : ℕ → List ℕ → StateFact
@@ -24,14 +24,14 @@ pub data StateFact : Type 0 where
   keep : ℕ → StateFact
   stack_pointer : ℕ → StateFact
 
--- bytes that are given end at the top of all addresses, or before
+-- bytes that are given end at the greatest address, or before
 abbrev pub FitsAddresses : StateFact → Type 0
 FitsAddresses (bytes a bs) = a + length bs ≤ 2 ^ 64
 FitsAddresses _ = Unit {0}
 
 -- ---- a line
 
--- one byte or more that end at the top of the addresses, or before
+-- one byte or more that end at the greatest address, or before
 abbrev pub bytes_fact : Target → ℕ → List ℕ → Option StateFact
 bytes_fact target a bs = if nat_lt 0 (length bs) && nat_le (a + length bs) (suc (top_of target)) then Some (bytes a bs) else None
 
@@ -70,7 +70,7 @@ fact_of_words target words = None
 abbrev pub fact_of_line : Target → List ℕ → Option StateFact
 fact_of_line target line = fact_of_words target (parts_of 32 line)
 
--- ---- what holds: where two lines give one thing, the first
+-- ---- what counts: if two lines give the same thing, the first
 
 abbrev pub first_that : {X : Type 0} → (StateFact → Option X) → List StateFact → Option X
 first_that pick [] = None
@@ -100,14 +100,14 @@ abbrev pub stack_pointer_in : StateFact → Option ℕ
 stack_pointer_in (stack_pointer n) = Some n
 stack_pointer_in _ = None
 
--- ---- what calls keep
+-- ---- callee-saved registers
 
--- numbers that are kept, and one more where a line gives one that isn't among them
+-- callee-saved registers, and one more if a line gives one that isn't among them
 abbrev pub kept_with : List ℕ → StateFact → List ℕ
 kept_with ns (keep n) = if is_among n ns then ns else ns ++ n ∷ []
 kept_with ns _ = ns
 
--- those that lines give, in their order, each once
+-- those that lines give, in order, each once
 abbrev pub kept_in : List StateFact → List ℕ
 kept_in facts = fold kept_with [] facts
 
@@ -117,7 +117,7 @@ kept_in facts = fold kept_with [] facts
 abbrev pub facts_of_lines : Target → List (List ℕ) → List StateFact
 facts_of_lines target lines = filter_map (fact_of_line target) lines
 
--- it is empty, or gives something
+-- it is empty or well formed
 abbrev pub is_line : Target → List ℕ → Bool
 is_line target line = length line == 0 || is_some (fact_of_line target line)
 
@@ -125,11 +125,11 @@ is_line target line = length line == 0 || is_some (fact_of_line target line)
 abbrev pub go_together : List StateFact → Bool
 go_together facts = is_none (abi_fault (kept_in facts) (first_that stack_pointer_in facts))
 
--- each is one, and what they give goes together
+-- each line is good, and what they give has no contradiction
 abbrev pub are_good : Target → List (List ℕ) → Bool
 are_good target lines = list_all (is_line target) lines && go_together (facts_of_lines target lines)
 
--- the number of the first line that isn't good with those before it, counted from 1
+-- the number of the first line that is malformed or contradicts those before it, counted from 1
 abbrev pub first_bad_line : Target → List (List ℕ) → Option ℕ
 first_bad_line target lines = find (λ n. not (are_good target (take n lines))) (range_with_len 1 (length lines))
 
@@ -141,7 +141,7 @@ unless_bad facts (Some n) = Err n
 abbrev pub facts_of_file : Target → List ℕ → Result (List StateFact) ℕ
 facts_of_file target text = let lines = parts_of 10 text in unless_bad (facts_of_lines target lines) (first_bad_line target lines)
 
--- a machine as far as it is known
+-- the known part of a machine's state
 pub record KnownState : Type 0 where
   pub registers : ℕ → Option ℕ
   pub memory : ℕ → Option ℕ
@@ -151,7 +151,7 @@ pub record KnownState : Type 0 where
   pub kept : List ℕ
   pub stack_pointer : Option ℕ
 
--- it is what was given, and no more
+-- it is exactly what was given
 pub record IsGivenBy (k : KnownState) (facts : List StateFact) : Type 0 where
   pub registers : (n : ℕ) → k.registers n ≡ first_that (content_in n) facts
   pub memory : (a : ℕ) → k.memory a ≡ first_that (byte_in a) facts

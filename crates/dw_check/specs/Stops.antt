@@ -1,4 +1,4 @@
--- Why a run stops before its text is written whole.
+-- Why a run stops before its whole text is written.
 use Rattle.std.specs.Prelude.{◌≡◌, ℕ, ◌<◌, Bool, true, false, List, Option, Some, None, Result, Ok, Err}
 use Rattle.dw_bytes.specs.declared.fault.Fault.{Fault}
 use Rattle.dw_check.specs.StateFile.{StateFact}
@@ -10,23 +10,24 @@ use Rattle.dw_check.specs.declared.stop.ReportFault.TheVariants as faults
 use Rattle.dw_check.specs.declared.stop.RunFault.{RunFault}
 use Rattle.dw_check.specs.declared.stop.RunFault.TheVariants.{Refused, BadHex, StateLine, Memory, Output}
 
--- what writing that fails so stops a run with
+-- the stop of a run when writing fails this way
 abbrev pub stop_of : ReportFault → RunFault
 stop_of faults.Memory = Memory
 stop_of faults.Write = Output
 
--- how a run goes whose text was written so
+-- the result of a run whose text was written with this result
 abbrev pub ended_by : Result (Unit {0}) ReportFault → Result (Unit {0}) RunFault
 ended_by (Ok _) = Ok tt
 ended_by (Err fault) = Err (stop_of fault)
 
--- a run that goes so left the sink stopped
+-- a run with this result left the sink stopped
 abbrev pub is_output : Result (Unit {0}) RunFault → Bool
 is_output (Ok _) = false
 is_output (Err Output) = true
 is_output (Err _) = false
 
--- Why the bytes of the file at a place, one of this many files, aren't there: it is to be hex text and isn't, or memory ran out.
+-- Why the bytes of the file at an index, one of this many files, aren't available: it must be hex text and isn't, or
+-- memory ran out.
 abbrev pub IsBadSection : Option (List ℕ) → ℕ → ℕ → RunFault → Type 0
 IsBadSection bytes place count (BadHex n) = (n ≡ place) × (place < count) × (bytes ≡ None)
 IsBadSection bytes place count Memory = Unit {0}
@@ -38,19 +39,20 @@ IsBadState given (StateLine n) = given ≡ Err n
 IsBadState given Memory = Unit {0}
 IsBadState given _ = ⊥
 
--- What refuses a section: its first fault, or memory ran out.
+-- Why a section is refused: its first fault, or memory ran out.
 abbrev pub IsRefusal : Section → Option Fault → RunFault → Type 0
 IsRefusal section first (Refused s fault) = (s ≡ section) × (first ≡ Some fault)
 IsRefusal section first Memory = Unit {0}
 IsRefusal section first _ = ⊥
 
--- What refuses two sections: their first fault, or memory ran out.
+-- Why two sections are refused: their first fault, or memory ran out.
 abbrev pub RefusesBoth : Option CheckFault → RunFault → Type 0
 RefusesBoth first (Refused section fault) = first ≡ Some (record { section = section; fault = fault })
 RefusesBoth first Memory = Unit {0}
 RefusesBoth first _ = ⊥
 
--- Why the bytes of further modules aren't there, the files being this many: one is to be hex text and isn't, or memory ran out.
+-- Why the bytes of further modules aren't available, with this many files: one must be hex text and isn't, or memory ran
+-- out.
 abbrev pub AreBadModules : Result (List (Module (List ℕ))) ℕ → ℕ → RunFault → Type 0
 AreBadModules modules count (BadHex n) = (modules ≡ Err n) × (n < count)
 AreBadModules modules count Memory = Unit {0}

@@ -1,4 +1,4 @@
--- The texts that a run writes, a definition a form of line.
+-- The texts that a run writes, one definition per form of line.
 use Rattle.std.specs.Prelude.{ℕ, suc, ◌+◌, ◌<◌, ◌^◌, ℤ, pos, negsuc, List, [], ◌++◌, Option}
 use Rattle.std.specs.Prelude.{Some, None, codes, decimal}
 use Rattle.std.specs.List.{flat_map}
@@ -17,7 +17,7 @@ use Rattle.dw_check.specs.declared.whole_check.CheckFault.{CheckFault}
 
 -- ---- numbers
 
--- how many hex digits an address has
+-- the number of hex digits of an address
 abbrev pub digits_of : AddressSize → ℕ
 digits_of Four = 8
 digits_of Eight = 16
@@ -25,11 +25,11 @@ digits_of Eight = 16
 abbrev pub address_text : AddressSize → ℕ → List ℕ
 address_text size n = hex_number (digits_of size) n
 
--- the addresses from start to before end
+-- the addresses from start up to, not including, end
 unfoldable pub range_text : AddressSize → ℕ → ℕ → List ℕ
 range_text size start end = address_text size start ++ codes ".." ++ address_text size end
 
--- a whole number after its sign, 0 as well
+-- a whole number after its sign, which 0 has too
 abbrev pub signed_text : ℤ → List ℕ
 signed_text (pos n) = codes "+" ++ decimal n
 signed_text (negsuc n) = codes "-" ++ decimal (suc n)
@@ -59,7 +59,7 @@ unfoldable pub fde_line : AddressSize → Cie → Fde → List ℕ
 fde_line size cie fde = records_text cie fde ++ codes " " ++ range_text size fde.initial_location (fde.initial_location + fde.address_range)
     ++ codes " ra r" ++ decimal cie.return_address_register ++ codes "\n"
 
--- an expression is its bytes
+-- an expression is shown as its bytes
 unfoldable pub expression_text : List ℕ → List ℕ
 expression_text bytes = codes "expr(" ++ encode_lower bytes ++ codes ")"
 
@@ -69,7 +69,7 @@ cfa_text (Some (register_and_offset r n)) = codes "r" ++ decimal r ++ signed_tex
 cfa_text (Some (cfa_expression e)) = expression_text e.bytes
 cfa_text None = []
 
--- what the caller's register is; default isn't shown
+-- the rule of a caller's register; default isn't shown
 abbrev pub rule_text : Rule → List ℕ
 rule_text default = []
 rule_text undefined = codes "u"
@@ -87,11 +87,11 @@ unfoldable pub row_line : AddressSize → Row → List ℕ
 row_line size row = codes "row " ++ range_text size row.start row.end ++ codes " cfa=" ++ cfa_text row.cfa
     ++ flat_map register_text row.rules ++ codes "\n"
 
--- the addresses of an FDE are ones of this size
+-- the addresses of an FDE have this size
 abbrev pub FitsFde : AddressSize → Fde → Type 0
 FitsFde size fde = fde.initial_location + fde.address_range < 16 ^ digits_of size
 
--- the addresses of a row are ones of this size
+-- the addresses of a row have this size
 pub record Fits (size : AddressSize) (row : Row) : Type 0 where
   pub start : row.start < 16 ^ digits_of size
   pub end : row.end < 16 ^ digits_of size
@@ -108,7 +108,7 @@ fde_text frame fde = lines_of frame.target.address_size (cie_in frame fde) fde (
 unfoldable pub frame_text : FrameSection → List ℕ
 frame_text frame = flat_map (fde_text frame) frame.fdes
 
--- ---- an expression of a section, before what it comes to
+-- ---- an expression of a section, before its outcome
 
 unfoldable pub expression_offset_line : ℕ → List ℕ
 expression_offset_line at = codes "expr " ++ offset_text at ++ codes "\n"

@@ -6,22 +6,22 @@ use Rattle.dw_check.specs.declared.stop.ReportFault.{ReportFault}
 use Rattle.dw_check.specs.declared.stop.ReportFault.TheVariants.{Memory, Write}
 use Rattle.dw_check.specs.declared.writer.Writer.{Writer}
 
--- The writer is over the same sink, and shows addresses in the same size.
+-- The writer has the same sink, and shows addresses in the same size.
 abbrev pub IsSame : {S : Type 0} → Writer S → Writer S → Type 0
 IsSame old new = (new.sink.ghost_name ≡ old.sink.ghost_name) × (new.size ≡ old.size)
 
--- A call that answers this wrote the text, or a beginning of it.
+-- A call with this result wrote the text, or a beginning of it.
 abbrev pub Writes : Option (List ℕ) → Option (List ℕ) → Result (Unit {0}) ReportFault → List ℕ → Type 0
 Writes old new (Ok _) text = Appends old new text
 Writes old new (Err _) text = AppendsFront old new text
 
--- the same of a text that is handed over whole: where memory lacks, none of it is written
+-- the same for a text that is sent whole: out of memory, none of it is written
 abbrev pub WritesWhole : Option (List ℕ) → Option (List ℕ) → Result (Unit {0}) ReportFault → List ℕ → Type 0
 WritesWhole old new (Ok _) text = Appends old new text
 WritesWhole old new (Err Memory) text = Appends old new []
 WritesWhole old new (Err Write) text = AppendsFront old new text
 
--- a call that answers this left the sink stopped
+-- a call with this result left the sink stopped
 abbrev pub is_write : Result (Unit {0}) ReportFault → Bool
 is_write (Ok _) = false
 is_write (Err Memory) = false

@@ -10,7 +10,7 @@ ghost use Rattle.dw_check.specs.StateFile.{keep, kept_with};
 use arrayvec::ArrayVec;
 use dw_rows::{Abi, MAX_KEPT};
 
-/// The registers that calls keep, in the order in which they were named, and the stack pointer.
+/// The callee-saved registers, in the order in which they were named, and the stack pointer.
 #[derive(Drop)]
 pub(crate) struct AbiRegisters {
     kept: ArrayVec<u16, MAX_KEPT>,
@@ -30,7 +30,8 @@ impl AbiRegisters {
         }
     }
 
-    /// Names a register that calls keep, unless it is the stack pointer or one too many. One that is kept already stays so.
+    /// Adds a callee-saved register, unless it is the stack pointer or there are too many. One that was added before
+    /// stays.
     pub fn keep(&mut self, number: u16) -> bool
         ensures taken { result ≡ is_none (abi_fault
             (kept_with self.old.kept.items (keep number)) self.old.stack_pointer) }
@@ -48,7 +49,7 @@ impl AbiRegisters {
         true
     }
 
-    /// Names the stack pointer, unless calls keep it. Where there is one already, that stays.
+    /// Sets the stack pointer, unless it is callee-saved. If one was set before, that stays.
     pub fn set_stack_pointer(&mut self, number: u16) -> bool
         ensures taken { result ≡ is_none (abi_fault self.old.kept.items
             (option_or self.old.stack_pointer (Some number))) }
@@ -66,7 +67,7 @@ impl AbiRegisters {
         }
     }
 
-    /// The ABI that keeps these registers, and has this stack pointer.
+    /// The ABI with these callee-saved registers and this stack pointer.
     pub fn abi(&self) -> Abi
         ensures { roles_of result ≡ abi_of self.now.kept.items self.now.stack_pointer }
     {

@@ -1,4 +1,4 @@
-//! The numbers and addresses that digits spell.
+//! Parses numbers and addresses.
 
 ghost use Rattle.std.specs.Prelude.{◌≡◌, ◌≤◌, ◌⊎◌, option_and_then};
 ghost use Rattle.dw_frame.specs.Sections.{top_of};
@@ -6,7 +6,7 @@ ghost use Rattle.dw_check.specs.Addresses.{number_of, at_most, short_number, hex
 
 use dw_bytes::Target;
 
-/// The number that decimal or hex digits spell, at least one of them and no more than are allowed.
+/// The number written in decimal or hex digits, at least one and no more than allowed.
 pub(crate) fn parse_number(digits: &[u8], radix: u32, most: usize) -> Option<u64>
     requires radix { (radix ≡ 10) ⊎ (radix ≡ 16) }
     requires most { most ≤ 16 }
@@ -15,7 +15,7 @@ pub(crate) fn parse_number(digits: &[u8], radix: u32, most: usize) -> Option<u64
     if digits.is_empty() || digits.len() > most {
         return None;
     }
-    // `from_str_radix` takes a sign.
+    // `from_str_radix` accepts a sign.
     if digits[0] == b'+' {
         return None;
     }
@@ -28,21 +28,21 @@ pub(crate) fn parse_number(digits: &[u8], radix: u32, most: usize) -> Option<u64
     }
 }
 
-/// The number, if it is at most another.
+/// The number, if it is at most `top`.
 fn number_within(number: Option<u64>, top: u64) -> Option<u64>
     ensures { result ≡ option_and_then (at_most top) number }
 {
     number.filter(|value| *value <= top)
 }
 
-/// The number that 1 to 5 decimal digits spell, if it is at most 65535.
+/// The number written in 1 to 5 decimal digits, if it is at most 65535.
 pub(crate) fn parse_short(digits: &[u8]) -> Option<u16>
     ensures { result ≡ short_number digits.now }
 {
     u16::try_from(parse_number(digits, 10, 5)?).ok()
 }
 
-/// The number that `0x` and 1 to 16 hex digits of either case spell, if it is at most another.
+/// The number written as `0x` and 1 to 16 hex digits of either case, if it is at most `top`.
 fn parse_hex(text: &[u8], top: u64) -> Option<u64>
     ensures { result ≡ hex_up_to top text.now }
 {
@@ -52,14 +52,14 @@ fn parse_hex(text: &[u8], top: u64) -> Option<u64>
     }
 }
 
-/// The address of the target that a word spells.
+/// The address of the target that a word gives.
 pub(crate) fn parse_address(text: &[u8], target: Target) -> Option<u64>
     ensures { result ≡ address_of target text.now }
 {
     parse_hex(text, target.address_size.max_address())
 }
 
-/// The offset in a section that a word spells.
+/// The offset in a section that a word gives.
 pub(crate) fn parse_offset(text: &[u8]) -> Option<u32>
     ensures { result ≡ offset_of text.now }
 {

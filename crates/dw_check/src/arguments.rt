@@ -1,4 +1,4 @@
-//! What a command line asks for.
+//! From the command line to a request.
 
 ghost use Rattle.std.specs.Prelude.{◌≡◌, ◌⊎◌, ◌∷◌, ◌++◌, [], IfOk, IfErr, Some, map, option_map, codes};
 ghost use Rattle.std.specs.Option.{IsSomeAnd, option_to_list};
@@ -24,7 +24,7 @@ use clap::error::ErrorKind;
 use clap::{ArgMatches, Error};
 use std::alloc::{AllocError, Global};
 
-/// A request with the flags of a subcommand, over these files, with its module at 0 and no further ones.
+/// A request with the flags of a subcommand for these files, its module loaded at 0, without further modules.
 fn request_with(alloc: Global, matches: &ArgMatches<'_>, task: Task, files: Vec<String>) -> Request
     ensures task { result.task ≡ task }
     ensures target { result.target ≡ target_by_flags (rows_of (found_of matches.now)) }
@@ -43,7 +43,7 @@ fn request_with(alloc: Global, matches: &ArgMatches<'_>, task: Task, files: Vec<
     }
 }
 
-/// A request over one file.
+/// A request for one file.
 fn request_over(
     alloc: Global,
     matches: &ArgMatches<'_>,
@@ -77,7 +77,7 @@ fn one_or_two_files(alloc: Global, file: &str, second: Option<&str>) -> Result<V
     Ok(files)
 }
 
-/// A request over two files.
+/// A request for two files.
 fn request_over_both(
     alloc: Global,
     matches: &ArgMatches<'_>,
@@ -99,7 +99,7 @@ fn request_over_both(
     Ok(request_with(alloc, matches, task, files))
 }
 
-/// A request over one file, and over a state file if there is one.
+/// A request for one file, and a state file if there is one.
 fn request_with_state(
     alloc: Global,
     matches: &ArgMatches<'_>,
@@ -121,7 +121,7 @@ fn request_with_state(
     Ok(request_with(alloc, matches, task, files))
 }
 
-/// These files, and then those of the modules.
+/// These files, followed by those of the modules.
 fn with_module_files(
     alloc: Global,
     files: Vec<String>,
@@ -137,7 +137,7 @@ fn with_module_files(
     Ok(files)
 }
 
-/// A request over a frame section, a state file and the modules that the options name.
+/// A request for a frame section, a state file and the modules that the options name.
 fn request_over_modules(
     alloc: Global,
     matches: &ArgMatches<'_>,
@@ -164,7 +164,7 @@ fn request_over_modules(
     })
 }
 
-/// What `check` asks for.
+/// The request of `check`.
 fn check_request(alloc: Global, matches: &ArgMatches<'_>) -> Result<Request, Usage>
     ensures ok { IfOk result (λ r. asked_of check_command (rows_of (found_of matches.now))
         ≡ Some r) }
@@ -176,7 +176,7 @@ fn check_request(alloc: Global, matches: &ArgMatches<'_>) -> Result<Request, Usa
     request_over_both(alloc, matches, Task::Check, frame, lists)
 }
 
-/// What `rows` asks for.
+/// The request of `rows`.
 fn rows_request(alloc: Global, matches: &ArgMatches<'_>) -> Result<Request, Usage>
     ensures ok { IfOk result (λ r. asked_of rows_command (rows_of (found_of matches.now))
         ≡ Some r) }
@@ -188,7 +188,7 @@ fn rows_request(alloc: Global, matches: &ArgMatches<'_>) -> Result<Request, Usag
     }
 }
 
-/// What `row` asks for.
+/// The request of `row`.
 fn row_request(alloc: Global, matches: &ArgMatches<'_>) -> Result<Request, Usage>
     ensures ok { IfOk result (λ r. asked_of row_command (rows_of (found_of matches.now)) ≡ Some r) }
     ensures err { IfErr result (λ e. (e ≡ Memory)
@@ -203,7 +203,7 @@ fn row_request(alloc: Global, matches: &ArgMatches<'_>) -> Result<Request, Usage
     Ok(Request { load, ..request })
 }
 
-/// What `locs` looks up.
+/// The look-up of `locs`.
 fn locs_lookup(matches: &ArgMatches<'_>) -> Result<ListLookup, Usage>
     ensures ok { IfOk result (λ l. lookup_in (rows_of (found_of matches.now)) ≡ Some l) }
     ensures err { IfErr result (λ e. (e ≡ Memory)
@@ -219,7 +219,7 @@ fn locs_lookup(matches: &ArgMatches<'_>) -> Result<ListLookup, Usage>
     })
 }
 
-/// What `locs` asks for.
+/// The request of `locs`.
 fn locs_request(alloc: Global, matches: &ArgMatches<'_>) -> Result<Request, Usage>
     ensures ok { IfOk result (λ r. asked_of locs_command (rows_of (found_of matches.now))
         ≡ Some r) }
@@ -233,7 +233,7 @@ fn locs_request(alloc: Global, matches: &ArgMatches<'_>) -> Result<Request, Usag
     request_with_state(alloc, matches, Task::Locs { lookup }, file)
 }
 
-/// What `eval` asks for.
+/// The request of `eval`.
 fn eval_request(alloc: Global, matches: &ArgMatches<'_>) -> Result<Request, Usage>
     ensures ok { IfOk result (λ r. asked_of eval_command (rows_of (found_of matches.now))
         ≡ Some r) }
@@ -249,7 +249,7 @@ fn eval_request(alloc: Global, matches: &ArgMatches<'_>) -> Result<Request, Usag
     request_with_state(alloc, matches, Task::Eval { kind }, file)
 }
 
-/// What `unwind` asks for.
+/// The request of `unwind`.
 fn unwind_request(alloc: Global, matches: &ArgMatches<'_>) -> Result<Request, Usage>
     ensures ok { IfOk result (λ r. asked_of unwind_command (rows_of (found_of matches.now))
         ≡ Some r) }
@@ -265,7 +265,7 @@ fn unwind_request(alloc: Global, matches: &ArgMatches<'_>) -> Result<Request, Us
     request_over_modules(alloc, matches, Task::Unwind { address }, frame, state)
 }
 
-/// What `backtrace` does.
+/// The task of `backtrace`.
 fn backtrace_task(matches: &ArgMatches<'_>) -> Result<Task, Usage>
     ensures ok { IfOk result (λ task. backtrace_in (rows_of (found_of matches.now)) ≡ Some task) }
     ensures err { IfErr result (λ e. (e ≡ Memory)
@@ -276,7 +276,7 @@ fn backtrace_task(matches: &ArgMatches<'_>) -> Result<Task, Usage>
     Ok(Task::Backtrace { address, limit })
 }
 
-/// What `backtrace` asks for.
+/// The request of `backtrace`.
 fn backtrace_request(alloc: Global, matches: &ArgMatches<'_>) -> Result<Request, Usage>
     ensures ok { IfOk result (λ r. asked_of backtrace_command (rows_of (found_of matches.now))
         ≡ Some r) }
@@ -292,8 +292,8 @@ fn backtrace_request(alloc: Global, matches: &ArgMatches<'_>) -> Result<Request,
     request_over_modules(alloc, matches, task, frame, state)
 }
 
-/// The request of a subcommand. The arms that answer `Memory` without asking for any are never reached:
-/// clap takes no other subcommand, and none without its words.
+/// The request of a subcommand. The arms that answer `Memory` without an allocation are never reached: clap accepts no
+/// other subcommand, and none without its words.
 fn request_of_command(alloc: Global, name: &str, matches: &ArgMatches<'_>) -> Result<Request, Usage>
     ensures ok { IfOk result (λ r. asked_by name.now (rows_of (found_of matches.now)) ≡ Some r) }
     ensures err { IfErr result (λ e. (e ≡ Memory)
@@ -323,7 +323,7 @@ fn request_of_command(alloc: Global, name: &str, matches: &ArgMatches<'_>) -> Re
     Err(Usage::Memory)
 }
 
-/// The request of the subcommand that the matches have.
+/// The request of the matched subcommand.
 fn request_of_matches(alloc: Global, matches: &ArgMatches<'_>) -> Result<Request, Usage>
     ensures ok { IfOk result (λ r. IsSomeAnd (subcommand_rows_of matches.now)
         (λ (name, rows). asked_by name rows ≡ Some r)) }
@@ -337,7 +337,7 @@ fn request_of_matches(alloc: Global, matches: &ArgMatches<'_>) -> Result<Request
     }
 }
 
-/// The answer to what clap refuses.
+/// The answer to an error from clap.
 fn usage_of_clap_error(alloc: Global, error: Error) -> Usage
     ensures { IsUsageOf (kind_of error) result }
 {
@@ -350,9 +350,8 @@ fn usage_of_clap_error(alloc: Global, error: Error) -> Usage
     }
 }
 
-/// What the words ask for, the program's name first among them. It is `Line` exactly where clap refuses
-/// the words, and `BadArgument` exactly where a word or the value of an option is none of those that its place takes, memory
-/// aside.
+/// The request of a command line, whose first word is the program's name. Unless memory runs out, the error is `Line`
+/// exactly if clap rejects the words, and `BadArgument` exactly if a word or an option's value is malformed.
 pub fn request(alloc: Global, words: Vec<String>) -> Result<Request, Usage>
     ensures { AsksFor (map (λ w. string_bytes w) words.items) result }
 {

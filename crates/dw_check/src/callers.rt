@@ -1,4 +1,4 @@
-//! The frame that called, and walks up the stack, over sections that were checked together.
+//! Calling frames, and walks up the stack, with sections that were checked together.
 
 ghost use Rattle.std.specs.Prelude.{◌≡◌, ◌<◌, ◌^◌, All, IfErr, IfOk, IfSome, IsOk, option_map};
 ghost use Rattle.dw_bytes.specs.Answers.{memory as want_of_memory};
@@ -18,10 +18,10 @@ use dw_rows::Abi;
 use dw_unwind::{Backtrace, Caller, backtrace_by_section, unwind_by_section};
 use std::alloc::Global;
 
-/// The caller of the frame at an address, over the frame's registers and memory, or none where no FDE covers the address (DWARF 5,
-/// section 6.4.1). A register that no instruction has given a rule is undefined.
+/// The caller of the frame at an address, given the frame's registers and memory, or none if no FDE covers the address
+/// (DWARF 5, section 6.4.1). A register to which no instruction has given a rule is undefined.
 ///
-/// It is `unwind_with` under an ABI that says nothing.
+/// This is `unwind_with` under an ABI without rules.
 pub fn unwind<R: Registers, M: Memory>(
     checked: &Checked<'_>,
     address: u64,
@@ -38,11 +38,11 @@ pub fn unwind<R: Registers, M: Memory>(
     unwind_with(checked, &Abi::none(), address, registers, memory)
 }
 
-/// The caller of the frame at an address, over the frame's registers and memory, or none where no FDE covers the address (DWARF 5,
-/// section 6.4.1). The ABI says what a register is that no instruction has given a rule.
+/// The caller of the frame at an address, given the frame's registers and memory, or none if no FDE covers the address
+/// (DWARF 5, section 6.4.1). The ABI gives the rule of a register to which no instruction has given one.
 ///
-/// It is `unwind_by` the section: one binary search finds the FDE and one its CIE, and its program is run once, up to the row of the
-/// address.
+/// This is `unwind_by` with the section: one binary search finds the FDE and one its CIE, and its program is run once, up
+/// to the row of the address.
 pub fn unwind_with<R: Registers, M: Memory>(
     checked: &Checked<'_>,
     abi: &Abi,
@@ -61,10 +61,10 @@ pub fn unwind_with<R: Registers, M: Memory>(
     unwind_by_section(checked.frame(), abi, address, registers, memory)
 }
 
-/// Walks up the stack from a frame at an address, with its registers, over memory: the frame, its caller, that one's caller and so
-/// on, at most `limit` frames, and why there are no more (DWARF 5, sections 6.4.1 and 6.4.4).
+/// Walks up the stack from a frame, given its address, registers and memory: the frame, its caller, that frame's caller
+/// and so on. Gives at most `limit` frames, and why there are no more (DWARF 5, sections 6.4.1 and 6.4.4).
 ///
-/// It is `backtrace_by_section` over the checked frame section.
+/// This is `backtrace_by_section` with the checked frame section.
 pub fn backtrace<R: Registers, M: Memory>(
     alloc: Global,
     checked: &Checked<'_>,
@@ -81,7 +81,7 @@ pub fn backtrace<R: Registers, M: Memory>(
     ensures lacks { IfErr result (λ fault. fault ≡ want_of_memory) }
     ensures none { limit ≡ 0 → IsOk result }
 
-    // All numbers are below 2^w, w being the size of an address in bits, where the first frame's address is.
+    // All numbers are below 2^w, w being the size of an address in bits, if the first frame's address is.
     ensures fits { IfOk result (λ walk.
         address < 2 ^ width_of checked.now.frame.target.address_size
         → All (FrameFits (2 ^ width_of checked.now.frame.target.address_size))

@@ -1,4 +1,4 @@
-//! Expressions evaluated.
+//! Evaluates expressions and writes the outcome.
 
 ghost use Rattle.std.specs.Prelude.{◌≡◌, ◌<◌, ◌^◌, ℕ, List, false, length};
 ghost use Rattle.dw_stack.specs.Certificates.{checked_of};
@@ -46,7 +46,7 @@ fn write_evaluation<S: Sink>(
     send_line(out)
 }
 
-/// Evaluates a checked expression over what is known, and writes what it comes to.
+/// Evaluates a checked expression in a known state, and writes its outcome.
 pub(crate) fn write_outcome<S: Sink>(
     out: &mut Writer<'_, S>,
     checked: &CheckedExpression<'_>,

@@ -52,7 +52,7 @@ pub(crate) fn target_by_flags(matches: &ArgMatches<'_>) -> Target
     }
 }
 
-/// The address that a word spells.
+/// The address that a word gives.
 pub(crate) fn address_word(matches: &ArgMatches<'_>, name: &str) -> Result<u64, Usage>
     ensures ok { IfOk result (λ a. address_at name.now (rows_of (found_of matches.now)) ≡ Some a) }
     ensures err { IfErr result (λ e. (e ≡ Memory)
@@ -67,7 +67,7 @@ pub(crate) fn address_word(matches: &ArgMatches<'_>, name: &str) -> Result<u64, 
     }
 }
 
-/// The offset in a section that a word spells.
+/// The offset in a section that a word gives.
 pub(crate) fn offset_word(matches: &ArgMatches<'_>, name: &str) -> Result<u32, Usage>
     ensures ok { IfOk result (λ n. offset_at name.now (rows_of (found_of matches.now)) ≡ Some n) }
     ensures err { IfErr result (λ e. (e ≡ Memory)
@@ -98,7 +98,7 @@ pub(crate) fn kind_word(name: &str) -> Option<Kind>
     None
 }
 
-/// How many frames a word says at most.
+/// The limit of frames that a word gives.
 pub(crate) fn limit_word(matches: &ArgMatches<'_>, name: &str) -> Result<u32, Usage>
     ensures ok { IfOk result (λ n. limit_at name.now (rows_of (found_of matches.now)) ≡ Some n) }
     ensures err { IfErr result (λ e. (e ≡ Memory)

@@ -12,7 +12,7 @@ ghost use Rattle.dw_check.specs.LongFiles.{needed_parts};
 ghost use Rattle.dw_check.specs.Requests.{Asked};
 ghost use Rattle.dw_check.specs.Runs.{Reply, IsReply};
 
-/// A request has one reply, whatever its files contain.
+/// A request has at most one reply, whatever its files contain.
 pub fn one_reply()
     ensures { (asked : Asked) (files : List (List ℕ)) (r s : Reply) → IsReply asked files r
         → IsReply asked files s → r ≡ s }
@@ -31,14 +31,14 @@ pub fn each_has_a_reply()
     dw_unwind::laws::each_has_a_walk_through_modules();
 }
 
-/// What follows the needed part of a long file changes no reply.
+/// What follows the needed part of a long file doesn't change any reply.
 pub fn needed_parts_decide()
     ensures { (asked : Asked) (files : List (List ℕ)) (reply : Reply)
         → IsReply asked files reply
         ↔ IsReply asked (needed_parts asked.task asked.hex 0 files) reply }
 {}
 
-/// Two sections have no fault exactly where they are well formed.
+/// Two sections have no fault exactly if they are well formed.
 pub fn sections_without_fault_are_well_formed()
     ensures { (target : Target) (frame lists : List ℕ)
         → (check_fault target frame lists ≡ None) ↔ AreWellFormed target frame lists }
@@ -47,10 +47,10 @@ pub fn sections_without_fault_are_well_formed()
     dw_loclists::laws::list_sections_without_fault_are_well_formed();
 }
 
-/// What holds of two sections without a fault, which are those that `check` accepts. What is read of them is what their bytes
-/// encode. Each address that an FDE covers has exactly one row, the standard's, and any other address has none. Each expression of a
-/// rule and each of a list, for all registers and memory, ends within its number of operations, is never stuck, stays within its
-/// depth, and comes to one outcome.
+/// What holds of two sections without a fault, which are those that `check` accepts. What is read of them is what their
+/// bytes encode. Each address that an FDE covers has exactly one row, the standard's, and any other address has none.
+/// Each expression of a rule and each of a list, for all registers and memory, ends within its number of operations, is
+/// never stuck, stays within its depth, and has one outcome.
 pub fn accepted_sections_are_sound()
     ensures { (target : Target) (frame lists : List ℕ) → check_fault target frame lists ≡ None
         → AreSound target frame lists }
@@ -65,7 +65,7 @@ pub fn accepted_sections_are_sound()
     dw_eval::laws::evaluations_are_determined();
 }
 
-/// There is one report on two sections.
+/// There is at most one report on two sections.
 pub fn one_report()
     ensures { (frame : FrameSection) (lists : ListSection) (s t : List ℕ) → IsReport frame lists s
         → IsReport frame lists t → s ≡ t }
@@ -73,7 +73,7 @@ pub fn one_report()
     dw_stack::laws::depths_are_unique();
 }
 
-/// And there is one on each two sections that are accepted.
+/// And there is one for any two accepted sections.
 pub fn each_has_a_report()
     ensures { (frame : FrameSection) (lists : ListSection) → rows.IsChecked frame → IsChecked lists
         → (t : List ℕ) × IsReport frame lists t }

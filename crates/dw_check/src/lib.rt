@@ -1,5 +1,5 @@
-//! A frame section and a section of location lists checked together, callers and walks by them, and the texts of what a command line
-//! asks for.
+//! A frame section and a section of location lists checked together, callers and walks by them, and the output of each
+//! command.
 #![tactic(auto)]
 
 mod abi_registers;

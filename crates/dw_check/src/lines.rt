@@ -1,4 +1,4 @@
-//! Lines of text, in a line that is used again.
+//! Lines of text, in a reused line.
 
 ghost use Rattle.std.specs.Prelude.{◌≡◌, ◌++◌, ◌+◌, ◌^◌, ◌<◌, Some, OnOk};
 ghost use Rattle.std.specs.List.{flat_map};
@@ -27,7 +27,7 @@ fn push_fault_kind(line: &mut String, kind: FaultKind) -> Result<(), AllocError>
     line.push_str(kind.name())
 }
 
-/// The line of a refusal.
+/// The line of a refusal (an error).
 #[tactic(auto, unfolding(crate::specs::Text::refused_line))]
 pub(crate) fn push_refused(
     line: &mut String,
@@ -46,7 +46,7 @@ pub(crate) fn push_refused(
     line.push_str("\n")
 }
 
-/// The line of an expression before what it comes to: its offset in the section.
+/// The line before an expression's outcome: its offset in the section.
 #[tactic(auto, unfolding(crate::specs::Text::expression_offset_line))]
 pub(crate) fn push_expression_offset(line: &mut String, offset: u32) -> Result<(), AllocError>
     ensures { OnOk result (string_bytes line.new ≡ string_bytes line.old

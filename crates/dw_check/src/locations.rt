@@ -1,4 +1,4 @@
-//! What location lists say of an address, evaluated.
+//! Evaluates what location lists give at an address.
 
 ghost use Rattle.std.specs.Prelude.{◌≡◌, ◌++◌, ◌∷◌, ◌<◌, ◌^◌, ℕ, List, false, length, codes};
 ghost use Rattle.std.specs.List.{All};
@@ -35,7 +35,7 @@ fn write_location_offset<S: Sink>(out: &mut Writer<'_, S>, offset: u32) -> Resul
     send_line(out)
 }
 
-/// Writes a line that says that there is nothing to show.
+/// Writes a line which states that there is nothing to show.
 fn write_no_location<S: Sink>(out: &mut Writer<'_, S>, line: &str) -> Result<(), ReportFault>
     requires runs { S.has_stopped out.old.sink.now ≡ false }
     ensures same { IsSame out.old out.new }
@@ -47,7 +47,7 @@ fn write_no_location<S: Sink>(out: &mut Writer<'_, S>, line: &str) -> Result<(),
     send_line(out)
 }
 
-/// Writes an expression at an offset of its section, and what it comes to over what is known.
+/// Writes an expression at an offset of its section, and its outcome in a known state.
 fn write_location<S: Sink>(
     out: &mut Writer<'_, S>,
     offset: u32,
@@ -69,7 +69,7 @@ fn write_location<S: Sink>(
     write_outcome(out, checked, state)
 }
 
-/// Writes the expressions that are still to come, each with what it comes to.
+/// Writes the remaining expressions, each with its outcome.
 fn write_other_locations<'c, 'a, S: Sink>(
     out: &mut Writer<'_, S>,
     locations: LocationsAt<'c, 'a>,
@@ -89,7 +89,7 @@ fn write_other_locations<'c, 'a, S: Sink>(
     Ok(())
 }
 
-/// Writes the expressions that hold, each with what it comes to, or that none holds.
+/// Writes the expressions that hold, each with its outcome, or that none holds.
 fn write_locations<'c, 'a, S: Sink>(
     out: &mut Writer<'_, S>,
     locations: LocationsAt<'c, 'a>,
@@ -113,8 +113,8 @@ fn write_locations<'c, 'a, S: Sink>(
     }
 }
 
-/// Writes what a list says of an address, or that there is no list. One pass over the list; each expression is found
-/// by halving.
+/// Writes what a list gives at an address, or that there is no list. One pass over the list; each expression is
+/// found by binary search.
 pub(crate) fn write_list_lookup<S: Sink>(
     out: &mut Writer<'_, S>,
     lists: &CheckedLists<'_>,

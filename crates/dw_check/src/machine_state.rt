@@ -1,4 +1,4 @@
-//! What a state file says of a machine.
+//! The machine state that a state file gives.
 
 ghost use Rattle.std.specs.Prelude.{◌≡◌, ℕ, ◌+◌, ◌≤◌, ◌^◌, ◌&&◌, ◌∷◌, ◌++◌, [], List, OnOk, IfOk, IfErr, Some, length, MatchOption};
 ghost use Rattle.std.specs.Bool.{OnTrue};
@@ -23,7 +23,7 @@ use dw_rows::Abi;
 use std::alloc::{AllocError, Global};
 use std::collections::BTreeMap;
 
-/// A machine as far as it is known.
+/// The known part of a machine's state.
 #[derive(Drop)]
 pub(crate) struct MachineState {
     registers: BTreeMap<u16, u64>,
@@ -34,7 +34,7 @@ pub(crate) struct MachineState {
     abi_registers: AbiRegisters,
 }
 
-/// Gives a key its value, unless it has one.
+/// Gives a key its value, unless it already has one.
 fn add_first_value<K: Ord + Copy, V: Drop>(
     map: &mut BTreeMap<K, V>,
     key: K,
@@ -49,7 +49,7 @@ fn add_first_value<K: Ord + Copy, V: Drop>(
     Ok(())
 }
 
-/// The value that there is, else another.
+/// The old value if there is one, else the new one.
 fn first_value(old: Option<u64>, value: u64) -> Option<u64>
     ensures { result ≡ option_or old (Some value) }
 {
@@ -73,7 +73,7 @@ fn add_memory_bytes(
 }
 
 impl MachineState {
-    /// A machine of which nothing is known.
+    /// A machine with nothing known.
     pub fn new(alloc: Global) -> Self
         ensures { IsGivenBy (known_state_of result) [] }
     {
@@ -87,7 +87,7 @@ impl MachineState {
         }
     }
 
-    /// The ABI as far as it is known.
+    /// The known part of the ABI.
     pub fn abi(&self) -> Abi
         ensures { let known = known_state_of self.now
             in roles_of result ≡ abi_of known.kept known.stack_pointer }
@@ -95,7 +95,7 @@ impl MachineState {
         self.abi_registers.abi()
     }
 
-    /// Adds what a line gives, unless it can't stand beside what was given before, which stays.
+    /// Adds what a line gives, unless it contradicts what was given before, which stays.
     fn add(&mut self, line: StateLine) -> Result<bool, AllocError>
         requires { FitsAddresses (fact_of line) }
         ensures taken { IfOk result (λ taken. (facts : List StateFact)
@@ -127,7 +127,7 @@ impl MachineState {
         Ok(true)
     }
 
-    /// Adds what a line says, unless it is none or can't stand beside what was given before.
+    /// Adds what a line gives, unless it is malformed or contradicts what was given before.
     fn add_line(&mut self, alloc: Global, target: Target, line: &[u8]) -> Result<bool, AllocError>
         ensures taken { IfOk result (λ taken. (facts : List StateFact)
             → IsGivenBy (known_state_of self.old) facts
@@ -172,8 +172,8 @@ impl Memory for MachineState {
     }
 }
 
-/// What a state file says, or its first line that isn't a state line or contradicts an earlier one. An empty line says nothing, and
-/// where two lines give one thing or one byte, the first holds. Time n log n in the file's length.
+/// The state in a state file, or its first line that is malformed or contradicts an earlier one. Empty lines are skipped.
+/// If two lines give the same thing or the same byte, the first counts. Time n log n in the file's length.
 pub(crate) fn read_state(
     alloc: Global,
     target: Target,

@@ -26,7 +26,7 @@ impl<'a> Model for NamedModule<'a> {
     ghost view = { λ m. record { load = m.load; file = m.file.now } };
 }
 
-/// The module that an address, `=` and the name of a file spell.
+/// The module that an address, `=` and the name of a file give.
 fn parse_module<'a>(text: &'a str, target: Target) -> Option<NamedModule<'a>>
     ensures { result ≡ module_of target text.entry.now }
 {
@@ -38,7 +38,7 @@ fn parse_module<'a>(text: &'a str, target: Target) -> Option<NamedModule<'a>>
     Some(NamedModule { load, file })
 }
 
-/// The modules that these texts spell, in their order. One that spells none is a bad argument.
+/// The modules that these texts give, in order. A malformed one is a bad argument.
 #[tactic(auto, using(crate::proofs::NamedTexts::joined))]
 pub(crate) fn parse_modules<'a>(
     alloc: Global,

@@ -1,4 +1,4 @@
-//! Numbers as text, at the end of a line that is used again.
+//! Numbers as text, appended to a reused line.
 
 ghost use Rattle.std.specs.Prelude.{◌≡◌, ◌++◌, ◌^◌, ◌<◌, OnOk, codes};
 ghost use Rattle.std.specs.String.{string_bytes};
@@ -44,7 +44,7 @@ pub(crate) fn push_address(
     }
 }
 
-/// The addresses from `start` to before `end`.
+/// The addresses from `start` up to, not including, `end`.
 #[tactic(auto, unfolding(crate::specs::Text::range_text))]
 pub(crate) fn push_range(
     line: &mut String,
@@ -62,7 +62,7 @@ pub(crate) fn push_range(
     push_address(line, size, end)
 }
 
-/// A number in decimal digits, with its sign before them if it is below 0.
+/// A number in decimal digits, preceded by its sign if it is below 0.
 pub(crate) fn push_decimal<I: Integer>(line: &mut String, number: I) -> Result<(), AllocError>
     ensures { OnOk result (string_bytes line.new ≡ string_bytes line.old ++ I.text number) }
 {

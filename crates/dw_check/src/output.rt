@@ -67,7 +67,7 @@ fn write_row<S: Sink>(
     send_line(out)
 }
 
-/// Writes the lines of the rows that are to come, each read into the same place.
+/// Writes the lines of the remaining rows, each read into the same buffer.
 fn write_rows<'f, 'a, S: Sink>(
     out: &mut Writer<'_, S>,
     rows: &mut Rows<'f, 'a>,
@@ -86,7 +86,7 @@ fn write_rows<'f, 'a, S: Sink>(
     Ok(())
 }
 
-/// Writes the lines of an FDE of a section and of its rows, which are made in the places of others.
+/// Writes the lines of an FDE of a section and of its rows, into reused buffers.
 fn write_fde_and_rows<'f, 'a, S: Sink>(
     out: &mut Writer<'_, S>,
     frame: &'f CheckedFrame<'a>,

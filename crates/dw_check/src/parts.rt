@@ -8,11 +8,12 @@ use memchr::memchr;
 use std::iter::FusedIterator;
 use std::marker::Model;
 
-/// The parts of bytes between separators, the empty ones too. Seen as the list of what is still to come.
+/// The parts of bytes between separators, including empty ones. Its model is the list of what is still
+/// to come.
 #[derive(Drop)]
 pub(crate) struct Parts<'a> {
     separator: u8,
-    /// What follows the last separator that was met; nothing once all of it was given.
+    /// What follows the last separator found; none once everything was given.
     rest: Option<&'a [u8]>,
 }
 

@@ -1,4 +1,4 @@
-//! Frame sections of files, judged: one, or those of the modules of a process.
+//! Checks frame sections in files: one, or those of the modules of a process.
 
 ghost use Rattle.std.specs.Prelude.{◌≡◌, List, None, IfOk, IfErr, length, map};
 ghost use Rattle.dw_rows.specs.Section.{frame_of};
@@ -41,16 +41,17 @@ pub(crate) fn frame_or_refusal<'a>(
     }
 }
 
-/// What the files of a process give.
+/// The contents of a process's files.
 #[derive(Drop)]
 pub(crate) struct Process<'a> {
-    /// The frame sections of its modules, each with where it is loaded: FRAME's, and those of the further ones.
+    /// The frame sections of its modules, each with its load address: FRAME's, and those of the further modules.
     pub modules: Vec<Module<CowSlice<'a, u8, Global>>>,
-    /// What the state file says.
+    /// The state in the state file.
     pub state: MachineState,
 }
 
-/// Reads the files of a process: FRAME, whose module is loaded at an address, the state file, and those of further modules.
+/// Reads the files of a process: FRAME, whose module is loaded at an address, the state file, and those of further
+/// modules.
 pub(crate) fn read_process<'a>(
     alloc: Global,
     files: &Files<'a>,
@@ -94,7 +95,7 @@ pub(crate) fn modules_or_refusal<'s>(
     Ok(checked)
 }
 
-/// The same modules, which lend their sections.
+/// The same modules with borrowed sections.
 pub(crate) fn lent_modules<'f, 's>(
     alloc: Global,
     modules: &'f [Module<CheckedFrame<'s>>],

@@ -23,7 +23,7 @@ use dw_rows::{CheckedFrame, Rows, UnwindTableRow};
 use dw_stack::{CheckedExpression, Kind};
 use std::alloc::{AllocError, Global};
 
-/// How many rows are still to come, each made in the same place.
+/// The number of remaining rows, each made in the same buffer.
 fn count_rows_of<'f, 'a>(rows: &mut Rows<'f, 'a>, row: &mut UnwindTableRow<'f, 'a>) -> u64
     requires { length rows.old < 2 ^ 64 }
     ensures { result ≡ length rows.old }
@@ -35,7 +35,7 @@ fn count_rows_of<'f, 'a>(rows: &mut Rows<'f, 'a>, row: &mut UnwindTableRow<'f, '
     count
 }
 
-/// How many rows all FDEs of a section have together.
+/// The number of rows of all FDEs of a section together.
 fn count_rows(frame: &CheckedFrame<'_>) -> u128
     ensures { result ≡ row_count frame.now }
 {
@@ -79,7 +79,7 @@ fn list_count(lists: &CheckedLists<'_>) -> usize
     lists.lists().len()
 }
 
-/// How many expressions both sections have. Each takes a byte of its section at least, or more.
+/// The number of expressions in both sections. Each takes at least a byte of its section.
 fn expression_count(checked: &Checked<'_>) -> u128
     ensures { result ≡ length checked.now.frame.expressions
         + length (located_in checked.now.lists) }
@@ -150,7 +150,7 @@ fn push_lists_counts(
     push_expression_count(line, expressions)
 }
 
-/// How many records and rows a frame section has.
+/// The line with the number of records and rows of a frame section.
 fn push_frame_line(line: &mut String, frame: &CheckedFrame<'_>) -> Result<(), AllocError>
     ensures { OnOk result (string_bytes line.new ≡ string_bytes line.old ++ frame_line frame.now) }
 {
@@ -158,7 +158,7 @@ fn push_frame_line(line: &mut String, frame: &CheckedFrame<'_>) -> Result<(), Al
     push_frame_counts(line, cie_count(frame), fde_count(frame), rows)
 }
 
-/// How many tables and lists a section of location lists has, and how many expressions both sections have.
+/// The line with the number of tables and lists of a section of location lists, and of expressions in both sections.
 fn push_lists_line(line: &mut String, checked: &Checked<'_>) -> Result<(), AllocError>
     ensures { OnOk result (string_bytes line.new ≡ string_bytes line.old
         ++ lists_line checked.now.frame checked.now.lists) }
@@ -172,7 +172,7 @@ fn push_lists_line(line: &mut String, checked: &Checked<'_>) -> Result<(), Alloc
     )
 }
 
-/// What a report begins with.
+/// The beginning of a report.
 #[tactic(auto, unfolding(crate::specs::Report::summary_text))]
 fn push_summary(line: &mut String, checked: &Checked<'_>) -> Result<(), AllocError>
     ensures { OnOk result (string_bytes line.new ≡ string_bytes line.old
@@ -307,9 +307,9 @@ pub(crate) fn write_report<S: Sink>(
     write_all_expressions(out, of_frame, of_lists)
 }
 
-/// Writes the report on two checked sections: that they are accepted, how many records, rows, tables, lists and expressions
-/// there are, and a line for each expression, in the order of `check`. It writes line by line, and keeps no more than one of
-/// them. After a refusal a beginning of the text is written, and the sink has stopped exactly where that is `Write`.
+/// Writes the report on two checked sections: that they are accepted, the number of records, rows, tables, lists and
+/// expressions, and a line for each expression, in the order of `check`. It writes line by line, and keeps only one line.
+/// After an error a beginning of the text is written; the sink has stopped exactly if the error is `Write`.
 pub fn report<S: Sink>(
     alloc: Global,
     checked: &Checked<'_>,

@@ -1,4 +1,4 @@
-//! What a command line asks for, and how that ends.
+//! The request of a command line, and how a run of it ends.
 
 ghost use Rattle.std.specs.Prelude.{◌≡◌, length, map};
 ghost use Rattle.std.specs.String.{string_bytes};
@@ -14,7 +14,7 @@ use std::error::Error;
 use std::fmt;
 use std::marker::Model;
 
-/// What is looked up in a section of location lists.
+/// A look-up in a section of location lists.
 #[derive(Clone, Copy, Debug)]
 pub struct ListLookup {
     /// The offset of the list's first byte in the section.
@@ -25,7 +25,7 @@ pub struct ListLookup {
     pub address: u64,
 }
 
-/// What is done with the files of a request.
+/// What to do with the files of a request.
 #[derive(Clone, Copy, Debug)]
 pub enum Task {
     /// The report on a frame section and a section of location lists.
@@ -34,22 +34,22 @@ pub enum Task {
     Rows,
     /// The row of an address in a frame section.
     Row { address: u64 },
-    /// What holds at an address by a location list, and what it comes to.
+    /// The expressions that a location list gives at an address, and their outcomes.
     Locs { lookup: ListLookup },
-    /// What an expression of this kind comes to.
+    /// The outcome of an expression of this kind.
     Eval { kind: Kind },
     /// The caller of the frame at an address.
     Unwind { address: u64 },
-    /// The frames from the one at an address on, each the caller of the one before it, as many as the limit at most.
+    /// The frames from the one at an address on, each the caller of the one before it, at most `limit` of them.
     Backtrace { address: u64, limit: u32 },
 }
 
-/// What a command line asks for.
+/// The request of a command line.
 #[derive(Debug, Drop)]
 pub struct Request {
     /// What is done.
     pub(crate) task: Task,
-    /// What the numbers in sections, expressions and state files are read under.
+    /// The target under which numbers in sections, expressions and state files are read.
     pub(crate) target: Target,
     /// The address where the module of the frame section is loaded.
     pub(crate) load: u64,
@@ -75,7 +75,7 @@ impl Model for Request {
 }
 
 impl Request {
-    /// The names of the files that `run` wants the contents of, in that order.
+    /// The names of the files whose contents `run` needs, in that order.
     pub fn files(&self) -> &[String]
         ensures names { map (λ s. string_bytes s) result.now ≡ self.now.files }
         ensures count { length result.now ≡ length self.now.files }
@@ -83,8 +83,8 @@ impl Request {
         self.files.as_slice()
     }
 
-    /// How many bytes of the file at this place of `files` decide what `run` makes of it, whatever follows. A section or an
-    /// expression of 2^32 bytes is too long. All of hex text and of a state file counts, which is `None`.
+    /// The number of bytes of the file at this index in `files` that determine the result of `run`, whatever follows. A
+    /// section or an expression of 2^32 bytes is too long. Hex text and a state file count in full, which is `None`.
     pub fn needed_length(&self, place: usize) -> Option<u64>
         ensures { result ≡ needed_length self.now.task self.now.hex place }
     {
@@ -97,10 +97,10 @@ impl Request {
     }
 }
 
-/// Why a command line asks for nothing.
+/// Why a command line gives no request.
 #[derive(Debug, Drop)]
 pub enum Usage {
-    /// The words aren't a command line, or ask for help. This is clap's text.
+    /// clap rejects the words, or they request help. This is clap's text.
     Line(String),
     /// An argument is malformed.
     BadArgument,
@@ -120,7 +120,7 @@ impl Usage {
     }
 }
 
-/// clap's text, or what is wrong in a few words.
+/// clap's text, or a few words about what is wrong.
 impl fmt::Display for Usage {
     ghost use Rattle.std.specs.Prelude.{Some};
     ghost use Rattle.dw_check.specs.Statuses.{usage_text};
@@ -161,7 +161,7 @@ pub enum End {
     Done,
     /// The text is the line of a refusal, and was written.
     Refused,
-    /// The file at this place of `Request::files` is to be hex text and isn't.
+    /// The file at this index in `Request::files` must be hex text and isn't.
     BadHex(usize),
     /// This line of the state file is malformed, or contradicts those before it; lines are counted from 1.
     StateLine(u64),

@@ -1,4 +1,4 @@
-//! Requests carried out.
+//! Runs requests.
 
 ghost use Rattle.std.specs.Prelude.{◌≡◌, ◌<◌, ◌^◌, ℕ, All, List, false, None, IfOk, IfErr, length, map};
 ghost use Rattle.dw_rows.specs.Section.{IsChecked, frame_of};
@@ -108,7 +108,7 @@ fn sections_or_refusal<'a>(
     }
 }
 
-/// How a run goes whose text was written so.
+/// The result of a run whose text was written with this result.
 fn run_result(written: Result<(), ReportFault>) -> Result<(), RunFault>
     ensures { result ≡ ended_by written }
 {
@@ -156,7 +156,7 @@ fn show_rows<S: Sink>(
     run_result(write_frame_section(out, &frame))
 }
 
-/// Shows the row of an address in the frame section of a module that is loaded at another.
+/// Shows the row of an address in the frame section of a module loaded at `load`.
 fn show_row<S: Sink>(
     alloc: Global,
     address: u64,
@@ -179,7 +179,7 @@ fn show_row<S: Sink>(
     run_result(write_row_lookup(out, &frame, address))
 }
 
-/// Shows what a location list says of an address, on a machine of which a state file says something, if there is one.
+/// Shows what a location list gives at an address, on a machine with the state in a state file, if there is one.
 fn show_locations<S: Sink>(
     alloc: Global,
     lookup: ListLookup,
@@ -201,7 +201,7 @@ fn show_locations<S: Sink>(
     run_result(write_list_lookup(out, &lists, lookup, &state))
 }
 
-/// Shows what an expression comes to, on a machine of which a state file says something, if there is one.
+/// Shows the outcome of an expression, on a machine with the state in a state file, if there is one.
 fn show_outcome<S: Sink>(
     alloc: Global,
     kind: Kind,
@@ -223,7 +223,7 @@ fn show_outcome<S: Sink>(
     run_result(write_outcome(out, &checked, &state))
 }
 
-/// Writes the caller of the frame at an address over what is known, or that no FDE covers the address.
+/// Writes the caller of the frame at an address in a known state, or that no FDE covers the address.
 fn unwind_and_write<S: Sink>(
     out: &mut Writer<'_, S>,
     modules: &[Module<&CheckedFrame<'_>>],
@@ -242,7 +242,7 @@ fn unwind_and_write<S: Sink>(
     write_caller(out, caller.as_ref())
 }
 
-/// Writes the walk from a frame at an address over what is known.
+/// Writes the walk from a frame at an address in a known state.
 fn walk_and_write<S: Sink>(
     out: &mut Writer<'_, S>,
     modules: &[Module<&CheckedFrame<'_>>],
@@ -268,7 +268,8 @@ fn walk_and_write<S: Sink>(
     write_walk(out, &mut walk, limit)
 }
 
-/// Shows the caller of the frame at an address of a process, whose modules are loaded so, in a state that a file says.
+/// Shows the caller of the frame at an address of a process, given its modules' load addresses and the state in a state
+/// file.
 fn show_caller<S: Sink>(
     alloc: Global,
     address: u64,
@@ -293,7 +294,8 @@ fn show_caller<S: Sink>(
     run_result(unwind_and_write(out, modules.as_slice(), address, &process.state))
 }
 
-/// Shows the walk from the frame at an address of a process, whose modules are loaded so, in a state that a file says.
+/// Shows the walk from the frame at an address of a process, given its modules' load addresses and the state in a state
+/// file.
 fn show_walk<S: Sink>(
     alloc: Global,
     address: u64,
@@ -319,7 +321,7 @@ fn show_walk<S: Sink>(
     run_result(walk_and_write(out, modules.as_slice(), address, limit, &process.state))
 }
 
-/// Does what a request asks for with these files.
+/// Runs a request with these files.
 fn show_reply<S: Sink>(
     alloc: Global,
     request: &Request,
@@ -350,12 +352,13 @@ fn show_reply<S: Sink>(
     }
 }
 
-/// Does what the request asks for, with one content for each of `Request::files`, in their order.
+/// Runs a request, given the contents of each of `Request::files`, in their order.
 ///
-/// The files are judged in that order: BadHex for one that is to be hex text and isn't, StateLine for a state file's first bad line;
-/// then what they hold, the first fault of which has its line written (Refused); else the whole text is written (Done). With BadHex
-/// and StateLine nothing is written. If an allocation fails before any of these is found, the end is Memory: a beginning of the text is written,
-/// and nothing of a refusal's line. If the sink stops, the end is Output: a beginning of the text or of the refusal is written.
+/// The files are checked in that order: BadHex for one that must be hex text and isn't, StateLine for a state file's
+/// first bad line; then their contents: the line of the first fault is written (Refused), or else the whole text (Done).
+/// With BadHex and StateLine nothing is written. If an allocation fails before any of these is found, the end is Memory:
+/// a beginning of the text is written, and nothing of a refusal's line. If the sink stops, the end is Output: a beginning
+/// of the text or of the refusal is written.
 pub fn run<S: Sink>(alloc: Global, request: &Request, files: &[Vec<u8>], sink: &mut S) -> End
     requires files { length files.now ≡ length request.now.files }
     requires runs { S.has_stopped sink.old ≡ false }

@@ -8,7 +8,7 @@ use std::error::Error;
 use std::fmt;
 use std::io::Write;
 
-/// The sink takes no more.
+/// The sink accepts no more bytes.
 #[derive(Clone, Copy, Debug, PartialEq, Eq)]
 pub struct Stopped;
 
@@ -26,7 +26,7 @@ impl Error for Stopped {}
 
 /// A destination for bytes.
 pub trait Sink {
-    /// The bytes taken so far, where they are known.
+    /// The bytes accepted so far, if they are known.
     ghost taken: { Self → Option (List ℕ) };
 
     /// Whether it has stopped.
@@ -36,8 +36,8 @@ pub trait Sink {
     fn stopped(&self) -> bool
         ensures { result ≡ has_stopped self.now };
 
-    /// Takes the beginning whose length it answers. It stops exactly where it fails, taking nothing, or
-    /// takes nothing of a piece that isn't empty.
+    /// Accepts a beginning of the bytes and gives its length. The sink stops exactly if the call fails,
+    /// accepting nothing, or accepts nothing of a non-empty piece.
     fn write(&mut self, bytes: &[u8]) -> Result<usize, Stopped>
         requires { has_stopped self.old ≡ false }
         ensures bound { IfOk result (λ n. n ≤ length bytes.now) }
@@ -47,8 +47,8 @@ pub trait Sink {
         ensures stops { has_stopped self.new ≡ stops result (length bytes.now) };
 }
 
-/// The sink over one of std's writers. It has stopped once the writer has failed, an interrupted write
-/// included.
+/// A sink that writes to one of std's writers. It has stopped once the writer has failed, an
+/// interrupted write included.
 #[derive(Drop)]
 pub struct Through<W: Write> {
     inner: W,
@@ -102,7 +102,7 @@ impl<W: Write> Sink for Through<W> {
     }
 }
 
-/// Hands the bytes on until all are taken or the sink has stopped.
+/// Passes the bytes on until all are accepted or the sink has stopped.
 pub(crate) fn write_all<S: Sink>(sink: &mut S, bytes: &[u8]) -> Result<(), Stopped>
     requires { S.has_stopped sink.old ≡ false }
     ensures all { OnOk result (Appends (S.taken sink.old) (S.taken sink.new) bytes.now) }

@@ -1,4 +1,4 @@
-//! Where bytes come from, and all of them read.
+//! Byte sources, and reading them to the end.
 
 ghost use Rattle.std.specs.Prelude.{◌≡◌, ◌<◌, ℕ, List, Option, length, IfOk, OnErr};
 ghost use Rattle.std.specs.Io.{ReadsAtMost};
@@ -12,7 +12,7 @@ use std::alloc::{AllocError, Global};
 use std::io::Read;
 use thiserror::Error;
 
-/// How far a source was read.
+/// How far a source has been read.
 #[derive(Clone, Copy, Debug, PartialEq, Eq)]
 pub enum Reading {
     /// It may have more bytes.
@@ -23,22 +23,22 @@ pub enum Reading {
     Failed,
 }
 
-/// Where bytes come from.
+/// A source of bytes.
 pub trait Source {
     ghost use Rattle.dw_check.specs.declared.source.Reading.{Reading};
 
-    /// The bytes that reads will give from here on, where they are known.
+    /// The bytes that reads will give from here on, if they are known.
     ghost left: { Self → Option (List ℕ) };
 
-    /// How far it was read.
+    /// How far it has been read.
     ghost reading: { Self → Reading };
 
-    /// How far it was read.
+    /// How far it has been read.
     fn state(&self) -> Reading
         ensures { result ≡ reading self.now };
 
-    /// Puts the next bytes at the beginning of the buffer, and answers how many. It has ended exactly where
-    /// it gives none, and has failed exactly where it fails.
+    /// Puts the next bytes at the beginning of the buffer, and gives their number. The source has ended
+    /// exactly if it gives none, and has failed exactly if the call fails.
     fn read(&mut self, buf: &mut [u8]) -> Result<usize, Stopped>
         requires open { reading self.old ≡ Reading.Open }
         requires room { 0 < length buf.old }
@@ -47,7 +47,7 @@ pub trait Source {
         ensures reading { reading self.new ≡ reading_after result };
 }
 
-/// The source over one of std's readers. It has failed once the reader has failed, an interrupted read
+/// A source that reads one of std's readers. It has failed once the reader has failed, an interrupted read
 /// included.
 #[derive(Drop)]
 pub struct Reads<Rd: Read> {
@@ -56,7 +56,7 @@ pub struct Reads<Rd: Read> {
 }
 
 impl<Rd: Read> Reads<Rd> {
-    /// A source that is open.
+    /// An open source.
     pub fn new(inner: Rd) -> Self
         ensures inner { reader_of result ≡ inner }
         ensures open { reading_of result ≡ Reading.Open }
@@ -120,11 +120,11 @@ impl From<AllocError> for LoadFault {
     }
 }
 
-/// The most bytes that one read asks for.
+/// The greatest number of bytes requested by one read.
 const PIECE: usize = 65_536;
 
-/// All bytes that an open source gives, in order. It has then ended. It has failed exactly where the
-/// answer is `Read`, and is still open where memory ran out; the bytes that it gave before are lost.
+/// All bytes that an open source gives, in order; it has then ended. It has failed exactly if the answer is
+/// `Read`. It is still open if memory ran out; the bytes read before are lost.
 #[tactic(auto, using(crate::proofs::Loading::consumes_more))]
 pub fn load<S: Source>(alloc: Global, source: &mut S) -> Result<Vec<u8>, LoadFault>
     requires open { S.reading source.old ≡ Reading.Open }

@@ -23,7 +23,7 @@ pub(crate) enum StateLine {
     StackPointer(u16),
 }
 
-/// The bytes at an address: one or more, up to the top of the addresses at most.
+/// The bytes at an address: one or more, none past the greatest address.
 fn memory_line(target: Target, address: u64, bytes: Vec<u8>) -> Option<StateLine>
     ensures given { option_map fact_of result ≡ bytes_fact target address bytes.items }
     ensures fits { IfSome result (λ line. FitsAddresses (fact_of line)) }
@@ -110,7 +110,7 @@ fn parse_two_words(target: Target, word: &[u8], value: &[u8]) -> Option<StateLin
     None
 }
 
-/// What a line gives, or that it is none. Its words stand between single spaces.
+/// What a line gives; none if it is malformed. Its words are separated by single spaces.
 pub(crate) fn parse_line(
     alloc: Global,
     target: Target,

@@ -1,4 +1,4 @@
-//! Why a run stops before its text is written whole.
+//! Why a run stops before its whole text is written.
 
 ghost use Rattle.std.specs.Prelude.{◌≡◌, ◌⊎◌, Option, Some};
 ghost use Rattle.dw_bytes.specs.Answers.{memory};
@@ -13,18 +13,18 @@ use dw_bytes::{Fault, FaultKind};
 use std::alloc::{AllocError, AllocFailed};
 use thiserror::Error;
 
-/// What the offset of a refusal counts in.
+/// The section or expression that the offset of a refusal is counted in.
 #[derive(Clone, Copy, Debug, PartialEq, Eq)]
 pub enum Section {
     /// A `.debug_frame` section.
     Frame,
     /// A `.debug_loclists` section.
     Lists,
-    /// An expression that is handled alone.
+    /// An expression given alone.
     Expression,
 }
 
-/// Why a text isn't written whole.
+/// Why a text isn't written in full.
 #[derive(Clone, Copy, Debug, PartialEq, Eq, Error)]
 pub enum ReportFault {
     /// Memory ran out.
@@ -40,7 +40,7 @@ pub enum ReportFault {
 pub(crate) enum RunFault {
     /// What a file contains is refused.
     Refused(Section, Fault),
-    /// The file at this place is to be hex text and isn't.
+    /// The file at this index must be hex text and isn't.
     BadHex(usize),
     /// This line of the state file is malformed, or contradicts those before it; lines are counted from 1.
     StateLine(u64),
@@ -107,7 +107,7 @@ impl From<ReportFault> for RunFault {
 }
 
 impl RunFault {
-    /// What a section's fault stops a run with.
+    /// The stop that a section's fault causes.
     pub fn of_fault(section: Section, fault: Fault) -> RunFault
         ensures { (first : Option FoundFault) → (fault ≡ memory) ⊎ (first ≡ Some fault)
             → IsRefusal section first result }

@@ -55,7 +55,7 @@ fn push_walked_frame(
     line.push_str("\n")
 }
 
-/// Why there are no more frames, as it is named.
+/// The name of a stop.
 fn stop_name(stop: Stop) -> &'static str
     ensures { result.now ≡ stop_text stop }
 {
@@ -68,7 +68,7 @@ fn stop_name(stop: Stop) -> &'static str
     }
 }
 
-/// The line that says why there are no more frames.
+/// The line that gives the reason why there are no more frames.
 #[tactic(auto, unfolding(crate::specs::WalkText::last_line))]
 fn push_stop(line: &mut String, stop: Stop) -> Result<(), AllocError>
     ensures { OnOk result (string_bytes line.new ≡ string_bytes line.old ++ last_line stop) }
@@ -95,7 +95,7 @@ fn write_walked_frame<S: Sink>(
     send_line(out)
 }
 
-/// Writes the line that says why there are no more frames.
+/// Writes the line that gives the reason why there are no more frames.
 fn write_stop<S: Sink>(out: &mut Writer<'_, S>, stop: Stop) -> Result<(), ReportFault>
     requires { S.has_stopped out.old.sink.now ≡ false }
     ensures same { IsSame out.old out.new }
@@ -108,7 +108,7 @@ fn write_stop<S: Sink>(out: &mut Writer<'_, S>, stop: Stop) -> Result<(), Report
     send_line(out)
 }
 
-/// The next frame of a walk, or why there is none.
+/// The next frame of a walk, or the reason why there is none.
 fn next_or_stop<U: Unwinder + Drop, M: Memory>(
     walk: &mut Walk<'_, U, M>,
 ) -> Result<BriefFrame, Stop>
@@ -124,7 +124,8 @@ fn next_or_stop<U: Unwinder + Drop, M: Memory>(
     }
 }
 
-/// Writes the lines of a walk from its first frame on, each as its frame is given, so that one line is kept at a time.
+/// Writes the lines of a walk from its first frame on, each when its frame is given, so that only one line is kept at
+/// a time.
 pub(crate) fn write_walk<S: Sink, U: Unwinder + Drop, M: Memory>(
     out: &mut Writer<'_, S>,
     walk: &mut Walk<'_, U, M>,

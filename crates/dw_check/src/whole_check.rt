@@ -17,7 +17,7 @@ use std::fmt;
 /// Sections and expressions of this many bytes or more are refused.
 pub(crate) const SECTION_LIMIT: usize = 1 << 32;
 
-/// What refuses them.
+/// The fault of one that is too long.
 pub(crate) const TOO_LONG: Fault = Fault {
     kind: FaultKind::SectionTooLong,
     at: 0,
@@ -26,9 +26,9 @@ pub(crate) const TOO_LONG: Fault = Fault {
 /// The first fault of two sections.
 #[derive(Clone, Copy, Debug, PartialEq, Eq)]
 pub struct CheckFault {
-    /// The section that it is in: never an expression. Where memory ran out it says nothing.
+    /// The section that it is in: never an expression. Has no meaning if memory ran out.
     pub section: Section,
-    /// What is wrong, and where in the section.
+    /// The fault, with its offset in the section.
     pub fault: Fault,
 }
 
@@ -77,7 +77,7 @@ fn check_length(section: Section, bytes: &[u8]) -> Result<(), CheckFault>
     Ok(())
 }
 
-/// The sections, if they have no fault, each judged where those before it have none.
+/// The sections, if they have no fault. Each is checked only if those before it have none.
 #[tactic(auto, unfolding(crate::specs::Checked::check_fault))]
 fn check_both<'a>(
     alloc: Global,

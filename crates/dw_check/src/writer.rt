@@ -1,4 +1,4 @@
-//! Lines handed to a sink, one after the other.
+//! Sends lines to a sink, one by one.
 
 ghost use Rattle.std.specs.Prelude.{◌≡◌, false};
 ghost use Rattle.std.specs.String.{string_bytes};
@@ -8,17 +8,17 @@ use crate::sink::{Sink, write_all};
 use crate::stop::ReportFault;
 use dw_bytes::AddressSize;
 
-/// Where the lines of a text go. What is kept is the one line.
+/// Where the lines of a text go. Keeps only the current line.
 #[derive(Drop)]
 pub(crate) struct Writer<'a, S: Sink> {
-    /// The line as far as it is made.
+    /// The line made so far.
     pub line: &'a mut String,
-    /// The size that addresses are shown in.
+    /// The size in which addresses are shown.
     pub size: AddressSize,
     pub sink: &'a mut S,
 }
 
-/// Hands the line to the sink.
+/// Sends the line to the sink.
 pub(crate) fn send_line<S: Sink>(out: &mut Writer<'_, S>) -> Result<(), ReportFault>
     requires runs { S.has_stopped out.old.sink.now ≡ false }
     ensures same { IsSame out.old out.new }

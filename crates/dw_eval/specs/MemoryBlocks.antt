@@ -1,4 +1,4 @@
--- Memory of which one block is known.
+-- Memory with one known block.
 use Rattle.std.specs.Prelude.{ℕ, ◌-◌, nat_le, if◌then◌else◌, List, slice_get, Option, None}
 
 -- the byte at an address, of a block that begins at a base

@@ -1,4 +1,4 @@
-//! Where an operation leads, and what it names.
+//! Where an operation leads, and the location or piece it names.
 
 ghost use Rattle.std.specs.Prelude.{◌≡◌, ◌≤◌, length};
 ghost use Rattle.std.specs.Option.{option_map};
@@ -12,7 +12,7 @@ use crate::location::{Location, PieceSize};
 use crate::stack::Stack;
 use dw_ops::Operation;
 
-/// Where the operation leads, which may be a jump forward.
+/// The offset of the next operation; a jump that is taken goes forward.
 #[inline(always)]
 pub fn next_offset<const PLACES: usize>(
     operation: &Operation<'_>,

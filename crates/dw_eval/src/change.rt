@@ -14,22 +14,22 @@ use crate::stack::Stack;
 use crate::width::Width;
 use dw_ops::Operation;
 
-/// What becomes of the stack.
+/// The change that an operation makes to the stack.
 #[derive(Clone, Copy)]
 pub enum Change {
-    /// Nothing.
+    /// Leaves the stack as it is.
     Stays,
-    /// The top is taken.
+    /// Removes the top.
     Pop,
-    /// The top and the second entry change places.
+    /// Swaps the top and the second entry.
     Swap,
-    /// The top becomes the third entry, the second the top and the third the second.
+    /// Rotates the top three: the top becomes the third entry, the second the top and the third the second.
     Rot,
-    /// A value takes the place of the topmost entries, `taken` of them.
+    /// Replaces the topmost entries, `taken` of them, by a value.
     Put { taken: usize, value: u64 },
 }
 
-/// A value in the place of the topmost entries, `taken` of them.
+/// Replaces the topmost entries, `taken` of them, by a value.
 #[inline(always)]
 fn change_to(taken: usize, value: u64) -> Result<Change, EvaluationError>
     ensures { result ≡ Ok (Change.Put taken value) }
@@ -49,7 +49,7 @@ pub fn divisor(b: u64) -> Result<u64, EvaluationError>
     Ok(b)
 }
 
-/// The change of an operation that needs no entry and pushes one value: a literal, or what is handed in.
+/// The change of an operation that needs no entry and pushes one value: a literal, or a value from the environment.
 #[inline(always)]
 fn pushing_change<R: Registers, M: Memory>(
     environment: &Environment<'_, R, M>,
@@ -97,7 +97,8 @@ fn pushing_change<R: Registers, M: Memory>(
     }
 }
 
-/// The change of an operation that puts one value in the place of all that it needs: a read, arithmetic, or nothing needed.
+/// The change of an operation that replaces all entries it needs by one value: a read, arithmetic, or one that needs
+/// none.
 #[tactic(auto, using(crate::proofs::Entries::entry_below))]
 #[inline(always)]
 fn computing_change<R: Registers, M: Memory, const PLACES: usize>(
@@ -159,7 +160,7 @@ fn computing_change<R: Registers, M: Memory, const PLACES: usize>(
     }
 }
 
-/// The change of an operation whose entries are there.
+/// The change of an operation. The entries that it needs are on the stack.
 #[inline(always)]
 pub fn change_of<R: Registers, M: Memory, const PLACES: usize>(
     environment: &Environment<'_, R, M>,

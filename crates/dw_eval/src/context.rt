@@ -1,4 +1,4 @@
-//! What an evaluation is handed.
+//! The inputs of an evaluation.
 
 ghost use Rattle.std.specs.Prelude.{◌≡◌, ◌+◌, ◌^◌, ◌≤◌, ℕ, Option};
 ghost use Rattle.dw_eval.specs.World.{IsSize, number_at};
@@ -23,11 +23,11 @@ use dw_bytes::Order;
 /// }
 /// ```
 pub trait Registers {
-    /// What the registers have.
+    /// The register contents.
     ghost contents: { Self → ℕ → Option ℕ };
 
-    /// The content of a register, where it is known. An evaluation takes it modulo 2^w, w being the size of an address
-    /// in bits.
+    /// The content of a register, if it is known. An evaluation takes it modulo 2^w, w being the size of an address in
+    /// bits.
     fn register(&self, number: u16) -> Option<u64>
         ensures { result ≡ contents self.now number };
 }
@@ -37,21 +37,21 @@ pub trait Memory {
     /// The byte at an address.
     ghost bytes: { Self → ℕ → Option ℕ };
 
-    /// The number that `size` bytes from an address on are in this order, where all of them are known. A read has 1, 2, 4
-    /// or 8 bytes, and its last byte's address is below 2^64.
+    /// Reads `size` bytes at an address as a number in this order, if all of them are known. `size` is 1, 2, 4 or 8, and
+    /// the last byte's address is below 2^64.
     fn read(&self, address: u64, size: u8, order: Order) -> Option<u64>
         requires size { IsSize size }
         requires within { address + size ≤ 2 ^ 64 }
         ensures { result ≡ number_at (bytes self.now) order address size };
 }
 
-/// What the place in the program gives an expression. Each number is taken modulo 2^w.
+/// The values that the point in the program supplies to an expression. Each is taken modulo 2^w.
 #[derive(Clone, Copy, Debug, Default, PartialEq, Eq)]
 pub struct Context {
     /// The canonical frame address (DWARF 5, section 6.4).
     pub cfa: Option<u64>,
     /// The frame base of the subprogram (DWARF 5, section 3.3.5).
     pub frame_base: Option<u64>,
-    /// The address of the object whose expression it is (DWARF 5, section 2.5.1.3).
+    /// The address of the object that the expression describes (DWARF 5, section 2.5.1.3).
     pub object: Option<u64>,
 }

@@ -1,4 +1,4 @@
-//! The runs of location descriptions.
+//! Running location descriptions.
 
 ghost use Rattle.std.specs.Prelude.{◌≡◌, ◌<◌, ◌∷◌, [], length, None};
 ghost use Rattle.dw_ops.specs.Views.{bytes_of};
@@ -16,7 +16,7 @@ use arrayvec::ArrayVec;
 use dw_ops::Expression;
 use dw_stack::Kind;
 
-/// Runs a location's expression on after its first piece, from this offset and with this count of steps.
+/// Continues a location's expression after its first piece, from this offset and this count of steps.
 fn run_location_on<'a, R: Registers, M: Memory, const PLACES: usize>(
     expression: &Expression<'a>,
     environment: &Environment<'_, R, M>,
@@ -63,8 +63,8 @@ fn run_location_on<'a, R: Registers, M: Memory, const PLACES: usize>(
     }
 }
 
-/// Runs a location from its start, with a run that has done nothing. The places of its pieces are made with the first:
-/// most have none, and the places take longer to make than their steps.
+/// Runs a location from its start; `run` is new. The array of pieces is made only when the first piece ends: most
+/// locations have none, and making the array takes longer than their steps.
 pub fn run_location<'a, R: Registers, M: Memory, const PLACES: usize>(
     expression: &Expression<'a>,
     environment: &Environment<'_, R, M>,

@@ -1,4 +1,4 @@
-//! What operations ask of the environment.
+//! What operations read from the environment.
 
 ghost use Rattle.std.specs.Prelude.{◌≡◌, ◌+◌, ◌+ℤ◌, ◌^◌, ◌<◌, ◌∷◌, [], pos, Ok};
 ghost use Rattle.dw_eval.specs.World.{IsSize, width};
@@ -12,7 +12,7 @@ use crate::evaluation_error::EvaluationError;
 use crate::width::Width;
 use dw_bytes::Target;
 
-/// What an evaluation is handed, under the target of its expression.
+/// The inputs of an evaluation, under the target of its expression.
 #[derive(Drop)]
 pub struct Environment<'m, R: Registers, M: Memory> {
     pub target: Target,
@@ -22,7 +22,7 @@ pub struct Environment<'m, R: Registers, M: Memory> {
 }
 
 impl<'m, R: Registers, M: Memory> Environment<'m, R, M> {
-    /// The width of an entry.
+    /// The width of a stack entry.
     #[inline(always)]
     pub fn width(&self) -> Width
         ensures { result.size ≡ self.now.target.address_size }
@@ -32,7 +32,7 @@ impl<'m, R: Registers, M: Memory> Environment<'m, R, M> {
         }
     }
 
-    /// How many bytes a word has.
+    /// The size of a word in bytes.
     #[inline(always)]
     pub fn word(&self) -> u8
         ensures value { result ≡ bytes_of_address self.now.target.address_size }
@@ -41,7 +41,7 @@ impl<'m, R: Registers, M: Memory> Environment<'m, R, M> {
         self.target.address_size.bytes()
     }
 
-    /// What is handed in and an offset, modulo 2^w.
+    /// A given value plus an offset, modulo 2^w. Unreadable if the value isn't given.
     #[inline(always)]
     pub fn sum(&self, value: Option<u64>, offset: i64) -> Result<u64, EvaluationError>
         ensures { one_of result ≡ if_present value
@@ -53,7 +53,7 @@ impl<'m, R: Registers, M: Memory> Environment<'m, R, M> {
         }
     }
 
-    /// What is handed in, modulo 2^w.
+    /// A given value, modulo 2^w. Unreadable if it isn't given.
     #[inline(always)]
     pub fn given(&self, value: Option<u64>) -> Result<u64, EvaluationError>
         ensures { one_of result ≡ if_present value
@@ -65,7 +65,7 @@ impl<'m, R: Registers, M: Memory> Environment<'m, R, M> {
         }
     }
 
-    /// So many bytes at an address, of which the last is below 2^w.
+    /// Reads `size` bytes at an address. Unreadable if the last lies past 2^w - 1.
     #[inline(always)]
     pub fn load(&self, address: u64, size: u8) -> Result<u64, EvaluationError>
         requires address { address < 2 ^ width (world_in R.contents M.bytes self.now) }

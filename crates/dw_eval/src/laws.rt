@@ -14,9 +14,9 @@ ghost use Rattle.dw_eval.specs.Needs.{UsesTopAlone};
 ghost use Rattle.dw_eval.specs.Fits.{NumbersFit};
 ghost use Rattle.dw_eval.specs.Results.{Outcome, IsOfKind, first_stack, start_configuration, IsEvaluation};
 
-/// An operation uses the topmost entries alone, as many as it needs: whatever lies below them, it pushes the same, names and
-/// jumps alike, and leaves what lies there, which a piece then clears away. A piece needs no entry, and where it gives an address,
-/// that is the one entry.
+/// An operation uses only the topmost entries, as many as it needs. Whatever lies below them, it pushes the same values,
+/// names the same location and jumps the same way, and leaves the entries below unchanged (a piece then clears the
+/// stack). A piece needs no entry; where it gives an address, that is the only entry.
 pub fn operations_use_the_top_alone()
     ensures top { (e : World) (op : Operation) (below top : List ℕ)
         → length top ≡ (effect_of op).needs → UsesTopAlone e op below top }
@@ -24,28 +24,29 @@ pub fn operations_use_the_top_alone()
         → location_of s None ≡ AtAddress a → s ≡ a ∷ [] }
 {}
 
-/// An evaluation of a good expression comes to one outcome, after one number of steps.
+/// The evaluation of a good expression is determined: it has at most one outcome, after one number of steps.
 pub fn evaluations_are_determined()
     ensures { (c : Checked) (e : World) (o p : Outcome) (n k : ℕ)
         → IsGoodExpression c.kind c.target c.bytes → IsEvaluation c e o n → IsEvaluation c e p k
         → (o ≡ p) × (n ≡ k) }
 {}
 
-/// Each checked expression has an evaluation, whatever is handed in, within its number of operations.
+/// Each checked expression has an evaluation, whatever registers, memory and context are given, with no more steps than
+/// operations.
 pub fn each_has_an_evaluation()
     ensures { (c : Checked) (e : World) → IsChecked c
         → (o : Outcome) × (n : ℕ) × IsEvaluation c e o n × (n ≤ c.count) }
 {}
 
-/// All numbers of a run are below 2^w wherever it comes: those on the stack, the value or address that was named, and
-/// those of the pieces.
+/// All numbers of a run are below 2^w at every step: those on the stack, the value or address that was named, and those
+/// of the pieces.
 pub fn numbers_of_evaluations_fit()
     ensures { (e : World) (kind : Kind) (ops : List Placed) (len n : ℕ) (s : List ℕ)
         (c : Configuration) → first_stack e kind ≡ Some s
         → Run (meaning_of e) ops len n (start_configuration s) c → NumbersFit (2 ^ width e) c }
 {}
 
-/// Expressions of a frame come to a value or to no answer, and locations to a location, to pieces or to no answer.
+/// Expressions of a frame evaluate to a value or to no answer, and locations to a location, to pieces or to no answer.
 pub fn outcomes_are_of_their_kind()
     ensures { (c : Checked) (e : World) (o : Outcome) (n : ℕ) → IsEvaluation c e o n
         → IsOfKind c.kind o }

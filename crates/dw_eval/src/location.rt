@@ -20,7 +20,7 @@ pub enum Location<'a> {
     Bytes(&'a [u8]),
 }
 
-/// What fills the places of a list that aren't used.
+/// Fills the unused slots of a list.
 impl Default for Location<'_> {
     fn default() -> Self
         ensures { result ≡ Location.Empty }
@@ -32,9 +32,9 @@ impl Default for Location<'_> {
 /// How much of an object a piece is.
 #[derive(Clone, Copy, Debug, PartialEq, Eq)]
 pub enum PieceSize {
-    /// So many bytes.
+    /// A number of bytes.
     Bytes(u32),
-    /// So many bits, from an offset in bits on in the piece's location.
+    /// `size` bits, from `offset` bits into the piece's location.
     Bits { size: u32, offset: u32 },
 }
 
@@ -45,7 +45,7 @@ pub struct Piece<'a> {
     pub size: PieceSize,
 }
 
-/// What fills the places of a list that aren't used.
+/// Fills the unused slots of a list.
 impl Default for Piece<'_> {
     fn default() -> Self
         ensures { result ≡ record { location = Location.Empty; size = PieceSize.Bytes 0 } }
@@ -60,23 +60,23 @@ impl Default for Piece<'_> {
 /// The pieces of an object, in order.
 pub type Pieces<'a> = ArrayVec<Piece<'a>, MAX_PIECES>;
 
-/// What an evaluation comes to. Offsets are in bytes from the expression's first byte.
+/// The outcome of an evaluation. Offsets are in bytes from the expression's first byte.
 #[derive(Clone, Debug, Drop, PartialEq, Eq)]
 pub enum Outcome<'a> {
-    /// The value of a frame's expression: an address, or what a register had (DWARF 5, section 6.4.2).
+    /// The value of a frame's expression: an address, or the content of a register (DWARF 5, section 6.4.2).
     Value(u64),
     /// Where an object is.
     Single(Location<'a>),
     /// Where the pieces of an object are.
     Pieces(Pieces<'a>),
-    /// The operation there asks for a register, for memory or for what the context has, and it isn't handed in; or it reads
-    /// memory past the greatest address. It is 0, and no operation was reached, where the rule of a register lacks its CFA.
+    /// The operation at this offset reads a register, memory or a value of the context that isn't given, or reads memory
+    /// past the greatest address. If the rule of a register lacks its CFA, it is 0, and no operation was reached.
     Unreadable { at: u32 },
-    /// The operation there divides by zero.
+    /// The operation at this offset divides by zero.
     DivisionByZero { at: u32 },
 }
 
-/// What an evaluation comes to, and how many operations it reached, the one without an answer included.
+/// The outcome of an evaluation, and the number of operations it reached, one without an answer included.
 #[derive(Clone, Debug, Drop, PartialEq, Eq)]
 pub struct Evaluation<'a> {
     pub outcome: Outcome<'a>,

@@ -1,4 +1,4 @@
-//! Memory of which one block is known, as a stack is.
+//! Memory with one known block, such as a stack.
 
 ghost use Rattle.std.specs.Prelude.{◌≡◌, ◌≤◌, IfSome, length, option_map};
 ghost use Rattle.dw_bytes.specs.Encoding.{number};
@@ -9,7 +9,8 @@ use crate::context::Memory;
 use byteorder::{BigEndian, ByteOrder, LittleEndian};
 use dw_bytes::Order;
 
-/// Memory of which one block is known: the top of a stack, say. A read that isn't wholly in it has no answer.
+/// Memory with one known block, such as the top of a stack. A read that isn't wholly inside it has no
+/// answer.
 ///
 /// ```rust
 /// let stack = MemoryBlock {
@@ -26,7 +27,7 @@ pub struct MemoryBlock<'a> {
     pub bytes: &'a [u8],
 }
 
-/// The bytes from an address on, as many as this, if all are in a block.
+/// The `size` bytes at an address, if all are in the block.
 #[inline(always)]
 fn window<'a>(base: u64, bytes: &'a [u8], address: u64, size: usize) -> Option<&'a [u8]>
     requires { 1 ≤ size }
@@ -48,7 +49,7 @@ fn window<'a>(base: u64, bytes: &'a [u8], address: u64, size: usize) -> Option<&
     Some(&bytes[at..at + size])
 }
 
-/// The number that bytes are. A whole little-endian word, which nearly all reads are, is one load.
+/// The number that the bytes encode. A whole little-endian word, which nearly all reads are, is one load.
 #[inline(always)]
 fn number_of(order: Order, bytes: &[u8]) -> u64
     requires low { 1 ≤ length bytes.now }

@@ -2,7 +2,7 @@
 
 use std::marker::Model;
 
-/// The entries of a run, the top last, in places of a fixed number.
+/// The entries of a run, the top last, in a fixed number of slots.
 #[derive(Drop)]
 pub struct Stack<const PLACES: usize> {
     places: [u64; PLACES],
@@ -23,7 +23,7 @@ impl<const PLACES: usize> Stack<PLACES> {
     ghost use Rattle.std.specs.Prelude.{◌≡◌, ◌+◌, ◌-◌, ◌<◌, ◌≤◌, ◌==◌, [], ◌∷◌, ◌++◌, length, take};
     ghost use Rattle.dw_stack.specs.Machine.{entry};
 
-    /// No entry.
+    /// An empty stack.
     pub fn new() -> Self
         ensures { result ≡ [] }
     {
@@ -33,14 +33,14 @@ impl<const PLACES: usize> Stack<PLACES> {
         }
     }
 
-    /// Whether there is no entry.
+    /// Whether the stack is empty.
     pub fn is_empty(&self) -> bool
         ensures { result ≡ (length self.now == 0) }
     {
         self.height == 0
     }
 
-    /// The entry `below` places below the top.
+    /// The entry `below` entries below the top.
     #[inline(always)]
     pub fn entry(&self, below: usize) -> u64
         requires { below < length self.now }
@@ -49,7 +49,7 @@ impl<const PLACES: usize> Stack<PLACES> {
         self.places[self.height - 1 - below]
     }
 
-    /// Puts a value in the place of the topmost entries, `taken` of them.
+    /// Replaces the topmost entries, `taken` of them, by a value.
     #[inline(always)]
     pub fn put(&mut self, taken: usize, value: u64)
         requires taken { taken ≤ length self.old }
@@ -61,7 +61,7 @@ impl<const PLACES: usize> Stack<PLACES> {
         self.height = place + 1;
     }
 
-    /// Takes the top.
+    /// Removes the top.
     #[inline(always)]
     pub fn pop(&mut self)
         requires { 1 ≤ length self.old }
@@ -70,7 +70,7 @@ impl<const PLACES: usize> Stack<PLACES> {
         self.height -= 1;
     }
 
-    /// Exchanges the top and the second entry.
+    /// Swaps the top and the second entry.
     #[inline(always)]
     pub fn swap(&mut self)
         requires { 2 ≤ length self.old }
@@ -83,7 +83,8 @@ impl<const PLACES: usize> Stack<PLACES> {
         self.places[second] = entry;
     }
 
-    /// Makes the top the third entry, the second the top and the third the second.
+    /// Rotates the top three: the top becomes the third entry, the second the top and the third the
+    /// second.
     #[inline(always)]
     pub fn rot(&mut self)
         requires { 3 ≤ length self.old }
@@ -97,7 +98,7 @@ impl<const PLACES: usize> Stack<PLACES> {
         self.places[third] = entry;
     }
 
-    /// Takes all entries.
+    /// Removes all entries.
     #[inline(always)]
     pub fn clear(&mut self)
         ensures { self.new ≡ [] }

@@ -1,4 +1,5 @@
-//! Arithmetic modulo 2^w, w being the size of an address in bits: on the entries of the stack, and on what registers and memory have.
+//! Arithmetic modulo 2^w, w being the size of an address in bits: on stack entries, and on the contents of registers and
+//! memory.
 
 ghost use Rattle.std.specs.Prelude.{◌≡◌, ◌<◌, ◌+◌, ◌-◌, ◌*◌, ◌/◌, ◌%◌, ◌^◌, ◌==◌, pos, ◌+ℤ◌, ◌-ℤ◌, unsigned_abs, int_div, int_lt, int_le};
 ghost use Rattle.std.specs.Prelude.{bit_and, bit_or, bit_xor};
@@ -194,7 +195,7 @@ impl Width {
         if b < 64 { self.reduce(a << b) } else { 0 }
     }
 
-    /// Shifted right, zeros in.
+    /// Logical shift right.
     #[inline(always)]
     pub(crate) fn shr(self, a: u64, b: u64) -> u64
         requires { a < 2 ^ width_of self.size }
@@ -203,7 +204,7 @@ impl Width {
         if b < 64 { a >> b } else { 0 }
     }
 
-    /// Shifted right, the sign in.
+    /// Arithmetic shift right.
     #[inline(always)]
     pub(crate) fn shra(self, a: u64, b: u64) -> u64
         requires { a < 2 ^ width_of self.size }

@@ -1,4 +1,4 @@
--- Where the block of an instruction stands, and where the program of a record ends.
+-- Where the block of an instruction is, and where the program of a record ends.
 use Rattle.std.proofs.Common.{◌≡◌, ℕ, ◌+◌, ◌<◌, Bool, true, false, cond, List, [], ◌∷◌, length, Option, Some, None, sym, ap, subst, arith}
 use Rattle.std.specs.Prelude.{◌==◌, nat_lt}
 use Rattle.std.proofs.lemmas.List.{length-append}
@@ -42,7 +42,7 @@ block-alone start target at bytes i lt (vs, (a, ra, pa, ia, ended), fit, is) =
     subst (EndsWithItsBlock target start (at + length bytes)) (sym is)
     (block-ends target start at (at + length bytes) a vs.0 lt (omega (arith, ap length pa, length-append a ra, ap length ended)) ia)
 
--- a block behind another operand
+-- a block after another operand
 block-second : (start : ℕ) (target : Target) (first : OperandKind) (make : Operands (first ∷ block ∷ []) → Instruction)
     → ((vs : Operands (first ∷ block ∷ [])) (end : ℕ) → EndsWith target start end vs.1.0 → EndsWithItsBlock target start end (make vs))
     → Holds start target (Some (line (first ∷ block ∷ []) make))

@@ -1,4 +1,4 @@
--- Records and their faults stand in their section.
+-- Records and their faults are inside their section.
 use Rattle.std.proofs.Common.{◌≡◌, ℕ, ◌+◌, ◌<◌, ◌≤◌, Bool, true, false, cond, List, [], ◌∷◌, ◌++◌, length, Result, Ok, Err, refl, sym, ap}
 use Rattle.std.proofs.Common.{subst, ◌∙◌, arith, inl, inr}
 use Rattle.std.specs.Prelude.{Contains, ◌==◌}
@@ -160,7 +160,7 @@ entries-sound target section item h =
     (λ r fault on is. let stands = record-refused r fault is in omega (arith, stands, on.same_end))
     (section_from target section 0) item (record { same_target = refl; same_end = omega (arith, length-drop 0 section) }) h
 
--- the fault of a search stands in the section
+-- the fault of a search is inside the section
 pub cie-inside : (target : Target) (section : List ℕ) (offset : ℕ) (fault : Fault)
     → cie_among offset (entries_of target section) ≡ Err fault → fault.at ≤ length section
 cie-inside target section offset fault is = entries-sound target section (Err fault) (cie-fault offset (entries_of target section) fault is)

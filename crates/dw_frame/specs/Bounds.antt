@@ -1,4 +1,4 @@
--- Where things stand in their program or section.
+-- Where things are in their program or section.
 use Rattle.std.specs.Prelude.{◌≤◌, ◌<◌, ◌+◌, ◌≡◌, ℕ, true, List, [], ◌∷◌, length, Result, Ok, Err}
 use Rattle.std.specs.List.{AllByRecursion}
 use Rattle.dw_bytes.specs.declared.target.Target.{Target}
@@ -9,31 +9,31 @@ use Rattle.dw_frame.specs.Instructions.{Instruction}
 use Rattle.dw_frame.specs.Records.{is_version, Cie, Fde, Record, cie_record, fde_record}
 use Rattle.dw_frame.specs.Sections.{top_of}
 
--- An instruction begins in its program. A fault may stand at its end, too.
+-- An instruction begins inside its program. A fault may also be at the program's end.
 abbrev pub StandsIn : ReadPosition → Result (ℕ × Instruction) Fault → Type 0
 StandsIn r (Ok item) = (r.position ≤ item.0) × (item.0 < r.position + length r.rest)
 StandsIn r (Err fault) = (r.position ≤ fault.at) × (fault.at ≤ r.position + length r.rest)
 
--- A block of a target that stands behind an offset, and ends at another.
+-- A block of a target that is after an offset, and ends at another.
 pub record EndsWith (target : Target) (at end : ℕ) (b : Block) : Type 0 where
   pub behind : at < b.offset
   pub ends : b.offset + length b.bytes ≡ end
   pub target_is : b.target ≡ target
 
--- The expression of an instruction, if it has one, is its last part, and it stands behind the instruction's first byte.
+-- The expression of an instruction, if it has one, is its last part, and it is after the instruction's first byte.
 abbrev pub EndsWithItsBlock : Target → ℕ → ℕ → Instruction → Type 0
 EndsWithItsBlock target at end (Instruction.def_cfa_expression b) = EndsWith target at end b
 EndsWithItsBlock target at end (Instruction.expression r b) = EndsWith target at end b
 EndsWithItsBlock target at end (Instruction.val_expression r b) = EndsWith target at end b
 EndsWithItsBlock target at end _ = Unit {0}
 
--- What is left behind something of a section, which begins at an offset.
+-- What is left of a section after something that begins at an offset.
 pub record IsBehind (target : Target) (section : List ℕ) (at : ℕ) (after : ReadPosition) : Type 0 where
   pub later : at < after.position
   pub inside : after.position ≤ length section
   pub left : after ≡ section_from target section after.position
 
--- The program of a record lies behind its offset, inside a section of so many bytes, and is of the same target.
+-- The program of a record lies after the record's offset, inside a section of this size, and has the same target.
 pub record LiesIn (target : Target) (size offset : ℕ) (program : ReadPosition) : Type 0 where
   pub begins : offset < program.position
   pub ends : program.position + length program.rest ≤ size
@@ -44,7 +44,7 @@ pub record IsSoundCie (target : Target) (size : ℕ) (c : Cie) : Type 0 where
   pub version : is_version c.version ≡ true
   pub return_address_register : c.return_address_register ≤ 65535
 
--- The CIE_pointer of an FDE stands between its offset and its program, and its addresses are addresses of the target.
+-- The CIE_pointer of an FDE is between its offset and its program, and its addresses are addresses of the target.
 pub record IsSoundFde (target : Target) (size : ℕ) (f : Fde) : Type 0 where
   pub program : LiesIn target size f.offset f.program
   pub pointer_behind : f.offset < f.cie_pointer_offset
@@ -63,7 +63,7 @@ abbrev pub offset_of : Record → ℕ
 offset_of (cie_record c) = c.offset
 offset_of (fde_record f) = f.offset
 
--- each is below those behind it, by this number
+-- each is below those after it, by this number
 abbrev pub Ascends : {X : Type 0} → (X → ℕ) → List X → Type 0
 Ascends at [] = Unit {0}
 Ascends at (x ∷ xs) = AllByRecursion (λ y. at x < at y) xs × Ascends at xs

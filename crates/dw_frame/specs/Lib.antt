@@ -1,4 +1,4 @@
--- ---- To be believed: the standard's words. Who checks the headline against DWARF 5 reads these.
+-- ---- To be believed: the standard's words. To check the headline against DWARF 5, read these.
 -- CIEs and FDEs (6.4.1)
 pub mod Records
 -- call frame instructions (6.4.2)
@@ -7,9 +7,9 @@ pub mod Instructions
 pub mod Codes
 -- which bytes encode which record (6.4.1, 7.24), and their reading
 pub mod Sections
--- where records and instructions stand
+-- where records and instructions are
 pub mod Bounds
--- ---- What the code's own values stand for, and what its calls answer.
+-- ---- What the code's own values stand for, and what its calls return.
 -- headers of the code
 pub mod Headers
 -- records and instructions of the code

@@ -3,11 +3,11 @@ use Rattle.std.specs.Prelude.{◌==◌, ◌||◌, ℕ, ℤ, Bool}
 use Rattle.dw_bytes.specs.declared.target.Format.{Format}
 use Rattle.dw_bytes.specs.Reading.{ReadPosition}
 
--- The versions of a CIE, which count by themselves (Appendix G): that of DWARF 2, of DWARF 3, and of DWARF 4 and 5.
+-- The versions of a CIE, which have numbers of their own (Appendix G): that of DWARF 2, of DWARF 3, and of DWARF 4 and 5.
 abbrev pub is_version : ℕ → Bool
 is_version number = number == 1 || number == 3 || number == 4
 
--- A CIE: the offset of its record, its header, and what its body has left behind the header, which is its program.
+-- A CIE: the offset of its record, its header, and its program, which is what its body has left after the header.
 pub record Cie : Type 0 where
   pub offset : ℕ
   pub format : Format
@@ -17,7 +17,7 @@ pub record Cie : Type 0 where
   pub return_address_register : ℕ
   pub program : ReadPosition
 
--- An FDE, likewise. Its CIE_pointer stands at an offset of its own.
+-- An FDE, likewise. Its CIE_pointer has an offset of its own.
 pub record Fde : Type 0 where
   pub offset : ℕ
   pub format : Format

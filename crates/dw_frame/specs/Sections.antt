@@ -18,14 +18,14 @@ use Rattle.dw_frame.specs.Records.{is_version, Cie, Record, cie_record, fde_reco
 
 -- ---- headers
 
--- What stands between the length of a CIE and its program, the parts that have one value alone left out.
+-- What is between the length of a CIE and its program, without the parts that can have only one value.
 pub record CieHeader : Type 0 where
   pub version : ℕ
   pub code_alignment_factor : ℕ
   pub data_alignment_factor : ℤ
   pub return_address_register : ℕ
 
--- What stands between the length of an FDE and its program.
+-- What is between the length of an FDE and its program.
 pub record FdeHeader : Type 0 where
   pub cie_pointer : ℕ
   pub initial_location : ℕ
@@ -35,7 +35,7 @@ pub data Header : Type 0 where
   cie_header : CieHeader → Header
   fde_header : FdeHeader → Header
 
--- the offset of all ones, with which the body of a CIE begins
+-- the offset of all ones, which begins the body of a CIE
 abbrev pub cie_id : Format → ℕ
 cie_id Dwarf32 = 0xffffffff
 cie_id Dwarf64 = 0xffffffffffffffff
@@ -71,27 +71,27 @@ factors version =
       return_address_register = return_address_register;
     })))))
 
--- Before these, version 4 alone has the sizes: of an address, which is the target's, and of a segment selector, 0.
+-- Before these, only version 4 has the sizes: of an address, which is the target's, and of a segment selector, 0.
 abbrev pub behind_augmentation : Target → ℕ → Fields Header
 behind_augmentation target version =
     if version == 4
     then byte AddressSize (bytes_of_address target.address_size) (byte SegmentSize 0 (factors version))
     else factors version
 
--- Behind the id of a CIE: its version, which chooses the fields (6.4.1, Appendix G), and an augmentation that is empty.
+-- After the id of a CIE: its version, which chooses the fields (6.4.1, Appendix G), and an augmentation that is empty.
 abbrev pub cie_fields : Target → Fields Header
 cie_fields target =
     field (fixed 1) (λ number. unless (is_version number) Version) (λ version.
     byte Augmentation 0 (behind_augmentation target version))
 
--- Behind the CIE_pointer of an FDE: the first address, and how many there are, which all lie in the address space.
+-- After the CIE_pointer of an FDE: the first address, and how many there are, which all lie in the address space.
 abbrev pub fde_fields : Target → ℕ → Fields Header
 fde_fields target cie_pointer =
     any address (λ initial_location.
     field address (λ range. unless (ends_by (top_of target) initial_location range) RangePastTop) (λ address_range.
     made (fde_header (record { cie_pointer = cie_pointer; initial_location = initial_location; address_range = address_range }))))
 
--- a CIE, where it is its id that the body begins with, else an FDE
+-- a CIE if the body begins with the CIE's id, else an FDE
 abbrev pub header_fields : Target → Format → Fields Header
 header_fields target format =
     any (fixed (bytes_of_offset format)) (λ id.
@@ -141,7 +141,7 @@ pub record IsRecord (target : Target) (at : ℕ) (bytes : List ℕ) (r : Record)
   pub record_is : r ≡ record_from at format (at + length front) header
       (record { target = target; position = at + length front + length fields; rest = program })
 
--- the records of a section, without a gap
+-- the records of a section, without gaps
 abbrev pub AreRecords : Target → ℕ → List ℕ → List Record → Type 0
 AreRecords target = Sequence (IsRecord target)
 

@@ -15,9 +15,9 @@ pub struct UnwindExpression<'a> {
     pub ghost inside: { offset + length (bytes_of expression) < 2 ^ 32 },
 }
 
-/// A call frame instruction, its operands as they are encoded (DWARF 5, sections 6.4.2 and 7.24): a
-/// delta is to be multiplied by the code alignment factor of the CIE, and a factored offset by its data
-/// alignment factor. Offsets are in bytes, and register numbers are those of the rules' columns.
+/// A call frame instruction with its operands as they are encoded (DWARF 5, sections 6.4.2 and 7.24): a delta is still to
+/// be multiplied by the CIE's code alignment factor, and a factored offset by its data alignment factor. Offsets are in
+/// bytes, and register numbers are those of the rules' columns.
 #[derive(Clone, Copy, Debug)]
 pub enum CallFrameInstruction<'a> {
     /// `DW_CFA_advance_loc`: the location moves on by a delta of six bits.
@@ -29,7 +29,7 @@ pub enum CallFrameInstruction<'a> {
         register: u16,
         factored_offset: u64,
     },
-    /// `DW_CFA_restore`: a register of six bits has the rule again that the CIE gave it.
+    /// `DW_CFA_restore`: a register of six bits gets back the rule that the CIE gave it.
     Restore {
         register: u16,
     },
@@ -56,45 +56,45 @@ pub enum CallFrameInstruction<'a> {
         register: u16,
         factored_offset: u64,
     },
-    /// `DW_CFA_restore_extended`: a register has the rule again that the CIE gave it.
+    /// `DW_CFA_restore_extended`: a register gets back the rule that the CIE gave it.
     RestoreExtended {
         register: u16,
     },
-    /// `DW_CFA_undefined`: a register has no content that can be known.
+    /// `DW_CFA_undefined`: a register has no value that can be recovered.
     Undefined {
         register: u16,
     },
-    /// `DW_CFA_same_value`: a register has the content that it had.
+    /// `DW_CFA_same_value`: a register still has the value that it had.
     SameValue {
         register: u16,
     },
-    /// `DW_CFA_register`: a register's content is in another one.
+    /// `DW_CFA_register`: a register's value is in another register.
     Register {
         register: u16,
         source: u16,
     },
     /// `DW_CFA_remember_state`: the rules are remembered.
     RememberState,
-    /// `DW_CFA_restore_state`: the rules that were remembered last come back.
+    /// `DW_CFA_restore_state`: the rules that were remembered last are restored.
     RestoreState,
-    /// `DW_CFA_def_cfa`: the CFA is a register and an offset.
+    /// `DW_CFA_def_cfa`: the CFA is a register plus an offset.
     DefCfa {
         register: u16,
         offset: u64,
     },
-    /// `DW_CFA_def_cfa_register`: the CFA's register is another one.
+    /// `DW_CFA_def_cfa_register`: the CFA rule gets another register.
     DefCfaRegister {
         register: u16,
     },
-    /// `DW_CFA_def_cfa_offset`: the CFA's offset is another one.
+    /// `DW_CFA_def_cfa_offset`: the CFA rule gets another offset.
     DefCfaOffset {
         offset: u64,
     },
-    /// `DW_CFA_def_cfa_expression`: the CFA is what an expression gives.
+    /// `DW_CFA_def_cfa_expression`: the CFA is what an expression evaluates to.
     DefCfaExpression {
         expression: UnwindExpression<'a>,
     },
-    /// `DW_CFA_expression`: a register is saved at the address that an expression gives.
+    /// `DW_CFA_expression`: a register is saved at the address that an expression evaluates to.
     Expression {
         register: u16,
         expression: UnwindExpression<'a>,
@@ -104,26 +104,26 @@ pub enum CallFrameInstruction<'a> {
         register: u16,
         factored_offset: i64,
     },
-    /// `DW_CFA_def_cfa_sf`: the CFA is a register and a signed offset.
+    /// `DW_CFA_def_cfa_sf`: the CFA is a register plus a signed offset.
     DefCfaSf {
         register: u16,
         factored_offset: i64,
     },
-    /// `DW_CFA_def_cfa_offset_sf`: the CFA's offset is another, signed one.
+    /// `DW_CFA_def_cfa_offset_sf`: the CFA rule gets another offset, a signed one.
     DefCfaOffsetSf {
         factored_offset: i64,
     },
-    /// `DW_CFA_val_offset`: a register's content is the CFA and an offset.
+    /// `DW_CFA_val_offset`: a register's value is the CFA plus an offset.
     ValOffset {
         register: u16,
         factored_offset: u64,
     },
-    /// `DW_CFA_val_offset_sf`: a register's content is the CFA and a signed offset.
+    /// `DW_CFA_val_offset_sf`: a register's value is the CFA plus a signed offset.
     ValOffsetSf {
         register: u16,
         factored_offset: i64,
     },
-    /// `DW_CFA_val_expression`: a register's content is what an expression gives.
+    /// `DW_CFA_val_expression`: a register's value is what an expression evaluates to.
     ValExpression {
         register: u16,
         expression: UnwindExpression<'a>,

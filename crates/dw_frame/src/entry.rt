@@ -18,7 +18,7 @@ pub struct CommonInformationEntry<'a> {
     pub code_alignment_factor: u64,
     /// What a factored offset is multiplied by.
     pub data_alignment_factor: i64,
-    /// The column of the rules that has the return address.
+    /// The column of the rules that represents the return address.
     pub return_address_register: u16,
     /// The initial instructions.
     pub program: Program<'a>,
@@ -44,9 +44,9 @@ pub struct FrameDescriptionEntry<'a> {
     pub offset: u32,
     /// The format of the record's length.
     pub format: Format,
-    /// The offset in the section at which it says that its CIE begins.
+    /// The offset in the section where its CIE begins, as the record states it.
     pub cie_pointer: u64,
-    /// The offset of that field in the section.
+    /// The offset of the CIE_pointer field in the section.
     pub cie_pointer_offset: u32,
     /// The first address that it covers.
     pub initial_location: u64,
@@ -58,7 +58,7 @@ pub struct FrameDescriptionEntry<'a> {
 }
 
 impl<'a> FrameDescriptionEntry<'a> {
-    /// The address after the last one that it covers; `initial_location` where it covers none.
+    /// The address after the last one that it covers; `initial_location` if it covers none.
     #[inline(always)]
     pub fn end_address(&self) -> u64
         ensures { result ≡ self.now.initial_location + self.now.address_range }

@@ -10,7 +10,7 @@ ghost use Rattle.dw_frame.specs.Records.{is_version};
 
 use dw_bytes::{Cursor, Fault, FaultKind, Format, Target};
 
-/// What stands between the length of a CIE and its program.
+/// What is between the length of a CIE and its program.
 #[derive(Clone, Copy)]
 pub struct CieHeader {
     pub version: u8,
@@ -20,7 +20,7 @@ pub struct CieHeader {
     ghost known: { is_version version ≡ true },
 }
 
-/// What stands between the length of an FDE and its program.
+/// What is between the length of an FDE and its program.
 #[derive(Clone, Copy)]
 pub struct FdeHeader {
     pub cie_pointer: u64,
@@ -60,7 +60,7 @@ impl CieHeader {
     ghost use Rattle.dw_frame.specs.Sections.{cie_fields, factors};
     ghost use Rattle.dw_frame.specs.Headers.{cie_head};
 
-    /// What is behind the id of a CIE.
+    /// What comes after the id of a CIE.
     fn read(cursor: &mut Cursor<'_>, target: Target) -> Result<Self, Fault>
         ensures exact { ParsesBy cie_head
             (fields_at (cie_fields target)) cursor.old result cursor.new }
@@ -76,7 +76,7 @@ impl CieHeader {
         CieHeader::read_factors(cursor, version)
     }
 
-    /// What the header of a CIE of a version ends with.
+    /// The fields that end the header of a CIE of this version.
     fn read_factors(cursor: &mut Cursor<'_>, version: u8) -> Result<Self, Fault>
         requires { is_version version ≡ true }
         ensures exact { ParsesBy cie_head
@@ -111,7 +111,7 @@ impl FdeHeader {
     ghost use Rattle.dw_frame.specs.Sections.{fde_fields};
     ghost use Rattle.dw_frame.specs.Headers.{fde_head};
 
-    /// What is behind the CIE_pointer of an FDE.
+    /// What comes after the CIE_pointer of an FDE.
     fn read(cursor: &mut Cursor<'_>, target: Target, cie_pointer: u64) -> Result<Self, Fault>
         ensures exact { ParsesBy fde_head
             (fields_at (fde_fields target cie_pointer)) cursor.old result cursor.new }
@@ -140,7 +140,7 @@ impl Header {
     ghost use Rattle.dw_frame.specs.Sections.{header_at};
     ghost use Rattle.dw_frame.specs.Headers.{head_of};
 
-    /// The header of a record in its format, from the first byte of the record's body on.
+    /// The header of a record of this format, starting at the first byte of the record's body.
     #[tactic(auto, unfolding(crate::specs::Sections::header_at))]
     pub fn read(cursor: &mut Cursor<'_>, format: Format, target: Target) -> Result<Self, Fault>
         ensures exact { ParsesBy head_of (header_at target format) cursor.old result cursor.new }

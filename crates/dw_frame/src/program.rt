@@ -46,7 +46,7 @@ impl<'a> Program<'a> {
         self.start
     }
 
-    /// The offset behind its last byte.
+    /// The offset after its last byte.
     pub fn end(&self) -> u32
         ensures end { result ≡ end_of self.now }
         ensures behind { result ≡ (reading_of self.now).position + length
@@ -55,7 +55,7 @@ impl<'a> Program<'a> {
         self.section.len() as u32
     }
 
-    /// What its numbers are read under.
+    /// The byte order and address size that its numbers are read with.
     pub fn target(&self) -> Target
         ensures { result ≡ target_of self.now }
     {
@@ -69,7 +69,7 @@ impl<'a> Program<'a> {
         Instructions::new(*self)
     }
 
-    /// What is left of it from one of its offsets on.
+    /// The rest of it from one of its offsets on.
     pub(crate) fn from_offset(&self, at: u32) -> Program<'a>
         requires { at ≤ end_of self.now }
         ensures { reading_of result ≡ reading_from self.now at }

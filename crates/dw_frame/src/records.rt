@@ -1,4 +1,4 @@
-//! The records of a section, one after the other.
+//! The records of a section, one after another.
 
 ghost use Rattle.std.specs.Prelude.{◌≡◌, ◌<◌, ◌^◌, length};
 ghost use Rattle.std.specs.Iterator.{YieldsFirstBy, item_count};
@@ -11,8 +11,8 @@ use dw_bytes::{Fault, Target};
 use std::iter::FusedIterator;
 use std::marker::Model;
 
-/// The records of a section in order, up to its end or the first fault. Nothing comes after a fault.
-/// Seen as the list of what is still to come.
+/// The records of a section in order, up to its end or the first fault. Nothing comes after a fault. Its model is the
+/// list of what is still to come.
 ///
 /// ```rust
 /// for entry in entries(section, target) {
@@ -50,7 +50,7 @@ impl<'a> Model for Entries<'a> {
 }
 
 impl<'a> Entries<'a> {
-    /// Those of a section of fewer than 2^32 bytes.
+    /// The records of a section of fewer than 2^32 bytes.
     pub(crate) fn new(section: &'a [u8], target: Target) -> Self
         requires { length section.now < 2 ^ 32 }
         ensures { result ≡ entries_of target section.now }

@@ -14,8 +14,8 @@ use crate::program::Program;
 use crate::records::Entries;
 use dw_bytes::{Body, Fault, Format, Target};
 
-/// The format and the body of the record at an offset of a section. The body is kept as a program is,
-/// which is what it has left behind its header.
+/// The format and the body of the record at an offset of a section. The body is represented as a program, since its
+/// program is what it has left after its header.
 fn record_body<'a>(
     section: &'a [u8],
     target: Target,
@@ -39,7 +39,7 @@ fn record_body<'a>(
     ))
 }
 
-/// A record at an offset, of its header and its program.
+/// A record at an offset, made from its header and its program.
 fn entry_from<'a>(
     at: u32,
     format: Format,
@@ -72,7 +72,7 @@ fn entry_from<'a>(
     }
 }
 
-/// The record at an offset of a section, and the offset behind it.
+/// The record at an offset of a section, and the offset after it.
 #[tactic(auto, unfolding(crate::specs::Sections::record_at), using(crate::proofs::Framed::leaves_laws))]
 pub fn entry<'a>(section: &'a [u8], target: Target, at: u32) -> Result<(Entry<'a>, u32), Fault>
     requires inside { at ≤ length section.now }
@@ -93,12 +93,11 @@ pub fn entry<'a>(section: &'a [u8], target: Target, at: u32) -> Result<(Entry<'a
 
 /// The records of a section of fewer than 2^32 bytes (DWARF 5, section 6.4.1).
 ///
-/// Of each record are judged, in this order: its length (1, 3), that its body is there (1, at the
-/// body's first byte), and then the fields of its header one after the other within its body: each
-/// that it is there and in range (1, 2, at its first byte), and for a CIE its version (4), its
-/// augmentation (5), in version 4 its sizes of an address (6) and of a segment selector (7), and its
-/// return address register (10), for an FDE that its range ends in the address space (11), each at
-/// that field. Its program isn't read, nor is its CIE looked for. Takes no memory.
+/// Each record is checked in this order: its length (1, 3); that its body is there (1, at the body's first byte); then
+/// the fields of its header, one after another within its body. Each field must be there and in range (1, 2, at its first
+/// byte). For a CIE its version (4), its augmentation (5), in version 4 its address size (6) and segment selector size
+/// (7), and its return address register (10) are checked; for an FDE, that its range ends in the address space (11). Each
+/// of these faults is at that field. A record's program isn't read, nor is its CIE looked up. Allocates no memory.
 pub fn entries<'a>(section: &'a [u8], target: Target) -> Entries<'a>
     requires { length section.now < 2 ^ 32 }
     ensures { result ≡ entries_of target section.now }
@@ -106,9 +105,9 @@ pub fn entries<'a>(section: &'a [u8], target: Target) -> Entries<'a>
     Entries::new(section, target)
 }
 
-/// The CIE at an offset of a section of fewer than 2^32 bytes, or the first fault before one is found,
-/// or none. It looks at the records in order up to that CIE, so it takes as long as there are records
-/// before it, and as there are in all where there is none. Takes no memory.
+/// The CIE at an offset of a section of fewer than 2^32 bytes, or the first fault before one is found, or none. It looks
+/// at the records in order up to that CIE, so its time grows with the number of records before it, or with the number of
+/// all records if there is none. Allocates no memory.
 #[tactic(auto, using(crate::proofs::RecordBounds::cie_laws))]
 pub fn cie_at<'a>(
     section: &'a [u8],

@@ -51,7 +51,7 @@ tables-fault target section ts items f is bad = ap (λ (xs : Items). fault_in xs
 abbrev some : Fault → Option Fault
 some f = Some f
 
--- where there is no fault, all is read
+-- if there is no fault, all is read
 whole : (items : Items) → fault_in items ≡ None → items ≡ all-read (values_in items)
 whole [] h = refl
 whole (Ok t ∷ items) h = ap (λ (xs : Items). Ok t ∷ xs) (whole items h)

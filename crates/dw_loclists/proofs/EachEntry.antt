@@ -1,4 +1,4 @@
--- Entries are read exactly where they are encoded, and judged by what they say.
+-- Entries are read exactly where they are encoded, and checked by their contents.
 use Rattle.std.proofs.Common.{◌≡◌, ℕ, ◌+◌, ◌<◌, ◌≤◌, Bool, true, false, cond, List, [], ◌∷◌, length, Option, Some, None, Result, Ok, Err}
 use Rattle.std.proofs.Common.{refl, sym, ap, subst, ◌∙◌, arith, inl, inr}
 use Rattle.std.specs.Prelude.{◌==◌, ◌&&◌}
@@ -24,11 +24,11 @@ pub entry-exact : (target : Target) → ExactAt target entry_at (IsEntry target)
 unfolding entry_at
 entry-exact target r same = let here = coded-exact target entry_line UnknownEntry r same in record { found = here.found; only = here.only }
 
--- an entry has a byte at least
+-- an entry has at least one byte
 pub entry-some : (target : Target) (at : ℕ) (bytes : List ℕ) (e : Entry) → IsEntry target at bytes e → 0 < length bytes
 entry-some target at bytes e h = coded-some target entry_line at bytes e h
 
--- ---- where the expression of an entry stands
+-- ---- where the expression of an entry is
 
 block-within : (target : Target) (start at : ℕ) (bytes : List ℕ) (b : Block) → start < at → IsBlock target at bytes b
     → StandsWithin target start (at + length bytes) b
@@ -117,7 +117,7 @@ entry-within target at bytes e (code, front, operands, parts, first, second) =
     let inside = all-lines at target code (at + length front) operands e (omega (arith, first.count)) second in
     subst (λ n. AllWithin target at n (expression_in e)) (omega (arith, ap length parts, length-append front operands)) inside
 
--- ---- judging
+-- ---- checking
 
 abbrev fine : {A : Type 0} → A → Result A Fault
 fine a = Ok a
@@ -179,7 +179,7 @@ unless-ok : {X : Type 0} (f : Option Fault) (x y : X) → unless_fault f x ≡ f
 unless-ok None x y is = (refl, cc)
 unless-ok (Some f) x y is = absurd (let never : Err f ≡ fine y = is in cc)
 
--- an entry that was read and judged
+-- an entry that was read and checked
 pub checked-found : (has_default : Bool) (r : ReadPosition) (e : Entry) (after : ReadPosition)
     → checked_entry_at has_default r ≡ Ok (e, after) → Next (IsEntry r.target r.position) r e after × IsFine has_default e
 unfolding checked_entry_at
@@ -199,7 +199,7 @@ checked-only has_default r e after next fine_is =
     ap (λ (f : Option Fault). unless_fault f (e, after)) (none-if-fine has_default r.position e fine_is) in
     ap (λ (x : Result (Entry × ReadPosition) Fault). x >>= λ y. unless_fault (entry_fault has_default r.position y.0) y) read ∙ passed
 
--- an entry that was read, and what is wrong with it or not
+-- an entry that was read, and what is wrong with it, if anything
 pub checked-none : (has_default : Bool) (r : ReadPosition) (e : Entry) (after : ReadPosition) → entry_at r ≡ Ok (e, after)
     → entry_fault has_default r.position e ≡ None → checked_entry_at has_default r ≡ Ok (e, after)
 unfolding checked_entry_at

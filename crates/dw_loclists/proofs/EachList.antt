@@ -23,7 +23,7 @@ use Rattle.dw_loclists.specs.declared.kept.KeptExpression.{KeptExpression}
 use Rattle.dw_loclists.specs.Kept.{KeepsMore}
 use Rattle.dw_loclists.proofs.KeptLists.{nothing, keeps-then}
 
--- entries that are each fine behind those before them, and then the end of their list
+-- entries that are each fine after those before them, and then the end of their list
 abbrev pub AreEntries : Target → Bool → ℕ → List ℕ → List Entry → Type 0
 AreEntries target has_default at bytes [] = IsEntry target at bytes end_of_list
 AreEntries target has_default at bytes (e ∷ es) =
@@ -36,11 +36,11 @@ Found = Result (List Entry × ReadPosition) Fault
 abbrev finish : List Entry → ReadPosition → Found
 finish es r = Ok (es, r)
 
--- one entry before the others
+-- one entry put before the others
 abbrev pub put_before : Entry → Found → Found
 put_before e others = others >>= λ es. finish (e ∷ es.0) es.1
 
--- what an entry leads to
+-- the rest of the list after an entry
 abbrev followed : ℕ → Bool → Entry × ReadPosition → Found
 followed n has_default e = cond (is_end e.0) (finish [] e.1) (put_before e.0 (at_most_entries n (has_default || is_default e.0) e.1))
 
@@ -321,7 +321,7 @@ same-followed n m has_default r (Ok e) is same =
     (same (has_default || is_default e.0) e.1 (checked-forward has_default r e.0 e.1 is))
 same-followed n m has_default r (Err f) is same = refl
 
--- any count that is enough gives the same
+-- any count that is large enough gives the same
 enough-same : (n m : ℕ) (has_default : Bool) (r : ReadPosition) → length r.rest ≤ n → length r.rest ≤ m
     → at_most_entries n has_default r ≡ at_most_entries m has_default r
 enough-same zero m has_default r h k = sym (none m has_default r (omega arith))
@@ -376,7 +376,7 @@ pub entries-refused : (has_default : Bool) (r : ReadPosition) (f : Fault) → 0 
     → entries_at has_default r ≡ Err f
 entries-refused has_default r f some is = refused-of (length r.rest - 1) has_default r f (omega arith) is
 
--- ---- entries before the others
+-- ---- entries put before the others
 
 abbrev pub put_all : List Entry → Found → Found
 put_all es others = others >>= λ xs. finish (es ++ xs.0) xs.1

@@ -98,7 +98,7 @@ pub lists-stop : (r : ReadPosition) (f : Fault) → 0 < length r.rest → list_a
 unfolding lists_at
 lists-stop r f some is = ap (λ (items : Items). all_of items) (stops list_at r f some is)
 
--- lists before the others
+-- lists put before the others
 abbrev pub put_lists : List Loclist → Result (List Loclist) Fault → Result (List Loclist) Fault
 put_lists ls others = others >>= λ xs. whole (ls ++ xs)
 
@@ -177,7 +177,7 @@ list-offset-exact target format array lists r same = record {
       ∙ ap (λ b. ok_unless (unless b BadOffsetEntry) r.position (v, after)) start;
 }
 
--- offsets, whatever begins there
+-- offsets, without regard to what begins there
 plain : (target : Target) (format : Format) (array : ℕ) (lists : List ℕ) (at : ℕ) (bytes os : List ℕ)
     → Sequence (IsListOffset target format array lists) at bytes os → Sequence (λ n. Offset target.order format) at bytes os
 plain target format array lists at bytes [] h = h
@@ -219,7 +219,7 @@ named-exact target format array lists count =
     exactly-exact target (list_offset_at format array lists) (IsListOffset target format array lists)
     (list-offset-exact target format array lists) count
 
--- both readings of the array end at one place
+-- both readings of the array end at the same offset
 same-array : (target : Target) (format : Format) (array : ℕ) (lists : List ℕ) (count : ℕ) (r a b : ReadPosition) (os ns : List ℕ)
     → r.target ≡ target → exactly_of (offset_at format) count r ≡ Ok (os, a)
     → exactly_of (list_offset_at format array lists) count r ≡ Ok (ns, b) → a ≡ b
@@ -345,7 +345,7 @@ table-only r t after next =
     ∙ (ap (λ n. done (table-of n t.format mid.position t.offsets t.lists) after) (sym s.offset_is)
     ∙ ap (λ n. done (table-of t.offset t.format n t.offsets t.lists) after) (sym array))))))
 
--- a length takes bytes
+-- a length takes at least a byte
 pub some-length : (order : Order) (bytes : List ℕ) (format : Format) (v : ℕ) → Len order bytes format v → 0 < length bytes
 some-length order bytes Dwarf32 v h = omega (arith, h.0.count)
 some-length order bytes Dwarf64 v (mark, rest, parts, first, second) = omega (arith, first.count, ap length parts, length-append mark rest)
@@ -461,7 +461,7 @@ table-unnamed r after mid end format body count os ls f one two three four five 
     ∙ ap (λ (x : Result (List ℕ × ReadPosition) Fault). x >>= λ named. done (table-of r.position format mid.position named.0 ls) after)
     five)))
 
--- what is behind the header is the section from there on
+-- what comes after the header is the section from there on
 pub header-leaves : (target : Target) (section : List ℕ) (start count : ℕ) (mid : ReadPosition) → start ≤ length section
     → fields_at (table_header target) (section_from target section start) ≡ Ok (count, mid) → mid ≡ section_from target section mid.position
 header-leaves target section start count mid inside is =

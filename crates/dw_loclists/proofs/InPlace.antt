@@ -1,4 +1,4 @@
--- Expressions stand in their section: at their offset its bytes are theirs.
+-- Expressions are in their section: the section's bytes at their offset are theirs.
 use Rattle.std.proofs.Common.{◌≡◌, ℕ, ◌+◌, ◌≤◌, Bool, true, false, cond, List, [], ◌∷◌, ◌++◌, length, take, drop, Option, Some, None}
 use Rattle.std.proofs.Common.{refl, sym, ap, subst, ◌∙◌, append_assoc, arith}
 use Rattle.std.specs.Prelude.{◌==◌, map}
@@ -23,7 +23,7 @@ use Rattle.dw_loclists.proofs.Checked.{checked-tables}
 use Rattle.dw_loclists.proofs.KeptLists.{nothing}
 use Rattle.dw_loclists.proofs.Order.{entries-front, located-of}
 
--- it is a location of this target, whose bytes stand among these
+-- it is a location of this target, whose bytes are among these
 pub record IsIn (target : Target) (at : ℕ) (bytes : List ℕ) (x : LocatedExpression) : Type 0 where
   pub front : List ℕ
   pub rest : List ℕ
@@ -63,7 +63,7 @@ both : (target : Target) (at : ℕ) (bytes : List ℕ) (xs ys : List LocatedExpr
 both target at bytes [] ys h k = k
 both target at bytes (x ∷ xs) ys h k = (h.0, both target at bytes xs ys h.1 k)
 
--- the bytes behind others, and those before others
+-- the bytes after others, and those before others
 behind-all : (first rest bytes : List ℕ) → bytes ≡ first ++ rest → bytes ≡ first ++ (rest ++ [])
 behind-all first rest bytes parts = parts ∙ ap (λ (t : List ℕ). first ++ t) (sym (nothing rest))
 
@@ -212,7 +212,7 @@ bytes-there target section x h =
 abbrev located-as : ℕ → stack_kind.Kind → Target → List ℕ → LocatedExpression
 located-as offset kind target bytes = record { offset = offset; kind = kind; target = target; bytes = bytes }
 
--- lent is what was kept
+-- what is lent is what was kept
 lent-is : (target : Target) (section : List ℕ) (x : LocatedExpression) (k : KeptExpression) → IsIn target 0 section x → IsKeptOf x k
     → lent_from target section k ≡ x
 lent-is target section x k h kept =
@@ -251,7 +251,7 @@ each-lent target section (x ∷ xs) (k ∷ ks) h kept =
 all-in : (s : ListSection) → IsChecked s → AreIn s.target 0 s.section (located_in s)
 all-in s checked = tables-in s.target 0 s.section (tables_in s) (checked-tables s checked)
 
--- what is kept of the expressions of a section can be lent, and is then these
+-- what is kept of the expressions of a section can be lent, and is then these expressions
 pub all-lendable : (s : ListSection) (ks : List KeptExpression) → IsChecked s → AreKeptOf (located_in s) ks
     → AllByRecursion (IsLendable s.target s.section) ks
 all-lendable s ks checked kept = each-lendable s.target s.section (located_in s) ks (all-in s checked) kept

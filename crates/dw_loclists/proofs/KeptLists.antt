@@ -1,4 +1,4 @@
--- What is kept of lists and tables, as they come.
+-- What is kept of lists and tables as they are read.
 use Rattle.std.proofs.Common.{◌≡◌, ℕ, List, [], ◌∷◌, ◌++◌, map, refl, sym, ap, subst, ◌∙◌, append_assoc}
 use Rattle.std.proofs.lemmas.List.{map-append}
 use Rattle.std.proofs.lemmas.Grind.{flat_map-append}
@@ -80,7 +80,7 @@ keeps-table ts t old new kept more =
     (sym (flat_map-append (λ (l : Loclist). expressions_of l.entries) (lists_of ts) t.lists) ∙ ap expressions_in (sym (lists-of-more ts t)))
     (more (expressions_in (lists_of ts)) kept)
 
--- a table behind its lists
+-- a table after its lists
 pub behind-lists : (k new : Kept) (t : Table) (tables : List ℕ) → new ≡ with_lists k t.lists → tables ≡ new.tables ++ t.offset ∷ []
     → kept-as tables new.lists ≡ with_table k t
 behind-lists k new t tables lists table =

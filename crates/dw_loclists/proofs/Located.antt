@@ -1,4 +1,4 @@
--- Where the lists of a checked section stand, and what their expressions are among.
+-- Where the lists of a checked section are, and that their expressions are the section's.
 use Rattle.std.proofs.Common.{◌≡◌, ℕ, zero, suc, ◌+◌, ◌≤◌, Bool, true, false, cond, List, [], ◌∷◌, ◌++◌, length, drop, Contains, Ok, refl}
 use Rattle.std.proofs.Common.{sym, ap, subst, ◌∙◌, append_assoc, arith, inl, inr}
 use Rattle.std.specs.Prelude.{◌⊎◌, map}
@@ -111,7 +111,7 @@ one-list s l m checked l_in m_in same =
     ascending-same (λ (x : Loclist). x.offset) (lists_in s) (ascends-back (λ (x : Loclist). x.offset) (lists_in s) (lists-ascend s checked))
     l m l_in m_in same
 
--- ---- what expressions are among
+-- ---- the lists of expressions that contain them
 
 held-among : (base address : ℕ) (e : Entry) (x : LocatedExpression) → Contains (held_by base address e) x
     → Contains (expressions_of (e ∷ [])) x
@@ -162,7 +162,7 @@ of-lists (m ∷ ls) l x (zero, lt, is) h =
 of-lists (m ∷ ls) l x (suc k, lt, is) h =
     Contains-append_right (expressions_of m.entries) (expressions_in ls) x (of-lists ls l x (k, omega arith, is) h)
 
--- all that a list can give is an expression of the section
+-- every expression that a list can give is one of the section
 pub given-among : (s : ListSection) (l : Loclist) (base address : ℕ) (x : LocatedExpression) → Contains (lists_in s) l
     → Contains (bounded_at base address l.entries ++ defaults_in l.entries) x → Contains (located_in s) x
 given-among s l base address x l_in among =

@@ -72,7 +72,7 @@ entry-rises target at bytes e here =
 offsets-append : (xs ys : List LocatedExpression) → offsets-of (xs ++ ys) ≡ offsets-of xs ++ offsets-of ys
 offsets-append xs ys = map-append (λ (x : LocatedExpression). x.offset) xs ys
 
--- those of a front part and of what is behind it
+-- those of a first part and of what comes after it
 both-rise : (low mid high other : ℕ) (xs ys : List LocatedExpression) → other ≡ high → RiseWithin low mid (offsets-of xs)
     → RiseWithin mid other (offsets-of ys) → RiseWithin low high (offsets-of (xs ++ ys))
 both-rise low mid high other xs ys same h k =

@@ -1,4 +1,4 @@
--- One entry more of a list, however it was read.
+-- One more entry of a list, however it was read.
 use Rattle.std.proofs.Common.{◌≡◌, ℕ, ◌<◌, ◌≤◌, Bool, true, false, List, [], ◌∷◌, ◌++◌, length, Some, None, Ok, Err, refl, sym, ap, subst, ◌∙◌, arith}
 use Rattle.std.specs.Prelude.{◌&&◌, ◌||◌}
 use Rattle.dw_bytes.specs.declared.fault.Fault.{Fault}
@@ -91,7 +91,7 @@ length-passes dflt r a b c d begin count x before after code first second third 
   kept = kept;
 }
 
--- no default came
+-- no default was read
 pub or-false : (b : Bool) → (b || false) ≡ b
 or-false true = refl
 or-false false = refl

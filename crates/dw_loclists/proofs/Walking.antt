@@ -78,7 +78,7 @@ pub or-true : (b : Bool) → (b || true) ≡ true
 or-true true = refl
 or-true false = refl
 
--- ---- what a step does to what is ahead
+-- ---- what a step does to the entries ahead
 
 pub held-step : (base address : ℕ) (xs : List Entry) (e : Entry) (es : List Entry) → xs ≡ e ∷ es
     → bounded_at base address xs ≡ held_by base address e ++ bounded_at (base_after base (e ∷ [])) address es
@@ -87,7 +87,7 @@ held-step base address xs e es is = ap (bounded_at base address) is
 pub defaults-step : (xs : List Entry) (e : Entry) (es : List Entry) → xs ≡ e ∷ es → defaults_in xs ≡ default_of e ++ defaults_in es
 defaults-step xs e es is = ap defaults_in is
 
--- a default that comes is the first
+-- a default that is read is the first
 pub first-default : (old : Option declared.Block) (b : declared.Block) (es : List Entry) → (is_some old && true) ≡ false
     → default_located old ++ (location_of (block_of b) ∷ defaults_in es) ≡ default_located (Some b) ++ defaults_in es
 first-default None b es first = refl

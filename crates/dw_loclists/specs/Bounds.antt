@@ -1,4 +1,4 @@
--- Where things stand in their section, and in what order.
+-- Where things are in their section, and in what order.
 use Rattle.std.specs.Prelude.{◌≡◌, ◌≤◌, ◌<◌, ◌+◌, ◌⊎◌, ℕ, List, [], ◌∷◌, ◌++◌, length, Option, Some, None}
 use Rattle.std.specs.List.{AllByRecursion}
 use Rattle.dw_bytes.specs.Operands.{Block}
@@ -11,27 +11,28 @@ abbrev pub IsUpTo : ℕ → Option Block → Type 0
 IsUpTo at None = ⊥
 IsUpTo at (Some e) = at ≤ e.offset + length e.bytes
 
--- an offset that is no further than the beginning of an entry, or than the end of its expression
+-- an offset no further than the beginning of an entry, or than the end of its expression
 abbrev pub IsBefore : ℕ → Entry → ℕ → Type 0
 IsBefore begin entry at = (at ≤ begin) ⊎ IsUpTo at (expression_in entry)
 
--- each is below those behind it, by this number
+-- each is below those after it, by this number
 abbrev pub Ascends : {X : Type 0} → (X → ℕ) → List X → Type 0
 Ascends at [] = Unit {0}
 Ascends at (x ∷ xs) = AllByRecursion (λ y. at x < at y) xs × Ascends at xs
 
--- numbers from one on and below another, each above the one before it
+-- numbers from one up to, not including, another, each above the one before it
 abbrev pub RiseWithin : ℕ → ℕ → List ℕ → Type 0
 RiseWithin low high [] = low ≤ high
 RiseWithin low high (n ∷ ns) = (low ≤ n) × RiseWithin (n + 1) high ns
 
--- an expression after the first byte of its entry and up to the last, under the target of the section
+-- an expression after the first byte of its entry that ends no later than the entry's last, under the
+-- target of the section
 pub record StandsWithin (target : Target) (at end : ℕ) (b : Block) : Type 0 where
   pub behind : at < b.offset
   pub ends : b.offset + length b.bytes ≡ end
   pub of_target : b.target ≡ target
 
--- the same where there is one
+-- the same if there is one
 abbrev pub AllWithin : Target → ℕ → ℕ → Option Block → Type 0
 AllWithin target at end None = Unit {0}
 AllWithin target at end (Some b) = StandsWithin target at end b

@@ -5,8 +5,8 @@ use Rattle.dw_bytes.specs.Operands.{address, unsigned, block, Block, Line, none,
 use Rattle.dw_stack.specs.declared.state.Kind.TheVariants.{Location}
 use Rattle.dw_stack.specs.Expressions.{IsGoodExpression}
 
--- One constructor a line of the table of entries, with the operands in their order. An expression is a block: where it stands
--- in the section, what it is read under, and its bytes.
+-- One constructor per line of the table of entries, with the operands in their order. An expression is a block: its
+-- offset in the section, what it is read under, and its bytes.
 pub data Entry : Type 0 where
   end_of_list : Entry
   offset_pair : ℕ → ℕ → Block → Entry

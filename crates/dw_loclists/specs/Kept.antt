@@ -1,4 +1,4 @@
--- What is kept of a section. No contract of a public call speaks of these.
+-- What is kept of a section. No contract of a public call uses these.
 use Rattle.std.specs.Prelude.{◌≡◌, ◌<◌, ◌≤◌, ◌+◌, ◌^◌, length, take, drop, ℕ, Bool, List, [], ◌∷◌, ◌++◌, map, Contains, Ok}
 use Rattle.std.specs.List.{AllByRecursion, AllZip}
 use Rattle.dw_bytes.specs.declared.target.Target.{Target}
@@ -16,22 +16,22 @@ use Rattle.dw_loclists.specs.Views.{start_of}
 
 -- ---- expressions
 
--- What is kept of a good expression: where it stands, and what was learned of it.
+-- What is kept of a good expression: where it is, and what was learned of it.
 pub record IsKeptOf (x : LocatedExpression) (k : KeptExpression) : Type 0 where
   pub offset_is : k.offset ≡ x.offset
   pub length_is : k.length ≡ length x.bytes
   pub checked : stack.IsChecked (record { kind = x.kind; target = x.target; bytes = x.bytes; depth = k.depth; count = k.count })
 
--- of each of these, in order
+-- for each of these, in order
 abbrev pub AreKeptOf : List LocatedExpression → List KeptExpression → Type 0
 AreKeptOf = AllZip IsKeptOf
 
--- of these besides, after what was kept
+-- for these too, after what was kept
 abbrev pub KeepsMore : List LocatedExpression → List KeptExpression → List KeptExpression → Type 0
 KeepsMore more old new = (xs : List LocatedExpression) → AreKeptOf xs old → AreKeptOf (xs ++ more) new
 
--- An entry, after a default or not, was read and has no fault, and its expression is kept. Its list ends with it or not, and it
--- is a default or not.
+-- An entry was read and has no fault, and its expression is kept. The flags tell whether its list had a default before
+-- it, whether it ends the list, and whether it is a default.
 pub record Passes (has_default ended default : Bool) (old new : ReadPosition) (before after : List KeptExpression) : Type 0 where
   pub entry : Entry
   pub read : checked_entry_at has_default old ≡ Ok (entry, new)
@@ -39,7 +39,7 @@ pub record Passes (has_default ended default : Bool) (old new : ReadPosition) (b
   pub default_is : is_default entry ≡ default
   pub kept : KeepsMore (expressions_of (entry ∷ [])) before after
 
--- of an expression among others
+-- what was kept of an expression is among these
 abbrev pub IsAmong : List KeptExpression → LocatedExpression → Type 0
 IsAmong kept x = (k : KeptExpression) × Contains kept k × IsKeptOf x k
 
@@ -79,7 +79,7 @@ with_lists k lists = record { tables = k.tables; lists = k.lists ++ starts_of li
 abbrev pub with_table : Kept → Table → Kept
 with_table k t = record { tables = k.tables ++ t.offset ∷ []; lists = k.lists ++ starts_of t.lists }
 
--- of tables, and nothing else
+-- only these tables
 abbrev pub kept_from : List Table → Kept
 kept_from tables = record { tables = map (λ (t : Table). t.offset) tables; lists = starts_of (lists_of tables) }
 

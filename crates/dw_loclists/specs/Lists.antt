@@ -12,13 +12,13 @@ use Rattle.dw_loclists.specs.Entries.{Entry, end_of_list, IsEntry, is_end, is_de
 
 -- ---- lists
 
--- A list: the offset of its first byte, and its entries, the end_of_list left out.
+-- A list: the offset of its first byte, and its entries without the end_of_list.
 pub record Loclist : Type 0 where
   pub offset : ℕ
   pub entries : List Entry
 
--- Entries one behind the other, the last of which, and it alone, is an end_of_list. At most one is a default (own), no range ends
--- before it begins (own), and each expression is good as a location.
+-- Entries one after the other; the last, and only the last, is an end_of_list. At most one is a default (own), no range
+-- ends before it begins (own), and each expression is good as a location.
 pub record IsList (target : Target) (at : ℕ) (bytes : List ℕ) (l : Loclist) : Type 0 where
   pub offset_is : l.offset ≡ at
   pub encoded : Sequence (IsEntry target) at bytes (l.entries ++ end_of_list ∷ [])
@@ -29,8 +29,8 @@ pub record IsList (target : Target) (at : ℕ) (bytes : List ℕ) (l : Loclist) 
 
 -- ---- tables
 
--- A table: the offset of its first byte, the format of its length, the offset of its array, the offsets in the array, which
--- count from there, and the lists behind it.
+-- A table: the offset of its first byte, the format of its length, the offset of its array, the offsets in the array,
+-- which count from the array's offset, and the lists after it.
 pub record Table : Type 0 where
   pub offset : ℕ
   pub format : Format
@@ -38,7 +38,7 @@ pub record Table : Type 0 where
   pub offsets : List ℕ
   pub lists : List Loclist
 
--- Behind the length: version 5, the size of an address of the target, no segment selectors, and how many offsets there are.
+-- After the length: version 5, the size of an address of the target, no segment selectors, and the number of offsets.
 abbrev pub table_header : Target → Fields ℕ
 table_header target =
     field (fixed 2) (λ version. unless (version == 5) ListVersion) (λ version.
@@ -55,7 +55,8 @@ starts_of lists = map (λ (l : Loclist). l.offset) lists
 abbrev pub IsListOffset : Target → Format → ℕ → List ℕ → ℕ → List ℕ → ℕ → Type 0
 IsListOffset target format array starts at bytes v = Offset target.order format bytes v × Contains starts (array + v)
 
--- A table is a length, and a body of that many bytes: the header, the array of so many offsets, and lists without a gap.
+-- A table is a length, and a body of that length: the header, the array with its number of offsets, and lists without a
+-- gap.
 pub record IsTable (target : Target) (at : ℕ) (bytes : List ℕ) (t : Table) : Type 0 where
   pub front : List ℕ
   pub header : List ℕ
@@ -77,6 +78,6 @@ AreTables target = Sequence (IsTable target)
 abbrev pub lists_of : List Table → List Loclist
 lists_of tables = flat_map (λ (t : Table). t.lists) tables
 
--- A section that is right: its bytes are the encodings of tables, without a gap.
+-- A well-formed section: its bytes are the encodings of tables, without a gap.
 abbrev pub IsWellFormed : Target → List ℕ → Type 0
 IsWellFormed target section = (tables : List Table) × AreTables target 0 section tables

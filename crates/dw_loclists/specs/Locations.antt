@@ -1,4 +1,4 @@
--- What a location list says of an address (DWARF 5, section 2.6.2).
+-- What a location list gives at an address (DWARF 5, section 2.6.2).
 use Rattle.std.specs.Prelude.{ℕ, ◌+◌, ◌&&◌, nat_le, nat_lt, Bool, false, if◌then◌else◌, List, [], ◌∷◌, ◌++◌, map, filter_map, flat_map}
 use Rattle.dw_bytes.specs.Operands.{Block}
 use Rattle.dw_stack.specs.declared.state.Kind.TheVariants.{Location}
@@ -20,13 +20,13 @@ expressions_in lists = flat_map (λ (l : Loclist). expressions_of l.entries) lis
 
 -- ---- the entries that hold at an address
 
--- the base behind entries: that of the last base_address, or else the one before them all
+-- the base after entries: that of the last base_address, or else the one before them all
 abbrev pub base_after : ℕ → List Entry → ℕ
 base_after base [] = base
 base_after base (base_address other ∷ entries) = base_after other entries
 base_after base (_ ∷ entries) = base_after base entries
 
--- from the beginning on, and before the end
+-- from the beginning up to, not including, the end
 abbrev pub is_between : ℕ → ℕ → ℕ → Bool
 is_between begin end address = nat_le begin address && nat_lt address end
 
@@ -43,7 +43,7 @@ holds base address (start_length begin count e) = is_between begin (begin + coun
 abbrev pub held_by : ℕ → ℕ → Entry → List LocatedExpression
 held_by base address entry = if holds base address entry then expressions_of (entry ∷ []) else []
 
--- those of the bounded entries that hold, in order, where this base is the one before the first of them
+-- those of the bounded entries that hold, in order, where this is the base before the first of them
 abbrev pub bounded_at : ℕ → ℕ → List Entry → List LocatedExpression
 bounded_at base address [] = []
 bounded_at base address (entry ∷ entries) = held_by base address entry ++ bounded_at (base_after base (entry ∷ [])) address entries
@@ -55,12 +55,12 @@ default_of entry = if is_default entry then expressions_of (entry ∷ []) else [
 abbrev pub defaults_in : List Entry → List LocatedExpression
 defaults_in entries = flat_map default_of entries
 
--- where nothing bounded holds, something else
+-- a list, or if it is empty another one
 abbrev pub or_else_all : {X : Type 0} → List X → List X → List X
 or_else_all [] others = others
 or_else_all (x ∷ xs) others = x ∷ xs
 
--- The expressions of a list that hold at an address, in order: those of bounded entries, or where none holds the default's.
+-- The expressions of a list that hold at an address, in order: those of bounded entries, or if none holds the default's.
 -- The base is the unit's.
 abbrev pub locations_of : Loclist → ℕ → ℕ → List LocatedExpression
 locations_of l base address = or_else_all (bounded_at base address l.entries) (defaults_in l.entries)

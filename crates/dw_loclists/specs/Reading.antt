@@ -1,5 +1,5 @@
--- Reading a `.debug_loclists` section from left to right, with the first fault. Each entry is judged as soon as it is read: one
--- default a list, its range, its expression.
+-- Reading a `.debug_loclists` section from left to right, up to the first fault. Each entry is checked as soon as it is
+-- read: one default per list, its range, its expression.
 use Rattle.std.specs.Prelude.{◌≡◌, ℕ, zero, suc, ◌+◌, ◌==◌, ◌&&◌, ◌||◌, nat_lt, Bool, false, if◌then◌else◌, List, [], ◌∷◌, length, Option}
 use Rattle.std.specs.Prelude.{Some, None, Result, Ok, Err, option_map}
 use Rattle.std.specs.List.{list_any}
@@ -37,15 +37,15 @@ is_back_range (start_length begin count e) = false
 abbrev pub location_fault : Option Block → Option Fault
 location_fault e = located_fault (option_map location_of e)
 
--- The first fault of an entry at an offset, behind a default or not: a second default, a range that ends before it begins, and
--- then its expression's.
+-- The first fault of an entry at an offset: a second default, a range that ends before it begins, and then its
+-- expression's. The flag tells whether a default came before.
 abbrev pub entry_fault : Bool → ℕ → Entry → Option Fault
 entry_fault has_default at entry =
     if has_default && is_default entry then Some (record { kind = SecondDefault; at = at })
     else if is_back_range entry then Some (record { kind = BackRange; at = at })
     else location_fault (expression_in entry)
 
--- what is read, where there is no fault
+-- the value, unless there is a fault
 abbrev pub unless_fault : {X : Type 0} → Option Fault → X → Result X Fault
 unless_fault None x = Ok x
 unless_fault (Some fault) x = Err fault
@@ -70,7 +70,8 @@ at_most_entries (suc count) has_default r =
     else (at_most_entries count (has_default || is_default entry.0) entry.1 >>= λ others. Ok (entry.0 ∷ others.0, others.1)))
     else Err (no_end r)
 
--- The entries up to the end of their list, behind a default or not: there are no more of them than bytes.
+-- The entries up to the end of their list. The flag tells whether a default came before; there are no more entries than
+-- bytes.
 unfoldable pub entries_at : Bool → ReadPosition → Result (List Entry × ReadPosition) Fault
 entries_at has_default r = at_most_entries (length r.rest) has_default r
 
@@ -89,7 +90,7 @@ lists_at r = all_of (sequence_of list_at r)
 
 -- ---- tables
 
--- an offset of an array is judged by the lists of its table
+-- an array offset is checked against the lists of its table
 abbrev pub is_among : ℕ → List ℕ → Bool
 is_among at starts = list_any (λ start. start == at) starts
 

@@ -1,4 +1,4 @@
--- What the types of the code stand for.
+-- What the types of the code mean.
 use Rattle.std.specs.Prelude.{ℕ}
 use Rattle.dw_bytes.specs.Operands.{block_of}
 use Rattle.dw_loclists.specs.declared.kept.KeptExpression.{KeptExpression}

@@ -1,4 +1,4 @@
--- How a list is walked for an address. No contract of a public call speaks of these.
+-- How a list is walked for an address. No contract of a public call uses these.
 use Rattle.std.specs.Prelude.{◌≡◌, ℕ, Bool, false, Contains, List, [], ◌∷◌, ◌++◌, if◌then◌else◌, is_some, Option, Some, None, Result, Ok}
 use Rattle.std.specs.Prelude.{Err, IsOk}
 use Rattle.dw_bytes.specs.declared.block.Block as declared
@@ -15,12 +15,12 @@ use Rattle.dw_stack.specs.Located.{LocatedExpression}
 use Rattle.dw_loclists.specs.Reading.{entries_at}
 use Rattle.dw_loclists.specs.Views.{offset_of}
 
--- the default that came, if one did
+-- the default that was read, if any
 abbrev pub default_located : Option declared.Block → List LocatedExpression
 default_located None = []
 default_located (Some b) = location_of (block_of b) ∷ []
 
--- the entries that are left, behind a default or not
+-- the entries that are left; the flag tells whether a default came before
 abbrev pub entries_in : Result (List Entry × ReadPosition) Fault → List Entry
 entries_in (Ok found) = found.0
 entries_in (Err fault) = []
@@ -32,14 +32,14 @@ left_of w = entries_at (is_some w.default) w.cursor
 abbrev pub IsReadable : ListWalk → Type 0
 IsReadable w = IsOk (left_of w)
 
--- what they give at an address, and what the default is where they give nothing
+-- what they give at an address, or the default where they give nothing
 abbrev pub held_ahead : ℕ → ListWalk → List LocatedExpression
 held_ahead address w = bounded_at w.base address (entries_in (left_of w))
 
 abbrev pub default_ahead : ListWalk → List LocatedExpression
 default_ahead w = default_located w.default ++ defaults_in (entries_in (left_of w))
 
--- what is still to come, where something held already or not
+-- what is still to come; the flag tells whether something held already
 abbrev pub still_to_come : Bool → ℕ → ListWalk → List LocatedExpression
 still_to_come found address w = if found then held_ahead address w else or_else_all (held_ahead address w) (default_ahead w)
 

@@ -1,11 +1,11 @@
-//! What a section has.
+//! What a section contains.
 
 ghost use Rattle.std.specs.Prelude.{◌<◌, ◌^◌};
 
 use crate::kept::KeptExpression;
 use std::alloc::Global;
 
-/// A location list of a section (DWARF 5, section 7.7.3), named by where it begins.
+/// A location list of a section (DWARF 5, section 7.7.3), named by the offset where it begins.
 #[derive(Clone, Copy, Debug, PartialEq, Eq)]
 pub struct LocationList {
     offset: u32,
@@ -44,7 +44,7 @@ impl Contents {
     ghost use Rattle.std.specs.Prelude.{◌≡◌, []};
     ghost use Rattle.dw_loclists.specs.Kept.{kept_of, nothing_kept};
 
-    /// Of no table yet.
+    /// Nothing read yet.
     pub fn new(alloc: Global) -> Self
         ensures kept { kept_of result ≡ nothing_kept }
         ensures expressions { result.expressions.items ≡ [] }

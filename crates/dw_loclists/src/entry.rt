@@ -13,7 +13,8 @@ use dw_bytes::{Block, Cursor, Fault, FaultKind, operands};
 pub enum Entry<'a> {
     /// `DW_LLE_end_of_list`: the list ends here.
     EndOfList,
-    /// `DW_LLE_offset_pair`: the expression holds from one offset to before another, both from the base.
+    /// `DW_LLE_offset_pair`: the expression holds from one offset up to, not including, another, both counted
+    /// from the base.
     OffsetPair {
         begin: u64,
         end: u64,
@@ -27,7 +28,7 @@ pub enum Entry<'a> {
     BaseAddress {
         base: u64,
     },
-    /// `DW_LLE_start_end`: the expression holds from one address to before another.
+    /// `DW_LLE_start_end`: the expression holds from one address up to, not including, another.
     StartEnd {
         begin: u64,
         end: u64,
@@ -42,8 +43,8 @@ pub enum Entry<'a> {
 }
 
 impl<'a> Entry<'a> {
-    /// The next entry. An unknown code (51) stands at the entry, and a field that isn't there (1) or is out of
-    /// range (2) at the field's first byte.
+    /// Reads the next entry. An unknown code (51) is reported at the entry's first byte; a field that isn't
+    /// there (1) or is out of range (2) at the field's first byte.
     #[tactic(auto, unfolding(crate::specs::Reading::entry_at))]
     #[inline(always)]
     pub fn read(cursor: &mut Cursor<'a>) -> Result<Self, Fault>
@@ -109,7 +110,7 @@ impl<'a> Entry<'a> {
     ghost use Rattle.dw_loclists.specs.Reading.{is_back_range};
     ghost use Rattle.dw_loclists.specs.Views.{entry_of};
 
-    /// Whether its list ends with it.
+    /// Whether it ends its list.
     #[inline(always)]
     pub fn is_end(&self) -> bool
         ensures { result ≡ is_end (entry_of self.now) }
@@ -117,7 +118,7 @@ impl<'a> Entry<'a> {
         matches!(self, Entry::EndOfList)
     }
 
-    /// Whether it is a default.
+    /// Whether it is a default_location.
     #[inline(always)]
     pub fn is_default(&self) -> bool
         ensures { result ≡ is_default (entry_of self.now) }
@@ -151,7 +152,7 @@ impl<'a> Entry<'a> {
         }
     }
 
-    /// Whether it is bounded and holds at an address. An `OffsetPair` counts from the base.
+    /// Whether it is bounded and holds at an address. The offsets of an `OffsetPair` count from the base.
     #[inline(always)]
     pub fn holds(&self, base: u64, address: u64) -> bool
         ensures { result ≡ holds base address (entry_of self.now) }
@@ -169,7 +170,7 @@ impl<'a> Entry<'a> {
     }
 }
 
-/// Whether a sum, which doesn't wrap, is at most an address.
+/// Whether base + offset, not wrapped, is at most an address.
 #[inline(always)]
 fn sum_is_at_most(base: u64, offset: u64, address: u64) -> bool
     ensures { result ≡ nat_le (base + offset) address }

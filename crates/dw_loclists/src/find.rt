@@ -1,4 +1,4 @@
-//! Finding things of a section by halving.
+//! Binary search for the lists and expressions of a section.
 
 ghost use Rattle.std.specs.Prelude.{◌≡◌, ◌<◌, ℕ, Contains, length, map, MatchOption};
 ghost use Rattle.dw_loclists.specs.Bounds.{Ascends};
@@ -26,7 +26,7 @@ pub fn find_list(lists: &[LocationList], offset: u64) -> Option<LocationList>
     }
 }
 
-/// The checked expression of a block, by what was kept of it.
+/// The checked expression of a block, looked up in what was kept.
 pub fn find_expression<'a>(
     expressions: &[KeptExpression],
     block: Block<'a>,

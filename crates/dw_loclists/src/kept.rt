@@ -13,21 +13,21 @@ use dw_bytes::{Block, Target};
 use dw_ops::Expression;
 use dw_stack::{CheckedExpression, Kind};
 
-/// What is kept of an expression that is good as a location: where it stands, and what was learned of it. Its bytes stay in
+/// What is kept of an expression that is good as a location: where it is, and what was learned of it. Its bytes stay in
 /// the section, so this takes 16 bytes.
 #[derive(Clone, Copy, Debug)]
 pub struct KeptExpression {
     /// The offset of its first byte in the section.
     pub offset: u32,
-    /// How many bytes it has.
+    /// Its length in bytes.
     pub length: u32,
-    /// How many operations it has.
+    /// The number of its operations.
     pub count: u32,
     pub depth: u8,
 }
 
 impl KeptExpression {
-    /// Of a block whose bytes were checked as a location.
+    /// From a block whose bytes were checked as a location.
     #[inline(always)]
     pub fn new(block: Block<'_>, checked: &CheckedExpression<'_>) -> Self
         requires checked { IsChecked (checked_of checked.now) }
@@ -42,7 +42,7 @@ impl KeptExpression {
         }
     }
 
-    /// Its bytes where they stand in a section.
+    /// Its bytes, as they are in a section.
     pub fn block_in<'a>(&self, section: &'a [u8], target: Target) -> Block<'a>
         requires inside { self.now.offset + self.now.length ≤ length section.now }
         requires short { length section.now < 2 ^ 32 }
@@ -57,7 +57,7 @@ impl KeptExpression {
         }
     }
 
-    /// The expression with its offset, over its bytes.
+    /// The expression with its offset, borrowed over its bytes.
     pub fn lend<'a>(&self, block: Block<'a>) -> (u32, CheckedExpression<'a>)
         requires { IsKeptOf (location_of (block_of block)) self.now }
         ensures { located_of result ≡ location_of (block_of block.entry) }

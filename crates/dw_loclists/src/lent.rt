@@ -1,4 +1,4 @@
-//! All expressions of a section, lent one after the other.
+//! Iterates over all expressions of a section, lending each.
 
 ghost use Rattle.std.specs.Iterator.{YieldsFirstBy, item_count};
 ghost use Rattle.dw_stack.specs.Located.{located_of};
@@ -9,8 +9,8 @@ use dw_stack::CheckedExpression;
 use std::iter::FusedIterator;
 use std::marker::Model;
 
-/// The expressions of a checked section, each with the offset of its first byte, in order. Their bytes are lent from the
-/// section, and it takes no memory. Seen as the list of what is still to come.
+/// The expressions of a checked section, each with the offset of its first byte, in order. Their bytes are borrowed from
+/// the section; nothing is allocated. Its model is the list of what is still to come.
 #[derive(Debug, Drop)]
 pub struct Expressions<'c, 'a> {
     section: &'a [u8],

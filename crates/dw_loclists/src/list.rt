@@ -1,4 +1,4 @@
-//! Reading and judging lists.
+//! Reads and checks lists.
 
 ghost use Rattle.std.specs.Prelude.{◌≡◌, ◌⊎◌, ◌<◌, ◌≤◌, ◌+◌, [], ◌∷◌, ◌++◌, length, map, IfErr, IfOk, IfSome, OnOk, Ok, Err, None, Some};
 ghost use Rattle.std.specs.Prelude.{Bool, false, MatchBool, MatchOption, MatchResult};
@@ -20,7 +20,7 @@ use dw_ops::Expression;
 use dw_stack::{Kind, check_expression, check_register};
 use std::alloc::Global;
 
-/// Judges an expression as a location, and keeps what was learned of it.
+/// Checks an expression as a location, and keeps what was learned of it.
 #[inline(always)]
 fn check_entry_expression(
     alloc: Global,
@@ -47,7 +47,7 @@ fn check_entry_expression(
     }
 }
 
-/// Judges an entry at an offset, after a default of its list or not, and keeps its expression.
+/// Checks an entry at an offset, and keeps its expression. The flag tells whether its list already had a default.
 #[inline(always)]
 fn check_entry(
     alloc: Global,
@@ -79,16 +79,16 @@ fn check_entry(
     }
 }
 
-/// What came of an entry that has no fault.
+/// The result of reading an entry that has no fault.
 #[derive(Clone, Copy)]
 struct Passed {
-    /// Whether its list ends with it.
+    /// Whether it ends its list.
     ended: bool,
-    /// Whether it is a default.
+    /// Whether it is a default_location.
     default: bool,
 }
 
-/// Reads an entry, after a default of its list or not, judges it, and keeps its expression.
+/// Reads an entry, checks it, and keeps its expression. The flag tells whether its list already had a default.
 #[inline(never)]
 fn check_next(
     alloc: Global,
@@ -113,7 +113,7 @@ fn check_next(
     })
 }
 
-/// Keeps an expression that is a good location, if it is one and there is room: else nothing changes. It stays a call, so that
+/// Keeps an expression if it is a good location and there is room; otherwise nothing changes. It isn't inlined, so that
 /// it costs nothing where an expression is a register.
 #[inline(never)]
 fn keep_any(alloc: Global, block: Block<'_>, expressions: &mut Vec<KeptExpression>) -> bool
@@ -136,7 +136,7 @@ fn keep_any(alloc: Global, block: Block<'_>, expressions: &mut Vec<KeptExpressio
     true
 }
 
-/// The same. A register, which nearly all are, is kept here.
+/// The same as `keep_any`. Handles a register, which nearly all expressions are, inline.
 #[inline(always)]
 fn keep_location(alloc: Global, block: Block<'_>, expressions: &mut Vec<KeptExpression>) -> bool
     ensures { MatchBool result
@@ -158,9 +158,9 @@ fn keep_location(alloc: Global, block: Block<'_>, expressions: &mut Vec<KeptExpr
     true
 }
 
-/// The same as `check_next` for what real lists are made of, and says whether the list ends there: an end_of_list, a
-/// base_address, an offset_pair and a start_length whose numbers are short. It is a shortcut: where it is something else, or has
-/// a fault, or there is no room, it answers none and nothing changes. Who gets none asks `check_next`.
+/// A shortcut for the common cases of `check_next`: end_of_list, base_address, and offset_pair and start_length with
+/// short numbers. Tells whether the list ends there. For anything else, for a fault, or if there is no room, it gives
+/// none and changes nothing; the caller then calls `check_next`.
 #[inline(always)]
 fn check_common(
     alloc: Global,
@@ -209,8 +209,8 @@ fn check_common(
     }
 }
 
-/// Reads a list up to its end_of_list, at which the cursor then has come by. Each entry is judged as soon as it is read, and
-/// its expression is kept. The table ends at an offset.
+/// Reads a list up to and including its end_of_list; the cursor ends after it. Each entry is checked as soon as it is
+/// read, and its expression is kept. The table ends at an offset.
 pub fn read_list(
     alloc: Global,
     cursor: &mut Cursor<'_>,

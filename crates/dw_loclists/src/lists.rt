@@ -17,8 +17,8 @@ use dw_bytes::{Cursor, Fault, Target};
 use std::alloc::Global;
 use std::marker::Model;
 
-/// A `.debug_loclists` section that was checked: it is tables without a gap, each offset of a table's array is that of a list,
-/// and each expression is good as a location. Seen as its target and its bytes.
+/// A `.debug_loclists` section that was checked: it is tables without a gap, each offset of a table's array is that of a
+/// list, and each expression is good as a location. Its model is its target and its bytes.
 ///
 /// ```rust
 /// let lists = check_lists(alloc, section, target)?;
@@ -48,17 +48,17 @@ impl<'a> Model for CheckedLists<'a> {
         IsKept (record { target = c.target; section = c.section.now }) c.contents };
 }
 
-/// Checks a section of fewer than 2^32 bytes. A refusal is the first fault, from left to right.
+/// Checks a section of fewer than 2^32 bytes. An error is the first fault, from left to right.
 ///
-/// Of each table are judged, in this order: its length (1, 3), that its body is there (1, at the body's first byte), its
-/// version (50), its sizes of an address (6) and of a segment selector (7), that its count of offsets and the offsets are
-/// there (1), each entry of its lists in turn, that the last list ends (54, at the table's end), and that each offset is that
-/// of a list's first byte (55). Of each entry: its code (51), its operands (1, 2), that no default came before it in its list
-/// (53, where it is one), that its range doesn't end before it begins (52), and its expression, as `dw_stack` judges it,
-/// with offsets of the section. `Memory` stands at 0.
+/// Each table is checked in this order: its length (1, 3), that its body is there (1, at the body's first byte), its
+/// version (50), its address size (6) and segment selector size (7), that its offset count and the offsets are there (1),
+/// each entry of its lists in turn, that the last list ends (54, at the table's end), and that each offset is that of a
+/// list's first byte (55). Each entry: its code (51), its operands (1, 2), that a default has no other before it in its
+/// list (53), that its range doesn't end before it begins (52), and its expression, as `dw_stack` checks it, with offsets
+/// of the section. The offset of `Memory` is 0.
 ///
-/// One pass over the bytes judges, and keeps what it has judged: a refused section takes room for no more than what lies before
-/// its fault. For n offsets of an array and m lists it takes time n log m besides.
+/// One pass over the bytes checks, and keeps what it has checked: a refused section takes room only for what comes before
+/// its fault. Besides, n offsets of an array and m lists take time n log m.
 pub fn check_lists<'a>(
     alloc: Global,
     section: &'a [u8],
@@ -91,7 +91,7 @@ impl<'a> CheckedLists<'a> {
         self.target
     }
 
-    /// The bytes of the section, which have no fault.
+    /// The bytes of the section, which has no fault.
     pub fn section(&self) -> &'a [u8]
         ensures section { result.now ≡ self.now.section }
         ensures checked { IsChecked self.now }
@@ -106,7 +106,7 @@ impl<'a> CheckedLists<'a> {
         self.contents.tables.as_slice()
     }
 
-    /// All lists, in order, whether an offset of an array names them or not.
+    /// All lists, in order, whether an array offset names them or not.
     pub fn lists(&self) -> &[LocationList]
         ensures { map start_of result.now ≡ starts_of (lists_in self.now) }
     {
@@ -121,7 +121,7 @@ impl<'a> CheckedLists<'a> {
         Expressions::new(self.section, self.target, &self.contents.expressions)
     }
 
-    /// The list whose first byte is at an offset of the section, if one's is: found by halving, without memory.
+    /// The list whose first byte is at an offset of the section, if there is one. Binary search; doesn't allocate.
     pub fn list(&self, offset: u32) -> Option<LocationList>
         ensures { MatchOption result
             (¬ Contains (starts_of (lists_in self.now)) offset)
@@ -131,8 +131,9 @@ impl<'a> CheckedLists<'a> {
         find_list(&self.contents.lists, u64::from(offset))
     }
 
-    /// The expressions of one of these lists that hold at an address, in order: those of the bounded entries whose range has the
-    /// address, or where none has it the default's. The base is the unit's; no sum wraps. It takes no memory.
+    /// The expressions of one of these lists that hold at an address, in order: those of the bounded entries whose range
+    /// contains the address, or, if there are none, the default's. The base is the unit's; sums don't wrap. Doesn't
+    /// allocate.
     pub fn locations_at(&self, list: &LocationList, base: u64, address: u64) -> LocationsAt<'_, 'a>
         requires { Contains (starts_of (lists_in self.now)) (start_of list.now) }
         ensures { (l : Loclist) → Contains (lists_in self.now) l →

@@ -10,9 +10,9 @@ use dw_stack::CheckedExpression;
 use std::iter::FusedIterator;
 use std::marker::Model;
 
-/// The expressions of a list that hold at an address, each with the offset of its first byte in the section, in the order of
-/// the list. It reads the list's entries as it goes, finds each expression by halving, and takes no memory. Seen as the list of
-/// what is still to come.
+/// The expressions of a list that hold at an address, each with the offset of its first byte in the section, in the order
+/// of the list. It reads the list's entries as it goes, finds each expression by binary search, and doesn't allocate. Its
+/// model is the list of what is still to come.
 #[derive(Debug, Drop)]
 pub struct LocationsAt<'c, 'a> {
     walk: ListWalk<'a>,

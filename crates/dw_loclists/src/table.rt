@@ -1,4 +1,4 @@
-//! Reading and judging tables.
+//! Reads and checks tables.
 
 ghost use Rattle.std.specs.Prelude.{◌≡◌, ◌⊎◌, ◌<◌, ◌≤◌, ◌+◌, ◌^◌, ℕ, List, length, map, IfErr, IfOk, Ok, Err, MatchResult};
 ghost use Rattle.dw_bytes.specs.Reading.{MovesForward, ReadsPast, section_from};
@@ -18,7 +18,7 @@ use crate::list::read_list;
 use dw_bytes::{Body, Cursor, Fault, FaultKind, Format, Target};
 use std::alloc::Global;
 
-/// What is behind the length of a table, up to its array: how many offsets that has.
+/// Reads the header fields between a table's length and its array. Gives the number of offsets in the array.
 pub fn read_header(cursor: &mut Cursor<'_>, target: Target) -> Result<u32, Fault>
     ensures exact { ParsesBy (λ count. count)
         (fields_at (table_header target)) cursor.old result cursor.new }
@@ -59,8 +59,8 @@ fn read_lists(
     Ok(())
 }
 
-/// Reads the array of a table again, now that its lists are known: each offset has to be that of a list's first byte, counted
-/// from the array's.
+/// Reads the array of a table again, now that its lists are known: each offset must be that of a list's first byte,
+/// counted from the array's first byte.
 fn check_array(
     cursor: &mut Cursor<'_>,
     format: Format,
@@ -89,7 +89,7 @@ fn check_array(
     Ok(())
 }
 
-/// Reads the table at an offset of a section, judges it and keeps what it has. Gives the offset behind it.
+/// Reads the table at an offset of a section, checks it and keeps what it contains. Gives the offset after it.
 #[tactic(auto, unfolding(crate::specs::Reading::table_at))]
 pub fn read_table(
     alloc: Global,

@@ -1,4 +1,4 @@
-//! Walking a list for an address.
+//! Walks a list for an address.
 
 ghost use Rattle.std.specs.Prelude.{◌≡◌, ◌<◌, [], ◌∷◌, MatchOption};
 ghost use Rattle.dw_bytes.specs.Operands.{block_of};
@@ -7,7 +7,7 @@ ghost use Rattle.dw_loclists.specs.Locations.{location_of};
 use crate::entry::Entry;
 use dw_bytes::{Block, Cursor};
 
-/// What is left of a list: the entries ahead, the base that they count from, and the default that came, if one did.
+/// What is left of a list: the entries ahead, the base that they count from, and the default if one was read.
 #[derive(Debug, Drop)]
 pub struct ListWalk<'a> {
     pub cursor: Cursor<'a>,
@@ -18,7 +18,7 @@ pub struct ListWalk<'a> {
 impl<'a> ListWalk<'a> {
     ghost use Rattle.dw_loclists.specs.Walks.{default_located, IsReadable, held_ahead, default_ahead};
 
-    /// Goes up to a bounded entry that holds at an address, and behind it. Gives its expression, or none where the list ends.
+    /// Advances past the next bounded entry that holds at an address. Gives its expression, or none where the list ends.
     pub fn next_held(&mut self, address: u64) -> Option<Block<'a>>
         requires { IsReadable self.old }
         ensures { MatchOption result

@@ -1,11 +1,11 @@
-//! An expression: bytes under a target.
+//! An expression: bytes with their target.
 
 ghost use Rattle.std.specs.Prelude.{◌≡◌, ◌<◌, ◌^◌, length};
 
 use dw_bytes::Target;
 
-/// The bytes of an expression and the target whose numbers they encode (DWARF 5, section 2.5).
-/// Offsets inside it count from its first byte. Nothing of the bytes has been judged.
+/// The bytes of an expression and the target that their numbers are encoded for (DWARF 5, section 2.5). Offsets inside it
+/// count from its first byte. Its bytes have not been checked.
 ///
 /// ```rust
 /// // DW_OP_breg7 8, DW_OP_deref
@@ -40,7 +40,7 @@ impl<'a> Expression<'a> {
         self.bytes
     }
 
-    /// The target that it is read under.
+    /// The target that it is read with.
     pub fn target(&self) -> Target
         ensures { result ≡ target_of self.now }
     {

@@ -1,4 +1,4 @@
-//! Laws of operations: functions that do nothing, each with the law as its contract.
+//! Laws of operations: functions that do nothing. The contract of each is a law.
 
 ghost use Rattle.std.specs.Prelude.{◌≡◌, ◌<◌, ◌↔◌, ℕ, List, [], ◌∷◌, ◌++◌, length, map, Ok, Err};
 ghost use Rattle.dw_bytes.specs.declared.target.Target.{Target};
@@ -7,7 +7,7 @@ ghost use Rattle.dw_bytes.specs.Reading.{ReadPosition, IsExact};
 ghost use Rattle.dw_ops.specs.Operations.{Operation};
 ghost use Rattle.dw_ops.specs.Opcodes.{EncodesOperation, AreOperations, operation_at, operations_of};
 
-/// No encoding of an operation begins another, and bytes encode one operation.
+/// No operation's bytes are a prefix of another's, and the same bytes encode only one operation.
 pub fn operations_are_unambiguous()
     ensures { (target : Target) (at : ℕ) (a b x y : List ℕ) (i j : Operation)
         → EncodesOperation target at a i → EncodesOperation target at b j → a ++ x ≡ b ++ y
@@ -19,13 +19,13 @@ pub fn operations_are_exact()
     ensures { (r : ReadPosition) → IsExact operation_at (EncodesOperation r.target r.position) r }
 {}
 
-/// The operations of bytes are read to the end exactly where the bytes are their encodings, one after the other.
+/// The operations of bytes are read to the end exactly if the bytes are their encodings, one after another.
 pub fn expressions_are_operations()
     ensures { (r : ReadPosition) (items : List (ℕ × Operation))
         → (operations_of r ≡ map Ok items) ↔ AreOperations r.target r.position r.rest items }
 {}
 
-/// The operations of bytes are the first and then those behind it, up to the end or the first fault.
+/// The operations of bytes are the first and then those after it, up to the end or the first fault.
 pub fn operations_come_in_order()
     ensures operation { (r : ReadPosition) (i : Operation) (after : ReadPosition)
         → operation_at r ≡ Ok (i, after)
@@ -35,7 +35,7 @@ pub fn operations_come_in_order()
     ensures nothing { (r : ReadPosition) → length r.rest ≡ 0 → operations_of r ≡ [] }
 {}
 
-/// An operation has a byte at least.
+/// An operation has at least one byte.
 pub fn no_operation_is_empty()
     ensures { (target : Target) (at : ℕ) (bytes : List ℕ) (i : Operation)
         → EncodesOperation target at bytes i → 0 < length bytes }

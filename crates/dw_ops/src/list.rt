@@ -14,8 +14,8 @@ use std::alloc::Global;
 
 /// All operations of an expression, each with its offset: one pass over its bytes. Up to 16 take no memory.
 ///
-/// A refusal is the first fault of `decode_one` from left to right, or `Memory` at 0 where more than 16 operations lack
-/// memory.
+/// A refusal is the first fault of `decode_one` from left to right, or `Memory` at 0 if there isn't enough memory for
+/// more than 16 operations.
 pub fn operations<'a>(
     alloc: Global,
     expression: &Expression<'a>,

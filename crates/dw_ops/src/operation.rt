@@ -1,7 +1,7 @@
 //! The operations of expressions.
 
-/// An operation with its operands as they are encoded (DWARF 5, sections 2.5 and 7.7.1). There is an arm for each
-/// line of the standard's table that the profile has; those of 32 codes carry their number.
+/// An operation with its operands as they are encoded (DWARF 5, sections 2.5 and 7.7.1). There is one variant for each
+/// line of the standard's table that the profile has; a line for 32 codes is one variant with a number.
 #[derive(Clone, Copy, Debug, PartialEq, Eq)]
 pub enum Operation<'a> {
     /// `DW_OP_addr`: pushes the address.
@@ -70,7 +70,7 @@ pub enum Operation<'a> {
     Shra,
     /// `DW_OP_xor`: bitwise exclusive or.
     Xor,
-    /// `DW_OP_bra`: pops, and branches where the entry isn't 0. The offset counts from the byte after it.
+    /// `DW_OP_bra`: pops the top, and branches if it isn't 0. The offset counts from the byte after the operation.
     Bra { offset: i16 },
     /// `DW_OP_eq`: 1 if the second entry is equal to the top, else 0.
     Eq,
@@ -82,21 +82,21 @@ pub enum Operation<'a> {
     Le,
     /// `DW_OP_lt`: 1 if the second entry is below the top, signed, else 0.
     Lt,
-    /// `DW_OP_ne`: 1 if the second entry is other than the top, else 0.
+    /// `DW_OP_ne`: 1 if the second entry isn't equal to the top, else 0.
     Ne,
-    /// `DW_OP_skip`: branches. The offset counts from the byte after it.
+    /// `DW_OP_skip`: branches. The offset counts from the byte after the operation.
     Skip { offset: i16 },
     /// `DW_OP_lit0` to `DW_OP_lit31`: pushes the value, 0 to 31.
     Lit { value: u8 },
     /// `DW_OP_reg0` to `DW_OP_reg31`: the location is the register, 0 to 31.
     Reg { register: u8 },
-    /// `DW_OP_breg0` to `DW_OP_breg31`: pushes the register's content plus the offset; the register is 0 to 31.
+    /// `DW_OP_breg0` to `DW_OP_breg31`: pushes the register's value plus the offset; the register is 0 to 31.
     Breg { register: u8, offset: i64 },
     /// `DW_OP_regx`: the location is the register.
     Regx { register: u16 },
     /// `DW_OP_fbreg`: pushes the frame base plus the offset.
     Fbreg { offset: i64 },
-    /// `DW_OP_bregx`: pushes the register's content plus the offset.
+    /// `DW_OP_bregx`: pushes the register's value plus the offset.
     Bregx { register: u16, offset: i64 },
     /// `DW_OP_piece`: what comes before it is a piece of `size` bytes.
     Piece { size: u32 },
@@ -116,7 +116,7 @@ pub enum Operation<'a> {
     StackValue,
 }
 
-/// What fills the unused slots of a list: nop.
+/// Fills the unused slots of a list: nop.
 impl Default for Operation<'_> {
     ghost use Rattle.std.specs.Prelude.{◌≡◌};
     ghost use Rattle.dw_ops.specs.declared.operation.Operation.TheVariants.{Nop};

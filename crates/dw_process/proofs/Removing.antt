@@ -1,11 +1,11 @@
--- Modules without the first one at a load address, by its place.
+-- Modules without the first one at a load address, by its index.
 use Rattle.std.proofs.Common.{◌≡◌, ◌+◌, ◌==◌, ℕ, suc, Bool, true, false, [], ◌∷◌, length, Some, None, refl, sym, ap, ◌∙◌, arith, subst}
 use Rattle.std.specs.Prelude.{cond, nat_lt, not, ◌||◌}
 use Rattle.std.specs.List.{position, prefix_len, remove, list_any}
 use Rattle.std.proofs.lemmas.Bool.Decides.{nat_tests}
 use Rattle.dw_process.specs.Processes.{Modules, without}
 
--- how many modules come before the first one there
+-- the number of modules before the first one there
 abbrev before : ℕ → Modules → ℕ
 before load_address modules = prefix_len (λ m. not (m.load_address == load_address)) modules
 

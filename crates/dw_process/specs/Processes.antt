@@ -15,7 +15,7 @@ Modules = List (Module RowTable)
 
 -- ---- added and removed
 
--- A section without a fault is added, after the other modules: as a table of its rows.
+-- A section without a fault is added, after the other modules, as a table of its rows.
 pub record IsAdded (target : Target) (section : List ℕ) (load_address : ℕ) (old new : Modules) : Type 0 where
   pub accepted : section_fault target section ≡ None
   pub table : RowTable
@@ -33,7 +33,7 @@ without load_address (m ∷ modules) = if m.load_address == load_address then mo
 abbrev pub found_with : ℕ → Row × ℕ → FoundRow
 found_with load_address found = record { load_address = load_address; row = found.0; return_register = found.1 }
 
--- by the first module that has a row for the address as linked there
+-- from the first module that has a row for the address as linked there
 abbrev pub row_in : Modules → ℕ → Option FoundRow
 row_in [] address = None
 row_in (m ∷ modules) address = option_or

@@ -14,10 +14,11 @@ use dw_unwind::{Module, as_linked};
 use std::alloc::Global;
 use std::marker::Model;
 
-/// The modules of a process: its executable and its libraries, in the order in which they were added, each as a compiled table with
-/// its load address. The module of an address is the first one that has a row for it.
+/// The modules of a process: its executable and its libraries, in the order in which they were added, each as a compiled
+/// table with its load address. The module of an address is the first one that has a row for it.
 ///
-/// It borrows nothing: a module's section may go once it is added. Its tables are shared, not copied, by `share`.
+/// It borrows nothing: a module's section may be dropped once the module is added. `share` shares its tables and doesn't
+/// copy them.
 #[derive(Drop)]
 pub struct Process {
     modules: Vec<Module<SharedTable>>,
@@ -31,7 +32,7 @@ impl Model for Process {
     ghost view = { λ p. p.modules.items };
 }
 
-/// The place of the first module with a load address.
+/// The index of the first module with a load address.
 fn place_of(modules: &[Module<SharedTable>], load_address: u64) -> Option<usize>
     ensures place { result
         ≡ position (λ m. m.load_address == load_address) modules.now }
@@ -59,9 +60,9 @@ impl Process {
         self.modules.as_slice()
     }
 
-    /// Checks a `.debug_frame` section of fewer than 2^32 bytes under a target, compiles it, and adds it as the last module, loaded at
-    /// an address. `room` is the number of bytes that its rows and their rules may take (`CheckedFrame::compile`). After a refusal the
-    /// modules are as before.
+    /// Checks a `.debug_frame` section of fewer than 2^32 bytes under a target, compiles it, and adds it as the last
+    /// module, with a load address. `room` is the number of bytes that its rows and their rules may take
+    /// (`CheckedFrame::compile`). If the section is refused, the modules are unchanged.
     pub fn add(
         &mut self,
         alloc: Global,
@@ -88,7 +89,7 @@ impl Process {
         }
     }
 
-    /// Removes the first module with a load address. It answers whether there was one.
+    /// Removes the first module with a load address. Gives whether there was one.
     #[tactic(auto, using(crate::proofs::Removing::removes))]
     pub fn remove(&mut self, load_address: u64) -> bool
         ensures removed { self.new ≡ without load_address self.old }
@@ -103,8 +104,8 @@ impl Process {
         }
     }
 
-    /// The row of an address as loaded, by the first module that has one, or none where no module has. It takes no memory, and one
-    /// look-up for each module up to that one.
+    /// The row of an address as loaded, from the first module that has one, or none if no module has one. Doesn't
+    /// allocate; takes one look-up for each module up to that one.
     pub fn row_for_address(&self, address: u64) -> Option<FoundRow<'_>>
         ensures { result ≡ row_in self.now address }
     {
@@ -122,8 +123,8 @@ impl Process {
         None
     }
 
-    /// A process with the same modules, which shares their tables: each may go to a thread of its own, and the tables are freed with
-    /// the last of them. None where memory lacks.
+    /// A process with the same modules, which shares their tables: each may go to its own thread, and the tables are
+    /// freed with the last of them. None if there isn't enough memory.
     pub fn share(&self, alloc: Global) -> Option<Process>
         ensures { IfSome result (λ other. other ≡ self.now) }
     {

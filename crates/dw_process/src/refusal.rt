@@ -8,9 +8,9 @@ use dw_bytes::Fault;
 /// Why a module isn't added.
 #[derive(Clone, Copy, Debug, PartialEq, Eq)]
 pub enum Refusal {
-    /// Its section has this first fault, or memory ran out (`Memory`, at 0).
+    /// The first fault of its section, or out of memory (`Memory`, with offset 0).
     Section(Fault),
-    /// Its rows take more than the room that was given.
+    /// Its rows take more than the given room.
     Room,
 }
 

@@ -9,7 +9,7 @@ use std::alloc::Global;
 use std::marker::Model;
 use std::sync::Arc;
 
-/// One of the owners of a compiled table. The last of them frees it. Each may be on a thread of its own.
+/// One owner of a compiled table. The last owner frees it. Owners may be on different threads.
 #[derive(Drop)]
 pub struct SharedTable {
     table: Arc<UnwindTable>,
@@ -24,7 +24,7 @@ impl Model for SharedTable {
 }
 
 impl SharedTable {
-    /// A table with one owner, or none where memory lacks.
+    /// A table with one owner, or none if there isn't enough memory.
     pub fn new(alloc: Global, table: UnwindTable) -> Option<Self>
         ensures { IfSome result (λ owner. owner ≡ table) }
     {
@@ -34,7 +34,7 @@ impl SharedTable {
         }
     }
 
-    /// One more owner of the same table. None where it has 2^63 - 1 already.
+    /// Adds an owner of the same table. None if it already has 2^63 - 1.
     pub fn share(&self) -> Option<Self>
         ensures { IfSome result (λ owner. owner ≡ self.now) }
     {
@@ -54,7 +54,7 @@ impl SharedTable {
     }
 }
 
-/// It gives what its table gives.
+/// Gives what its table gives.
 impl UnwindRows for SharedTable {
     type Slot = ();
 

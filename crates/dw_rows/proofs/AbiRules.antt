@@ -17,7 +17,7 @@ use Rattle.dw_rows.specs.Abi.{kept, unnamed, stack_pointer, is_among, abi_of, ru
 use Rattle.dw_rows.specs.AbiViews.{role_of_rule, roles_of, AreRoles}
 use Rattle.dw_rows.proofs.Tables.{Clears, full-count, rule_list-table, rule_list-same, rule_in-rule_list, IsTable-rule_list}
 
--- the rule of a register by those that calls keep and the stack pointer
+-- the rule of a register by the callee-saved registers and the stack pointer
 abbrev pub abi_rule : List ℕ → Option ℕ → ℕ → PlacedRule
 abi_rule registers pointer r =
     cond (is_among r (option_to_list pointer)) (val_offset (pos 0)) (cond (is_among r registers) same_value default)
@@ -63,7 +63,7 @@ named-some before rules n is b some =
     go true h = refl
     go false h = absurd (some h)
 
--- one more that is kept
+-- one more that is callee-saved
 pub keeps-more : (before : List ℕ) (rules : List (ℕ × PlacedRule)) (n : ℕ) → rules ≡ rule_list (abi_rule before None)
     → rule_list (changed_at (rule_in rules) n same_value) ≡ rule_list (abi_rule (before ++ n ∷ []) None)
 keeps-more before rules n is = rule_list-same _ _ each
@@ -96,7 +96,7 @@ points-more before rules n is = rule_list-same _ _ each
         ap (λ l. rule_in l r) is ∙ rule_in-rule_list (abi_rule before None) r h in
         ap (cond (eqb n r) (val_offset (pos 0))) listed ∙ go (eqb n r) (is_among r before)
 
--- ---- the place of a second
+-- ---- the index of a second
 
 pub second-here : (before : List ℕ) (n : ℕ) (rest : List ℕ) → is_among n before ≡ true
     → place_of_second before (n ∷ rest) ≡ Some (length before)
@@ -117,7 +117,7 @@ pub no-fault : (registers : List ℕ) (pointer : Option ℕ) → length register
     → place_of_second [] (registers ++ option_to_list pointer) ≡ None → abi_fault registers pointer ≡ None
 no-fault registers pointer few is = rw (le-ltb MAX_KEPT (length registers) few, is) refl
 
--- ---- the loop over what is registers: where it stands, and what it has done
+-- ---- the loop over what is registers: its state, and what it has done
 
 pub record KeepsUpTo (registers behind : List ℕ) (place : ℕ) (rules : List (ℕ × PlacedRule)) : Type 0 where
   pub are : rules ≡ rule_list (abi_rule (take place registers) None)
@@ -163,7 +163,7 @@ keeps-all registers behind place rules k ge le =
       k.second ∙ ap (λ l. place_of_second l (drop place registers ++ behind)) all ∙ ap (λ l. place_of_second registers (l ++ behind)) none,
     )
 
--- ---- what it comes to
+-- ---- its result
 
 -- registers are below 2^16
 abbrev pub AreRegisters : List ℕ → Type 0
@@ -249,7 +249,7 @@ made-without registers pointer place rules few k ge le none =
       all.0 ∙ ap (λ (o : Option ℕ). rule_list (abi_rule registers o)) (sym none),
     )
 
--- with one that is kept
+-- with one that is callee-saved
 pub kept-pointer : (registers : List ℕ) (pointer : Option ℕ) (place : ℕ) (rules : List (ℕ × PlacedRule)) (n : ℕ)
     → length registers ≤ MAX_KEPT
     → KeepsUpTo registers (option_to_list pointer) place rules → length registers ≤ place → place ≤ length registers → pointer ≡ Some n
@@ -274,7 +274,7 @@ made-with registers pointer place rules new n few k ge le is fits none made =
       made ∙ points-more registers rules n all.0 ∙ ap (λ (o : Option ℕ). rule_list (abi_rule registers o)) (sym is),
     )
 
--- ---- a second stands among what is named
+-- ---- a second occurrence is among what is named
 
 second-inside : (before rest : List ℕ) (at : ℕ) → place_of_second before rest ≡ Some at → at < length before + length rest
 second-inside before [] at is = absurd (cc)
@@ -293,7 +293,7 @@ few-named (Some n) = omega arith
 abbrev pub twice : ℕ → Fault
 twice at = record { kind = AbiTwice; at = at }
 
--- each fault stands at a number, or behind all that are kept
+-- each fault is at a number, or after all callee-saved ones
 pub abi-stands : (registers : List ℕ) (pointer : Option ℕ) (fault : Fault) → abi_fault registers pointer ≡ Some fault
     → fault.at ≤ length registers
 abi-stands registers pointer fault is = go (ltb MAX_KEPT (length registers)) refl is

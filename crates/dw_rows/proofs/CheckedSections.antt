@@ -63,7 +63,7 @@ in-programs s k e among =
     let there : Contains (frame_expressions t.cies t.fdes) e = subst (λ (u : FrameSection). Contains u.expressions e) k.whole among in
     subst (λ (u : FrameSection). Contains (frame_expressions u.cies u.fdes) e) (sym k.whole) there
 
--- what a section without a fault keeps
+-- what a section without a fault stores
 pub kept : (target : Target) (section : List ℕ) (cies : List Cie) (left : List KeptRules) (fdes : List Fde) (index : List IndexEntry)
     → fault_in (entries_of target section) ≡ None → cies ≡ (frame_of target section).cies → fdes ≡ (frame_of target section).fdes
     → parts_fault cies fdes ≡ None → AreLeftBy cies left → IsAddressIndex fdes index → (expressions : List LocatedExpression)

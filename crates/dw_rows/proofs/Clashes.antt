@@ -90,7 +90,7 @@ first-of at t (y ∷ xs) up x f (suc k, lt, is) here before =
     let rest = first-of at t xs up.1 x f (k, omega arith, is) here (λ z c h. before z (suc c.0, omega (arith, c.1), c.2) h) in
     ap (λ o. option_or o (first_fault t xs)) none ∙ rest
 
--- where each passes, there is no fault
+-- if each passes, there is no fault
 pub each-none : {X : Type 0} (t : X → Option Fault) (xs : List X) → ((x : X) → Contains xs x → t x ≡ None) → first_fault t xs ≡ None
 each-none t [] all = refl
 each-none t (x ∷ xs) all = ap (λ o. option_or o (first_fault t xs)) (all x (zero, omega arith, refl))
@@ -106,7 +106,7 @@ pub first-overlaps : (fdes : List Fde) (g : Fde) → Ascends fde_offset fdes →
 first-overlaps fdes g up first = first-of fde_offset (overlap_fault fdes) fdes up g (overlap_at g) first.among
     (overlaps-some fdes g first.fails) (λ y c lt. apart-none fdes y (first.before y c lt))
 
--- where no FDE shares an address with an earlier one, no address is covered by two
+-- if no FDE shares an address with an earlier one, no address is covered by two
 pub once-covered : (fdes : List Fde) → Ascends fde_offset fdes → first_fault (overlap_fault fdes) fdes ≡ None → CoversOnce fdes
 once-covered fdes up none = covers-once fdes up (λ g g_in f f_in lt shared.
     let clash = overlaps-some fdes g (f, f_in, lt, shared) in

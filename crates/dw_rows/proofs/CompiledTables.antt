@@ -48,7 +48,7 @@ row-covered s a row found = elim (first-cover a s.fdes) [
   | inr none ↦ let wrong : None ≡ Some row = sym (row-none s a none) ∙ found in cc
 ]
 
--- where none is found, no FDE covers it
+-- if none is found, no FDE covers it
 pub row-missing : (s : FrameSection) (a : ℕ) → IsChecked s → row_of s a ≡ None → (f : Fde) → Contains s.fdes f → Covers f a → ⊥
 row-missing s a checked none f among covered =
     let one = has-one-row s a checked f among covered in
@@ -126,7 +126,7 @@ found-lends es a rows x all = go rows (recursion_from_All (LendsFound es) rows a
         by true later e = let same : y ≡ x = cc in subst (LendsFound es) same lends.0
         by false later e = later e
 
--- ---- the entry that a look-up comes to, with what is read of it
+-- ---- the entry that a look-up finds, with what is read of it
 
 start-of : (entries : List TableEntry) (n x : ℕ) (d : TableEntry) → n < length entries
     → option_map entry_start (slice_get entries n) ≡ Some x → (get_or entries n d).start ≡ x

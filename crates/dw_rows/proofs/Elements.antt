@@ -1,4 +1,4 @@
--- Places of a list and of what its elements stand for.
+-- Indices of a list and of what its elements stand for.
 use Rattle.std.proofs.Common.{◌≡◌, ℕ, zero, suc, ◌<◌, ◌≤◌, ◌+◌, List, [], ◌∷◌, ◌++◌, length, get_or, take, map, Contains}
 use Rattle.std.proofs.Common.{refl, sym, ap, ◌∙◌, subst, arith}
 use Rattle.std.specs.List.{AllByRecursion}
@@ -12,7 +12,7 @@ use Rattle.dw_frame.specs.Records.{Fde}
 use Rattle.dw_frame.specs.Views.{fde_of}
 use Rattle.dw_frame.specs.declared.entry.FrameDescriptionEntry.{FrameDescriptionEntry}
 
--- what stands at a place of the list is what its element stands for
+-- what is at an index of the list is what its element stands for
 pub placed-map : {X Y : Type 0} (f : X → Y) (xs : List X) (i : ℕ) (x : X) → get_or xs i x ≡ x → get_or (map f xs) i (f x) ≡ f x
 placed-map f [] i x e = refl
 placed-map f (y ∷ xs) zero x e = ap f e
@@ -36,7 +36,7 @@ sorted-map f key xs sorted i j e le lt =
     let h = sorted i j d le j_in in
     subst (λ v. key v ≤ key (get_or (map f xs) j e)) (sym at_i) (subst (λ v. key (f (get_or xs i d)) ≤ key v) (sym at_j) h)
 
--- the offset at a place, at any default
+-- the offset at an index, at any default
 pub offset-at : (xs : List FrameDescriptionEntry) (i : ℕ) (x : FrameDescriptionEntry) (d : Fde) → i < length xs
     → (get_or (map fde_of xs) i d).offset ≡ (get_or xs i x).offset
 offset-at xs i x d i_in = ap (λ (f : Fde). f.offset) (get_or-map fde_of xs i x d i_in)
@@ -70,12 +70,12 @@ pub ascending-back : {X Y : Type 0} (f : X → Y) (at : Y → ℕ) (xs : List X)
 ascending-back f at [] up = tt
 ascending-back f at (x ∷ xs) up = (all-back f at (at (f x)) xs up.0, ascending-back f at xs up.1)
 
--- what is read at a place is what its element stands for
+-- what is read at an index is what its element stands for
 pub read-map : {X Y : Type 0} (f : X → Y) (xs : List X) (i : ℕ) (x : X) → i < length xs → get_or xs i x ≡ x
     → slice_get (map f xs) i ≡ Some (f x)
 read-map f xs i x lt is = let long = length-map xs f in slice_get-get_or (map f xs) i (f x) (omega arith) ∙ ap Some (placed-map f xs i x is)
 
--- one element more at the front
+-- one more element at the front
 pub front-map : {X Y : Type 0} (f : X → Y) (xs : List X) (i : ℕ) (x : X) → i < length xs → get_or xs i x ≡ x
     → map f (take (i + 1) xs) ≡ map f (take i xs) ++ f x ∷ []
 front-map f xs i x lt is = ap (map f) (take_more xs i x lt ∙ ap (λ y. take i xs ++ y ∷ []) is) ∙ map-append f (take i xs) (x ∷ [])

@@ -28,12 +28,12 @@ use Rattle.dw_rows.specs.Section.{frame_of, cies_among, fdes_among}
 use Rattle.dw_rows.proofs.Search.{ascending-same}
 use Rattle.dw_rows.proofs.SectionOrder.{are-records}
 
--- Expressions of a target: each stands behind an offset, and behind the end of the one before it, and all end at another at most.
+-- Expressions of a target: each is after an offset, and after the end of the one before it, and all end at another at most.
 abbrev pub Rise : Target → ℕ → ℕ → List LocatedExpression → Type 0
 Rise target low high [] = low ≤ high
 Rise target low high (e ∷ es) = (low < e.offset) × (e.target ≡ target) × Rise target (e.offset + length e.bytes) high es
 
--- where one of them lies
+-- where one of them is
 pub record IsInside (target : Target) (low high : ℕ) (e : LocatedExpression) : Type 0 where
   pub behind : low < e.offset
   pub ends : e.offset + length e.bytes ≤ high
@@ -96,7 +96,7 @@ rise-inside target low high (g ∷ es) up e (suc k, lt, is) =
 abbrev read-of : List (Result (ℕ × Instruction) Fault) → List LocatedExpression
 read-of items = expressions_in (values_in items)
 
--- one instruction more at the front
+-- one more instruction at the front
 front-rises : (target : Target) (at end high : ℕ) (i : Instruction) (items : List (ℕ × Instruction)) → at < end
     → EndsWithItsBlock target at end i → Rise target end high (expressions_in items)
     → Rise target at high (expressions_in ((at, i) ∷ items))
@@ -278,7 +278,7 @@ found-at (x ∷ es) e at among same only = elim (x.offset == at) as
           let clash : true ≡ false = sym is ∙ no in cc)) same (λ g g_in. only g (behind g x es g_in))
     ] refl
 
--- where none is, none is found
+-- if none is there, none is found
 pub absent-at : (es : List LocatedExpression) (at : ℕ) → ((e : LocatedExpression) → Contains es e → e.offset ≢ at)
     → expression_at es at ≡ None
 absent-at [] at none = refl
@@ -312,7 +312,7 @@ only-in-both es gs up next other e g e_in g_in same =
       ]
     ]
 
--- where two parts ascend and share no offset, each is found at its own
+-- if two parts ascend and share no offset, each is found at its own
 pub found-in-parts : (es gs : List LocatedExpression) → Ascends at-offset es → Ascends at-offset gs
     → ((e g : LocatedExpression) → Contains es e → Contains gs g → e.offset ≢ g.offset) → (e : LocatedExpression)
     → Contains (es ++ gs) e → expression_at (es ++ gs) e.offset ≡ Some e

@@ -12,12 +12,12 @@ use Rattle.dw_rows.specs.Overlap.{cie_offset}
 use Rattle.dw_frame.specs.Bounds.{Ascends}
 use Rattle.dw_rows.proofs.Search.{ascending-same}
 
--- where the first of two or else the other is none, both are
+-- if the first of two or else the other is none, both are
 pub option_or-none : {A : Type 0} (a b : Option A) → option_or a b ≡ None → (a ≡ None) × (b ≡ None)
 option_or-none None b e = (refl, e)
 option_or-none (Some x) b e = let clash : Some x ≡ None = e in cc
 
--- what is left of a list begins with the element at the place
+-- what is left of a list begins with the element at the index
 pub drop-at : {X : Type 0} (xs : List X) (i : ℕ) (x : X) → i < length xs → get_or xs i x ≡ x → drop i xs ≡ x ∷ drop (i + 1) xs
 drop-at xs i x lt is =
     let next : suc i ≡ i + 1 = omega arith in
@@ -52,7 +52,7 @@ Contains-rest : (c x : Cie) (xs : List Cie) → Contains (x ∷ xs) c → x.offs
 Contains-rest c x xs (zero, lt, is) other = absurd (other (ap cie_offset is))
 Contains-rest c x xs (suc k, lt, is) other = (k, omega arith, is)
 
--- where a CIE is at an offset, it is found there
+-- if a CIE is at an offset, it is found there
 pub found-at : (cies : List Cie) → Ascends cie_offset cies → (c : Cie) (at : ℕ) → Contains cies c → c.offset ≡ at → cie_at cies at ≡ Some c
 found-at [] up c at (k, lt, is) same = absurd (omega arith)
 found-at (x ∷ xs) up c at among same = elim (x.offset == at) as
@@ -62,7 +62,7 @@ found-at (x ∷ xs) up c at among same = elim (x.offset == at) as
           let clash : true ≡ false = sym no ∙ e in cc)) same
     ] refl
 
--- where none is, none is found
+-- if none is there, none is found
 pub absent-at : (cies : List Cie) (at : ℕ) → ((c : Cie) → Contains cies c → c.offset ≢ at) → cie_at cies at ≡ None
 absent-at [] at none = refl
 absent-at (x ∷ xs) at none = elim (x.offset == at) as
@@ -71,7 +71,7 @@ absent-at (x ∷ xs) at none = elim (x.offset == at) as
       | false ↦ λ e. absent-at xs at (λ c h. none c (suc h.0, omega (arith, h.1), h.2))
     ] refl
 
--- a CIE that is found stands among them, at its offset
+-- a CIE that is found is among them, at its offset
 pub at-found : (cies : List Cie) (at : ℕ) (c : Cie) → cie_at cies at ≡ Some c → Contains cies c × (c.offset ≡ at)
 at-found [] at c e = let nothing : Option Cie = None in let clash : nothing ≡ Some c = e in cc
 at-found (x ∷ xs) at c e = elim (x.offset == at) as
@@ -85,7 +85,7 @@ none-behind : {X : Type 0} (t : X → Option Fault) (y : X) (xs : List X) → t 
 none-behind t y xs here x rest (zero, lt, is) = ap t (sym is) ∙ here
 none-behind t y xs here x rest (suc k, lt, is) = rest (k, omega arith, is)
 
--- where no element has a fault, none does
+-- if no element has a fault, none does
 pub none-each : {X : Type 0} (t : X → Option Fault) (xs : List X) → first_fault t xs ≡ None → (x : X) → Contains xs x → t x ≡ None
 none-each t [] none x (k, lt, is) = absurd (omega arith)
 none-each t (y ∷ xs) none x among = elim (t y) as (λ o. t y ≡ o → option_or o (first_fault t xs) ≡ None → t x ≡ None) [

@@ -201,7 +201,7 @@ rows-lend es sets lends (e ∷ rest) within to =
 contains-at : {X : Type 0} (xs : List X) (i : ℕ) (d : X) → i < length xs → Contains xs (get_or xs i d)
 contains-at xs i d lt = (i, lt, get_or_default xs i (get_or xs i d) d lt)
 
--- one that comes later begins behind the end
+-- one that comes later begins after the end
 index-apart : (fdes index : List Fde) → IsIndexOf fdes index → CoversOnce fdes → (i j : ℕ) (d f : Fde) → i < j → j < length index
     → get_or index i d ≡ f → f.initial_location + f.address_range ≤ (get_or index j d).initial_location
 index-apart fdes index is once i j d f lt within at =
@@ -220,7 +220,7 @@ index-apart fdes index is once i j d f lt within at =
       | inr behind ↦ behind
     ]
 
--- the rows of the first so many FDEs are in the table and end at an address, and the others begin behind it
+-- the rows of the first FDEs, up to a number of them, are in the table and end at an address, and the others begin after it
 pub record IsFillingAll (s : FrameSection) (index : List Fde) (k last : ℕ) (entries : List TableEntry) (sets : List KeptSet) : Type 0 where
   pub table : IsTableUpTo s.expressions last entries sets
   pub next : (j : ℕ) (d : Fde) → k ≤ j → j < length index → last ≤ (get_or index j d).initial_location

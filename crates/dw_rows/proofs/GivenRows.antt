@@ -1,4 +1,4 @@
--- Rows with their expressions in the place of offsets.
+-- Rows with their expressions instead of offsets.
 use Rattle.std.proofs.Common.{◌≡◌, ◌≢◌, ℕ, ◌+◌, List, [], ◌∷◌, length, map, Some, Bool, true, false, cond, refl}
 use Rattle.std.proofs.Common.{ap, ◌∙◌, eqb, arith}
 use Rattle.std.specs.List.{AllByRecursion}

@@ -22,7 +22,7 @@ use Rattle.dw_frame.specs.Records.{Fde}
 use Rattle.dw_rows.proofs.Search.{ascending-at, squeeze, three_ways}
 use Rattle.std.proofs.lemmas.Bool.{cases_lt, le-ltb}
 
--- no two places have one offset
+-- no two indices have one offset
 abbrev pub AreDistinct : List Fde → Type 0
 AreDistinct xs = (i j : ℕ) (d : Fde) → i < length xs → j < length xs → (get_or xs i d).offset ≡ (get_or xs j d).offset → i ≡ j
 
@@ -32,7 +32,7 @@ distinct-ascending xs up i j d i_in j_in same =
     let high : ¬ (j < i) = λ lt. let h = ascending-at fde_offset xs up j i d lt i_in in omega (arith, h, same) in
     squeeze i j low high
 
--- where a place of the swapped list stood
+-- where an element of the swapped list was
 abbrev stood : ℕ → ℕ → ℕ → ℕ
 stood a b m = if m == a then b else (if m == b then a else m)
 
@@ -132,7 +132,7 @@ indexed fdes index up moved sorted =
       };
     }
 
--- where the last FDE that begins at or below an address ends before it, none covers it
+-- if the last FDE that begins at or below an address ends before it, none covers it
 pub not-covered : (index : List Fde) → IsOrdered index → (place a : ℕ) (x : Fde) → CoversOnce index → 0 < place → place ≤ length index
     → get_or index (place - 1) x ≡ x → x.initial_location ≤ a
     → ((k : ℕ) (d : Fde) → place ≤ k → k < length index → a < (get_or index k d).initial_location)
@@ -155,7 +155,7 @@ not-covered index ordered place a x once some in_range x_is low above short f (k
           omega (arith, end, covered.1)
     ]
 
--- where each FDE begins above an address, none covers it
+-- if each FDE begins above an address, none covers it
 pub none-covered : (index : List Fde) → (a : ℕ) → ((k : ℕ) (d : Fde) → k < length index → a < (get_or index k d).initial_location)
     → (f : Fde)
     → Contains index f → ¬ Covers f a
@@ -174,7 +174,7 @@ cover-indexed fdes index is a (Some f) only =
 
 -- ---- the entries of the index
 
--- the FDE at a place, and what is kept of it
+-- the FDE at an index, and what is stored of it
 pub fde_at-is : (fdes : List FrameDescriptionEntry) (e : IndexEntry) (x : FrameDescriptionEntry) → e.place < length fdes
     → get_or fdes e.place x ≡ x → fde_at (map fde_of fdes) e ≡ fde_of x
 fde_at-is fdes e x within is = get_or-map fde_of fdes e.place x no_fde within ∙ ap fde_of is
@@ -193,7 +193,7 @@ all-one : {X : Type 0} (P : X → Type 0) (x : X) → P x → All P (x ∷ [])
 all-one P x h zero d lt = h
 all-one P x h (suc k) d lt = absurd (omega arith)
 
--- one FDE more is looked at: it comes in where it covers an address
+-- one more FDE is looked at: it is added if it covers an address
 pub entries-more : (fdes : List FrameDescriptionEntry) (place : ℕ) (x : FrameDescriptionEntry) (entries : List IndexEntry)
     → place < length fdes → get_or fdes place x ≡ x → 0 < x.address_range → All (IsEntry (map fde_of fdes)) entries
     → map (fde_at (map fde_of fdes)) entries ≡ filter is_some_fde (take place (map fde_of fdes))
@@ -238,7 +238,7 @@ sorted-entries fdes entries all sorted =
     let h = sorted i j d le lt in
     omega arith)
 
--- an entry of the index, and its place among the FDEs
+-- an entry of the index, and its number among the FDEs
 pub entry-within : (fdes : List FrameDescriptionEntry) (entries : List IndexEntry) (i : ℕ) (d : IndexEntry)
     → All (IsEntry (map fde_of fdes)) entries → i < length entries → (get_or entries i d).place < length fdes
 entry-within fdes entries i d all i_in =
@@ -292,7 +292,7 @@ pub start-at : (entries : List IndexEntry) (i j : ℕ) (d e : IndexEntry) → i 
 start-at entries i j d e same lt = ap (λ (n : ℕ). (get_or entries n d).start) same
     ∙ ap (λ (x : IndexEntry). x.start) (get_or_default entries j d e lt)
 
--- a stride of so many quarters, by the entries on either side of it
+-- a stride of this many quarters, by the entries on either side of it
 so-many : (entries : List IndexEntry) (low q a n m : ℕ) → n ≡ m → IsStride entries low q a (m * q) → IsStride entries low q a (n * q)
 so-many entries low q a n m same h = subst (λ (v : ℕ). IsStride entries low q a (v * q)) (sym same) h
 

@@ -39,7 +39,7 @@ start-rules es c f to r = rules-have (LendsRule es) cie_start (λ q. tt) (effect
 start-cfa : (es : List LocatedExpression) (c : Cie) (f : Fde) → LendsTo es (effects_of_cie c) → IfSome (fde_start c f).cfa (LendsCfa es)
 start-cfa es c f to = cfa-has (LendsCfa es) (λ r n. tt) cie_start tt (effects_of_cie c) to.cfas 0
 
--- the rules that a cursor keeps name expressions that are lent
+-- the rules that a cursor holds name expressions that are lent
 pub lends-kept : (es : List LocatedExpression) (c : Cie) (f : Fde) (before : List Effect) (w : RowCursor) → Lends es c f
     → StandsBehind c f before w → LendsRules es w.context.current
 lends-kept es c f before w lends h =

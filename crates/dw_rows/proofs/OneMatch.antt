@@ -79,7 +79,7 @@ one-restore p i j k m n =
       ]
     ]
 
--- what stands before the restore_state
+-- what is before the restore_state
 before-restore : (p : List Effect) (i j : ℕ) → (m : Match p i j) → p ≡ (m.front ++ remembers_state ∷ m.between) ++ restores_state ∷ m.back
 before-restore p i j m = m.whole ∙ sym (append_assoc m.front (remembers_state ∷ m.between) (restores_state ∷ m.back))
 

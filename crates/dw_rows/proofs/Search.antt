@@ -1,4 +1,4 @@
--- Places in order of offset.
+-- Indices in order of offset.
 use Rattle.std.proofs.Common.{◌≡◌, ◌≢◌, ℕ, zero, suc, ◌+◌, ◌<◌, ◌≤◌, List, [], ◌∷◌, length, get_or, Ok, Err, Contains, sym, ap, subst}
 use Rattle.std.proofs.Common.{◌∙◌, arith, inl, inr, ◌⊎◌}
 use Rattle.std.specs.List.Sorted.{IsBinarySearchResult, IsNonDecreasingBy}
@@ -26,7 +26,7 @@ before_or_at k i lt = elim (cases_lt k i) [ inl low ↦ inl low | inr le ↦ inr
 pub squeeze : (i j : ℕ) → ¬ (i < j) → ¬ (j < i) → i ≡ j
 squeeze i j low high = elim (three_ways i j) [ inl lt ↦ absurd (low lt) | inr rest ↦ elim rest [ inl e ↦ e | inr lt ↦ absurd (high lt) ] ]
 
--- an earlier place has the lower offset
+-- a smaller index has the lower offset
 pub ascending-at : {X : Type 0} (at : X → ℕ) (xs : List X) → Ascends at xs → (i j : ℕ) (d : X) → i < j → j < length xs
     → at (get_or xs i d) < at (get_or xs j d)
 ascending-at at [] up i j d lt in_range = absurd (omega arith)
@@ -35,7 +35,7 @@ ascending-at at (x ∷ xs) up zero (suc j) d lt in_range = All-from_recursion (�
 ascending-at at (x ∷ xs) up (suc i) zero d lt in_range = absurd (omega arith)
 ascending-at at (x ∷ xs) up (suc i) (suc j) d lt in_range = ascending-at at xs up.1 i j d (omega arith) (omega arith)
 
--- a lower offset has the earlier place
+-- a lower offset has the smaller index
 pub ascending-place : {X : Type 0} (at : X → ℕ) (xs : List X) → Ascends at xs → (i j : ℕ) (d : X) → i < length xs → j < length xs
     → at (get_or xs i d) < at (get_or xs j d) → i < j
 ascending-place at xs up i j d i_in j_in lt =

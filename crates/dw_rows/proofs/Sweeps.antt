@@ -166,14 +166,14 @@ none-clash fdes index i x up is i_in last i_is apart g (m, m_in, m_is) f f_in f_
 pub none-apart : (fdes : List Fde) → length fdes ≡ 0 → AreApart fdes
 none-apart fdes none g (m, m_in, m_is) = absurd (omega arith)
 
--- where no FDE shares an address with an earlier one, no address is covered by two
+-- if no FDE shares an address with an earlier one, no address is covered by two
 pub covers-once : (fdes : List Fde) → Ascends fde_offset fdes → AreApart fdes → CoversOnce fdes
 covers-once fdes up apart a f g f_in g_in cf cg =
     let low : ¬ (f.offset < g.offset) = λ lt. apart g g_in f f_in lt (a, cf, cg) in
     let high : ¬ (g.offset < f.offset) = λ lt. apart f f_in g g_in lt (a, cg, cf) in
     ascending-same fde_offset fdes up f g f_in g_in (omega (arith, low, high))
 
--- where none share an address up to an FDE, none do up to an earlier one
+-- if none share an address up to an FDE, none do up to an earlier one
 pub apart-below : (fdes index : List Fde) (i : ℕ) (x : Fde) → Ascends fde_offset fdes → i < length fdes → get_or fdes i x ≡ x
     → ApartWithin index x.offset → (k : ℕ) (d : Fde) → k ≤ i → ApartWithin index (get_or fdes k d).offset
 apart-below fdes index i x up i_in i_is apart k d le f g f_in g_in order within shared =

@@ -23,7 +23,7 @@ use Rattle.dw_rows.proofs.GivenRows.{length-with}
 use Rattle.dw_rows.proofs.Indexes.{AreDistinct}
 use Rattle.dw_rows.proofs.TableRows.{rows-pushed, with-cfa}
 
--- what lacks less than one bound lacks less than another
+-- an error for less room than one bound is one for less than another
 pub lacks-more : (why : Unmade) (room other less more : ℕ) → (room < less → other < more) → LacksRoom why room less → LacksRoom why other more
 lacks-more Memory room other less more up h = tt
 lacks-more Room room other less more up h = up h
@@ -34,7 +34,7 @@ pub still-lacks : {X : Type 0} (r : Result X Unmade) (why : Unmade) (room most :
 still-lacks (Ok x) why room most is h = tt
 still-lacks (Err e) why room most is h = subst (λ w. LacksRoom w room most) (sym is) h
 
--- one element more
+-- one more element
 pub sum-cons : {X : Type 0} (f : X → ℕ) (x : X) (xs : List X) → sum_by f (x ∷ xs) ≡ f x + sum_by f xs
 sum-cons f x xs = omega (arith, sum_by-append f (x ∷ []) xs)
 
@@ -65,7 +65,7 @@ fde-cost s c f pointed =
 
 -- ---- the rows of an FDE
 
--- one row more
+-- one more row
 pub cost-on : (es : List LocatedExpression) (c : Cie) (f : Fde) (rows : List (PlacedRow × ℕ)) (w w' : RowCursor)
     (entries new : List TableEntry) (sets new_sets : List KeptSet) (start end : ℕ) → IsFilling c f rows w entries sets
     → GivesNextRow w (Some (start, end)) w' → IsTableUpTo es w.context.location entries sets
@@ -104,7 +104,7 @@ cost-next c f rows w w' entries sets start end h step =
       sum-cons (λ x. row_bytes x.0) row rest,
     )
 
--- where no row is left, all were counted
+-- if no row is left, all were counted
 pub cost-all : (c : Cie) (f : Fde) (rows : List (PlacedRow × ℕ)) (w w' : RowCursor) (entries : List TableEntry) (sets : List KeptSet)
     → IsFilling c f rows w entries sets → GivesNextRow w None w' → cost (rows_to sets entries w.context.location) ≡ cost rows
 cost-all c f rows w w' entries sets h step =

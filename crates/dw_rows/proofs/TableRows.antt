@@ -194,7 +194,7 @@ pub filling-lends : (es : List LocatedExpression) (c : Cie) (f : Fde) (rows : Li
 filling-lends es c f rows w w' entries sets start end h step lends =
     let p = step c f h.before h.is_at in lends-kept es c f p.after w' lends p.is_at
 
--- where no row is left, the end was reached
+-- if no row is left, the end was reached
 pub filling-end : (c : Cie) (f : Fde) (rows : List (PlacedRow × ℕ)) (w w' : RowCursor) (entries : List TableEntry) (sets : List KeptSet)
     → IsFilling c f rows w entries sets → GivesNextRow w None w' → w.context.location ≡ f.initial_location + f.address_range
 filling-end c f rows w w' entries sets h step =
@@ -266,7 +266,7 @@ none-above sets (e ∷ es) a to above =
     (below-row k.rules.cfa a e.start (next_start es to) k (above 0 e (omega arith)))
     ∙ none-above sets es a to (λ m d lt. above (suc m) d (omega arith))
 
--- where the entry behind a place begins
+-- where the entry after an index begins
 abbrev pub next_at : List TableEntry → ℕ → ℕ → ℕ
 next_at [] n to = to
 next_at (e ∷ es) zero to = next_start es to
@@ -304,7 +304,7 @@ row-at sets (e ∷ es) (suc n) a to d lt below above =
 
 -- ---- the row of an address, by the count of entries up to it
 
--- none begins so low
+-- none begins that low
 pub placed-below : (entries : List TableEntry) (sets : List KeptSet) (a : ℕ) → IsEntryCount entries a 0
     → find (has a) (rows_to sets entries 0) ≡ None
 placed-below entries sets a count = none-above sets entries a 0 (λ k d lt. count.above k d (omega arith) lt)
@@ -349,7 +349,7 @@ placed-none entries sets a n d count none =
     let k = set_numbered sets e.set in
     at-place entries sets a n d count ∙ no-row k.rules.cfa a e.start (next_at entries n 0) k none
 
--- a row by the entry and the one behind it
+-- a row by the entry and the one after it
 abbrev pub row-at-place : List TableEntry → List KeptSet → ℕ → TableEntry → PlacedRow × ℕ
 row-at-place entries sets n d =
     let k = set_numbered sets (get_or entries n d).set in

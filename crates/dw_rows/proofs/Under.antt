@@ -1,4 +1,4 @@
--- The rules of two tables, one in the place of what the other leaves default.
+-- The rules of two tables, where one fills in what the other leaves default.
 use Rattle.std.proofs.Common.{◌≡◌, ◌≢◌, ℕ, zero, suc, ◌+◌, ◌<◌, ◌≤◌, true, false, List, [], ◌∷◌, length, refl, sym, ap, ◌∙◌, subst}
 use Rattle.std.proofs.Common.{arith, eqb, inl, inr, eq-eqb, ◌-◌, take, drop, get_or, Less, Equal, Greater, nat_cmp}
 use Rattle.std.specs.Cmp.{nat_cmp_is}
@@ -20,7 +20,7 @@ use Rattle.dw_rows.proofs.GivenRows.{rule_in-with, table-with, lends-rule_in}
 use Rattle.dw_rows.proofs.NamedExpressions.{listed-have}
 use Rattle.dw_rows.proofs.Tables.{rule_in-below, rule_list-table, rule_list-same, rule_in-rule_list, IsTable-rule_list}
 
--- ---- one rule in the place of another
+-- ---- one rule instead of another
 
 or-default : {E : Type 0} → (x : RuleOver E) → or_rule x default ≡ x
 or-default default = refl
@@ -159,7 +159,7 @@ none-of-either {E} = rule_list-table {E = E} [] tt
 pub either-alone : {E : Type 0} → (es : List (ℕ × RuleOver E)) → IsTable 0 es → rules_of_either es [] ≡ es
 either-alone es t = rule_list-same (rule_of_either es []) (rule_in es) (λ r h. or-default (rule_in es r)) ∙ rule_list-table es t
 
--- what is behind the first is a table too
+-- what is after the first is a table too
 pub behind-first : {E : Type 0} → (x : ℕ × RuleOver E) (xs : List (ℕ × RuleOver E)) → IsTable 0 (x ∷ xs) → IsTable 0 xs
 behind-first x [] t = tt
 behind-first x (y ∷ ys) t = (omega arith, t.3.1, t.3.2, t.3.3)
@@ -285,14 +285,14 @@ lowest-greater o es right t u none = record {
       (other.0, h, All-from_recursion (LendsEntry xs) right other.1);
 }
 
--- no rule stands below the first
+-- no rule is below the first
 pub none-below : (o : ℕ × PlacedRule) (right : List (ℕ × PlacedRule)) (n : ℕ) → IsTable 0 (o ∷ right) → n < o.0
     → (r : ℕ) → r ≤ n → rule_in (o ∷ right) r ≡ default
 none-below o right n t lt r le = rule_in-below o.0 (o ∷ right) r (from-first o right t) (omega (arith, lt, le))
 
 -- ---- the same of entries
 
--- those behind the first
+-- those after the first
 behind-is : (x : RuleEntry) (rest : List RuleEntry) → take (length (x ∷ rest) - 1) (drop 1 (x ∷ rest)) ≡ rest
 behind-is x rest = let count : length (x ∷ rest) - 1 ≡ length rest = omega arith in ap (λ n. take n rest) count ∙ take-length rest
 

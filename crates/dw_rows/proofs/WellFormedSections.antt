@@ -1,4 +1,4 @@
--- A section has no fault exactly where it is well formed.
+-- A section has no fault exactly if it is well formed.
 use Rattle.std.proofs.Common.{◌≡◌, ℕ, ◌↔◌, List, [], ◌∷◌, map, Some, None, Ok, Contains, refl, ap, ◌∙◌, subst, arith}
 use Rattle.dw_bytes.specs.declared.target.Target.{Target}
 use Rattle.dw_bytes.specs.Answers.{values_in, fault_in}

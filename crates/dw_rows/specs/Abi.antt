@@ -1,5 +1,5 @@
--- What an ABI says of registers. DWARF 5, section 6.4.1, leaves it to the ABI what a register is that no instruction gives a rule; what
--- can be said of it here is the profile's own.
+-- What an ABI says about registers. DWARF 5, section 6.4.1, leaves it to the ABI what a register without a rule is; what
+-- can be stated about it here is the profile's own.
 use Rattle.std.specs.Prelude.{◌≡◌, ℕ, ◌≤◌, Bool, true, pos, nat_eq, nat_lt, if◌then◌else◌, List, [], ◌∷◌, ◌++◌, length, ◌==◌, take}
 use Rattle.std.specs.Prelude.{Option, Some, None, option_map, slice_get}
 use Rattle.std.specs.List.{list_any, IsDistinct}
@@ -9,7 +9,7 @@ use Rattle.dw_bytes.specs.declared.fault.FaultKind.TheVariants.{AbiTooLarge, Abi
 use Rattle.dw_rows.specs.Rules.{RuleOver, Rule, default, same_value, val_offset, rule_in, rule_list}
 use Rattle.dw_rows.specs.declared.abi.TheConstants.{MAX_KEPT}
 
--- What it says of a register: nothing, that calls keep it, or that it is the stack pointer.
+-- What it says about a register: nothing, that it is callee-saved, or that it is the stack pointer.
 pub data Role : Type 0 where
   unnamed : Role
   kept : Role
@@ -21,7 +21,7 @@ Abi = ℕ → Role
 abbrev pub is_among : ℕ → List ℕ → Bool
 is_among r registers = list_any (λ n. n == r) registers
 
--- the ABI whose calls keep these registers, with this stack pointer
+-- the ABI with these callee-saved registers and this stack pointer
 abbrev pub abi_of : List ℕ → Option ℕ → Abi
 abi_of registers pointer r =
     if is_among r (option_to_list pointer) then stack_pointer
@@ -33,13 +33,14 @@ no_abi r = unnamed
 
 -- ---- a row's rules under an ABI
 
--- The rule of a register that the row gives none: what calls keep is what it is now, and the stack pointer was where the CFA is.
+-- The rule of a register to which the row gives none: a callee-saved one has its present value, and the stack pointer's value
+-- was the CFA.
 abbrev pub rule_of_role : {E : Type 0} → Role → RuleOver E
 rule_of_role unnamed = default
 rule_of_role kept = same_value
 rule_of_role stack_pointer = val_offset (pos 0)
 
--- a rule, or another in the place of default
+-- a rule, or another one instead of default
 abbrev pub or_rule : {E : Type 0} → RuleOver E → RuleOver E → RuleOver E
 or_rule default other = other
 or_rule rule other = rule
@@ -54,12 +55,12 @@ rules_under abi rules = rule_list (rule_under abi rules)
 
 -- ---- what can be an ABI
 
--- Calls keep no more registers than the limit, and no number stands twice, be it that of the stack pointer.
+-- There are no more callee-saved registers than the limit, and no number occurs twice, the stack pointer's included.
 pub record CanBeAbi (registers : List ℕ) (pointer : Option ℕ) : Type 0 where
   pub few : length registers ≤ MAX_KEPT
   pub distinct : IsDistinct nat_eq (registers ++ option_to_list pointer)
 
--- the first number that stood before is at this place
+-- the first number that occurred before is at this index
 pub record StandsAgain (numbers : List ℕ) (place : ℕ) : Type 0 where
   pub number : ℕ
   pub here : slice_get numbers place ≡ Some number
@@ -68,12 +69,13 @@ pub record StandsAgain (numbers : List ℕ) (place : ℕ) : Type 0 where
 
 -- ---- the first fault
 
--- the place of the first number that stood before, behind those of `before`
+-- the index of the first number that occurred before, after those of `before`
 abbrev pub place_of_second : List ℕ → List ℕ → Option ℕ
 place_of_second before [] = None
 place_of_second before (n ∷ rest) = if is_among n before then Some (length before) else place_of_second (before ++ n ∷ []) rest
 
--- Numbers past the limit are refused first; then a number that stood before, where the stack pointer stands behind all that are kept.
+-- Numbers past the limit are refused first; then a number that occurred before. The stack pointer comes after all
+-- callee-saved ones.
 abbrev pub abi_fault : List ℕ → Option ℕ → Option Fault
 abi_fault registers pointer =
     if nat_lt MAX_KEPT (length registers) then Some (record { kind = AbiTooLarge; at = MAX_KEPT })

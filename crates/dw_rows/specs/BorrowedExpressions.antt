@@ -1,4 +1,4 @@
--- The expressions that a section keeps.
+-- The expressions that a section stores.
 use Rattle.std.specs.Prelude.{List, ◌++◌}
 use Rattle.dw_stack.specs.Located.{LocatedExpression, all_located}
 use Rattle.dw_rows.specs.declared.borrowed_expressions.BorrowedExpressions.{BorrowedExpressions}

@@ -1,4 +1,4 @@
--- All rows of a section in order of address, as a table keeps them. No contract of a public call speaks of this.
+-- All rows of a section in order of address, as a table stores them. No contract of a public call mentions this.
 use Rattle.std.specs.Prelude.{map, ◌≡◌, ℕ, ◌+◌, ◌*◌, ◌<◌, ◌≤◌, List, [], ◌∷◌, ◌++◌, length, All, IfSome, Option, Some, None, find, slice_get, slice_index_or}
 use Rattle.std.specs.List.Sorted.{IsNonDecreasingBy}
 use Rattle.dw_frame.specs.Records.{Cie, Fde}
@@ -16,7 +16,7 @@ use Rattle.dw_rows.specs.UnwindRows.{rows_of}
 use Rattle.dw_rows.specs.Section.{FrameSection, IsChecked, IsReturnRegister, cie_in, row_of}
 use Rattle.dw_rows.specs.UnwindTables.{has}
 
--- the numbers that lie at these distances from a base
+-- the numbers that are at these distances from a base
 abbrev pub based : ℕ → List ℕ → List ℕ
 based base offsets = map (λ o. base + o) offsets
 
@@ -28,7 +28,7 @@ paired (start ∷ starts) (set ∷ sets) = record { start = start; set = set } �
 
 -- ---- rows by where they begin
 
--- rules, and the register that the CIE names for where the caller goes on
+-- rules, and the return address register that the CIE names
 pub record KeptSet : Type 0 where
   pub rules : KeptRules
   pub register : ℕ
@@ -73,7 +73,7 @@ rows_to sets (e ∷ rest) to = row_from sets e (next_start rest to) ++ rows_to s
 abbrev pub entry_start : TableEntry → ℕ
 entry_start e = e.start
 
--- ---- the rows of FDEs one after the other
+-- ---- the rows of FDEs one after another
 
 -- rows with one register
 abbrev pub with_register : ℕ → PlacedRow → PlacedRow × ℕ
@@ -126,7 +126,7 @@ pub record IsNumbered (old : List KeptSet) (k : KeptSet) (n : ℕ) (new : List K
   pub same : (m : ℕ) → m < length old → set_numbered new m ≡ set_numbered old m
   pub lends : (es : List LocatedExpression) → All (LendsSet es) old → LendsRules es k.rules → All (LendsSet es) new
 
--- one entry more
+-- one more entry
 pub record IsPushed (old : List TableEntry) (old_sets : List KeptSet) (start : ℕ) (k : KeptSet) (new : List TableEntry)
     (new_sets : List KeptSet) : Type 0 where
   pub number : ℕ
@@ -148,12 +148,12 @@ pub record IsFilled (s : FrameSection) (f : Fde) (last : ℕ) (old : List TableE
 
 -- ---- the room that is left
 
--- Where it is room that is lacking, there is less than this.
+-- If room runs out, there was less than this.
 abbrev pub LacksRoom : Unmade → ℕ → ℕ → Type 0
 LacksRoom Memory room most = Unit {0}
 LacksRoom Room room most = room < most
 
--- what rules take beside the entry of a row, and with it
+-- what rules take besides the entry of a row, and with it
 abbrev pub set_bytes : KeptRules → ℕ
 set_bytes k = 64 + 16 * length k.rules
 

@@ -21,17 +21,17 @@ pub record HasOneRow (s : FrameSection) (a : ℕ) : Type 0 where
   -- one of the FDE's rows has the address
   pub row : Row
   pub one : filter (has_address a) (rows_in s fde) ≡ row ∷ []
-  -- It has the rules after the longest beginning of the program whose location is at most the address, and its range is all
-  -- covered addresses with that beginning.
+  -- It has the rules after the longest prefix of the program whose location is at most the address, and its range is all
+  -- covered addresses with that prefix.
   pub last : ℕ
   pub longest : IsLast (start_in cie fde good) (program_in cie fde good) a last
   pub placed : PlacedRow
   pub standard : IsRowAt (start_in cie fde good) (program_in cie fde good) last placed
-  -- no other row is so
+  -- no other row has these rules and this range
   pub only : (other : PlacedRow) → IsRowAt (start_in cie fde good) (program_in cie fde good) last other → other ≡ placed
-  -- in the place of each offset that its rules name is the expression of the section that begins there, of the rule's kind
+  -- instead of each offset that its rules name it has the expression of the section that begins there, of the rule's kind
   pub given : row ≡ given_row s.expressions placed
   pub cfa_lent : IfSome placed.cfa (LendsCfa s.expressions)
   pub lent : LendsEach s.expressions placed.rules
-  -- and it is what a look-up answers
+  -- and it is what a look-up returns
   pub found : row_of s a ≡ Some row

@@ -1,4 +1,4 @@
--- The expressions of programs: what they are, where they stand, and under which kind (DWARF 5, sections 6.4.2.2 and 6.4.2.3).
+-- The expressions of programs: what they are, where they are, and under which kind (DWARF 5, sections 6.4.2.2 and 6.4.2.3).
 use Rattle.std.specs.Prelude.{ℕ, ◌==◌, List, [], ◌∷◌, ◌++◌, Option, Some, None, find}
 use Rattle.std.specs.List.{filter_map}
 use Rattle.dw_bytes.specs.Answers.{values_in}
@@ -29,7 +29,7 @@ list_of (Some e) = e ∷ []
 abbrev pub expressions_of : ReadPosition → List LocatedExpression
 expressions_of program = expressions_in (values_in (instructions_of program))
 
--- those of CIEs one after the other, and of FDEs
+-- those of CIEs one after another, and of FDEs
 abbrev pub cie_expressions : List Cie → List LocatedExpression
 cie_expressions [] = []
 cie_expressions (c ∷ cies) = expressions_of c.program ++ cie_expressions cies

@@ -5,7 +5,7 @@ use Rattle.dw_rows.specs.Rules.{RuleOver, PlacedRule, IsTable, rule_in, rule_lis
 use Rattle.dw_rows.specs.GivenRows.{LendsEntry, LendsEach}
 use Rattle.dw_stack.specs.Located.{LocatedExpression}
 
--- the rule of a register by one table, and by the other where that gives none
+-- the rule of a register by one table, or by the other if the first gives none
 abbrev pub rule_of_either : {E : Type 0} → List (ℕ × RuleOver E) → List (ℕ × RuleOver E) → ℕ → RuleOver E
 rule_of_either rules others r = or_rule (rule_in rules r) (rule_in others r)
 
@@ -13,7 +13,7 @@ rule_of_either rules others r = or_rule (rule_in rules r) (rule_in others r)
 abbrev pub rules_of_either : {E : Type 0} → List (ℕ × RuleOver E) → List (ℕ × RuleOver E) → List (ℕ × RuleOver E)
 rules_of_either rules others = rule_list (rule_of_either rules others)
 
--- It is the first of the rules of either, and those of what is left come behind it. What they name is lent as before.
+-- It is the first of the rules of either, and those of what is left come after it. What they name is lent as before.
 pub record IsLowest (entries others : List (ℕ × PlacedRule)) (entry : ℕ × PlacedRule)
     (left left_others : List (ℕ × PlacedRule)) : Type 0 where
   pub first : rules_of_either entries others ≡ entry ∷ rules_of_either left left_others

@@ -1,4 +1,4 @@
--- Rows as they are handed out: with the expressions themselves, where programs name them by their offsets.
+-- Rows as callers get them: with the expressions themselves, where programs name them by their offsets.
 use Rattle.std.specs.Prelude.{◌≡◌, ℕ, List, [], map, Option, Some, None, All}
 use Rattle.std.specs.Option.{option_map}
 use Rattle.dw_bytes.specs.declared.target.Order.TheVariants.{Little}
@@ -10,7 +10,7 @@ use Rattle.dw_rows.specs.Expressions.{expression_at}
 use Rattle.dw_rows.specs.Rules.{PlacedRule, PlacedCfa, PlacedRow, Rule, Cfa, Row, default, undefined, same_value, offset, val_offset}
 use Rattle.dw_rows.specs.Rules.{register, expression, val_expression, register_and_offset, cfa_expression}
 
--- an expression that is nowhere, as that of an offset where none begins, which no rule names
+-- an expression that is nowhere, for an offset where none begins, which no rule names
 abbrev pub nowhere : LocatedExpression
 nowhere = record { offset = 0; kind = FrameCfa; target = record { order = Little; address_size = Four }; bytes = [] }
 

@@ -1,4 +1,4 @@
--- What the initial instructions of CIEs leave, as a checked section keeps it. No contract of a public call speaks of this.
+-- What the initial instructions of CIEs leave, as a checked section stores it. No contract of a public call mentions this.
 use Rattle.std.specs.Prelude.{◌+◌, ◌≤◌, List, [], ◌∷◌, length, map, slice_range}
 use Rattle.std.specs.Option.{option_map}
 use Rattle.std.specs.List.{AllByRecursion}
@@ -18,7 +18,7 @@ AreLeftBy (c ∷ cies) (k ∷ left) = IsLeftBy c k × AreLeftBy cies left
 AreLeftBy [] (k ∷ left) = ⊥
 AreLeftBy (c ∷ cies) [] = ⊥
 
--- ---- rules that lie one behind the other
+-- ---- rules that are stored one after another
 
 -- the rules of a span of entries
 abbrev pub kept_in_span : List RuleEntry → RuleSpan → KeptRules

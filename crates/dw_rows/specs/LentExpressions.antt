@@ -5,7 +5,7 @@ use Rattle.dw_rows.specs.declared.expressions.LentExpressions.{LentExpressions}
 use Rattle.dw_rows.specs.declared.expressions.LentExpressions.TheVariants.{Borrowed, Owned}
 use Rattle.dw_rows.specs.BorrowedExpressions.{borrowed_by}
 
--- those that a section keeps, or those that a table keeps
+-- those that a section stores, or those that a table stores
 abbrev pub lent_by : LentExpressions → List LocatedExpression
 lent_by (Borrowed x) = borrowed_by x
 lent_by (Owned x) = x.now

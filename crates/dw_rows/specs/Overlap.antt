@@ -1,4 +1,4 @@
--- FDEs in order of offset, and in order of address. No contract of a public call speaks of these.
+-- FDEs in order of offset, and in order of address. No contract of a public call mentions these.
 use Rattle.std.specs.Prelude.{◌≡◌, ℕ, ◌+◌, ◌*◌, ◌<◌, ◌≤◌, List, [], length, map, All, Contains, slice_index_or}
 use Rattle.dw_bytes.specs.declared.target.Format.TheVariants.{Dwarf32}
 use Rattle.dw_bytes.specs.declared.target.Order.TheVariants.{Little}
@@ -65,9 +65,9 @@ pub record IsIndexOf (fdes index : List Fde) : Type 0 where
   pub to : (f : Fde) → Contains fdes f → 0 < f.address_range → Contains index f
   pub ordered : IsOrdered index
 
--- ---- the index as it is kept: where each FDE begins, and its place among all
+-- ---- the index as it is stored: where each FDE begins, and its index among all
 
--- an FDE that is nowhere, as that of a place past the end, which no entry has
+-- an FDE that covers nothing, for an index past the end, which no entry has
 abbrev pub no_fde : Fde
 no_fde = record {
   offset = 0;
@@ -92,19 +92,20 @@ pub record IsAddressIndex (fdes : List Fde) (entries : List IndexEntry) : Type 0
   pub each : All (IsEntry fdes) entries
   pub index_of : IsIndexOf fdes (map (fde_at fdes) entries)
 
--- so far from an entry begins one at or below an address, if it isn't the entry itself, and one quarter further none does
+-- the entry at this distance begins at or below an address, if it isn't the first entry itself, and the one a quarter
+-- further doesn't
 pub record IsStride (entries : List IndexEntry) (low quarter a stride : ℕ) : Type 0 where
   pub bound : stride ≤ 3 * quarter
   pub below : (d : IndexEntry) → 0 < stride → (slice_index_or entries (low + stride) d).start ≤ a
   pub above : (d : IndexEntry) → stride < 3 * quarter → a < (slice_index_or entries (low + stride + quarter) d).start
 
--- so many entries begin at or below an address, and no others
+-- this many entries begin at or below an address, and no others
 pub record IsCountUpTo (entries : List IndexEntry) (a count : ℕ) : Type 0 where
   pub bound : count ≤ length entries
   pub below : (k : ℕ) (d : IndexEntry) → k < count → (slice_index_or entries k d).start ≤ a
   pub above : (k : ℕ) (d : IndexEntry) → count ≤ k → k < length entries → a < (slice_index_or entries k d).start
 
--- what a checked section keeps: its records, what its CIEs leave, and its FDEs in order of address
+-- what a checked section stores: its records, what its CIEs leave, and its FDEs in order of address
 pub record IsKept (s : FrameSection) (left : List KeptRules) (index : List IndexEntry) (count : ℕ) : Type 0 where
   pub checked : IsChecked s
   pub left_by : AreLeftBy s.cies left

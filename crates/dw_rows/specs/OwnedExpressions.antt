@@ -1,4 +1,4 @@
--- Checked expressions that are kept with their bytes. No contract of a public call speaks of this.
+-- Checked expressions that are stored with their bytes. No contract of a public call mentions this.
 use Rattle.std.specs.Prelude.{◌≤◌, ℕ, ◌+◌, List, length, map, take, drop}
 use Rattle.std.specs.List.{AllByRecursion}
 use Rattle.dw_stack.specs.Expressions.{IsChecked}
@@ -9,7 +9,7 @@ use Rattle.dw_rows.specs.declared.owned_expressions.OwnedExpression.{OwnedExpres
 abbrev pub bytes_in : List ℕ → OwnedExpression → List ℕ
 bytes_in bytes k = take k.length (drop k.start bytes)
 
--- the expression, where it stood in its section
+-- the expression, where it was in its section
 abbrev pub owned_in : List ℕ → OwnedExpression → LocatedExpression
 owned_in bytes k = record { offset = k.offset; kind = k.kind; target = k.target; bytes = bytes_in bytes k }
 

@@ -16,8 +16,8 @@ use Rattle.dw_rows.specs.Judgement.{cie_fault, fde_fault}
 use Rattle.dw_rows.specs.GivenRows.{given_row}
 use Rattle.dw_rows.specs.UnwindRows.{rows_of, has_address}
 
--- A section under a target, and what is read of it before its first fault: the CIEs and the FDEs apart, each in the order of
--- the section, and the expressions of their programs.
+-- A section with a target, and what is read of it before its first fault: the CIEs and the FDEs separately, each in the
+-- order of the section, and the expressions of their programs.
 pub record FrameSection : Type 0 where
   pub target : Target
   pub section : List ℕ
@@ -62,7 +62,7 @@ SharesAddress f g = (a : ℕ) × Covers f a × Covers g a
 abbrev pub CoversOnce : List Fde → Type 0
 CoversOnce fdes = (a : ℕ) (f g : Fde) → Contains fdes f → Contains fdes g → Covers f a → Covers g a → f ≡ g
 
--- the FDE that covers an address, which is the only one, or that none does
+-- the only FDE that covers an address, or none if none does
 abbrev pub IsCoverOf : List Fde → ℕ → Option Fde → Type 0
 IsCoverOf fdes a None = (f : Fde) → Contains fdes f → ¬ Covers f a
 IsCoverOf fdes a (Some f) = Contains fdes f × Covers f a × ((g : Fde) → Contains fdes g → Covers g a → g ≡ f)
@@ -86,7 +86,7 @@ abbrev pub fault_behind : Option Cie → Fde → Option Fault
 fault_behind None f = None
 fault_behind (Some c) f = fde_fault c f
 
--- an FDE's program is good behind its CIE's
+-- an FDE's program is good after its CIE's
 abbrev pub program_fault : List Cie → Fde → Option Fault
 program_fault cies f = fault_behind (cie_at cies f.cie_pointer) f
 
@@ -145,7 +145,7 @@ row_of s a = option_and_then (λ f. find (has_address a) (rows_in s f)) (find (c
 
 -- ---- the return address
 
--- the register that the CIE of the FDE that covers an address names for where the caller goes on
+-- the return address register that the CIE of the FDE that covers an address names
 abbrev pub IsReturnRegister : FrameSection → ℕ → ℕ → Type 0
 IsReturnRegister s a r = (fde : Fde) × (cie : Cie) × IsCoverOf s.fdes a (Some fde) × (cie_in s fde ≡ Some cie)
     × (cie.return_address_register ≡ r)

@@ -1,4 +1,4 @@
--- Tables that keep the rows of a section by themselves: nothing of the section is needed any more.
+-- Tables that store the rows of a section by themselves: nothing of the section is needed any more.
 use Rattle.std.specs.Prelude.{◌≡◌, ℕ, ◌+◌, ◌*◌, Bool, List, All, Contains, IfSome, Option, Some, None, find, length}
 use Rattle.std.specs.List.{sum_by}
 use Rattle.dw_bytes.specs.declared.target.Target.{Target}
@@ -8,7 +8,7 @@ use Rattle.dw_rows.specs.Rules.{RowOver, Row, Rule, Cfa, expression, val_express
 use Rattle.dw_rows.specs.UnwindRows.{has_address}
 use Rattle.dw_rows.specs.Section.{FrameSection, Covers, IsReturnRegister, row_of, rows_in}
 
--- Rows, each with the register that names where the caller goes on, and the target that they were read under.
+-- Rows, each with its return address register, and the target that they were read with.
 pub record RowTable : Type 0 where
   pub target : Target
   pub rows : List (Row × ℕ)
@@ -21,17 +21,17 @@ has address found = has_address address found.0
 abbrev pub row_at : RowTable → ℕ → Option (Row × ℕ)
 row_at t address = find (has address) t.rows
 
--- What is found is a section's row of an address, with the register that the CIE names; and where none is found, no FDE covers it.
+-- What is found is a section's row of an address, with the register that the CIE names; if none is found, no FDE covers it.
 abbrev pub IsFoundAt : FrameSection → ℕ → Option (Row × ℕ) → Type 0
 IsFoundAt s address None = (f : Fde) → Contains s.fdes f → ¬ Covers f address
 IsFoundAt s address (Some found) = (row_of s address ≡ Some found.0) × IsReturnRegister s address found.1
 
--- At each address it gives the row that the section has there, and none where no FDE of the section covers the address.
+-- At each address it gives the row that the section has there, and none if no FDE of the section covers the address.
 pub record IsTableOf (s : FrameSection) (t : RowTable) : Type 0 where
   pub target : t.target ≡ s.target
   pub row : (address : ℕ) → IsFoundAt s address (row_at t address)
 
--- ---- the room that is always enough for a table, in bytes: less is enough where rows share their rules
+-- ---- the room that is always enough for a table, in bytes: less is enough if rows share their rules
 
 -- for a row: 80, and 16 for each register that has a rule
 abbrev pub row_bytes : {E : Type 0} → RowOver E → ℕ
@@ -45,7 +45,7 @@ fde_bytes s f = 80 + sum_by row_bytes (rows_in s f)
 abbrev pub table_bytes : FrameSection → ℕ
 table_bytes s = 80 + sum_by (fde_bytes s) s.fdes
 
--- ---- a row's expressions are read under a target
+-- ---- a row's expressions are read with a target
 
 abbrev pub IsUnder : Target → LocatedExpression → Type 0
 IsUnder target e = e.target ≡ target

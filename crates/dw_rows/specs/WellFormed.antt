@@ -6,8 +6,8 @@ use Rattle.dw_frame.specs.Sections.{AreRecords}
 use Rattle.dw_rows.specs.Good.{IsGoodCieProgram, IsGoodFdeProgram}
 use Rattle.dw_rows.specs.Section.{cies_among, fdes_among, CoversOnce}
 
--- The bytes are the encodings of records without a gap; each CIE_pointer is the offset of a CIE; all programs are good, those
--- of FDEs behind their CIE's; and no address is covered by two FDEs.
+-- The bytes are the encodings of records without gaps; each CIE_pointer is the offset of a CIE; all programs are good,
+-- those of FDEs after their CIE's; and no address is covered by two FDEs.
 pub record IsWellFormed (target : Target) (section : List ℕ) : Type 0 where
   pub records : List Record
   pub encoded : AreRecords target 0 section records

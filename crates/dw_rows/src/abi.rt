@@ -1,4 +1,4 @@
-//! What an ABI says of registers to which a row gives no rule.
+//! What an ABI says about registers to which a row gives no rule.
 
 ghost use Rattle.std.specs.Prelude.{◌≡◌, ◌≢◌, ◌<◌, ◌+◌, ◌≤◌, ℕ, None, Some, length, MatchResult};
 ghost use Rattle.std.specs.Bool.{OnTrue, OnFalse};
@@ -12,12 +12,11 @@ use crate::map::{MAX_RULES, RegisterRuleMap, RuleEntry};
 use dw_bytes::{Fault, FaultKind};
 use std::marker::Model;
 
-/// An `Abi` names at most this many registers that calls keep. With the stack pointer they fit a table of rules.
+/// An `Abi` names at most this many callee-saved registers. With the stack pointer they fit a table of rules.
 pub const MAX_KEPT: usize = MAX_RULES - 1;
 
-/// What an ABI says of registers that no instruction has given a rule: which ones calls keep (they are callee-saved), and which one is
-/// the stack pointer.
-/// DWARF 5, section 6.4.1, leaves that to the ABI.
+/// What an ABI says about registers that no instruction has given a rule: which ones are callee-saved (`kept`: a call
+/// keeps their values), and which one is the stack pointer. DWARF 5, section 6.4.1, leaves that to the ABI.
 ///
 /// ```rust
 /// // The ABI of x86-64: calls keep rbx, rbp and r12 to r15, and register 7 is the stack pointer.
@@ -40,7 +39,7 @@ impl Model for Abi {
     ghost invariant = { λ abi. AreRoles abi.rules };
 }
 
-/// Gives a register its rule, unless it has one: then it answers `false`.
+/// Gives a register its rule, unless it has one: then it returns `false`.
 fn add_abi_rule(rules: &mut RegisterRuleMap, number: u16, rule: KeptRule) -> bool
     requires table { IsTable 0 rules.old }
     requires room { length rules.old < MAX_RULES }
@@ -69,9 +68,9 @@ impl Abi {
         }
     }
 
-    /// An ABI whose calls keep these registers, and with this stack pointer, whose value in the caller is the CFA. More than
-    /// `MAX_KEPT` numbers are refused with `AbiTooLarge` at that place; else a number that stands a second time with `AbiTwice` at
-    /// its place, which for the stack pointer is behind all that are kept.
+    /// An ABI with these callee-saved registers, and with this stack pointer, whose value in the caller is the CFA. More
+    /// than `MAX_KEPT` numbers are refused with `AbiTooLarge` at that index; else a number that occurs a second time with
+    /// `AbiTwice` at its index. The stack pointer's index comes after all callee-saved registers.
     pub fn new(kept: &[u16], stack_pointer: Option<u16>) -> Result<Abi, Fault>
         ensures { MatchResult result
             (λ abi. (abi_fault kept.now stack_pointer ≡ None)
@@ -99,7 +98,7 @@ impl Abi {
         Ok(Abi { rules })
     }
 
-    /// The rule that it gives a register, `Default` where it doesn't name it.
+    /// The rule that it gives a register, `Default` if it doesn't name the register.
     pub(crate) fn register(&self, number: u16) -> KeptRule
         ensures { kept_rule_of result ≡ rule_of_role (roles_of self.now number) }
     {
@@ -117,7 +116,7 @@ impl Abi {
     }
 }
 
-/// A register that is named a second time at a place.
+/// The fault of a register that is named a second time, at an index.
 fn abi_twice_at(place: usize) -> Fault
     requires { place ≤ MAX_KEPT }
     ensures { result ≡ record { kind = FaultKind.AbiTwice; at = place } }

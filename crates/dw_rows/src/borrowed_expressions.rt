@@ -1,4 +1,4 @@
-//! The checked expressions of a section, as it keeps them.
+//! The checked expressions of a section, as the section stores them.
 
 ghost use Rattle.std.specs.Prelude.{◌≡◌, ◌++◌, [], None, Some, MatchOption};
 ghost use Rattle.dw_stack.specs.Located.{located_of, all_located};
@@ -7,8 +7,9 @@ ghost use Rattle.dw_rows.specs.ExpressionOrder.{AreInOrder, in_order_prop};
 
 use dw_stack::CheckedExpression;
 
-/// The checked expressions of a section's CIEs and of its FDEs (DWARF 5, sections 6.4.2.2 and 6.4.2.3), each with the offset of
-/// its first byte in the section, and both parts in order of these offsets. It keeps no memory: the expressions are lent.
+/// The checked expressions of a section's CIEs and of its FDEs (DWARF 5, sections 6.4.2.2 and 6.4.2.3), each with the
+/// offset of its first byte in the section. Both parts are in order of these offsets. It owns no memory: the expressions
+/// are borrowed.
 #[derive(Clone, Copy, Debug)]
 pub struct BorrowedExpressions<'f, 'a> {
     pub cies: &'f [(u32, CheckedExpression<'a>)],
@@ -20,7 +21,7 @@ pub struct BorrowedExpressions<'f, 'a> {
 impl<'f, 'a> BorrowedExpressions<'f, 'a> {
     ghost use Rattle.dw_rows.specs.BorrowedExpressions.{borrowed_by};
 
-    /// Those of a section that has none.
+    /// The expressions of a section that has none.
     pub(crate) fn empty() -> Self
         ensures { borrowed_by result ≡ [] }
     {
@@ -30,7 +31,7 @@ impl<'f, 'a> BorrowedExpressions<'f, 'a> {
         }
     }
 
-    /// Those of CIEs and those of FDEs, each in order of offset.
+    /// The expressions of CIEs and those of FDEs, each in order of offset.
     pub(crate) fn new(
         cies: &'f [(u32, CheckedExpression<'a>)],
         fdes: &'f [(u32, CheckedExpression<'a>)],
@@ -42,7 +43,7 @@ impl<'f, 'a> BorrowedExpressions<'f, 'a> {
         BorrowedExpressions { cies, fdes }
     }
 
-    /// The expression that begins at an offset of the section, by binary search: those of CIEs, which are few, come first.
+    /// The expression that begins at an offset of the section, by binary search: first among those of CIEs, which are few.
     pub(crate) fn at(&self, offset: u32) -> Option<CheckedExpression<'a>>
         ensures { MatchOption result
             (expression_at (borrowed_by self.now) offset ≡ None)

@@ -8,15 +8,15 @@ ghost use Rattle.dw_rows.specs.EffectViews.{effect_by};
 use crate::kept_rule::KeptRule;
 use dw_frame::{CallFrameInstruction, CommonInformationEntry};
 
-/// What an instruction does to the location, the rules and what is remembered. Its numbers are
-/// whole: an offset is not yet judged to fit.
+/// What an instruction does to the location, the rules and what is remembered. Its numbers are exact: whether an offset
+/// fits has not been checked yet.
 #[derive(Clone, Copy)]
 pub enum InstructionEffect {
     Stays,
     AdvanceLoc(u128),
     SetLoc(u64),
     DefinesCfa { register: u16, offset: i128 },
-    /// The CFA is what the expression at that offset of the section gives.
+    /// The CFA is what the expression at that offset of the section evaluates to.
     DefinesCfaExpression(u32),
     ChangesRegister(u16),
     ChangesOffset(i128),
@@ -60,7 +60,7 @@ fn advance_effect(cie: &CommonInformationEntry<'_>, delta: u32) -> InstructionEf
     InstructionEffect::AdvanceLoc(u128::from(delta) * u128::from(cie.code_alignment_factor))
 }
 
-/// What the instruction does, by the factors of the CIE.
+/// What the instruction does, with the factors of the CIE applied.
 #[inline(always)]
 pub fn instruction_effect(
     cie: &CommonInformationEntry<'_>,

@@ -8,7 +8,7 @@ use crate::borrowed_expressions::BorrowedExpressions;
 use crate::owned_expressions::OwnedExpressions;
 use dw_stack::CheckedExpression;
 
-/// The checked expressions that rows lend: those that a section keeps, or those that a table keeps with their bytes.
+/// The checked expressions that rows lend: those that a section stores, or those that a table stores with their bytes.
 #[derive(Clone, Copy, Debug)]
 pub enum LentExpressions<'f, 'a> {
     Borrowed(BorrowedExpressions<'f, 'a>),
@@ -18,7 +18,7 @@ pub enum LentExpressions<'f, 'a> {
 impl<'f, 'a> LentExpressions<'f, 'a> {
     ghost use Rattle.dw_rows.specs.LentExpressions.{lent_by};
 
-    /// Those of a section that has none.
+    /// The expressions of a section that has none.
     pub(crate) fn empty() -> Self
         ensures { lent_by result ≡ [] }
     {

@@ -100,11 +100,11 @@ impl<'a> Model for CheckedFrame<'a> {
         }) c.initial c.index.items c.in_cies };
 }
 
-/// An FDE of a compiler has as many bytes or more: room for so many is asked for at once, so that the list of them need
-/// not be moved as it grows.
+/// An FDE from a compiler has at least this many bytes. The list of FDEs gets room for one per this many bytes of the
+/// section at once, so that it need not be moved as it grows.
 const USUAL_FDE: usize = 48;
 
-/// The records of a section, the CIEs and the FDEs apart. One pass.
+/// The records of a section, CIEs and FDEs in separate lists. One pass.
 fn records_of<'a>(
     alloc: Global,
     section: &'a [u8],
@@ -134,7 +134,7 @@ fn records_of<'a>(
     Ok((cies, fdes))
 }
 
-/// No address may be covered by two FDEs.
+/// Checks that no address is covered by two FDEs.
 fn check_overlap(fdes: &[FrameDescriptionEntry<'_>], index: &[IndexEntry]) -> Result<(), Fault>
     requires fdes { Ascends fde_offset (map fde_of fdes.now) }
     requires index { IsAddressIndex (map fde_of fdes.now) index.now }
@@ -150,7 +150,7 @@ fn check_overlap(fdes: &[FrameDescriptionEntry<'_>], index: &[IndexEntry]) -> Re
     }
 }
 
-/// What is learned of the programs of a section.
+/// What is learned about the programs of a section.
 #[derive(Drop)]
 struct JudgedPrograms<'a> {
     /// What the initial instructions of each CIE leave.
@@ -188,7 +188,7 @@ fn check_programs<'a>(
     })
 }
 
-/// Judges the records part by part, in order. It gives what is learned of the programs, and the FDEs in order of address.
+/// Judges the records part by part, in order. Returns what is learned about the programs, and the FDEs in order of address.
 #[tactic(auto, unfolding(crate::specs::Section::parts_fault))]
 fn check_parts<'a>(
     alloc: Global,
@@ -245,7 +245,7 @@ pub fn check_frame<'a>(
 }
 
 impl<'a> CheckedFrame<'a> {
-    /// The target that the section was read under.
+    /// The target that the section was read with.
     pub fn target(&self) -> Target
         ensures { result ≡ self.now.target }
     {
@@ -285,7 +285,7 @@ impl<'a> CheckedFrame<'a> {
         self.expressions.as_slice()
     }
 
-    /// The FDE that covers an address: the only one that does, found by halving.
+    /// The FDE that covers an address: the only one that does, found by binary search.
     pub fn fde_for_address(&self, address: u64) -> Option<FrameDescriptionEntry<'a>>
         ensures only { IsCoverOf self.now.fdes address (option_map fde_of result) }
         ensures fit { IfSome result (λ fde. fde.initial_location + fde.address_range
@@ -294,7 +294,7 @@ impl<'a> CheckedFrame<'a> {
         covering(&self.fdes, &self.index, address)
     }
 
-    /// The CIE of one of the FDEs, found by halving. Both have good programs.
+    /// The CIE of one of the FDEs, found by binary search. Both have good programs.
     pub fn cie_of(&self, fde: &FrameDescriptionEntry<'a>) -> CommonInformationEntry<'a>
         requires { Contains self.now.fdes (fde_of fde.now) }
         ensures cie { cie_in self.now (fde_of fde.now) ≡ Some (cie_of result) }
@@ -307,10 +307,12 @@ impl<'a> CheckedFrame<'a> {
         }
     }
 
-    /// The CIE of one of the FDEs, as `cie_of`. What it leaves is kept at the state, as the rules that programs begin with.
+    /// The CIE of one of the FDEs, as `cie_of`. The rules that it leaves are stored in the state, as those that programs
+    /// begin with. It is looked for first at the index `near`, which becomes its index.
     pub(crate) fn begin_with_cie(
         &self,
         state: &mut UnwindState,
+        near: &mut usize,
         fde: &FrameDescriptionEntry<'a>,
     ) -> CommonInformationEntry<'a>
         requires { Contains self.now.fdes (fde_of fde.now) }
@@ -319,7 +321,7 @@ impl<'a> CheckedFrame<'a> {
         ensures left { IsLeftBy (cie_of result) state.new.initial_rules }
         ensures lends { Lends self.now.expressions (cie_of result) (fde_of fde.now) }
     {
-        match begin_with_rules_of_cie(state, &self.cies, &self.initial, fde.cie_pointer) {
+        match begin_with_rules_of_cie(state, &self.cies, &self.initial, near, fde.cie_pointer) {
             Some(cie) => cie,
             None => unreachable!(),
         }
@@ -333,14 +335,15 @@ impl<'a> CheckedFrame<'a> {
         self.index.as_slice()
     }
 
-    /// A table of the rows of all FDEs, for look-ups by the million. It borrows nothing, so the section may go.
+    /// A table of the rows of all FDEs, for millions of look-ups. It borrows nothing, so the section may be dropped.
     ///
-    /// `room` is the number of bytes that its rows and their rules may take: the rows of a section of N bytes may take 700 times N.
-    /// `Ok(None)` says that they would take more, and nothing is kept. That never happens where `room` is enough for all rows with
-    /// no rules shared between them: 80 bytes for each row and 16 for each of its register rules, 80 for each FDE, and 80 more. The
-    /// contract says so, and that a table has at most a row for every 16 bytes of `room`; that its rules fit too is tested, not proved.
+    /// `room` is the number of bytes that its rows and their rules may take: the rows of a section of N bytes may take
+    /// 700 times N. `Ok(None)` means that they would take more, and nothing is kept. That never happens if `room` is
+    /// enough for all rows with no rules shared between them: 80 bytes for each row and 16 for each of its register
+    /// rules, 80 for each FDE, and 80 more. The contract says so, and that a table has at most one row for every 16 bytes
+    /// of `room`; that its rules fit too is tested, not proved.
     ///
-    /// The one fault is `Memory`, at 0. It runs each program once, and takes n log n for n rows at most.
+    /// The only fault is `Memory`, at 0. It runs each program once, and takes time n log n at most for n rows.
     pub fn compile(&self, alloc: Global, room: usize) -> Result<Option<UnwindTable>, Fault>
         ensures table { IfOk result (λ made. IfSome made (IsTableOf self.now)) }
         ensures room { IfOk result
@@ -355,7 +358,7 @@ impl<'a> CheckedFrame<'a> {
         }
     }
 
-    /// The expressions, as they are kept.
+    /// The expressions, as the section stores them.
     pub(crate) fn borrowed(&self) -> BorrowedExpressions<'_, 'a>
         ensures { borrowed_by result ≡ self.now.expressions }
     {
@@ -370,8 +373,8 @@ impl<'a> CheckedFrame<'a> {
         LentExpressions::Borrowed(self.borrowed())
     }
 
-    /// The rows of one of the FDEs, in the order of their addresses. Each call runs the FDE's program again as the rows are
-    /// asked for, behind what was kept of its CIE's, and takes no memory.
+    /// The rows of one of the FDEs, in the order of their addresses. Each call runs the FDE's program again as the rows
+    /// are requested, starting from the stored rules of its CIE, and takes no memory.
     #[inline(always)]
     pub fn rows(&self, fde: &FrameDescriptionEntry<'a>) -> Rows<'_, 'a>
         requires { Contains self.now.fdes (fde_of fde.now) }
@@ -380,7 +383,7 @@ impl<'a> CheckedFrame<'a> {
         Rows::of(self, fde)
     }
 
-    /// The rows of one of the FDEs as `rows` gives them, in the place of others. The answer is the FDE's CIE, as `cie_of`.
+    /// Replaces `rows` by the rows of one of the FDEs, as the method `rows` gives them. Returns the FDE's CIE, as `cie_of`.
     pub fn rows_into<'f>(
         &'f self,
         fde: &FrameDescriptionEntry<'a>,
@@ -394,8 +397,8 @@ impl<'a> CheckedFrame<'a> {
         rows.restart_in(self, fde)
     }
 
-    /// The row of an address, or none where no FDE covers it. It takes no memory: the FDE is found by halving, and its
-    /// program is run up to that row, behind what was kept of its CIE's.
+    /// The row of an address, or none if no FDE covers it. It takes no memory: the FDE is found by binary search, and its
+    /// program is run up to that row, starting from the stored rules of its CIE.
     pub fn row_for_address(&self, address: u64) -> Option<UnwindTableRow<'_, 'a>>
         ensures row { result ≡ row_of self.now address }
         ensures fit { IfSome result (λ row. (row.start ≤ top_of self.now.target)
@@ -406,8 +409,8 @@ impl<'a> CheckedFrame<'a> {
         Some(row)
     }
 
-    /// Writes the row of an address into the place of another, and answers the FDE that covers the address and its CIE.
-    /// Where none does it answers none, and the place is as before. One halving finds the FDE, and one its CIE.
+    /// Overwrites `row` with the row of an address, and returns the FDE that covers the address and its CIE. If no FDE
+    /// does, it returns none, and `row` is unchanged. One binary search finds the FDE, and one its CIE.
     pub fn row_for_address_into<'f>(
         &'f self,
         address: u64,
@@ -427,8 +430,8 @@ impl<'a> CheckedFrame<'a> {
         Some((cie, fde))
     }
 
-    /// Writes the row of an address that an FDE covers into the place of another, and answers the FDE's CIE. It stays a call:
-    /// room for a state is then made once, and only where an FDE is found.
+    /// Overwrites `row` with the row of an address that an FDE covers, and returns the FDE's CIE. It isn't inlined: room
+    /// for a state is then made once, and only if an FDE is found.
     #[inline(never)]
     fn write_row_of<'f>(
         &'f self,
@@ -445,7 +448,8 @@ impl<'a> CheckedFrame<'a> {
             ≡ Some row.new }
     {
         let mut state = UnwindState::new();
-        let cie = self.begin_with_cie(&mut state, fde);
+        let mut near = usize::MAX;
+        let cie = self.begin_with_cie(&mut state, &mut near, fde);
         write_row_at(&mut state, &cie, fde, address, self.lent(), row);
         cie
     }

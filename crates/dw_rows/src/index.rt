@@ -12,14 +12,14 @@ ghost use Rattle.dw_rows.specs.declared.index.IndexEntry.{IndexEntry};
 use dw_frame::FrameDescriptionEntry;
 use std::alloc::{AllocError, Global};
 
-/// Where an FDE begins in the address space, and its place among all FDEs: what halving looks at takes 16 bytes.
+/// Where an FDE begins in the address space, and its index among all FDEs. Each entry that a search looks at takes 16 bytes.
 #[derive(Clone, Copy)]
 pub struct IndexEntry {
     pub start: u64,
     pub place: usize,
 }
 
-/// The entries of the FDEs that cover an address.
+/// The entries of the FDEs that cover at least one address.
 fn covering_some(
     alloc: Global,
     fdes: &[FrameDescriptionEntry<'_>],
@@ -38,7 +38,7 @@ fn covering_some(
     Ok(index)
 }
 
-/// The FDEs that cover an address, in order of address: n log n for n FDEs.
+/// The FDEs that cover at least one address, in order of address: n log n for n FDEs.
 pub fn index_of(
     alloc: Global,
     fdes: &[FrameDescriptionEntry<'_>],
@@ -70,8 +70,8 @@ fn overlaps(fdes: &[FrameDescriptionEntry<'_>], index: &[IndexEntry], last: u32)
     false
 }
 
-/// The first FDE in order of offset that shares an address with one before it. Up to an offset there is an overlap or
-/// there is none, and once there is it stays: so halving finds where it comes, in n log n for n FDEs.
+/// The first FDE in order of offset that shares an address with one before it. Once there is an overlap up to an offset,
+/// there is one up to every later offset: so a binary search finds the first, in n log n for n FDEs.
 pub fn first_overlap<'a>(
     fdes: &[FrameDescriptionEntry<'a>],
     index: &[IndexEntry],
@@ -98,8 +98,8 @@ pub fn first_overlap<'a>(
     Some(fdes[high])
 }
 
-/// How far to go on from an entry towards the last one that begins at or below an address: none, one, two or three quarters.
-/// It sums and doesn't branch: halving would wait for a wrong guess at every other step.
+/// How far to go on from an entry towards the last one that begins at or below an address: none, one, two or three
+/// quarters. It sums and doesn't branch: a binary search with branches would wait for a wrong guess at every other step.
 #[inline(always)]
 fn stride(index: &[IndexEntry], low: usize, quarter: usize, address: u64) -> usize
     requires sorted { IsNonDecreasingBy (λ (e : IndexEntry). e.start) index.now }

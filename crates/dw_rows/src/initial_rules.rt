@@ -12,7 +12,7 @@ use crate::rule_set::RuleSet;
 use std::alloc::{AllocError, Global};
 use std::marker::Model;
 
-/// Where the rules of one CIE lie among those of all, and the rule of its CFA.
+/// Where the rules of one CIE are in the list of all, and the rule of its CFA.
 #[derive(Clone, Copy)]
 pub struct RuleSpan {
     pub cfa: Option<KeptCfa>,
@@ -20,8 +20,8 @@ pub struct RuleSpan {
     pub end: usize,
 }
 
-/// The rules that the initial instructions of CIEs leave (DWARF 5, section 6.4.1), of one CIE after the other. All lie in one
-/// list, so many CIEs make no request for memory each, and take the room of the rules that they have.
+/// The rules that the initial instructions of CIEs leave (DWARF 5, section 6.4.1), of one CIE after another. All are in
+/// one list, so that each CIE needs no memory request of its own, and only the room of the rules that it has.
 #[derive(Drop)]
 pub struct InitialRules {
     entries: Vec<RuleEntry>,
@@ -42,7 +42,7 @@ impl Model for InitialRules {
 }
 
 impl InitialRules {
-    /// Of no CIE yet.
+    /// The rules of no CIE yet.
     pub fn new(alloc: Global) -> Self
         ensures { result ≡ [] }
     {
@@ -52,7 +52,7 @@ impl InitialRules {
         }
     }
 
-    /// Keeps the rules that one more CIE leaves. Where memory is refused, what was kept stays.
+    /// Adds the rules that one more CIE leaves. If memory is refused, the stored rules stay.
     pub fn push(&mut self, rules: &RuleSet) -> Result<(), AllocError>
         ensures { MatchResult result (λ _. self.new ≡ self.old ++ rules.now ∷ [])
             (λ _. self.new ≡ self.old) }
@@ -71,7 +71,7 @@ impl InitialRules {
         Ok(())
     }
 
-    /// The same in memory of their size.
+    /// The same rules, in memory of just their size.
     pub fn cut(&mut self, alloc: Global) -> Result<(), AllocError>
         ensures { self.new ≡ self.old }
     {
@@ -82,7 +82,7 @@ impl InitialRules {
         Ok(())
     }
 
-    /// Gives back the rules that the CIE at a place leaves. Its cost is that of the rules that there are.
+    /// Copies the rules that the CIE at an index leaves. Its cost grows with the number of rules that there are.
     pub fn copy_to(&self, place: usize, rules: &mut RuleSet)
         requires { place < length self.now }
         ensures { slice_get self.now place ≡ Some rules.new }
@@ -98,7 +98,7 @@ impl InitialRules {
         self.spans.len()
     }
 
-    /// Lends the rules at a place: that of the CFA, and the entries of the others.
+    /// Lends the rules at an index: that of the CFA, and the entries of the others.
     #[inline(always)]
     pub fn lend(&self, place: usize) -> (Option<KeptCfa>, &[RuleEntry])
         requires { place < length self.now }
@@ -113,7 +113,7 @@ impl InitialRules {
         (span.cfa, &self.entries[span.start..span.end])
     }
 
-    /// Whether the rules at a place are these.
+    /// Whether the rules at an index are these.
     pub fn are_at(&self, place: usize, rules: &RuleSet) -> bool
         requires { place < length self.now }
         ensures { OnTrue result (slice_get self.now place ≡ Some rules.now) }

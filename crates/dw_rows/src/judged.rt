@@ -1,4 +1,4 @@
-//! The expressions of programs, judged where they stand.
+//! The expressions of programs, judged in place.
 
 ghost use Rattle.std.specs.Prelude.{◌≡◌, [], ◌∷◌, ◌++◌, Some, OnOk};
 ghost use Rattle.dw_bytes.specs.Answers.{Answers};
@@ -57,7 +57,7 @@ impl<'a> JudgedExpressions<'a> {
         self.kept
     }
 
-    /// Judges the expression of an instruction, if it has one, and keeps it.
+    /// Judges the expression of an instruction, if it has one, and stores it.
     #[inline(always)]
     pub fn judge(&mut self, instruction: &CallFrameInstruction<'a>) -> Result<(), Fault>
         ensures answer { Answers (located_fault (expression_in (instruction_of instruction.now)))
@@ -79,7 +79,7 @@ impl<'a> JudgedExpressions<'a> {
         }
     }
 
-    /// Judges an expression under its kind, and keeps it.
+    /// Judges an expression under its kind, and stores it.
     fn judge_as(&mut self, kind: Kind, found: UnwindExpression<'a>) -> Result<(), Fault>
         ensures answer { Answers
             (located_fault (Some (located_as kind (expression_of found.entry)))) result }

@@ -1,5 +1,4 @@
-//! What the definitions say, in the standard's words: functions that do nothing, each with the law as
-//! its contract.
+//! What the definitions say, in the standard's words: functions that do nothing. The contract of each is a law.
 
 ghost use Rattle.std.specs.Prelude.{◌≡◌, ◌⊎◌, false, ℕ, ◌+◌, ◌<◌, ◌≤◌, ◌↔◌, List, length, Option, Some, None, slice_get, filter, [], ◌∷◌};
 ghost use Rattle.std.specs.Prelude.{Err, All, Contains, IfSome, map, ◌++◌};
@@ -33,8 +32,8 @@ ghost use Rattle.dw_rows.specs.declared.abi.TheConstants.{MAX_KEPT};
 ghost use Rattle.dw_rows.specs.declared.map.TheConstants.{MAX_RULES};
 ghost use Rattle.dw_rows.specs.declared.remember_stack.TheConstants.{MAX_REMEMBERED};
 
-/// The rules after each instruction are those that the instruction gives, a restore_state those before
-/// its match. No others are.
+/// The rules after each instruction are those that the instruction gives, and after a restore_state those before its
+/// match. No others are.
 pub fn rules_by_instruction()
     ensures meet { (s : Start) (program : List Effect)
         → AreRules s program (rule_after s program) (cfa_after s program) }
@@ -46,15 +45,15 @@ pub fn rules_by_instruction()
         × (cfa k ≡ cfa_after s program k) }
 {}
 
-/// A CIE's program has no fault exactly where it is good, and neither has an FDE's behind a good CIE's.
+/// A CIE's program has no fault exactly if it is good, and likewise an FDE's after a good CIE's.
 pub fn good_programs_have_no_fault()
     ensures cie { (cie : Cie) → (cie_fault cie ≡ None) ↔ IsGoodCieProgram cie }
     ensures fde { (cie : Cie) (fde : Fde) → cie_fault cie ≡ None
         → (fde_fault cie fde ≡ None) ↔ IsGoodFdeProgram cie fde }
 {}
 
-/// An instruction with an expression is refused by none of the tests that come before its expression's, where those before it
-/// were not refused: so its expression can be judged first.
+/// If no instruction before it was refused, an instruction with an expression is refused by none of the tests that come
+/// before its expression's. So its expression can be judged first.
 pub fn expressions_are_judged_in_their_place()
     ensures behind { (s : Start) (before : List Effect) (cie : Cie) (i : Instruction)
         (e : LocatedExpression) → expression_in i ≡ Some e → location_of s before ≤ s.end
@@ -64,16 +63,15 @@ pub fn expressions_are_judged_in_their_place()
         → expression_in i ≡ Some e → is_barred (effect_of cie i) ≡ false }
 {}
 
-/// The rows of an FDE whose program is good are the rows of the addresses that it covers: each has the
-/// rules behind the longest beginning of the program whose location is no higher, and all covered
-/// addresses with that beginning.
+/// The rows of an FDE whose program is good are the rows of the addresses that it covers: each has the rules after the
+/// longest prefix of the program whose location is no higher, and all covered addresses with that prefix.
 pub fn rows_are_those_of_addresses()
     ensures { (cie : Cie) (fde : Fde) → (good : IsGoodFdeProgram cie fde)
         → AreRowsOf cie fde good (rows_of cie fde) }
 {}
 
-/// The rows of an FDE whose program is good lie one behind another and cover what it covers, and each
-/// covered address has one.
+/// The rows of an FDE whose program is good follow each other without gaps and cover what it covers, and each covered
+/// address has one.
 pub fn rows_cover()
     ensures cover { (cie : Cie) (fde : Fde) → fde_fault cie fde ≡ None
         → Cover fde.initial_location (rows_of cie fde) (fde.initial_location + fde.address_range) }
@@ -84,7 +82,7 @@ pub fn rows_cover()
         → Cover from rows to → Cover from (map (given_row es) rows) to }
 {}
 
-/// A list of rules by ascending registers and the function that it stands for say the same.
+/// A list of rules by ascending registers and the function that it stands for agree.
 pub fn rule_lists_are_rules()
     ensures list { (entries : List (ℕ × PlacedRule)) → IsTable 0 entries
         → rule_list (rule_in entries) ≡ entries }
@@ -93,8 +91,8 @@ pub fn rule_lists_are_rules()
     ensures table { (rules : ℕ → PlacedRule) → IsTable 0 (rule_list rules) }
 {}
 
-/// The rules under an ABI are by ascending registers, and are those that the row or else the ABI gives: each that is listed, and each
-/// register's. Under an ABI that says nothing a row has its own rules.
+/// The rules under an ABI are by ascending registers, and are those that the row gives, or else the ABI: each that is
+/// listed, and each register's. Under an ABI that says nothing a row has its own rules.
 pub fn rules_under_abis()
     ensures each { (abi : Abi) (rules : List (ℕ × Rule))
         → All (λ entry. entry.1 ≡ rule_under abi rules entry.0) (rules_under abi rules) }
@@ -104,8 +102,8 @@ pub fn rules_under_abis()
     ensures none { (rules : List (ℕ × Rule)) → IsTable 0 rules → rules_under no_abi rules ≡ rules }
 {}
 
-/// What is named for an ABI has no fault exactly where it can be one. A number that is refused since it stands twice is the first
-/// that stood before.
+/// Numbers named for an ABI have no fault exactly if they can be one. A number that is refused because it occurs twice is
+/// the first that occurred before.
 pub fn abis_without_fault_are_distinct()
     ensures good { (registers : List ℕ) (pointer : Option ℕ)
         → (abi_fault registers pointer ≡ None) ↔ CanBeAbi registers pointer }
@@ -114,15 +112,15 @@ pub fn abis_without_fault_are_distinct()
         → StandsAgain (registers ++ option_to_list pointer) place }
 {}
 
-/// A section has no fault exactly where it is well formed: a concatenation of records whose CIE_pointers point to CIEs,
-/// with good programs, and no address covered by two FDEs.
+/// A section has no fault exactly if it is well formed: a concatenation of records whose CIE_pointers point to CIEs, with
+/// good programs, and no address covered by two FDEs.
 pub fn frame_sections_without_fault_are_well_formed()
     ensures { (target : Target) (section : List ℕ)
         → (section_fault target section ≡ None) ↔ IsWellFormed target section }
 {}
 
 /// In a section that is accepted each address that an FDE covers has exactly one row, the standard's: one FDE covers it,
-/// one of that FDE's rows has it, and that row is the answer of a look-up. Any other address has none.
+/// one of that FDE's rows has it, and a look-up returns that row. Any other address has none.
 pub fn exact_rows()
     ensures covered { (s : FrameSection) (a : ℕ) → IsChecked s → (f : Fde) → Contains s.fdes f
         → Covers f a → HasOneRow s a }
@@ -130,8 +128,8 @@ pub fn exact_rows()
         → row_of s a ≡ None }
 {}
 
-/// What a section that is accepted holds: good programs that lie in it and are of its target, in order of offset, and good
-/// expressions, which lie in it likewise, no two of them beginning at one offset.
+/// What an accepted section holds: good programs that lie in it and are of its target, in order of offset, and good
+/// expressions, which also lie in it and are of its target, no two of them beginning at one offset.
 pub fn checked_frame_sections()
     ensures well_formed { (s : FrameSection) → IsChecked s → IsWellFormed s.target s.section }
     ensures cies { (s : FrameSection) → IsChecked s → (c : Cie) → Contains s.cies c
@@ -177,15 +175,15 @@ pub fn matches_are_unique()
         → i ≡ k }
 {}
 
-/// At most so many registers of a row have a rule other than default, an ABI keeps at most so many, and at most so many rows are
-/// remembered at once.
+/// The limits: how many registers of a row may have a rule other than default, how many callee-saved registers an ABI may
+/// have, and how many rows may be remembered at once.
 pub fn row_limits()
     ensures rules { MAX_RULES ≡ 128 }
     ensures kept { MAX_KEPT ≡ 127 }
     ensures remembered { MAX_REMEMBERED ≡ 16 }
 {}
 
-/// Each fault of a program stands in it or at its end, and each of a section or of an ABI's numbers likewise.
+/// Each fault of a program is inside it or at its end, and the same holds for a section and for an ABI's numbers.
 pub fn frame_faults_stand_inside()
     ensures cie { (cie : Cie) (fault : Fault) → cie_fault cie ≡ Some fault
         → StandsIn cie.program (Err fault) }

@@ -17,8 +17,8 @@ use crate::row_cursor::{Next, begin_rows_at, next_plain};
 use crate::unwind_state::UnwindState;
 use dw_frame::{CommonInformationEntry, FrameDescriptionEntry, Instructions};
 
-/// Writes the row that has an address into the place of another. The FDE covers the address, and the state has kept what
-/// the CIE's program leaves.
+/// Overwrites `row` with the row that has an address. The FDE covers the address, and the state holds the rules that the
+/// CIE's program leaves.
 pub(crate) fn write_row_at<'f, 'a>(
     state: &mut UnwindState,
     cie: &CommonInformationEntry<'a>,
@@ -64,8 +64,9 @@ pub(crate) fn write_row_at<'f, 'a>(
     }
 }
 
-/// The same from behind a remember_state, where the row is before the restore_state that matches it; whether it is. If it isn't,
-/// it goes behind that. Only here are rules remembered, those of one bracket: one in it is another call.
+/// Searches one remember/restore pair, from after the remember_state. True if the row was found and written; else the
+/// cursor is after the matching restore_state, with the rules restored. Only here are rules remembered, those of one
+/// pair; nested pairs recurse.
 #[inline(never)]
 fn write_row_in_bracket<'f, 'a>(
     state: &mut UnwindState,

@@ -1,7 +1,7 @@
 //! The rules of a row, by register.
 
-ghost use Rattle.std.specs.Prelude.{◌≡◌, ◌≢◌, ℕ, ◌+◌, ◌<◌, ◌≤◌, [], List, length, slice_get, MatchResult};
-ghost use Rattle.arrayvec.specs.ArrayVec.{array_vec_len};
+ghost use Rattle.std.specs.Prelude.{◌≡◌, ◌≢◌, ℕ, ◌+◌, ◌<◌, ◌≤◌, ◌==◌, [], List, ◌-◌, length, take, slice_get, insert, remove, slice_range, ◌∷◌, ◌++◌, MatchResult};
+ghost use Rattle.std.specs.List.{remove_range};
 ghost use Rattle.dw_bytes.specs.declared.fault.FaultKind.{FaultKind};
 ghost use Rattle.std.specs.Bool.{OnTrue, OnFalse};
 ghost use Rattle.dw_rows.specs.Rules.{PlacedRule, RuleOver, IsTable, rule_in, rule_list, rule_count, changed_at};
@@ -9,8 +9,8 @@ ghost use Rattle.dw_rows.specs.Views.{kept_rule_of, rule_by, entry_of, entries_o
 ghost use Rattle.dw_rows.specs.RememberStack.{place_in};
 
 use crate::kept_rule::KeptRule;
-use arrayvec::ArrayVec;
 use dw_bytes::FaultKind;
+use std::fmt;
 use std::marker::Model;
 
 /// At most this many registers of a row have a rule other than `Default`.
@@ -92,10 +92,144 @@ pub fn rule_of_entry(entry: &RuleEntry) -> KeptRule
     }
 }
 
+/// At most `MAX_RULES` entries, in their order. What lies past the last one is left as it was, so that a row that is written over
+/// another costs one write of each of its entries.
+#[derive(Drop)]
+struct EntryTable {
+    entries: [RuleEntry; MAX_RULES],
+    count: usize,
+}
+
+impl Model for EntryTable {
+    ghost use Rattle.std.specs.Prelude.{◌≡◌, ◌≤◌, length, take};
+    ghost use Rattle.dw_rows.specs.declared.map.TheConstants.{MAX_RULES};
+    ghost use Rattle.dw_rows.specs.declared.map.RuleEntry.{RuleEntry};
+    ghost use Rattle.arrayvec.specs.ArrayVec.{ArrayVec as Items};
+
+    ghost Value = { Items RuleEntry };
+
+    ghost view = { λ t. record { items = take t.count t.entries } };
+
+    ghost invariant = { λ t. (t.count ≤ MAX_RULES) × (length t.entries ≡ MAX_RULES) };
+}
+
+impl EntryTable {
+    /// No entry.
+    #[inline(always)]
+    fn new() -> Self
+        ensures { result.items ≡ [] }
+    {
+        EntryTable {
+            entries: Default::default(),
+            count: 0,
+        }
+    }
+
+    /// How many entries there are.
+    #[inline(always)]
+    fn len(&self) -> usize
+        ensures value { result ≡ length self.now.items }
+        ensures fits { result ≤ MAX_RULES }
+    {
+        self.count
+    }
+
+    /// Whether there is no room left.
+    #[inline(always)]
+    fn is_full(&self) -> bool
+        ensures value { result ≡ (length self.now.items == MAX_RULES) }
+        ensures fits { length self.now.items ≤ MAX_RULES }
+    {
+        self.count == MAX_RULES
+    }
+
+    /// The entries.
+    #[inline(always)]
+    fn as_slice(&self) -> &[RuleEntry]
+        ensures value { result.now ≡ self.now.items }
+        ensures fits { length result.now ≤ MAX_RULES }
+    {
+        &self.entries[..self.count]
+    }
+
+    /// Drops all entries.
+    #[inline(always)]
+    fn clear(&mut self)
+        ensures { self.new.items ≡ [] }
+    {
+        self.count = 0;
+    }
+
+    /// Takes on these entries. Its cost is theirs.
+    #[inline(always)]
+    fn assign(&mut self, entries: &[RuleEntry])
+        requires { length entries.now ≤ MAX_RULES }
+        ensures { self.new.items ≡ entries.now }
+    {
+        let count = entries.len();
+        self.entries[..count].copy_from_slice(entries);
+        self.count = count;
+    }
+
+    /// Puts an entry at a place, and moves the later ones up. There must be room.
+    #[inline(always)]
+    fn insert(&mut self, place: usize, entry: RuleEntry)
+        requires in_bounds { place ≤ length self.old.items }
+        requires room { length self.old.items < MAX_RULES }
+        ensures items { self.new.items ≡ insert self.old.items place entry }
+        ensures len { length self.new.items ≡ length self.old.items + 1 }
+    {
+        let count = self.count;
+        insert_into(&mut self.entries[..count + 1], place, entry);
+        self.count = count + 1;
+    }
+
+    /// Removes the entry at a place, and moves the later ones down.
+    #[inline(never)]
+    fn remove(&mut self, place: usize)
+        requires { place < length self.old.items }
+        ensures items { self.new.items ≡ remove self.old.items place }
+        ensures len { length self.new.items + 1 ≡ length self.old.items }
+    {
+        let count = self.count;
+        move_to_end(&mut self.entries[..count], place, place + 1);
+        self.count = count - 1;
+    }
+}
+
+impl fmt::Debug for EntryTable {
+    fn fmt<W: fmt::Write>(&self, f: &mut fmt::Formatter<W>) -> fmt::Result {
+        f.debug_list().entries(self.as_slice()).finish()
+    }
+}
+
+/// Puts an entry at a place, and moves the later ones up, over the last one.
+#[inline(always)]
+fn insert_into(entries: &mut [RuleEntry], place: usize, entry: RuleEntry)
+    requires { place < length entries.old }
+    ensures { entries.new ≡ insert (take (length entries.old - 1) entries.old) place entry }
+{
+    let mut moved = entry;
+    for at in place..entries.len() {
+        let next = entries[at];
+        entries[at] = moved;
+        moved = next;
+    }
+}
+
+/// Moves the entries from `start` up to `end` after the others.
+fn move_to_end(entries: &mut [RuleEntry], start: usize, end: usize)
+    requires order { start ≤ end }
+    requires in_bounds { end ≤ length entries.old }
+    ensures { entries.new ≡ remove_range entries.old start end ++ slice_range entries.old start end }
+{
+    entries[start..].rotate_left(end - start);
+}
+
 /// The rules other than `Default`, by ascending registers.
 #[derive(Debug, Drop)]
 pub struct RegisterRuleMap {
-    entries: ArrayVec<RuleEntry, MAX_RULES>,
+    entries: EntryTable,
 }
 
 impl Model for RegisterRuleMap {
@@ -118,7 +252,7 @@ impl RegisterRuleMap {
         ensures { result ≡ [] }
     {
         RegisterRuleMap {
-            entries: ArrayVec::new(),
+            entries: EntryTable::new(),
         }
     }
 
@@ -134,8 +268,8 @@ impl RegisterRuleMap {
     pub fn copy(&self) -> Self
         ensures { result ≡ self.now }
     {
-        let mut entries = ArrayVec::new();
-        let _ = entries.try_extend_from_slice(self.entries.as_slice());
+        let mut entries = EntryTable::new();
+        entries.assign(self.entries.as_slice());
         RegisterRuleMap { entries }
     }
 
@@ -150,8 +284,7 @@ impl RegisterRuleMap {
     pub fn copy_from(&mut self, other: &RegisterRuleMap)
         ensures { self.new ≡ other.now }
     {
-        self.entries.clear();
-        let _ = self.entries.try_extend_from_slice(other.entries.as_slice());
+        self.entries.assign(other.entries.as_slice());
     }
 
     /// Takes on the rules of some entries. Its cost is that of the rules that are there and of those that come.
@@ -160,8 +293,7 @@ impl RegisterRuleMap {
         requires table { IsTable 0 (entries_of entries.now) }
         ensures { self.new ≡ entries_of entries.now }
     {
-        self.entries.clear();
-        let _ = self.entries.try_extend_from_slice(entries);
+        self.entries.assign(entries);
     }
 
     /// The entries of the rules other than `Default`, by ascending registers.
@@ -217,23 +349,26 @@ fn place_of_register(entries: &[RuleEntry], register: u16) -> usize
     entries.len()
 }
 
-/// Gives the register the rule `Default`.
+/// Gives the register the rule `Default`, and answers how many entries are below it.
 #[inline(always)]
-fn clear_rule(table: &mut ArrayVec<RuleEntry, MAX_RULES>, register: u16)
+fn clear_rule(table: &mut EntryTable, register: u16) -> usize
     requires { IsTable 0 (entries_of table.old.items) }
     ensures table { IsTable 0 (entries_of table.new.items) }
     ensures rules { entries_of table.new.items ≡ rule_list
         (changed_at (rule_in (entries_of table.old.items)) register RuleOver.default) }
+    ensures value { result ≡ place_in register (entries_of table.new.items) }
+    ensures within { result ≤ length table.new.items }
 {
     let place = place_of_register(table.as_slice(), register);
     if place < table.len() && table.as_slice()[place].register == register {
         table.remove(place);
     }
+    place
 }
 
 /// Gives the register the rule. Only where there is no room for it, it answers `false`.
 #[inline(always)]
-fn put_rule(table: &mut ArrayVec<RuleEntry, MAX_RULES>, register: u16, rule: KeptRule) -> bool
+fn put_rule(table: &mut EntryTable, register: u16, rule: KeptRule) -> bool
     requires { IsTable 0 (entries_of table.old.items) }
     ensures table { IsTable 0 (entries_of table.new.items) }
     ensures rules { OnTrue result
@@ -244,7 +379,7 @@ fn put_rule(table: &mut ArrayVec<RuleEntry, MAX_RULES>, register: u16, rule: Kep
         (MAX_RULES < rule_count (changed_at (rule_in (entries_of table.old.items)) register
         (kept_rule_of rule))) }
 {
-    clear_rule(table, register);
+    let place = clear_rule(table, register);
     let full = table.is_full();
     if let KeptRule::Default = rule {
         return true;
@@ -252,7 +387,6 @@ fn put_rule(table: &mut ArrayVec<RuleEntry, MAX_RULES>, register: u16, rule: Kep
     if full {
         return false;
     }
-    let place = place_of_register(table.as_slice(), register);
     table.insert(place, entry_with_rule(register, rule));
     true
 }

@@ -1,4 +1,4 @@
-//! Checked expressions that are kept with their bytes.
+//! Checked expressions that are stored with their bytes.
 
 ghost use Rattle.std.specs.Prelude.{◌≡◌, ◌++◌, ◌∷◌, [], IfOk, None, Some, MatchOption};
 ghost use Rattle.dw_frame.specs.Bounds.{Ascends};
@@ -14,25 +14,25 @@ use dw_stack::{CheckedExpression, Kind};
 use std::alloc::{AllocError, Global};
 use std::marker::Model;
 
-/// What is kept of an expression: where it stood in its section, where its bytes lie now, and what was learned of it.
+/// What is stored of an expression: where it was in its section, where its bytes are now, and what was learned about it.
 #[derive(Clone, Copy, Debug)]
 pub struct OwnedExpression {
     /// The offset of its first byte in the section.
     pub offset: u32,
-    /// Where its bytes begin among those of all.
+    /// Where its bytes begin among those of all expressions.
     pub start: u32,
     pub length: u32,
-    /// How many operations it has.
+    /// The number of its operations.
     pub count: u32,
     pub depth: u8,
     pub kind: Kind,
     pub target: Target,
 }
 
-/// Expressions with their bytes, seen as the list of them.
+/// Expressions with their bytes. Its model is the list of them.
 #[derive(Debug, Drop)]
 pub struct ExpressionList {
-    /// The bytes of one after the other.
+    /// The bytes of one expression after another.
     bytes: Vec<u8>,
     kept: Vec<OwnedExpression>,
 }
@@ -51,7 +51,7 @@ impl Model for ExpressionList {
 }
 
 impl ExpressionList {
-    /// None yet.
+    /// No expressions yet.
     pub fn new(alloc: Global) -> Self
         ensures { result ≡ [] }
     {
@@ -61,7 +61,7 @@ impl ExpressionList {
         }
     }
 
-    /// One more, with a copy of its bytes.
+    /// Adds one, with a copy of its bytes.
     pub fn push(&mut self, offset: u32, checked: &CheckedExpression<'_>) -> Result<(), AllocError>
         ensures { IfOk result (λ _. self.new ≡ self.old ++ located_of (offset, checked.now) ∷ []) }
     {
@@ -123,8 +123,8 @@ fn list_of(
     Ok(list)
 }
 
-/// The checked expressions of a section, with bytes of their own, seen as the list of them: those of CIEs, and then those of FDEs, each
-/// in order of offset.
+/// The checked expressions of a section, with bytes of their own. Its model is the list of them: those of CIEs, and then
+/// those of FDEs, each in order of offset.
 #[derive(Debug, Drop)]
 pub struct OwnedExpressions {
     cies: ExpressionList,
@@ -146,7 +146,7 @@ impl Model for OwnedExpressions {
 }
 
 impl OwnedExpressions {
-    /// The same as those that are borrowed, with copies of their bytes.
+    /// The same as the borrowed ones, with copies of their bytes.
     pub fn of(alloc: Global, borrowed: &BorrowedExpressions<'_, '_>) -> Result<Self, AllocError>
         ensures { IfOk result (λ owned. owned ≡ borrowed_by borrowed.now) }
     {
@@ -155,7 +155,7 @@ impl OwnedExpressions {
         Ok(OwnedExpressions { cies, fdes })
     }
 
-    /// The expression that began at an offset of the section, by binary search: those of CIEs, which are few, come first.
+    /// The expression that began at an offset of the section, by binary search: first among those of CIEs, which are few.
     pub fn at(&self, offset: u32) -> Option<CheckedExpression<'_>>
         ensures { MatchOption result (expression_at self.now offset ≡ None)
             (λ checked. expression_at self.now offset ≡ Some (located_of (offset, checked))) }

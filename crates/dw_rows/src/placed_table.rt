@@ -35,7 +35,7 @@ pub struct GrowingTable {
 }
 
 impl GrowingTable {
-    /// One entry more.
+    /// Adds one entry.
     fn push(&mut self, start: u64, rules: &RuleSet, register: u16) -> Result<(), Unmade>
         ensures pushed { IfOk result (λ _. IsPushed self.old.entries self.old.numbers.sets start
             (record { rules = rules.now; register = register })
@@ -53,7 +53,7 @@ impl GrowingTable {
         Ok(())
     }
 
-    /// From where the last row ends, no row is there.
+    /// Notes that no row is there from where the last row ends.
     fn close(&mut self) -> Result<(), Unmade>
         ensures closed { IfOk result (λ _. IsClosedAt self.old.end self.old.entries
             self.old.numbers.sets self.new.entries self.new.numbers.sets) }
@@ -70,7 +70,7 @@ impl GrowingTable {
         Ok(())
     }
 
-    /// The next row begins at an address. If the last one ends before it, no row is there in between.
+    /// Prepares for a row that begins at an address. If the last one ends before that, no row is there in between.
     fn begin_at(&mut self, start: u64) -> Result<(), Unmade>
         ensures begun { IfOk result (λ _. IsBegunAt self.old.end start self.old.entries
             self.old.numbers.sets self.new.entries self.new.numbers.sets) }
@@ -87,12 +87,13 @@ impl GrowingTable {
     }
 }
 
-/// The rows of one FDE more, which begins at or above where those so far end.
+/// Adds the rows of one more FDE, which begins at or above where those so far end.
 fn fill(
     frame: &CheckedFrame<'_>,
     fde: &FrameDescriptionEntry<'_>,
     context: &mut UnwindContext,
     table: &mut GrowingTable,
+    near: &mut usize,
 ) -> Result<(), Unmade>
     requires among { Contains frame.now.fdes (fde_of fde.now) }
     requires table { IsTableUpTo frame.now.expressions table.old.end
@@ -110,7 +111,7 @@ fn fill(
         (fde_bytes frame.now (fde_of fde.now))) }
 {
     table.begin_at(fde.initial_location)?;
-    let cie = frame.begin_with_cie(&mut context.state, fde);
+    let cie = frame.begin_with_cie(&mut context.state, near, fde);
     let mut instructions = begin_rows(context, fde);
     let limit = fde.initial_location + fde.address_range;
     while let Some((start, _)) = next_range(context, &mut instructions, &cie, limit) {
@@ -138,18 +139,20 @@ fn fill_all(alloc: Global, frame: &CheckedFrame<'_>, room: usize) -> Result<Grow
         end: 0,
     };
     let mut context = UnwindContext::new();
+    let mut near = 0;
     let fdes = frame.fdes();
     let index = frame.index();
     for entry in index {
         let fde = fdes[entry.place];
-        fill(frame, &fde, &mut context, &mut table)?;
+        fill(frame, &fde, &mut context, &mut table, &mut near)?;
     }
     table.close()?;
     table.entries.finish(alloc)?;
     Ok(table)
 }
 
-/// Rows in order of address, each with its register, seen as the list of them. An expression is named by its offset in the section.
+/// Rows in order of address, each with its register. Its model is the list of them. An expression is named by its offset
+/// in the section.
 #[derive(Drop)]
 pub struct PlacedTable {
     entries: TableEntries,
@@ -170,7 +173,7 @@ impl Model for PlacedTable {
 }
 
 impl PlacedTable {
-    /// The rows of a checked section, in `room` bytes at most, apart from what growing takes for a while.
+    /// The rows of a checked section, in `room` bytes at most, not counting what growing takes for a while.
     pub fn of(frame: &CheckedFrame<'_>, alloc: Global, room: usize) -> Result<Self, Unmade>
         ensures rows { IfOk result (ArePlacedRows frame.now) }
         ensures room { IfOk result (λ rows. 16 * length rows ≤ room) }

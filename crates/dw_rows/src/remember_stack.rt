@@ -56,7 +56,7 @@ impl RememberStack {
         self.depth = 0;
     }
 
-    /// Remembers one more. There must be room. A place that had rules before serves again.
+    /// Remembers one more. There must be room. A slot that had rules before is used again.
     pub fn push(&mut self, rules: &RuleSet)
         requires { length self.old < MAX_REMEMBERED }
         ensures { self.new ≡ rules.now ∷ self.old }
@@ -83,7 +83,7 @@ impl RememberStack {
     }
 }
 
-/// Writes rules into a place. Where it had some before, it isn't made anew.
+/// Writes rules into a slot. Where it had some before, it isn't made anew.
 #[inline(always)]
 fn write_into(place: &mut Option<RuleSet>, rules: &RuleSet)
     ensures { place.new ≡ Some rules.now }

@@ -28,7 +28,7 @@ pub enum RegisterRule<'a> {
     /// No rule is in force: no instruction has set one, or a restore has given back what the CIE's program left, which was no rule.
     /// It means undefined, unless an ABI says more.
     Default,
-    /// It can't be had.
+    /// It isn't available.
     Undefined,
     /// It is the register's present content.
     SameValue,
@@ -160,7 +160,7 @@ impl<'f, 'a> Model for UnwindTableRow<'f, 'a> {
 }
 
 impl<'f, 'a> UnwindTableRow<'f, 'a> {
-    /// A row of no address, as a place for others: `Rows::next_into` writes a row there.
+    /// A row of no address, as a buffer for others: `Rows::next_into` writes a row into it.
     #[inline(always)]
     pub fn empty() -> Self
         ensures { result ≡ record {
@@ -264,7 +264,7 @@ impl<'f, 'a> UnwindTableRow<'f, 'a> {
         self.lend().rules()
     }
 
-    /// The rule of a register under an ABI, which is asked where the row gives it none: `Undefined` where that gives none either.
+    /// The rule of a register under an ABI, which is used if the row gives it none: `Undefined` if the ABI gives none either.
     #[inline(always)]
     pub fn register_with(&self, abi: &Abi, number: u16) -> RegisterRule<'a>
         ensures rule { rule_of result
@@ -274,8 +274,8 @@ impl<'f, 'a> UnwindTableRow<'f, 'a> {
         self.lend().register_with(abi, number)
     }
 
-    /// The rules under an ABI, which is asked where the row gives none, each with its register, in ascending order of registers: at
-    /// most twice `MAX_RULES`.
+    /// The rules under an ABI, which is used where the row gives none, each with its register, in ascending order of
+    /// registers: at most twice `MAX_RULES`.
     #[inline(always)]
     pub fn rules_with<'r>(&'r self, abi: &'r Abi) -> RegisterRules<'r, 'a>
         ensures rules { result ≡ rules_under (roles_of abi.now) self.now.rules }

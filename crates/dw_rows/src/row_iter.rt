@@ -20,6 +20,8 @@ use std::marker::Model;
 #[derive(Drop)]
 pub struct Rows<'f, 'a> {
     cie: CommonInformationEntry<'a>,
+    /// About where the CIE is among those of the section.
+    near: usize,
     fde: FrameDescriptionEntry<'a>,
     context: UnwindContext,
     instructions: Instructions<'a>,
@@ -61,10 +63,12 @@ impl<'f, 'a> Rows<'f, 'a> {
         ensures { result ≡ rows_in frame.now (fde_of fde.now) }
     {
         let mut state = UnwindState::new();
-        let cie = frame.begin_with_cie(&mut state, fde);
+        let mut near = 0;
+        let cie = frame.begin_with_cie(&mut state, &mut near, fde);
         let instructions = begin_rows_at(&mut state, fde);
         Rows {
             cie,
+            near,
             fde: *fde,
             context: UnwindContext::at(state),
             instructions,
@@ -73,7 +77,7 @@ impl<'f, 'a> Rows<'f, 'a> {
         }
     }
 
-    /// Begins with the rows of an FDE of a checked section, in the same place, and gives its CIE.
+    /// Restarts in place with the rows of an FDE of a checked section, and gives its CIE.
     pub(crate) fn restart_in(
         &mut self,
         frame: &'f CheckedFrame<'a>,
@@ -84,7 +88,7 @@ impl<'f, 'a> Rows<'f, 'a> {
         ensures cie { cie_in frame.now (fde_of fde.now) ≡ Some (cie_of result) }
         ensures fde_program { fde_fault (cie_of result) (fde_of fde.now) ≡ None }
     {
-        let cie = frame.begin_with_cie(&mut self.context.state, fde);
+        let cie = frame.begin_with_cie(&mut self.context.state, &mut self.near, fde);
         self.instructions = begin_rows(&mut self.context, fde);
         self.cie = cie;
         self.fde = *fde;
@@ -93,8 +97,8 @@ impl<'f, 'a> Rows<'f, 'a> {
         cie
     }
 
-    /// Writes the next row into the place of another, if there is one, and answers whether there was. Only
-    /// the rules that are there are copied, so one place serves for many rows.
+    /// Overwrites `row` with the next row, if there is one, and returns whether there was. Only the rules that are there
+    /// are copied, so one row serves for many.
     #[inline(always)]
     pub fn next_into(&mut self, row: &mut UnwindTableRow<'f, 'a>) -> bool
         ensures some { OnTrue result (self.old ≡ row.new ∷ self.new) }

@@ -13,7 +13,7 @@ use crate::rule_set::RuleSet;
 use std::alloc::{AllocError, Global};
 use std::marker::Model;
 
-/// Rules of rows, and for each the register that the CIE names for where the caller goes on.
+/// Rules of rows, each with the return address register that the CIE names.
 #[derive(Drop)]
 pub struct RuleSets {
     rules: InitialRules,
@@ -32,7 +32,7 @@ impl Model for RuleSets {
 }
 
 impl RuleSets {
-    /// None yet.
+    /// No rules yet.
     pub fn new(alloc: Global) -> Self
         ensures { result ≡ [] }
     {
@@ -42,7 +42,7 @@ impl RuleSets {
         }
     }
 
-    /// One more.
+    /// Adds one.
     pub fn push(&mut self, rules: &RuleSet, register: u16) -> Result<(), AllocError>
         ensures { IfOk result (λ _. self.new
             ≡ self.old ++ record { rules = rules.now; register = register } ∷ []) }
@@ -57,7 +57,7 @@ impl RuleSets {
         }
     }
 
-    /// The same in memory of their size.
+    /// The same rules, in memory of just their size.
     pub fn cut(&mut self, alloc: Global) -> Result<(), AllocError>
         ensures { self.new ≡ self.old }
     {
@@ -74,7 +74,7 @@ impl RuleSets {
         self.registers.len()
     }
 
-    /// Lends the rules at a place: that of the CFA, the entries of the others, and the register.
+    /// Lends the rules at an index: that of the CFA, the entries of the others, and the register.
     #[inline(always)]
     pub fn lend(&self, place: usize) -> (Option<KeptCfa>, &[RuleEntry], u16)
         requires { place < length self.now }
@@ -92,7 +92,7 @@ impl RuleSets {
         (cfa, entries, self.registers[place])
     }
 
-    /// Whether the rules at a place are these.
+    /// Whether the rules at an index are these.
     pub fn are_at(&self, place: usize, rules: &RuleSet, register: u16) -> bool
         requires { place < length self.now }
         ensures { OnTrue result (slice_get self.now place

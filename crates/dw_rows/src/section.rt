@@ -20,7 +20,7 @@ use dw_bytes::{Fault, FaultKind};
 use dw_frame::{CommonInformationEntry, FrameDescriptionEntry};
 use std::alloc::Global;
 
-/// The place of the CIE that begins at an offset, by binary search among the CIEs in order of offset.
+/// The index of the CIE that begins at an offset, by binary search among the CIEs in order of offset.
 fn place_of_cie(cies: &[CommonInformationEntry<'_>], offset: u64) -> Option<usize>
     requires { Ascends cie_offset (map cie_of cies.now) }
     ensures { MatchOption result
@@ -34,7 +34,7 @@ fn place_of_cie(cies: &[CommonInformationEntry<'_>], offset: u64) -> Option<usiz
     }
 }
 
-/// The same. Most FDEs come after their CIE, so a place and the next one are tried before a binary search.
+/// The same. Most FDEs come after their CIE, so an index and the next one are tried before a binary search.
 #[inline(always)]
 fn place_near(cies: &[CommonInformationEntry<'_>], near: usize, offset: u64) -> Option<usize>
     requires { Ascends cie_offset (map cie_of cies.now) }
@@ -64,11 +64,13 @@ pub fn find_cie<'a>(
     Some(cies[place])
 }
 
-/// The CIE that begins at an offset. What it leaves is kept at the state, as the rules that programs begin with.
+/// The CIE that begins at an offset. The rules that it leaves are stored in the state, as those that programs begin with.
+/// It is looked for first at the index `near`, which becomes its index.
 pub fn begin_with_rules_of_cie<'a>(
     state: &mut UnwindState,
     cies: &[CommonInformationEntry<'a>],
     initial: &InitialRules,
+    near: &mut usize,
     offset: u64,
 ) -> Option<CommonInformationEntry<'a>>
     requires order { Ascends cie_offset (map cie_of cies.now) }
@@ -76,12 +78,13 @@ pub fn begin_with_rules_of_cie<'a>(
     ensures cie { option_map cie_of result ≡ cie_at (map cie_of cies.now) offset }
     ensures first { IfSome result (λ cie. IsLeftBy (cie_of cie) state.new.initial_rules) }
 {
-    let place = place_of_cie(cies, offset)?;
+    let place = place_near(cies, *near, offset)?;
+    *near = place;
     state.set_initial_rules(initial, place);
     Some(cies[place])
 }
 
-/// A CIE that was found: the offset that it was asked for by, and its place.
+/// A CIE that was found: the offset by which it was looked up, and its index.
 #[derive(Clone, Copy)]
 struct FoundCie<'a> {
     offset: u64,
@@ -89,8 +92,8 @@ struct FoundCie<'a> {
     cie: CommonInformationEntry<'a>,
 }
 
-/// As `begin_with_rules_of_cie`, after the CIE that was found last: where it is that one, its rules are still kept at the state, and
-/// where it is the next one, nothing is looked for.
+/// Like `begin_with_rules_of_cie`, after the CIE that was found last: if it is the same CIE, the state still holds its
+/// rules, and if it is the next one, nothing is searched.
 #[inline(always)]
 fn begin_with_rules_again<'a>(
     state: &mut UnwindState,
@@ -124,7 +127,7 @@ fn begin_with_rules_again<'a>(
     Some(FoundCie { offset, place, cie })
 }
 
-/// Each CIE_pointer has to be the offset of a CIE: n log n for n records.
+/// Checks that each CIE_pointer is the offset of a CIE: n log n for n records.
 pub fn check_pointers(
     cies: &[CommonInformationEntry<'_>],
     fdes: &[FrameDescriptionEntry<'_>],
@@ -148,7 +151,7 @@ pub fn check_pointers(
     Ok(())
 }
 
-/// Each CIE's program has to be good. What it leaves is kept, and its expressions are.
+/// Checks that each CIE's program is good. The rules that it leaves and its expressions are stored.
 pub fn check_cies<'a>(
     alloc: Global,
     state: &mut UnwindState,
@@ -167,7 +170,7 @@ pub fn check_cies<'a>(
     Ok(left)
 }
 
-/// Each FDE's program has to be good after its CIE's. Its expressions are kept. Each CIE_pointer is the offset of a CIE.
+/// Checks that each FDE's program is good after its CIE's. Its expressions are stored. Each CIE_pointer is the offset of a CIE.
 pub fn check_fdes<'a>(
     context: &mut UnwindContext,
     judged: &mut JudgedExpressions<'a>,

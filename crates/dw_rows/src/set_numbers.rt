@@ -5,7 +5,7 @@ ghost use Rattle.std.specs.Prelude.{◌≡◌, ◌<◌, [], ◌∷◌, ◌++◌,
 use std::alloc::{AllocError, Global};
 use std::marker::Model;
 
-/// Numbers, in two bytes each as far as they fit, and in four from the first that doesn't.
+/// Numbers, in two bytes each as long as they fit, and in four from the first that doesn't.
 #[derive(Drop)]
 pub struct SetNumbers {
     narrow: Vec<u16>,
@@ -20,7 +20,7 @@ impl Model for SetNumbers {
     ghost view = { λ n. n.narrow.items ++ n.wide.items };
 }
 
-/// A number in two bytes, if it may be kept so.
+/// A number in two bytes, if it may be stored so.
 fn narrow_number(may_be_narrow: bool, number: u32) -> Option<u16>
     ensures number { IfSome result (λ narrow. narrow ≡ number) }
     ensures narrow { IfSome result (λ _. IsTrue may_be_narrow) }
@@ -32,7 +32,7 @@ fn narrow_number(may_be_narrow: bool, number: u32) -> Option<u16>
 }
 
 impl SetNumbers {
-    /// None yet.
+    /// No numbers yet.
     pub fn new(alloc: Global) -> Self
         ensures { result ≡ [] }
     {
@@ -42,7 +42,7 @@ impl SetNumbers {
         }
     }
 
-    /// One more.
+    /// Adds one.
     pub fn push(&mut self, number: u32) -> Result<(), AllocError>
         ensures { MatchResult result (λ _. self.new ≡ self.old ++ number ∷ []) (λ _. self.new ≡ self.old) }
     {
@@ -61,7 +61,7 @@ impl SetNumbers {
         Ok(())
     }
 
-    /// None again.
+    /// Removes all.
     pub fn clear(&mut self)
         ensures { self.new ≡ [] }
     {
@@ -69,7 +69,7 @@ impl SetNumbers {
         self.wide.clear();
     }
 
-    /// The same in memory of their size.
+    /// The same numbers, in memory of just their size.
     pub fn cut(&mut self, alloc: Global) -> Result<(), AllocError>
         ensures { self.new ≡ self.old }
     {
@@ -88,7 +88,7 @@ impl SetNumbers {
         self.narrow.len() + self.wide.len()
     }
 
-    /// The one at a place.
+    /// The one at an index.
     #[inline(always)]
     pub fn at(&self, place: usize) -> u32
         requires { place < length self.now }

@@ -1,11 +1,11 @@
-//! Addresses that go up.
+//! Ascending addresses.
 
 ghost use Rattle.std.specs.Prelude.{◌≡◌, ◌+◌, ◌<◌, [], ◌∷◌, ◌++◌, IfSome, IsTrue, MatchResult, length, slice_index_or, ℕ};
 
 use std::alloc::{AllocError, Global};
 use std::marker::Model;
 
-/// Addresses, in four bytes each as far as they lie within 2^32 of a base, and in eight from the first that doesn't.
+/// Addresses, in four bytes each as long as they lie within 2^32 of a base, and in eight from the first that doesn't.
 #[derive(Drop)]
 pub struct Starts {
     base: u64,
@@ -24,7 +24,7 @@ impl Model for Starts {
     ghost invariant = { λ s. (k d : ℕ) → k < length s.near.items → s.base + slice_index_or s.near.items k d < 2 ^ 64 };
 }
 
-/// How far an address lies from a base, in four bytes, if it may be kept so.
+/// How far an address is from a base, in four bytes, if it may be stored so.
 fn near_offset(base: u64, may_be_near: bool, start: u64) -> Option<u32>
     ensures offset { IfSome result (λ offset. base + offset ≡ start) }
     ensures near { IfSome result (λ _. IsTrue may_be_near) }
@@ -39,7 +39,7 @@ fn near_offset(base: u64, may_be_near: bool, start: u64) -> Option<u32>
 }
 
 impl Starts {
-    /// None yet.
+    /// No addresses yet.
     pub fn new(alloc: Global, base: u64) -> Self
         ensures { result ≡ [] }
     {
@@ -50,7 +50,7 @@ impl Starts {
         }
     }
 
-    /// One more.
+    /// Adds one.
     pub fn push(&mut self, start: u64) -> Result<(), AllocError>
         ensures { MatchResult result (λ _. self.new ≡ self.old ++ start ∷ []) (λ _. self.new ≡ self.old) }
     {
@@ -69,7 +69,7 @@ impl Starts {
         Ok(())
     }
 
-    /// None again.
+    /// Removes all.
     pub fn clear(&mut self)
         ensures { self.new ≡ [] }
     {
@@ -77,7 +77,7 @@ impl Starts {
         self.far.clear();
     }
 
-    /// The same in memory of their size.
+    /// The same addresses, in memory of just their size.
     pub fn cut(&mut self, alloc: Global) -> Result<(), AllocError>
         ensures { self.new ≡ self.old }
     {
@@ -96,7 +96,7 @@ impl Starts {
         self.near.len() + self.far.len()
     }
 
-    /// The one at a place.
+    /// The one at an index.
     #[inline(always)]
     pub fn at(&self, place: usize) -> u64
         requires { place < length self.now }
@@ -111,7 +111,7 @@ impl Starts {
         }
     }
 
-    /// The base, and how far the first of them lie from it.
+    /// The base, and how far the first of them are from it.
     #[inline(always)]
     pub fn near(&self) -> (u64, &[u32]) {
         (self.base, self.near.as_slice())

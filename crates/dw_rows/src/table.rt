@@ -1,4 +1,4 @@
-//! All rows of a checked section in order of address, compiled for look-ups by the million.
+//! All rows of a checked section in order of address, compiled for millions of look-ups.
 
 ghost use Rattle.std.specs.Prelude.{◌≡◌, ◌*◌, ◌≤◌, IfOk, IfErr, IfSome, length};
 ghost use Rattle.std.specs.Option.{option_map};
@@ -17,8 +17,8 @@ use std::marker::Model;
 
 /// All rows of a checked section in order of address, each with its return address register. `CheckedFrame::compile` makes one.
 ///
-/// It borrows nothing: the bytes of the few expressions in its rules are its own, so the section may go. A look-up takes two or three
-/// reads where a checked section runs a program.
+/// It borrows nothing: it owns the bytes of the few expressions in its rules, so the section may be dropped. A look-up
+/// takes two or three reads where a checked section runs a program.
 ///
 /// ```rust
 /// let Some(table) = frame.compile(alloc, 1 << 20)? else {
@@ -67,27 +67,28 @@ impl UnwindTable {
         })
     }
 
-    /// The target that the section was read under.
+    /// The target that the section was read with.
     pub fn target(&self) -> Target
         ensures { result ≡ self.now.target }
     {
         self.target
     }
 
-    /// The row of an address and the register that its CIE names for the return address, or none where no FDE covers the address.
-    /// The row's rules and expressions are lent. It takes no memory, and for n rows at most log n steps, mostly two or three.
+    /// The row of an address and the return address register that its CIE names, or none if no FDE covers the address.
+    /// The row's rules and expressions are lent. It takes no memory, and for n rows at most log n steps, mostly two or
+    /// three.
     #[inline(always)]
     pub fn row_and_return_register(&self, address: u64) -> Option<(UnwindRow<'_, '_>, u16)>
         ensures row { result ≡ row_at self.now address }
 
-        // What its rules name is read under the target.
+        // The expressions that its rules name are read with the target.
         ensures under { IfSome result (λ found. IsRowUnder self.now.target found.0) }
     {
         self.rows
             .find(address, LentExpressions::Owned(&self.expressions))
     }
 
-    /// The row of an address, or none where no FDE covers it, as `row_and_return_register`.
+    /// The row of an address, or none if no FDE covers it, as `row_and_return_register`.
     #[inline(always)]
     pub fn row_for_address(&self, address: u64) -> Option<UnwindRow<'_, '_>>
         ensures row { result ≡ option_map (λ found. found.0) (row_at self.now address) }

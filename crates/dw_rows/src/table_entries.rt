@@ -11,15 +11,15 @@ use crate::starts::Starts;
 use std::alloc::{AllocError, Global};
 use std::marker::Model;
 
-/// From an address on the rules of this number hold, up to where the next entry begins. Where they don't give the CFA, no row is there.
+/// The rules of this number hold from `start` on, up to where the next entry begins. If they don't give the CFA, no row is there.
 #[derive(Clone, Copy)]
 pub struct TableEntry {
     pub start: u64,
     pub set: u32,
 }
 
-/// How many starts lie below each block of addresses: where to look first. What it says is tried before it is believed, so nothing
-/// hangs on it but time.
+/// How many starts are below each block of addresses: where to look first. Its answer is checked before it is used, so it
+/// affects only the time.
 #[derive(Drop)]
 struct Blocks {
     shift: u32,
@@ -29,8 +29,8 @@ struct Blocks {
 /// About how many starts a block has.
 const USUAL_BLOCK: usize = 16;
 
-/// By how many bits an offset, `span` at most, is shifted to give its block, where there may be this many blocks. Each block has as
-/// many addresses as the others.
+/// How many bits an offset, `span` at most, is shifted by to give its block, if there may be this many blocks. All blocks
+/// have the same number of addresses.
 fn block_shift(span: u64, blocks: u64) -> u32
     ensures { result < 64 }
 {
@@ -49,7 +49,7 @@ fn block_of(shift: u32, offset: u32) -> usize
     (u64::from(offset) >> shift) as usize
 }
 
-/// The blocks of starts, which are in order, by how far they lie from the base.
+/// The blocks of starts, which are in order and given by their distance from the base.
 fn blocks_of(alloc: Global, offsets: &[u32]) -> Result<Blocks, AllocError> {
     let last = match offsets.last() {
         Some(last) => *last,
@@ -76,7 +76,7 @@ fn blocks_of(alloc: Global, offsets: &[u32]) -> Result<Blocks, AllocError> {
     Ok(Blocks { shift, counts })
 }
 
-/// Between two places, how many places lie up to the last start at or below an address, by a binary search that doesn't branch.
+/// How many starts are at or below an address, if that count lies between two indices: by a binary search that doesn't branch.
 #[inline(always)]
 fn count_between(starts: &[u32], from: usize, to: usize, address: u32) -> usize {
     if from > to || to > starts.len() {
@@ -169,7 +169,7 @@ impl Blocks {
     }
 }
 
-/// Entries in order of address. The starts lie together, since a look-up reads these alone until it has found its entry.
+/// Entries in order of address. The starts are stored together, since a look-up reads only these until it has found its entry.
 #[derive(Drop)]
 pub struct TableEntries {
     starts: Starts,
@@ -224,7 +224,7 @@ impl TableEntries {
         }
     }
 
-    /// The same entries, found faster, and in memory of their size.
+    /// The same entries, found faster, and in memory of just their size.
     pub fn finish(&mut self, alloc: Global) -> Result<(), AllocError>
         ensures { self.new ≡ self.old }
     {
@@ -235,7 +235,7 @@ impl TableEntries {
         Ok(())
     }
 
-    /// One entry more.
+    /// Adds one entry.
     pub fn push(&mut self, entry: TableEntry) -> Result<(), AllocError>
         ensures { IfOk result (λ _. self.new ≡ self.old ++ entry ∷ []) }
     {
@@ -270,7 +270,7 @@ impl TableEntries {
         count_up_to(&self.starts, address)
     }
 
-    /// The entry at a place.
+    /// The entry at an index.
     #[inline(always)]
     pub fn at(&self, place: usize) -> TableEntry
         requires { place < length self.now }
@@ -282,7 +282,7 @@ impl TableEntries {
         }
     }
 
-    /// Where the entry at a place begins.
+    /// Where the entry at an index begins.
     #[inline(always)]
     pub fn start_at(&self, place: usize) -> u64
         requires { place < length self.now }

@@ -135,7 +135,7 @@ impl<'t, 'a> UnwindRow<'t, 'a> {
         }
     }
 
-    /// The rule of a register under an ABI, which is asked where the row gives it none: `Undefined` where that gives none either.
+    /// The rule of a register under an ABI, which is used if the row gives it none: `Undefined` if the ABI gives none either.
     #[inline(always)]
     pub fn register_with(&self, abi: &Abi, number: u16) -> RegisterRule<'a>
         ensures rule { rule_of result
@@ -151,8 +151,8 @@ impl<'t, 'a> UnwindRow<'t, 'a> {
         }
     }
 
-    /// The rules under an ABI, which is asked where the row gives none, each with its register, in ascending order of registers: at
-    /// most twice `MAX_RULES`.
+    /// The rules under an ABI, which is used where the row gives none, each with its register, in ascending order of
+    /// registers: at most twice `MAX_RULES`.
     #[inline(always)]
     pub fn rules_with<'r>(&self, abi: &'r Abi) -> RegisterRules<'r, 'a>
     where

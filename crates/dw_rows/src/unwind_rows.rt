@@ -11,19 +11,20 @@ use crate::table::UnwindTable;
 use crate::unwind_row::UnwindRow;
 use dw_bytes::Target;
 
-/// What gives the row of an address: a checked section that is lent, by running a program, or a compiled table, by its arrays.
-/// Unwinding and walks go over either. A table that is lent gives what it gives itself, so that one table serves many processes.
+/// What gives the row of an address: a borrowed checked section, by running a program, or a compiled table, by its
+/// arrays. Unwinding and walks use either. A borrowed table gives what the table itself gives, so that one table serves
+/// many processes.
 pub trait UnwindRows {
-    /// What a look-up writes its row into, where it has to: a section's does, a table's lends the row.
+    /// What a look-up writes its row into, if it has to: for a section it does; a table lends the row.
     type Slot: Drop;
 
-    /// The target that rows are read under.
+    /// The target that rows are read with.
     ghost target_of: { Self → OfTarget };
 
     /// What may be found at an address: a row, with its return address register, or none.
     ghost finds: { Self → ℕ → Option (Row × ℕ) → Type 0 };
 
-    /// The target that rows are read under.
+    /// The target that rows are read with.
     fn rows_target(&self) -> Target
         ensures { result ≡ target_of self.now };
 

@@ -1,4 +1,4 @@
--- Each operation of an expression stands in its bytes.
+-- Each operation of an expression is in its bytes.
 use Rattle.std.proofs.Common.{◌≡◌, ◌∙◌, ℕ, zero, suc, ◌+◌, List, [], ◌∷◌, length, drop, Some, Ok, refl, sym, ap, subst, arith}
 use Rattle.std.proofs.Common.{length-append}
 use Rattle.std.specs.Prelude.{slice_get}

@@ -1,4 +1,4 @@
--- The questions that are asked of an expression, in their order: either all are answered with yes, and it is good, or the
+-- The questions about an expression, in their order: either all are answered with yes, and it is good, or the
 -- first that isn't names the first fault. Where states are given, each is compared before its operation is judged.
 use Rattle.std.proofs.Common.{◌≡◌, ◌≢◌, ◌∙◌, ◌⊎◌, ℕ, ℤ, pos, negsuc, zero, suc, ◌+◌, ◌<◌, ◌≤◌, Bool, true, false, not, cond, map, List, []}
 use Rattle.std.proofs.Common.{◌∷◌, ◌++◌, length, get_or, Option, Some, None, refl, sym, ap, subst, inl, inr, arith, length-append}
@@ -99,7 +99,7 @@ answered_no : (b : Bool) (f : FaultKind) (at : ℕ) (rest : List Question) → b
     → first_no (else_fault b f at ∷ rest) ≡ Some (fault_of f at)
 answered_no b f at rest is = ap (λ (c : Bool). first_no (else_fault c f at ∷ rest)) is
 
--- the questions of an operation name the first judgement that it doesn't pass
+-- the questions about an operation name the first judgement that it doesn't pass
 first_no-map : (p : FaultKind → Bool) (at : ℕ) (fs : List FaultKind)
     → first_no (map (λ f. else_fault (p f) f at) fs) ≡ option_map (λ f. fault_of f at) (find (λ f. not (p f)) fs)
 first_no-map p at [] = refl

@@ -1,4 +1,4 @@
--- From the bytes of an expression to its operations, one behind the other.
+-- From the bytes of an expression to its operations, one after the other.
 use Rattle.std.proofs.Common.{◌≡◌, ◌∙◌, ℕ, zero, suc, ◌+◌, ◌<◌, List, [], ◌∷◌, length, map, None, Result, Ok, Err, refl, ap, subst, arith}
 use Rattle.std.proofs.Common.{length-append}
 use Rattle.dw_bytes.specs.declared.target.Target.{Target}

@@ -1,4 +1,4 @@
--- The first fault of an expression stands inside it, or at its end.
+-- The first fault of an expression is inside it, or at its end.
 use Rattle.std.proofs.Common.{◌≡◌, ◌∙◌, ℕ, zero, suc, ◌≤◌, List, [], ◌∷◌, length, refl, ap, subst, arith, inl, inr}
 use Rattle.std.specs.Prelude.{Option, Some, None, Result, Ok, Err, Contains, slice_get}
 use Rattle.dw_bytes.specs.declared.target.Target.{Target}

@@ -18,7 +18,7 @@ start_within FrameCfa = omega arith
 start_within FrameRegister = omega arith
 start_within Location = omega arith
 
--- a piece clears the stack, and all else leaves the height
+-- a piece clears the stack, and everything else keeps the height
 pub next_height_le : (r : Role) (h : ℕ) (b : Bool) → (next_mode r h b).height ≤ h
 next_height_le role.Piece h b = omega arith
 next_height_le role.Plain h b = omega arith

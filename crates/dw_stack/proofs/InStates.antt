@@ -94,7 +94,7 @@ state_has at (c ∷ come) s h = elim (cases_eq c.0 at) [
       (cond-false (eqb c.0 at) (c.1 ∷ states_at at come) (states_at at come) (ne_eqb c.0 at other)) h))
 ]
 
--- ---- the offsets behind an operation
+-- ---- the offsets after an operation
 
 has_next : (falls_through : Bool) (n b : ℕ) → IsTrue falls_through → b ≡ n → Has (if falls_through then n ∷ [] else []) b
 has_next true n b is e = inl (sym e)

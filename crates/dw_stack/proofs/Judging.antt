@@ -1,4 +1,4 @@
--- The judgements of one operation, one after the other.
+-- The judgements of one operation, one after another.
 use Rattle.std.proofs.Common.{◌≡◌, ◌∙◌, ℕ, ℤ, pos, negsuc, ◌+◌, ◌<◌, ◌≤◌, ◌||◌, Bool, true, false, not, cond, ltb, List, [], ◌∷◌, length}
 use Rattle.std.proofs.Common.{Option, Some, None, refl, sym, ap, subst, inl, inr, arith}
 use Rattle.std.specs.Prelude.{find, is_some, slice_index_or}
@@ -34,7 +34,7 @@ failed p (x ∷ xs) f is = by (p x) refl is (failed p xs f)
     by false here found later = ap p (sym (same_Some x f found)) ∙ here
     by true here found later = later found
 
--- they are asked in the order of their ranks
+-- they are checked in the order of their ranks
 abbrev Ascends : ℕ → List FaultKind → Type 0
 Ascends n [] = Unit {0}
 Ascends n (x ∷ xs) = (n < rank x) × Ascends (rank x) xs
@@ -105,7 +105,7 @@ start_passes ops len (Some t) there = elim (start_tells ops len t) [
   | inr none ↦ let at = there t refl in absurd (none.1 at.0 at.1 at.2)
 ]
 
--- ---- the five of the stack, and what is asked behind them
+-- ---- the five of the stack, and what is asked after them
 
 abbrev stacked : Bool → Bool → Bool → Bool → Bool → Option FaultKind → Option FaultKind
 stacked allowed alone needs low few rest =
@@ -225,7 +225,7 @@ module _ (kind : Kind) (ops : List Placed) (len k pieces : ℕ) (s : StackState)
             (subst (λ (d : StackEffect). TargetIs ops len k d.jump target) at.is is);
       }
 
--- where one state comes to an operation, what is judged of it first is what its step objects to
+-- where one state reaches an operation, the first judgement of it is what its step objects to
 pub step_objects : (kind : Kind) (ops : List Placed) (len : ℕ) (given : Option (List State)) (i pieces : ℕ) (old : List InState)
     (f : FaultKind) (s : StackState) → slice_index_or old i Unreached ≡ Known s → Given ops len given i s
     → Objects kind ops len i pieces s f → StepObjects kind ops len given i pieces old f

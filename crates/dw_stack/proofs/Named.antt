@@ -6,13 +6,20 @@ use Rattle.dw_bytes.specs.declared.target.Target.{Target}
 use Rattle.dw_bytes.specs.declared.fault.Fault.{Fault}
 use Rattle.dw_bytes.specs.Answers.{memory, Answers}
 use Rattle.dw_stack.specs.declared.state.Kind.{Kind}
-use Rattle.dw_stack.specs.Expressions.{IsGoodExpression, IsFaultOf}
+use Rattle.dw_stack.specs.Expressions.{Checked, IsGoodExpression, IsChecked, IsFaultOf, IsOf}
 use Rattle.dw_stack.specs.FirstFault.{expression_fault}
 use Rattle.dw_stack.proofs.Deciding.{named_expression}
 use Rattle.dw_stack.proofs.Unique.{one_fault}
 use Rattle.dw_stack.proofs.Whole.{good_faultless}
 
 module _ (kind : Kind) (target : Target) (bytes : List ℕ) where
+  -- what was checked is good, and these are its bytes
+  pub good_of : (it : Checked) → IsChecked it → IsOf kind target bytes it → IsGoodExpression kind target bytes
+  good_of it checked is =
+      subst (λ (k : Kind). IsGoodExpression k target bytes) is.kind_is
+      (subst (λ (t : Target). IsGoodExpression it.kind t bytes) is.target_is
+      (subst (λ (b : List ℕ). IsGoodExpression it.kind it.target b) is.bytes_are checked.good))
+
   pub none_if_good : IsGoodExpression kind target bytes → expression_fault kind target bytes ≡ None
   none_if_good good = elim (named_expression kind target bytes) [
     | inl none ↦ none.0

@@ -46,7 +46,7 @@ reg_read e b is low high =
     (sym (ap (drop 1) is)) in
     rw (code, reg_line b low high) (ap (λ (r : ReadPosition). Ok (reg (b - 0x50), r)) end)
 
--- bytes of which there is one
+-- a list of exactly one byte
 single : (bs : List ℕ) → length bs ≡ 1 → bs ≡ get_or bs 0 0 ∷ []
 single [] is = absurd (omega arith)
 single (b ∷ []) is = refl
@@ -68,9 +68,9 @@ checked_byte e b is low high =
       height_is = refl;
     } in
     let first = begun Location e (start_of Location) refl in
-    let all = further Location e 0 0 (start_of Location) 0 0 op 1 0 first (reg_read e b is low high) (omega arith) (omega (arith, long)) refl
+    let all = further Location e 0 0 (start_of Location) 0 0 [] op 1 0 first (reg_read e b is low high) (omega arith) (omega (arith, long)) refl
     suits in
-    judged Location e 1 1 (state_after (effect_of op) (start_of Location)) 0 0 all (omega (arith, long)) (search rules)
+    judged Location e 1 1 (state_after (effect_of op) (start_of Location)) 0 0 _ all (omega (arith, long)) (search rules)
 
 pub register_checked : (e : Expression) → length (bytes_of e) ≡ 1 → 0x50 ≤ get_or (bytes_of e) 0 0 → get_or (bytes_of e) 0 0 < 0x70
     → IsChecked (alone e)

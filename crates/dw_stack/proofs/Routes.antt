@@ -59,7 +59,7 @@ module _ (kind : Kind) (ops : List Placed) (len : ℕ) where
   pub last_edge : (b : ℕ) (g : StackState) → Reaches kind ops len b g → ((0 ≡ b) × (start_of kind ≡ g)) ⊎ LastEdge kind ops len b g
   last_edge b g r = last_from r.path 0 (start_of kind) b g at_start r.follows
 
--- the place where an edge ends
+-- the offset where an edge ends
 pub record Lands (ops : List Placed) (len k b : ℕ) : Type 0 where
   pub number : ℕ
   pub later : k < number
@@ -79,7 +79,7 @@ pub edge_lands : (ops : List Placed) (len a : ℕ) (h : StackState) (b : ℕ) (g
     → Lands ops len e.number b
 edge_lands ops len a h b g e = lands ops len e.number e.placed b e.stands e.leads
 
--- the height h comes to offset b from the start, or over an edge of an operation numbered below i
+-- the height h reaches offset b from the start, or over an edge of an operation numbered below i
 pub record Before (kind : Kind) (ops : List Placed) (len i b : ℕ) (h : StackState) : Type 0 where
   pub last : LastEdge kind ops len b h
   pub below : last.edge.number < i
@@ -95,7 +95,7 @@ module _ (kind : Kind) (ops : List Placed) (len : ℕ) (laid : IsLaidOut ops len
         | inr before ↦ extend kind ops len before.last.a before.last.h b h before.last.reached before.last.edge
       ]
 
-  -- all that comes to an operation has come over the operations before it
+  -- all that reaches an operation has come over the operations before it
   pub comes_from_reaches : (i : ℕ) (h : StackState) → i ≤ length ops → Reaches kind ops len (place ops len i) h
       → Comes kind ops len i (place ops len i) h
   comes_from_reaches i h le r =
@@ -107,7 +107,7 @@ module _ (kind : Kind) (ops : List Placed) (len : ℕ) (laid : IsLaidOut ops len
             inr (record { last = last; below = omega (arith, l.later) })
       ]
 
-  -- where a path comes to is an operation or the end
+  -- what a path reaches is an operation or the end
   pub reached_place : (b : ℕ) (h : StackState) → Reaches kind ops len b h → (j : ℕ) × (j ≤ length ops) × (place ops len j ≡ b)
   reached_place b h r =
       elim (last_edge kind ops len b h r) [

@@ -30,7 +30,7 @@ use Rattle.dw_stack.proofs.Pieces.{pieces_mono, pieces_with, length-pieces_after
 use Rattle.dw_stack.proofs.Ends.{pieced_after, result_there}
 use Rattle.dw_stack.proofs.Routes.{reach_from, extend, at_start, reached_place, edge_lands}
 
--- per operation: what it names is what its role says
+-- for each operation: what it names is what its role says
 pending_is : (op : Operation) (s : List ℕ) (p : Option LocationDescription) (h : ℕ) (b : Bool) → p ≡ location_named op s
     → PendingIs (next_mode (effect_of op).role h b).mode p (next_mode (effect_of op).role h b).height
 pending_is (reg r) s p h b e = (r, e)
@@ -41,7 +41,7 @@ pending_is (piece n) s p h b e = (e, refl)
 pending_is (bit_piece n m) s p h b e = (e, refl)
 pending_is _ s p h b e = e
 
--- per operation: where it jumps it has a jump, and else it falls through
+-- for each operation: if it jumps it has a jump, and else it falls through
 branches : (op : Operation) (s : List ℕ) → MatchBool (jumps op s) ((z : ℤ) × ((effect_of op).jump ≡ Some z))
     (IsTrue (effect_of op).falls_through)
 branches (bra z) s = either (not (eqb (entry s 0) 0))
@@ -159,7 +159,7 @@ module _ (kind : Kind) (ops : List Placed) (len : ℕ) (laid : IsLaidOut ops len
     state = refl;
   }
 
-  -- where a run stands
+  -- where a run is
   Stands : Configuration → Type 0
   Stands c = (s : StackState) × Reaches kind ops len c.offset s × Agrees s c
 
@@ -200,7 +200,7 @@ module _ (kind : Kind) (ops : List Placed) (len : ℕ) (laid : IsLaidOut ops len
     agrees_at_start c s,
   )
 
-  -- each step comes to a later operation, and where a run comes to has its number
+  -- each step goes to a later operation, and what a run reaches has its number
   run_later : (m : Meaning) (n i : ℕ) (c d : Configuration) → i ≤ length ops → place ops len i ≡ c.offset → Run m ops len n c d
       → (j : ℕ) × (i + n ≤ j) × (j ≤ length ops) × (place ops len j ≡ d.offset)
   run_later m zero i c d le at run = (i, omega arith, le, at ∙ ap (λ (e : Configuration). e.offset) run)
@@ -213,7 +213,7 @@ module _ (kind : Kind) (ops : List Placed) (len : ℕ) (laid : IsLaidOut ops len
       let later = run_later m n l.number run.0 d l.within l.there run.2 in
       (later.0, omega (arith, later.1, l.later, same), later.2, later.3)
 
-  -- it has not come to the end where an operation stands
+  -- it has not reached the end if it is at an operation
   before_end : (j : ℕ) (d : Configuration) → j ≤ length ops → place ops len j ≡ d.offset → Meets ops d → j + 1 ≤ length ops
   before_end j d le at t =
       let within = slice_get_within ops t.number t.placed t.stands in
@@ -234,7 +234,7 @@ module _ (kind : Kind) (ops : List Placed) (len : ℕ) (laid : IsLaidOut ops len
         place_mono ops len laid e.number l.number l.later l.within,
       )
 
-  -- the configuration behind a step
+  -- the configuration after a step
   behind : (x : Placed) (c : Configuration) (new : List ℕ) → ℕ → Configuration
   behind x c new at = record {
     offset = at;
@@ -287,7 +287,7 @@ module _ (kind : Kind) (ops : List Placed) (len : ℕ) (laid : IsLaidOut ops len
   answer_of m c t (Ok new) is = inr (inl (go_to m c new t (jumps t.placed.1 c.stack) is refl (branches t.placed.1 c.stack)))
   answer_of m c t (Err why) is = inr (inr (why, record { meets = t; answered = is }))
 
-  -- where a path comes to an operation, all that it needs is there
+  -- where a path reaches an operation, all that it needs is there
   pub meets_at : (c : Configuration) (s : StackState) → Reaches kind ops len c.offset s → Agrees s c → (k : ℕ) (x : Placed)
       → slice_get ops k ≡ Some x → x.0 ≡ c.offset → Meets ops c
   meets_at c s there agrees k x stands at =
@@ -347,7 +347,7 @@ module _ (kind : Kind) (ops : List Placed) (len : ℕ) (laid : IsLaidOut ops len
       bound m n depth run.0 d deep (after, extend kind ops len c.offset r.0 run.0.offset after r.1 (step_edge m r.0 c run.0 t), agrees)
       (omega (arith, agrees.height, below, low)) run.2
 
-  -- with so many steps left
+  -- with this number of steps left
   finish_in : (left : ℕ) (m : Meaning) (c : Configuration) → Starts kind c → (n : ℕ) (d : Configuration) → length ops ≤ n + left
       → Run m ops len n c d → Stands d → (k : ℕ) × (e : Configuration) × Run m ops len k c e × IsOver kind m ops len e
   finish_in zero m c s n d enough run here = elim (on_from m d here) [
@@ -494,7 +494,7 @@ module _ (kind : Kind) (ops : List Placed) (len : ℕ) (laid : IsLaidOut ops len
   unfolding Stands
   run_stands m n c d s run = run_follows m n c d (starts c s) run
 
-  -- where a run stands at an operation it is as the certificate says
+  -- where a run is at an operation, it is as the certificate says
   pub as_certified : (states : List State) → AreStates kind ops len states → (m : Meaning) (c d : Configuration) (n k : ℕ) → Starts kind c
       → Run m ops len n c d → k < length ops → d.offset ≡ place ops len k
       → (s : StackState) × (slice_get states k ≡ Some (at_offset d.offset s)) × Agrees s d

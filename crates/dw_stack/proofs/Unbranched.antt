@@ -1,4 +1,4 @@
--- Operations of which none branches: one state after the other.
+-- Operations without branches: one state after another.
 use Rattle.std.proofs.Common.{◌≡◌, ◌∙◌, ℕ, ℤ, zero, suc, ◌+◌, ◌<◌, ◌≤◌, Bool, true, false, cond, List, [], ◌∷◌, ◌++◌, length, get_or}
 use Rattle.std.proofs.Common.{get_or-set_same, get_or-set_other, length-append, Option, Some, None, Ok, refl, sym, ap, subst, arith}
 use Rattle.std.specs.Prelude.{slice_get, slice_set, replicate, max, ◌==◌}
@@ -20,12 +20,13 @@ use Rattle.dw_stack.specs.declared.in_state.InState.{InState}
 use Rattle.dw_stack.specs.declared.in_state.InState.TheVariants.{Unreached, Known}
 use Rattle.dw_stack.specs.Effects.{effect_of}
 use Rattle.dw_stack.specs.States.{start_of, state_after, HasResult, at_offset}
-use Rattle.dw_stack.specs.Paths.{Placed, place, IsLaidOut, is_piece}
+use Rattle.dw_stack.specs.Paths.{Placed, IsLaidOut, is_piece}
 use Rattle.dw_stack.specs.Judge.{Suits, TargetIs, Judged}
 use Rattle.dw_stack.specs.InStates.{Merges, Receives, Stepped}
-use Rattle.dw_stack.specs.Expressions.{operations_in, reading_fault, IsChecked}
+use Rattle.dw_stack.specs.Expressions.{operations_in, reading_fault, AreStatesOf, IsChecked}
+use Rattle.dw_stack.proofs.Places.{place_of_some}
 use Rattle.dw_stack.proofs.Walks.{Walked, walked_start, walked_step}
-use Rattle.dw_stack.proofs.Verdicts.{end_good, end_depth}
+use Rattle.dw_stack.proofs.Verdicts.{end_good, end_states, end_depth}
 use Rattle.dw_stack.proofs.Encoded.{encoded_of, laid_if_read}
 use Rattle.dw_stack.proofs.Deciding.{at_seam}
 
@@ -35,20 +36,20 @@ falls (bra z) none = absurd (cc)
 falls (skip z) none = absurd (cc)
 falls _ none = refl
 
--- the first i operations were judged, and this state alone comes to the next one; nothing comes beyond
-pub record Straight (kind : Kind) (ops : List Placed) (len i : ℕ) (state : StackState) (depth pieces : ℕ) : Type 0 where
-  pub states : List State
+-- the first i operations were judged, with these states before them, and this state alone reaches the next one; nothing
+-- reaches further
+pub record Straight (kind : Kind) (ops : List Placed) (len i : ℕ) (state : StackState) (depth pieces : ℕ)
+    (states : List State) : Type 0 where
   pub in_states : List InState
   pub walked : Walked kind ops len None i states in_states depth pieces
   pub here : get_or in_states i Unreached ≡ Known state
   pub beyond : (j : ℕ) → i < j → j ≤ length ops → get_or in_states j Unreached ≡ Unreached
 
 module _ (kind : Kind) (ops : List Placed) (len : ℕ) (laid : IsLaidOut ops len) where
-  straight_start : Straight kind ops len 0 (start_of kind) (start_of kind).height 0
+  straight_start : Straight kind ops len 0 (start_of kind) (start_of kind).height 0 []
   straight_start =
       let first : List InState = Known (start_of kind) ∷ replicate (length ops) Unreached in
       record {
-        states = [];
         in_states = first;
         walked = walked_start kind ops len laid None first (wide (length ops)) refl others;
         here = refl;
@@ -62,14 +63,16 @@ module _ (kind : Kind) (ops : List Placed) (len : ℕ) (laid : IsLaidOut ops len
       others zero above le = absurd (omega arith)
       others (suc j) above le = get_or-replicate (length ops) j Unreached Unreached (omega arith)
 
-  straight_step : (i : ℕ) (x : Placed) (state : StackState) (depth pieces height : ℕ) → i < length ops → slice_get ops i ≡ Some x
-      → (effect_of x.1).jump ≡ None → Suits kind (effect_of x.1) pieces state height → Straight kind ops len i state depth pieces
+  straight_step : (i : ℕ) (x : Placed) (state : StackState) (depth pieces height : ℕ) (states : List State) → i < length ops
+      → slice_get ops i ≡ Some x → (effect_of x.1).jump ≡ None → Suits kind (effect_of x.1) pieces state height
+      → Straight kind ops len i state depth pieces states
       → Straight kind ops len (i + 1) (state_after (effect_of x.1) state) (max (max depth state.height) height)
-      (pieces + cond (is_piece (effect_of x.1).role) 1 0)
-  straight_step i x state depth pieces height lt stands none suits s = record {
-    states = s.states ++ at_offset (place ops len i) state ∷ [];
+      (pieces + cond (is_piece (effect_of x.1).role) 1 0) (states ++ at_offset x.0 state ∷ [])
+  straight_step i x state depth pieces height states lt stands none suits s = record {
     in_states = new;
-    walked = walked_step kind ops len laid None i s.states s.in_states new depth pieces done lt s.walked stepped;
+    walked = subst (λ (n : ℕ). Walked kind ops len None (i + 1) (states ++ at_offset n state ∷ []) new (max (max depth state.height) height)
+        (pieces + cond (is_piece (effect_of x.1).role) 1 0)) (place_of_some ops len i x stands)
+        (walked_step kind ops len laid None i states s.in_states new depth pieces done lt s.walked stepped);
     here = get_or-set_same s.in_states (i + 1) (Known next) Unreached (omega (arith, s.walked.wide));
     beyond = λ j above le. get_or-set_other s.in_states (i + 1) j (Known next) Unreached (λ (same : j ≡ i + 1). omega (arith, above, same))
         ∙ s.beyond j (omega (arith, above)) le;
@@ -124,8 +127,9 @@ module _ (kind : Kind) (ops : List Placed) (len : ℕ) (laid : IsLaidOut ops len
         passes = record { mid = new; next = receives; target = refl };
       }
 
--- so much of an expression was read, and judged as if all of it could be read
-pub record JudgedSoFar (kind : Kind) (e : Expression) (at count : ℕ) (state : StackState) (depth pieces : ℕ) : Type 0 where
+-- this much of an expression was read, and judged as if all of it could be read
+pub record JudgedSoFar (kind : Kind) (e : Expression) (at count : ℕ) (state : StackState) (depth pieces : ℕ)
+    (states : List State) : Type 0 where
   pub within : at ≤ length (bytes_of e)
   pub before : List Placed
   pub parts : before ++ values_in (operations_of (reading_from e at)) ≡ operations_in (target_of e) (bytes_of e)
@@ -134,10 +138,14 @@ pub record JudgedSoFar (kind : Kind) (e : Expression) (at count : ℕ) (state : 
   pub few : count ≤ at
   pub few_pieces : pieces ≤ count
   pub straight : IsLaidOut (operations_in (target_of e) (bytes_of e)) (length (bytes_of e))
-      → Straight kind (operations_in (target_of e) (bytes_of e)) (length (bytes_of e)) count state depth pieces
+      → Straight kind (operations_in (target_of e) (bytes_of e)) (length (bytes_of e)) count state depth pieces states
 
-pub begun : (kind : Kind) (e : Expression) (state : StackState) → state ≡ start_of kind → JudgedSoFar kind e 0 0 state state.height 0
-begun kind e state is = subst (λ (s : StackState). JudgedSoFar kind e 0 0 s s.height 0) (sym is) (record {
+-- the same, with whatever states before what was judged
+abbrev pub JudgedAlone : Kind → Expression → ℕ → ℕ → StackState → ℕ → ℕ → Type 0
+JudgedAlone kind e at count state depth pieces = (states : List State) × JudgedSoFar kind e at count state depth pieces states
+
+pub begun : (kind : Kind) (e : Expression) (state : StackState) → state ≡ start_of kind → JudgedSoFar kind e 0 0 state state.height 0 []
+begun kind e state is = subst (λ (s : StackState). JudgedSoFar kind e 0 0 s s.height 0 []) (sym is) (record {
   within = omega arith;
   before = [];
   parts = refl;
@@ -153,12 +161,13 @@ one_more : (b : Bool) (pieces count : ℕ) → pieces ≤ count → pieces + con
 one_more true pieces count le = omega (arith, le)
 one_more false pieces count le = omega (arith, le)
 
-pub further : (kind : Kind) (e : Expression) (at count : ℕ) (state : StackState) (depth pieces : ℕ) (op : Operation) (next height : ℕ)
-    → JudgedSoFar kind e at count state depth pieces → operation_at (reading_from e at) ≡ Ok (op, reading_from e next) → at < next
+pub further : (kind : Kind) (e : Expression) (at count : ℕ) (state : StackState) (depth pieces : ℕ) (states : List State) (op : Operation)
+    (next height : ℕ) → JudgedSoFar kind e at count state depth pieces states
+    → operation_at (reading_from e at) ≡ Ok (op, reading_from e next) → at < next
     → next ≤ length (bytes_of e) → (effect_of op).jump ≡ None → Suits kind (effect_of op) pieces state height
     → JudgedSoFar kind e next (count + 1) (state_after (effect_of op) state) (max (max depth state.height) height)
-    (pieces + cond (is_piece (effect_of op).role) 1 0)
-further kind e at count state depth pieces op next height j read forward within none suits = record {
+    (pieces + cond (is_piece (effect_of op).role) 1 0) (states ++ at_offset at state ∷ [])
+further kind e at count state depth pieces states op next height j read forward within none suits = record {
   within = within;
   before = j.before ++ (at, op) ∷ [];
   parts = append_assoc j.before ((at, op) ∷ []) left ∙ parts;
@@ -166,8 +175,8 @@ further kind e at count state depth pieces op next height j read forward within 
   fault = j.fault ∙ ap fault_in step;
   few = omega (arith, forward, j.few);
   few_pieces = one_more (is_piece (effect_of op).role) pieces count j.few_pieces;
-  straight = λ laid. straight_step kind ops (length (bytes_of e)) laid count (at, op) state depth pieces height lt stands none suits
-      (j.straight laid);
+  straight = λ laid. straight_step kind ops (length (bytes_of e)) laid count (at, op) state depth pieces height states lt stands none
+      suits (j.straight laid);
 }
   where
     ops : List Placed
@@ -189,37 +198,46 @@ further kind e at count state depth pieces op next height j read forward within 
     lt : count < length ops
     lt = slice_get_within ops count (at, op) stands
 
--- all was read, and the end gives a result
-pub judged : (kind : Kind) (e : Expression) (at count : ℕ) (state : StackState) (depth pieces : ℕ)
-    → JudgedSoFar kind e at count state depth pieces → length (bytes_of e) ≤ at → HasResult kind (count == 0) state
-    → IsChecked (record { kind = kind; target = target_of e; bytes = bytes_of e; depth = depth; count = count })
-judged kind e at count state depth pieces j past result = record {
-  good = record {
-    encoded = encoded_of (target_of e) (bytes_of e) fine;
-    good = end_good kind ops (length (bytes_of e)) laid None count all s.states s.in_states depth pieces s.walked state last
-        (subst (λ (n : ℕ). HasResult kind (n == 0) state) all result);
-  };
-  depth = end_depth kind ops (length (bytes_of e)) laid None count all s.states s.in_states depth pieces s.walked;
-  count = all;
-}
-  where
-    ops : List Placed
-    ops = operations_in (target_of e) (bytes_of e)
+-- all was read
+module _ (kind : Kind) (e : Expression) (at count : ℕ) (state : StackState) (depth pieces : ℕ) (states : List State)
+    (j : JudgedSoFar kind e at count state depth pieces states) (past : length (bytes_of e) ≤ at) where
+  no_more : operations_of (reading_from e at) ≡ []
+  no_more = no-operation (reading_from e at) (omega (arith, past, length-drop at (bytes_of e)))
 
-    none : operations_of (reading_from e at) ≡ []
-    none = no-operation (reading_from e at) (omega (arith, past, length-drop at (bytes_of e)))
+  fine : reading_fault (target_of e) (bytes_of e) ≡ None
+  fine = j.fault ∙ ap fault_in no_more
 
-    fine : reading_fault (target_of e) (bytes_of e) ≡ None
-    fine = j.fault ∙ ap fault_in none
+  laid_all : IsLaidOut (operations_in (target_of e) (bytes_of e)) (length (bytes_of e))
+  laid_all = laid_if_read (target_of e) (bytes_of e) fine
 
-    laid : IsLaidOut ops (length (bytes_of e))
-    laid = laid_if_read (target_of e) (bytes_of e) fine
+  all : count ≡ length (operations_in (target_of e) (bytes_of e))
+  all = sym j.count_is ∙ ap length (sym (append-nil j.before) ∙ (ap (λ l. j.before ++ values_in l) (sym no_more) ∙ j.parts))
 
-    all : count ≡ length ops
-    all = sym j.count_is ∙ ap length (sym (append-nil j.before) ∙ (ap (λ l. j.before ++ values_in l) (sym none) ∙ j.parts))
+  -- these are the states on all paths
+  pub states_judged : AreStatesOf kind (target_of e) (bytes_of e) states
+  states_judged =
+      let s = j.straight laid_all in
+      end_states kind (operations_in (target_of e) (bytes_of e)) (length (bytes_of e)) laid_all None count all states s.in_states depth
+      pieces s.walked
 
-    s : Straight kind ops (length (bytes_of e)) count state depth pieces
-    s = j.straight laid
+  -- and where the end gives a result, it is good
+  pub judged : HasResult kind (count == 0) state
+      → IsChecked (record { kind = kind; target = target_of e; bytes = bytes_of e; depth = depth; count = count })
+  judged result = record {
+    good = record {
+      encoded = encoded_of (target_of e) (bytes_of e) fine;
+      good = end_good kind ops (length (bytes_of e)) laid_all None count all states s.in_states depth pieces s.walked state last
+          (subst (λ (n : ℕ). HasResult kind (n == 0) state) all result);
+    };
+    depth = end_depth kind ops (length (bytes_of e)) laid_all None count all states s.in_states depth pieces s.walked;
+    count = all;
+  }
+    where
+      ops : List Placed
+      ops = operations_in (target_of e) (bytes_of e)
 
-    last : get_or s.in_states (length ops) Unreached ≡ Known state
-    last = ap (λ (n : ℕ). get_or s.in_states n Unreached) (sym all) ∙ s.here
+      s : Straight kind ops (length (bytes_of e)) count state depth pieces states
+      s = j.straight laid_all
+
+      last : get_or s.in_states (length ops) Unreached ≡ Known state
+      last = ap (λ (n : ℕ). get_or s.in_states n Unreached) (sym all) ∙ s.here

@@ -1,4 +1,4 @@
--- What is said of an expression is said of one thing.
+-- The depth, the first fault and the states of an expression are unique.
 use Rattle.std.proofs.Math.Logic.{∥∥₁_elim, ∥∥₁_prop}
 use Rattle.std.specs.Coded.{Coded-set, coded_ℕ, coded_bool, le_prop}
 use Rattle.std.proofs.Common.{◌≡◌, ◌∙◌, ℕ, zero, suc, ◌<◌, ◌≤◌, Bool, List, [], ◌∷◌, length, Option, Some, None, refl, sym, ap, inl, inr}

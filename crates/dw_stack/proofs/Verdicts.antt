@@ -75,7 +75,7 @@ module _ (kind : Kind) (ops : List Placed) (len : ℕ) (laid : IsLaidOut ops len
         let within = slice_get_within ops k x s in
         place_inj ops len laid k i (omega arith) le (place_of_some ops len k x s ∙ e ∙ at)
 
-    -- an objection at another name of the place and the state
+    -- an objection with the operation's number and the state under other names
     moved : (f : FaultKind) (k i : ℕ) (x : Placed) (t s : StackState) → k ≡ i → t ≡ s → Objection kind ops len k (pieces_before ops k) x t f
         → Objection kind ops len i (pieces_before ops i) x s f
     moved f k i x t s ek es o =
@@ -123,7 +123,7 @@ module _ (kind : Kind) (ops : List Placed) (len : ℕ) (laid : IsLaidOut ops len
           | inr past ↦ absurd (omega (arith, past.0, w.long))
         ]
 
-    -- where a refusal stands
+    -- where a refusal is
     refusal_place : (f : FaultKind) (a : ℕ) → Refuses kind ops len given f a → (j : ℕ) × (j ≤ length ops) × (place ops len j ≡ a)
     refusal_place fault.Unreachable a r = (r.0, omega (arith, slice_get_within ops r.0 r.1 r.2), place_of_some ops len r.0 r.1 r.2 ∙ r.3)
     refusal_place fault.Mismatch a r = reached_place kind ops len laid a r.0 r.2
@@ -143,7 +143,7 @@ module _ (kind : Kind) (ops : List Placed) (len : ℕ) (laid : IsLaidOut ops len
           pass_refuses f p.0 h.0 a p.1 (sym p.2) (accepted_passes fault.Unreachable p.0 h.0 lt' h.2)
           (accepted_passes fault.Mismatch p.0 h.0 lt' h.2) (accepted_passes f p.0 h.0 lt' h.2) r
 
-      -- the first fault, where all before it at this place passed
+      -- the first fault, if all before it at this offset passed
       first_here : (f : FaultKind) (a : ℕ) → i ≤ length ops → a ≡ place ops len i → Refuses kind ops len given f a
           → ((g : FaultKind) → rank g < rank f → Refuses kind ops len given g a → ⊥) → IsFirstFault kind ops len given f a
       first_here f a le at r here = record {
@@ -314,7 +314,7 @@ module _ (kind : Kind) (ops : List Placed) (len : ℕ) (laid : IsLaidOut ops len
       end_described = subst (λ (n : ℕ). Describes (get_or in_states (length ops) Unreached)
           (Comes kind ops len n (place ops len (length ops)))) all (w.described (length ops) (omega arith) (omega arith))
 
-      -- some path comes to the end
+      -- some path reaches the end
       pub end_not_nothing : get_or in_states (length ops) Unreached ≡ Unreached → ⊥
       end_not_nothing e =
           let r = end_reached i (length ops) refl all states in_states depth pieces w in
@@ -425,7 +425,7 @@ module _ (kind : Kind) (ops : List Placed) (len : ℕ) (laid : IsLaidOut ops len
             (elim t [ inl same ↦ inl same | inr u ↦ inr (u.0, u.1, u.2, u.3, u.4, u.5, omega (arith, slice_get_within ops u.0 u.1 u.3)) ]);
       }
 
--- a good program, with its states if some are given, meets no fault
+-- a good program meets no fault, with its states if some are given
 pub good_refuses : (kind : Kind) (ops : List Placed) (len : ℕ) → IsLaidOut ops len → (given : Option (List State))
     → ((k : ℕ) (x : Placed) (s : StackState) → slice_get ops k ≡ Some x → Reaches kind ops len x.0 s → Given ops len given k s)
     → IsGood kind ops len → (f : FaultKind) (a : ℕ) → Refuses kind ops len given f a → ⊥

@@ -28,7 +28,7 @@ use Rattle.dw_stack.proofs.Describes.{Describes, describes_same, describes_is, d
 use Rattle.std.proofs.lemmas.List.Sums.{count_by_more_yes, count_by_more_no}
 use Rattle.std.proofs.lemmas.Option.{get_or_from_slice_get}
 
--- the operation x, numbered k, meets all that is asked of it at the state s
+-- the operation x, numbered k, meets all that is required of it at the state s
 pub record Fine (kind : Kind) (ops : List Placed) (len k : ℕ) (x : Placed) (s : StackState) : Type 0 where
   pub allowed : IsAllowed kind (effect_of x.1)
   pub alone : StandsAlone (effect_of x.1).role s.mode s.height
@@ -80,11 +80,11 @@ get_push (x ∷ hs) h (suc k) g e =
 
 module _ (kind : Kind) (ops : List Placed) (len : ℕ) (laid : IsLaidOut ops len) (given : Option (List State)) (i pieces : ℕ)
     (h : StackState) (out : OutState) (lt : i < length ops) (j : Judged kind ops len i pieces h out) where
-  -- a height that stands behind the operation numbered i, at the place numbered n
+  -- a height that is after the operation numbered i, at the place numbered n
   Goes : ℕ → StackState → Type 0
   Goes n g = Leads ops len i (effect_of j.placed.1) (place ops len n) × (g ≡ out.state)
 
-  -- the heights that come from the operations up to i are those from before, and the one behind i
+  -- the heights that come from the operations up to i are those from before, and the one after i
   comes_more : ((g : StackState) → Reaches kind ops len (place ops len i) g → g ≡ h) → (n : ℕ) (g : StackState)
       → Comes kind ops len (i + 1) (place ops len n) g → Comes kind ops len i (place ops len n) g ⊎ Goes n g
   unfolding Goes
@@ -133,7 +133,7 @@ module _ (kind : Kind) (ops : List Placed) (len : ℕ) (laid : IsLaidOut ops len
             inr (record { last = record { a = place ops len i; h = h; reached = reached; edge = edge }; below = omega arith })
       ]
 
--- what the operation's target and the number found for it say of each other
+-- what the operation's target and the number found for it say about each other
 target_to : (ops : List Placed) (len k n : ℕ) (o : Option ℤ) (o' : Option ℕ) → TargetIs ops len k o o' → o' ≡ Some n
     → (jump_target (place ops len (k + 1)) o ≡ Some (place ops len n)) × IsTarget ops len k (place ops len n)
 target_to ops len k n None None is e = absurd (cc)
@@ -287,7 +287,7 @@ depth_more kind ops len i d h x s r one below = record { touched = touched; grea
           ]
         ]
 
--- one operation more, of which the test says whether it names a piece
+-- one more operation, of which the test says whether it names a piece
 pub count_more : (ops : List Placed) (i pieces : ℕ) (x : Placed) (b : Bool) → slice_get ops i ≡ Some x → b ≡ is_piece (effect_of x.1).role
     → pieces ≡ pieces_before ops i → (pieces + cond b 1 0) ≡ pieces_before ops (i + 1)
 count_more ops i pieces x true s is counted =
@@ -307,7 +307,7 @@ few_more pieces true c is few le = let lt = few (sym is) in omega (arith, lt)
 few_more pieces false c is few le = omega (arith, le)
 
 module _ (kind : Kind) (ops : List Placed) (len : ℕ) (laid : IsLaidOut ops len) (given : Option (List State)) where
-  -- nothing was judged yet
+  -- nothing has been judged yet
   pub walked_start : (in_states : List InState) → length in_states ≡ length ops + 1 → get_or in_states 0 Unreached ≡ Known (start_of kind)
       → ((j : ℕ) → 0 < j → j ≤ length ops → get_or in_states j Unreached ≡ Unreached)
       → Walked kind ops len given 0 [] in_states (start_of kind).height 0

@@ -89,7 +89,7 @@ runs_for kind target bytes c checked is =
     (subst (λ (t : Target). RunsWellWithin c.kind t bytes c.depth) is.target_is
     (subst (λ (b : List ℕ). RunsWellWithin c.kind c.target b c.depth) is.bytes_are runs))
 
--- a good expression has no fault, where the given states are right
+-- a good expression has no fault, if the given states are right
 pub good_faultless : (kind : Kind) (target : Target) (bytes : List ℕ) (given : Option (List State)) (f : Fault)
     → Knows kind target bytes given → IsGoodExpression kind target bytes → IsFaultOf kind target bytes given f → ⊥
 good_faultless kind target bytes given f right good fault = elim fault [

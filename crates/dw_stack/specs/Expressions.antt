@@ -40,13 +40,12 @@ IsDepthOf kind target bytes depth = IsDepth kind (operations_in target bytes) (l
 abbrev pub RunsWellWithin : Kind → Target → List ℕ → ℕ → Type 0
 RunsWellWithin kind target bytes depth = RunsWell kind (operations_in target bytes) (length bytes) depth
 
--- the count of the given states, if there are some, is another than that of the operations
+-- the number of given states, if there are some, differs from that of the operations
 abbrev pub IsOtherCount : Target → List ℕ → Option (List State) → Type 0
 IsOtherCount target bytes None = ⊥
 IsOtherCount target bytes (Some given) = ¬ (length given ≡ length (operations_in target bytes))
 
--- Its first fault. Reading comes before all, then the count of the states where some are given, then each operation and
--- the end.
+-- Its first fault. Reading comes first, then the number of states if some are given, then each operation and the end.
 abbrev pub IsFaultOf : Kind → Target → List ℕ → Option (List State) → Fault → Type 0
 IsFaultOf kind target bytes given f =
     (reading_fault target bytes ≡ Some f)

@@ -1,4 +1,4 @@
--- What the judgements of an expression's operations refuse, and the order in which they are asked.
+-- What the judgements of an expression's operations refuse, and their order.
 use Rattle.std.specs.Prelude.{◌≡◌, ◌≢◌, ℕ, ℤ, ◌+◌, ◌==◌, nat_lt, nat_le, ◌||◌, ◌<◌, ◌⊎◌, Bool, true, false, not, is_some, List, [], ◌∷◌}
 use Rattle.std.specs.Prelude.{length, find, Option, Some, None, slice_get}
 use Rattle.std.specs.List.{list_any}
@@ -24,7 +24,7 @@ Given ops len given k s = Keeps given k (at_offset (place ops len k) s)
 
 -- ---- the judgements of one operation
 
--- in their order, where paths come to it with one state
+-- in their order, where paths reach it with one state
 abbrev pub judgements : List FaultKind
 judgements = fault.NotInFrame ∷ fault.NotAlone ∷ fault.Underflow ∷ fault.TooDeep ∷ fault.TooManyPieces ∷ fault.Backward
     ∷ fault.TargetNotStart ∷ []
@@ -39,7 +39,8 @@ abbrev pub is_start : List Placed → ℕ → Option ℕ → Bool
 is_start ops len None = true
 is_start ops len (Some t) = (len == t) || list_any (λ (x : Placed). x.0 == t) ops
 
--- whether the kind has an operation of this effect, and the state s bears it behind so many pieces, by the judgement of a kind
+-- whether the kind has an operation of this effect, and the state s allows it after this number of pieces, by the
+-- judgement of a kind
 abbrev pub suits : Kind → ℕ → StackEffect → StackState → FaultKind → Bool
 suits kind pieces e s fault.NotInFrame = has_operation kind e
 suits kind pieces e s fault.NotAlone = stands_alone e.role s.mode s.height

@@ -1,7 +1,7 @@
 -- The first fault of an expression as a function of its bytes. First all is read. Then the operations are judged in order
--- of offset, and last the end, each by questions in a fixed order; the first that isn't answered with yes names the fault.
--- The questions ask what DWARF 5, sections 2.5 and 2.6, and this checker's rule on paths demand; their order is this
--- checker's.
+-- of offset, and last the end, each by questions in a fixed order; the first that isn't answered with yes names the
+-- fault. The questions ask what DWARF 5, sections 2.5 and 2.6, and this checker's rule on paths require; their order is
+-- this checker's.
 use Rattle.std.specs.Prelude.{ℕ, zero, suc, ◌+◌, ◌==◌, ◌&&◌, Bool, true, false, not, if◌then◌else◌, List, [], ◌∷◌, ◌++◌, length, map}
 use Rattle.std.specs.Prelude.{Option, Some, None, slice_get}
 use Rattle.std.specs.Option.{option_or}
@@ -21,7 +21,7 @@ use Rattle.dw_stack.specs.Paths.{Placed, place, branch_target_of, pieces_before}
 use Rattle.dw_stack.specs.Faults.{judgements, passes}
 use Rattle.dw_stack.specs.Expressions.{operations_in, reading_fault}
 
--- ---- what comes to an offset
+-- ---- what reaches an offset
 
 abbrev pub offsets_to : Option ℕ → List ℕ
 offsets_to None = []
@@ -42,17 +42,17 @@ onward ops len k None states = []
 onward ops len k (Some x) states =
     flat_map (λ s. map (λ b. (b, state_after (effect_of x.1) s)) (offsets_after ops len k (effect_of x.1))) states
 
--- the offsets to which paths over the first k operations come, with the states there
+-- the offsets that paths over the first k operations reach, with the states there
 abbrev pub arrivals : Kind → List Placed → ℕ → ℕ → List (ℕ × StackState)
 arrivals kind ops len zero = (0, start_of kind) ∷ []
 arrivals kind ops len (suc k) =
     arrivals kind ops len k ++ onward ops len k (slice_get ops k) (states_at (place ops len k) (arrivals kind ops len k))
 
--- the states of the paths that come to the operation numbered k, or to the end
+-- the states of the paths that reach the operation numbered k, or the end
 abbrev pub states_to : Kind → List Placed → ℕ → ℕ → List StackState
 states_to kind ops len k = states_at (place ops len k) (arrivals kind ops len k)
 
--- ---- what is asked
+-- ---- whether states are the same
 
 abbrev pub number_of : Mode → ℕ
 number_of mode.Stack = 0
@@ -70,7 +70,7 @@ same_state s t =
 abbrev pub Question : Type 0
 Question = Bool × Fault
 
--- is it so, and if not, this is the fault
+-- it is so, or else this is the fault
 abbrev pub else_fault : Bool → FaultKind → ℕ → Question
 else_fault b kind at = (b, record { kind = kind; at = at })
 
@@ -80,18 +80,18 @@ first_no [] = None
 first_no ((true, f) ∷ asked) = first_no asked
 first_no ((false, f) ∷ asked) = Some f
 
--- of an operation, numbered k, of this effect and at this offset, where paths come to it with the state s
+-- about an operation, numbered k, of this effect and at this offset, which paths reach with the state s
 abbrev pub asked_at : Kind → List Placed → ℕ → ℕ → StackEffect → StackState → ℕ → List Question
 asked_at kind ops len k e s at =
     map (λ f. else_fault (passes kind ops len k (pieces_before ops k) e s f) f at) judgements
 
--- of the operation x, numbered k, by the states with which paths come to it
+-- about the operation x, numbered k, by the states with which paths reach it
 abbrev pub asked_of : Kind → List Placed → ℕ → ℕ → Placed → List StackState → List Question
 asked_of kind ops len k x [] = else_fault false fault.Unreachable x.0 ∷ []
 asked_of kind ops len k x (s ∷ others) =
     else_fault (list_all (same_state s) others) fault.Mismatch x.0 ∷ asked_at kind ops len k (effect_of x.1) s x.0
 
--- of the end, by the states with which paths come to it
+-- about the end, by the states with which paths reach it
 abbrev pub asked_last : Kind → List Placed → ℕ → List StackState → List Question
 asked_last kind ops len [] = []
 asked_last kind ops len (s ∷ others) =
@@ -99,7 +99,7 @@ asked_last kind ops len (s ∷ others) =
     ∷ else_fault (has_result kind s.mode (length ops == 0) s.pieced s.height) fault.EndsEmpty len
     ∷ []
 
--- of the operations that are left, from the one numbered k on, and then of the end
+-- about the operations that are left, from the one numbered k on, and then the end
 abbrev pub asked_from : Kind → List Placed → ℕ → ℕ → List Placed → List Question
 asked_from kind ops len k [] = asked_last kind ops len (states_to kind ops len k)
 asked_from kind ops len k (x ∷ left) =
@@ -109,7 +109,7 @@ asked_from kind ops len k (x ∷ left) =
 unfoldable pub first_fault : Kind → List Placed → ℕ → Option Fault
 first_fault kind ops len = first_no (asked_from kind ops len 0 ops)
 
--- The first fault of an expression: none exactly for a good one, and f exactly where the relation `IsFaultOf` has f (the law
+-- The first fault of an expression: none exactly for a good one, and f exactly if the relation `IsFaultOf` has f (the law
 -- `the_fault_is_the_first`).
 unfoldable pub expression_fault : Kind → Target → List ℕ → Option Fault
 expression_fault kind target bytes =

@@ -1,4 +1,4 @@
--- What the table of in-states keeps, and one step over it.
+-- What the table of in-states stores, and one step over it.
 use Rattle.std.specs.Prelude.{◌≡◌, ◌≢◌, ℕ, ◌+◌, ◌⊎◌, Bool, true, false, List, Option, Some, None, Result, Ok, Err, slice_set}
 use Rattle.std.specs.Prelude.{slice_index_or}
 use Rattle.std.specs.Borrow.{Bor}
@@ -38,7 +38,7 @@ abbrev pub ReceivesAt : Option ℕ → List InState → StackState → List InSt
 ReceivesAt None old s new = new ≡ old
 ReceivesAt (Some j) old s new = Receives old j s new
 
--- the state behind the operation numbered i goes on to those that may follow it
+-- the state after the operation numbered i goes on to those that may follow it
 pub record PassesOn (old : List InState) (i : ℕ) (out : OutState) (new : List InState) : Type 0 where
   pub mid : List InState
   pub next : ReceivesIf out.falls_through old (i + 1) out.state mid

@@ -1,4 +1,4 @@
--- What judging one operation at one state answers.
+-- The result of judging one operation at one state.
 use Rattle.std.specs.Prelude.{◌≡◌, ◌≢◌, ℕ, ℤ, ◌+◌, ◌<◌, ◌≤◌, true, List, length, Option, Some, None, slice_get}
 use Rattle.dw_bytes.specs.declared.fault.FaultKind.{FaultKind}
 use Rattle.dw_bytes.specs.declared.fault.FaultKind.TheVariants as fault
@@ -18,7 +18,7 @@ pub record IsEffectAt (ops : List Placed) (k : ℕ) (e : StackEffect) : Type 0 w
   pub stands : slice_get ops k ≡ Some placed
   pub is : e ≡ effect_of placed.1
 
--- an operation of this effect, at this state and behind so many pieces, is one that the kind has and the stack bears
+-- an operation of this effect, at this state and after this number of pieces, is one that the kind has and the stack allows
 pub record Suits (kind : Kind) (e : StackEffect) (pieces : ℕ) (s : StackState) (height : ℕ) : Type 0 where
   pub allowed : IsAllowed kind e
   pub alone : StandsAlone e.role s.mode s.height
@@ -27,7 +27,7 @@ pub record Suits (kind : Kind) (e : StackEffect) (pieces : ℕ) (s : StackState)
   pub few : is_piece e.role ≡ true → pieces < MAX_PIECES
   pub height_is : height ≡ height_after e s
 
--- j is the number of the operation behind the one numbered k that its jump leads to, or of the end
+-- j is the number of the operation after the one numbered k that its jump leads to, or of the end
 pub record TargetPlace (ops : List Placed) (len k : ℕ) (z : ℤ) (j : ℕ) : Type 0 where
   pub later : k < j
   pub within : j ≤ length ops

@@ -1,4 +1,4 @@
--- Expressions where they stand in a section.
+-- Expressions at their offsets in a section.
 use Rattle.std.specs.Prelude.{ℕ, ◌+◌, List, map, Option, Some, None}
 use Rattle.dw_bytes.specs.declared.target.Target.{Target}
 use Rattle.dw_bytes.specs.declared.fault.Fault.{Fault}
@@ -8,8 +8,8 @@ use Rattle.dw_stack.specs.declared.checked.CheckedExpression.{CheckedExpression}
 use Rattle.dw_stack.specs.Certificates.{checked_of}
 use Rattle.dw_stack.specs.FirstFault.{expression_fault}
 
--- An expression where it stands: the offset of its first byte, the kind that it is judged as, what it is read under, and its
--- bytes.
+-- An expression in its section: the offset of its first byte, the kind that it is judged as, the target that it is read
+-- with, and its bytes.
 pub record LocatedExpression : Type 0 where
   pub offset : ℕ
   pub kind : Kind
@@ -29,7 +29,7 @@ all_located xs = map located_of xs
 
 -- ---- why one is refused
 
--- a fault of an expression, which counts from its first byte, as one of the section
+-- a fault of an expression, whose offset counts from the expression's first byte, as one of the section
 abbrev pub moved_by : ℕ → Option Fault → Option Fault
 moved_by from None = None
 moved_by from (Some f) = Some (record { kind = f.kind; at = from + f.at })

@@ -1,5 +1,5 @@
--- Paths of an expression, the states on them, and what makes an expression good. Paths that go forward alone and take
--- both ways of a branch, whatever its value, are a rule of this checker.
+-- Paths of an expression, the states on them, and what makes an expression good. That paths only go forward and take both
+-- ways of a branch, whatever its value, is a rule of this checker.
 use Rattle.std.specs.Prelude.{◌≡◌, ℕ, ℤ, pos, negsuc, zero, suc, ◌+◌, ◌==◌, ◌<◌, ◌≤◌, ◌⊎◌, Bool, true, false, List, [], ◌∷◌, length, take}
 use Rattle.std.specs.Prelude.{count_by, IsTrue, Option, Some, None, slice_get}
 use Rattle.dw_ops.specs.Operations.{Operation}
@@ -18,7 +18,7 @@ use Rattle.dw_stack.specs.States.{start_of, StandsAlone, height_after, state_aft
 abbrev pub Placed : Type 0
 Placed = ℕ × Operation
 
--- where the operation numbered j begins; the length where there is none
+-- where the operation numbered j begins; the length if there is none
 abbrev pub place : List Placed → ℕ → ℕ → ℕ
 place [] len j = len
 place (x ∷ xs) len zero = x.0
@@ -72,7 +72,7 @@ abbrev pub Follows : List Placed → ℕ → ℕ → StackState → List ℕ →
 Follows ops len a s [] b t = (a ≡ b) × (s ≡ t)
 Follows ops len a s (c ∷ path) b t = (r : StackState) × Edge ops len a s c r × Follows ops len c r path b t
 
--- some path from offset 0 comes to offset b, with state s there
+-- some path from offset 0 reaches offset b, with state s there
 pub record Reaches (kind : Kind) (ops : List Placed) (len b : ℕ) (s : StackState) : Type 0 where
   pub path : List ℕ
   pub follows : Follows ops len 0 (start_of kind) path b s
@@ -93,10 +93,10 @@ is_piece _ = false
 abbrev pub pieces_before : List Placed → ℕ → ℕ
 pieces_before ops k = count_by (λ x. is_piece (effect_of x.1).role) (take k ops)
 
--- each path is fine wherever it comes to, and each operation is on one
+-- each path is fine wherever it leads, and each operation is on one
 pub record IsGood (kind : Kind) (ops : List Placed) (len : ℕ) : Type 0 where
   pub allowed : (k : ℕ) (x : Placed) → slice_get ops k ≡ Some x → IsAllowed kind (effect_of x.1)
-  -- every path that comes to an operation meets its needs
+  -- every path that reaches an operation meets its needs
   pub alone : (k : ℕ) (x : Placed) (s : StackState) → slice_get ops k ≡ Some x → Reaches kind ops len x.0 s
       → StandsAlone (effect_of x.1).role s.mode s.height
   pub needs : (k : ℕ) (x : Placed) (s : StackState) → slice_get ops k ≡ Some x → Reaches kind ops len x.0 s

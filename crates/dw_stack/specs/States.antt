@@ -11,14 +11,15 @@ use Rattle.dw_stack.specs.declared.state.Kind.TheVariants.{FrameCfa, FrameRegist
 use Rattle.dw_stack.specs.declared.state.State.{State}
 use Rattle.dw_stack.specs.declared.state.StackState.{StackState}
 
--- The rule of a register starts with the CFA on the stack, all else with nothing.
+-- A register's rule starts with the CFA on the stack, all else with nothing.
 abbrev pub start_of : Kind → StackState
 start_of FrameCfa = record { height = 0; mode = mode.Stack; pieced = false }
 start_of FrameRegister = record { height = 1; mode = mode.Stack; pieced = false }
 start_of Location = record { height = 0; mode = mode.Stack; pieced = false }
 
--- Behind a register or a value only a piece may follow. What names a register or bytes wants an empty stack; stack_value takes the
--- top, whatever lies below. A piece wants one thing alone: the register or value, an address, or nothing.
+-- After a register or a value only a piece may follow. An operation that names a register or bytes needs an empty stack;
+-- stack_value takes the top, whatever lies below. A piece needs one thing alone: the register or value, an address, or
+-- nothing.
 abbrev pub stands_alone : Role → Mode → ℕ → Bool
 stands_alone role.Piece mode.AfterPiece h = true
 stands_alone role.Piece mode.Stack h = nat_le h 1
@@ -39,15 +40,15 @@ next_mode role.Bytes h p = record { height = h; mode = mode.Value; pieced = p }
 next_mode role.Top h p = record { height = h; mode = mode.Value; pieced = p }
 next_mode role.Piece h p = record { height = 0; mode = mode.AfterPiece; pieced = true }
 
--- the height behind an operation, before a piece clears it
+-- the height after an operation, before a piece clears the stack
 abbrev pub height_after : StackEffect → StackState → ℕ
 height_after e s = s.height - e.takes + e.adds
 
--- the state behind an operation
+-- the state after an operation
 abbrev pub state_after : StackEffect → StackState → StackState
 state_after e s = next_mode e.role (height_after e s) s.pieced
 
--- The end gives a result, of an expression with or without operations.
+-- The end of an expression, with or without operations, gives a result.
 abbrev pub has_result : Kind → Mode → Bool → Bool → ℕ → Bool
 has_result Location mode.AfterPiece empty pieced h = true
 has_result Location mode.Stack empty pieced h = empty || (not pieced && nat_le 1 h)

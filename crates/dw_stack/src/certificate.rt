@@ -26,7 +26,7 @@ impl<'a> Certificate<'a> {
     ghost use Rattle.std.specs.Prelude.{◌≡◌};
     ghost use Rattle.dw_stack.specs.Certificates.{checked_of, checked_in, states_in};
 
-    /// The state before each operation, in their order: the one that every path which comes there has.
+    /// The state before each operation, in their order: the one that every path to it has.
     pub fn states(&self) -> &[State]
         ensures value { result.now ≡ states_in self.now }
         ensures states { AreStatesOf (checked_in self.now).kind (checked_in self.now).target

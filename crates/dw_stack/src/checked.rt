@@ -9,8 +9,8 @@ use crate::state::Kind;
 use dw_bytes::Target;
 use dw_ops::Expression;
 
-/// An expression that was found good over all paths (`certify`, `recheck`), with what was learned of it. It keeps no
-/// memory: the expression's bytes are lent.
+/// An expression that was found good over all paths (`certify`, `recheck`), with what was learned about it. It owns no
+/// memory: the expression's bytes are borrowed.
 ///
 /// ```rust
 /// // DW_OP_lit2, DW_OP_lit3, DW_OP_plus
@@ -46,8 +46,8 @@ impl<'a> CheckedExpression<'a> {
     ghost use Rattle.dw_stack.specs.Expressions.{IsGoodExpression, IsDepthOf, RunsWellWithin, operations_in};
     ghost use Rattle.dw_stack.specs.Certificates.{checked_of};
 
-    /// An expression that is known to be good as this kind, with its depth and how many operations it has: a caller who kept these
-    /// proves that they are so, and nothing is judged again.
+    /// An expression that is known to be good as this kind, with its depth and the number of its operations. A caller
+    /// that stored these proves that they are right, and nothing is checked again.
     pub fn new(expression: Expression<'a>, kind: Kind, depth: u8, count: u32) -> Self
         requires { IsChecked (record {
           kind = kind;
@@ -73,7 +73,7 @@ impl<'a> CheckedExpression<'a> {
         }
     }
 
-    /// The expression that was handed in. Every path of it is fine, under its kind.
+    /// The expression that was passed in. Every path of it is fine, under its kind.
     pub fn expression(&self) -> Expression<'a>
         ensures bytes { bytes_of result ≡ (checked_of self.now).bytes }
         ensures target { target_of result ≡ (checked_of self.now).target }
@@ -83,14 +83,15 @@ impl<'a> CheckedExpression<'a> {
         Expression::new(self.bytes, self.target)
     }
 
-    /// The kind that was handed in.
+    /// The kind that was passed in.
     pub fn kind(&self) -> Kind
         ensures { result ≡ (checked_of self.now).kind }
     {
         self.kind
     }
 
-    /// The greatest height on any path, the start included, at most `MAX_HEIGHT`. No run of the expression has more entries.
+    /// The greatest stack height on any path, the start included, at most `MAX_HEIGHT`. No run of the expression has more
+    /// entries.
     pub fn depth(&self) -> u8
         ensures value { result ≡ (checked_of self.now).depth }
         ensures depth { IsDepthOf (checked_of self.now).kind (checked_of self.now).target
@@ -102,7 +103,7 @@ impl<'a> CheckedExpression<'a> {
         self.depth
     }
 
-    /// How many operations the bytes encode. `depth` promises that no run takes more steps (`runs`).
+    /// The number of operations that the bytes encode. `depth` promises that no run takes more steps (`runs`).
     pub fn operation_count(&self) -> u32
         ensures value { result ≡ (checked_of self.now).count }
         ensures count { result ≡ length

@@ -6,7 +6,7 @@ ghost use Rattle.dw_stack.specs.Effects.{plain_effect, context_effect, naming_ef
 
 use dw_ops::Operation;
 
-/// What an operation makes of the mode.
+/// What an operation does to the mode.
 #[derive(Clone, Copy)]
 pub enum Role {
     /// It computes.
@@ -24,18 +24,18 @@ pub enum Role {
 /// What an operation needs and does, and where it may lead.
 #[derive(Clone, Copy)]
 pub struct StackEffect {
-    /// The least height.
+    /// The least stack height.
     pub needs: u16,
-    /// How many entries it takes off the top.
+    /// How many entries it takes off the top of the stack.
     pub takes: u16,
-    /// How many it puts there.
+    /// How many entries it pushes.
     pub adds: u16,
     pub role: Role,
-    /// Whether the expressions of a frame may have it (DWARF 5, section 6.4.2).
+    /// Whether an expression of a frame may contain it (DWARF 5, section 6.4.2).
     pub allowed_in_cfi: bool,
     /// Whether the next operation may follow.
     pub falls_through: bool,
-    /// Where it may branch, counted from the next operation.
+    /// Where it may branch to, counted from the next operation.
     pub jump: Option<i16>,
 }
 
@@ -89,7 +89,7 @@ fn branches(needs: u16, falls_through: bool, offset: i16) -> StackEffect
     }
 }
 
-/// The line of an operation.
+/// The effect of an operation.
 #[inline(always)]
 pub fn effect(operation: &Operation<'_>) -> StackEffect
     ensures effect { result ≡ effect_of (operation_of operation.now) }

@@ -7,7 +7,7 @@ use crate::judge::OutState;
 use crate::state::StackState;
 use dw_bytes::FaultKind;
 
-/// The states with which an operation is reached by the edges seen so far.
+/// The states with which an operation is reached over the edges seen so far.
 #[derive(Clone, Copy)]
 pub enum InState {
     Unreached,
@@ -15,7 +15,7 @@ pub enum InState {
     Conflict,
 }
 
-/// What fills the places of a list that aren't used.
+/// Fills the unused slots of a list.
 impl Default for InState {
     fn default() -> Self
         ensures { result ≡ InState.Unreached }
@@ -49,7 +49,7 @@ fn receive(in_states: &mut [InState], j: usize, state: StackState)
     in_states[j] = merge(in_states[j], state);
 }
 
-/// Passes the state behind an operation on to those that may follow it.
+/// Passes the state after an operation on to those that may follow it.
 #[inline(always)]
 pub fn pass_on(in_states: &mut [InState], i: usize, out: &OutState)
     requires next { i + 1 < length in_states.old }
@@ -64,7 +64,7 @@ pub fn pass_on(in_states: &mut [InState], i: usize, out: &OutState)
     }
 }
 
-/// The one state with which an operation is reached.
+/// The single state with which an operation is reached.
 #[inline(always)]
 pub fn in_state_at(in_states: &[InState], i: usize) -> Result<StackState, FaultKind>
     requires { i < length in_states.now }

@@ -15,21 +15,21 @@ use dw_ops::Operation;
 /// The greatest height of a stack.
 pub const MAX_HEIGHT: u16 = 128;
 
-/// The greatest count of piece operations.
+/// The greatest number of piece operations.
 pub const MAX_PIECES: usize = 32;
 
 /// What an operation that was judged passes on.
 #[derive(Clone, Copy)]
 pub struct OutState {
-    /// The state behind it.
+    /// The state after it.
     pub state: StackState,
-    /// The height behind it, before a piece clears it.
+    /// The height after it, before a piece clears the stack.
     pub height: u8,
     /// Whether it names a piece.
     pub piece: bool,
     /// Whether the next operation may follow.
     pub falls_through: bool,
-    /// The number of the operation that it may branch to, the count of operations for the end.
+    /// The number of the operation that it may branch to; for the end, the number of all operations.
     pub target: Option<usize>,
 }
 
@@ -45,8 +45,8 @@ fn effect_at(operations: &[(u32, Operation<'_>)], i: usize) -> StackEffect
     effect(&operations[i].1)
 }
 
-/// Whether an operation of this effect may stand at this state, behind so many pieces. The height behind it, before a
-/// piece clears it.
+/// The height after an operation of this effect, before a piece clears the stack, if the operation is allowed at this
+/// state and after this number of pieces.
 #[inline(always)]
 pub fn suits(
     kind: Kind,
@@ -79,7 +79,7 @@ pub fn suits(
     Ok(height as u8)
 }
 
-/// Judges the operation numbered `i` at this state, behind so many pieces.
+/// Judges the operation numbered `i` at this state and after this number of pieces.
 #[inline(always)]
 pub fn judge(
     kind: Kind,

@@ -1,4 +1,4 @@
-//! Laws of expressions: functions that do nothing, each with the law as its contract.
+//! Laws of expressions: functions that do nothing. The contract of each is a law.
 
 ghost use Rattle.std.specs.Prelude.{◌≡◌, ◌+◌, ◌<◌, ◌≤◌, ◌⊎◌, ◌↔◌, ℕ, suc, ℤ, pos, List, length, slice_get, Option, Some, None, Ok};
 ghost use Rattle.dw_bytes.specs.declared.target.Target.{Target};
@@ -17,16 +17,16 @@ ghost use Rattle.dw_stack.specs.FirstFault.{expression_fault};
 
 use crate::judge::{MAX_HEIGHT, MAX_PIECES};
 
-/// Every run of a good expression, whatever the registers, the memory and the context, follows a path, is as the state
-/// there says, goes forward, never has more entries than the depth, takes no more steps than there are operations, and is
-/// never stuck.
+/// Every run of a good expression, whatever the registers, the memory and the context, follows a path, agrees with the
+/// state there, goes forward, never has more entries than the depth, takes no more steps than there are operations, and
+/// is never stuck.
 pub fn good_expressions_run_well()
     ensures { (kind : Kind) (target : Target) (bytes : List ℕ) (depth : ℕ)
         → IsGoodExpression kind target bytes → IsDepthOf kind target bytes depth
         → RunsWellWithin kind target bytes depth }
 {}
 
-/// Wherever a run of a good expression stands at an operation, its height, its mode and whether a piece came before are those
+/// Whenever a run of a good expression is at an operation, its height, its mode and whether a piece came before are those
 /// of the certificate's state there.
 pub fn runs_are_as_certified()
     ensures { (kind : Kind) (target : Target) (bytes : List ℕ) (states : List State)
@@ -38,7 +38,7 @@ pub fn runs_are_as_certified()
         → (s : StackState) × (slice_get states k ≡ Some (at_offset d.offset s)) × Agrees s d }
 {}
 
-/// A run of a good expression stands where an operation begins, or at the end, and never inside an operation.
+/// A run of a good expression is where an operation begins, or at the end, and never inside an operation.
 pub fn runs_stand_on_operations()
     ensures { (kind : Kind) (target : Target) (bytes : List ℕ) → IsGoodExpression kind target bytes
         → (m : Meaning) (c d : Configuration) (n : ℕ) → Starts kind c
@@ -46,8 +46,8 @@ pub fn runs_stand_on_operations()
         → IsStart (operations_in target bytes) (length bytes) d.offset }
 {}
 
-/// A run of a good expression has one end: for the same registers, memory and context, and from the same start, any two that
-/// are over took as many steps and stand in the same configuration.
+/// A run of a good expression has one end: for the same registers, memory and context, and from the same start, any two
+/// that are over took as many steps and are in the same configuration.
 pub fn runs_are_determined()
     ensures { (kind : Kind) (target : Target) (bytes : List ℕ) → IsGoodExpression kind target bytes
         → (m : Meaning) (n k : ℕ) (c d e : Configuration)
@@ -63,7 +63,7 @@ pub fn expression_limits()
     ensures pieces { MAX_PIECES ≡ 32 }
 {}
 
-/// A good expression has no fault, nor has it one where the given states are its own.
+/// A good expression has no fault, and none either if the given states are its own.
 pub fn good_expressions_have_no_fault()
     ensures alone { (kind : Kind) (target : Target) (bytes : List ℕ) (f : Fault)
         → IsGoodExpression kind target bytes → ¬ IsFaultOf kind target bytes None f }
@@ -72,8 +72,8 @@ pub fn good_expressions_have_no_fault()
         → ¬ IsFaultOf kind target bytes given f }
 {}
 
-/// Every expression is good or has a first fault. Where states are given, it is good and they are its states, or it has a first
-/// fault.
+/// Every expression is good or has a first fault. If states are given, it is good and they are its states, or it has a
+/// first fault.
 pub fn every_expression_has_a_verdict()
     ensures alone { (kind : Kind) (target : Target) (bytes : List ℕ)
         → IsGoodExpression kind target bytes ⊎ ((f : Fault) × IsFaultOf kind target bytes None f) }
@@ -82,8 +82,8 @@ pub fn every_expression_has_a_verdict()
         ⊎ ((f : Fault) × IsFaultOf kind target bytes given f) }
 {}
 
-/// The fault that a function of the bytes names is the first fault: none exactly where the expression is good, and f exactly
-/// where f is its first fault.
+/// The fault that a function of the bytes names is the first fault: none exactly if the expression is good, and f exactly
+/// if f is its first fault.
 pub fn the_fault_is_the_first()
     ensures none { (kind : Kind) (target : Target) (bytes : List ℕ)
         → (expression_fault kind target bytes ≡ None) ↔ IsGoodExpression kind target bytes }
@@ -91,13 +91,13 @@ pub fn the_fault_is_the_first()
         → (expression_fault kind target bytes ≡ Some f) ↔ IsFaultOf kind target bytes None f }
 {}
 
-/// The first fault of an expression stands inside it, or at its end.
+/// The first fault of an expression is inside it, or at its end.
 pub fn expression_faults_stand_inside()
     ensures { (kind : Kind) (target : Target) (bytes : List ℕ) (f : Fault)
         → expression_fault kind target bytes ≡ Some f → f.at ≤ length bytes }
 {}
 
-/// There is one first fault.
+/// There is only one first fault.
 pub fn first_faults_are_unique()
     ensures { (kind : Kind) (target : Target) (bytes : List ℕ) (given : Option (List State))
         (f g : Fault) → IsFaultOf kind target bytes given f → IsFaultOf kind target bytes given g
@@ -110,7 +110,7 @@ pub fn each_has_a_depth()
         → (d : ℕ) × IsDepthOf kind target bytes d }
 {}
 
-/// There is one depth.
+/// There is only one depth.
 pub fn depths_are_unique()
     ensures { (kind : Kind) (target : Target) (bytes : List ℕ) (d e : ℕ)
         → IsDepthOf kind target bytes d → IsDepthOf kind target bytes e → d ≡ e }
@@ -122,7 +122,7 @@ pub fn each_has_a_certificate()
         → (s : List State) × AreStatesOf kind target bytes s }
 {}
 
-/// A good expression has one list of states.
+/// A good expression has only one list of states.
 pub fn certificates_are_unique()
     ensures { (kind : Kind) (target : Target) (bytes : List ℕ) (s t : List State)
         → IsGoodExpression kind target bytes → AreStatesOf kind target bytes s
@@ -141,7 +141,7 @@ pub fn operations_stand_in_the_bytes()
         (x.1, reading_at target bytes (place (operations_in target bytes) (length bytes) (k + 1))) }
 {}
 
-/// Operations that follow each other begin one behind the other, and the end is behind them all.
+/// Operations that follow each other begin one after another, and the end is after them all.
 pub fn places_ascend()
     ensures begins { (ops : List Placed) (len k : ℕ) (x : Placed) → slice_get ops k ≡ Some x
         → place ops len k ≡ x.0 }
@@ -153,8 +153,8 @@ pub fn places_ascend()
     ensures few { (ops : List Placed) (len : ℕ) → IsLaidOut ops len → length ops ≤ len }
 {}
 
-/// Operations that bytes encode, one after the other, follow each other from the first byte to the end, and each is read at its
-/// offset.
+/// Operations that bytes encode, one after another, follow each other from the first byte to the end, and each is read at
+/// its offset.
 pub fn encoded_operations_stand_in_the_bytes()
     ensures laid { (target : Target) (bytes : List ℕ) (ops : List Placed)
         → AreOperations target 0 bytes ops → IsLaidOut ops (length bytes) }
@@ -165,7 +165,7 @@ pub fn encoded_operations_stand_in_the_bytes()
         (x.1, reading_at target bytes (place (operations_in target bytes) (length bytes) (k + 1))) }
 {}
 
-/// A run and one step more are a run.
+/// A run and one more step are a run.
 pub fn runs_go_on()
     ensures { (m : Meaning) (ops : List Placed) (len n : ℕ) (c d e : Configuration)
         → Run m ops len n c d → Step m ops len d e → Run m ops len (suc n) c e }
@@ -183,19 +183,19 @@ pub fn runs_over_operations_are_determined()
         → (kind : Kind) (c : Configuration) → Ended kind ops len c → ¬ Meets ops c }
 {}
 
-/// A branch of operations that are good over all paths leads ahead.
+/// A branch in operations that are good over all paths leads forward.
 pub fn branches_lead_ahead()
     ensures { (kind : Kind) (ops : List Placed) (len : ℕ) → IsLaidOut ops len → IsGood kind ops len
         → (k : ℕ) (x : Placed) (z : ℤ) → slice_get ops k ≡ Some x
         → (effect_of x.1).jump ≡ Some z → (n : ℕ) × (z ≡ pos n) }
 {}
 
-/// Where it is known that an expression is checked, but not how, it is: the check can be done again.
+/// If it is known that an expression is checked, but not how, then it is checked: the check can be repeated.
 pub fn checked_expressions_are_known()
     ensures { (c : Checked) → ∥ IsChecked c ∥₁ → IsChecked c }
 {}
 
-/// Where a path comes to an operation of a good expression, all that it needs is there.
+/// Where a path reaches an operation of a good expression, everything that the operation needs is there.
 pub fn needs_are_met()
     ensures { (kind : Kind) (target : Target) (bytes : List ℕ) → IsGoodExpression kind target bytes
         → (c : Configuration) (s : StackState)

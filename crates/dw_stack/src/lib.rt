@@ -1,5 +1,5 @@
-//! The certificate of expressions over all paths (DWARF 5, sections 2.5 and 2.6): their stacks are never too low and
-//! never too high, whatever the branches do.
+//! The certificate of expressions over all paths (DWARF 5, sections 2.5 and 2.6): their stacks are never too low or too
+//! high, whatever the branches do.
 #![tactic(auto)]
 
 mod certificate;

@@ -16,7 +16,7 @@ use dw_ops::Operation;
 use smallvec::SmallVec;
 use std::alloc::Global;
 
-/// What a pass over good operations makes.
+/// The result of a pass over good operations.
 #[derive(Drop)]
 pub struct Passed {
     /// The state before each operation.
@@ -31,7 +31,7 @@ fn refusal(kind: FaultKind, at: u32) -> Fault
     Fault { kind, at }
 }
 
-/// What arrives before any operation was judged: the start's state at the first place.
+/// What arrives before any operation was judged: the start's state, in the first slot.
 fn first_arrivals(
     alloc: Global,
     count: usize,
@@ -47,8 +47,8 @@ fn first_arrivals(
     Ok(in_states)
 }
 
-/// One pass over the operations in order, which compares with the given states where there are some. Each branch looks for
-/// its target by halving: n operations with b branches take n + b log n. Up to 16 operations take no memory.
+/// One pass over the operations in order, which compares with the given states if there are some. Each branch finds its
+/// target by binary search: n operations with b branches take time n + b log n. Up to 16 operations take no memory.
 #[tactic(auto, using(crate::proofs::Places::count_le))]
 pub fn pass(
     alloc: Global,

@@ -11,8 +11,8 @@ use crate::checked::CheckedExpression;
 use crate::state::Kind;
 use dw_ops::Expression;
 
-/// Checks a location that is one byte which names a register, DW_OP_reg0 to DW_OP_reg31; nothing where it is another, good or
-/// not. Of the expressions of real location lists 97 of 100 are such a byte. It is a shortcut: who gets nothing asks
+/// Checks a location that is a single byte which names a register, DW_OP_reg0 to DW_OP_reg31; `None` for any other, good
+/// or not. Of the expressions of real location lists 97 of 100 are such a byte. This is a shortcut: on `None`, call
 /// `check_expression`.
 #[inline(always)]
 pub fn check_register<'a>(expression: Expression<'a>) -> Option<CheckedExpression<'a>>

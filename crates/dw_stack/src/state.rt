@@ -5,7 +5,7 @@ ghost use Rattle.dw_stack.specs.States.{start_of, stands_alone, has_result, next
 
 use crate::effect::Role;
 
-/// What an expression is for, which says what it starts with, what it may have and what it has to give.
+/// What an expression is for. It decides what the expression starts with, what it may contain and what it must give.
 #[derive(Clone, Copy, Debug, PartialEq, Eq)]
 pub enum Kind {
     /// The CFA's rule (DWARF 5, section 6.4.2.2). It starts with an empty stack and gives its top.
@@ -29,12 +29,12 @@ pub enum Mode {
     AfterPiece,
 }
 
-/// The state before an operation, on every path that comes to it.
+/// The state before an operation, on every path that reaches it.
 #[derive(Clone, Copy, Debug, PartialEq, Eq)]
 pub struct State {
     /// The operation's offset, in bytes from the expression's first byte.
     pub offset: u32,
-    /// How many entries the stack has, the CFA of a register's rule included.
+    /// The number of entries on the stack, including the CFA of a register's rule.
     pub height: u8,
     /// What a piece or the end would find there.
     pub mode: Mode,
@@ -42,7 +42,7 @@ pub struct State {
     pub pieced: bool,
 }
 
-/// What fills the places of a list that aren't used.
+/// Fills the unused slots of a list.
 impl Default for State {
     fn default() -> Self
         ensures { result ≡ at_offset 0 (start_of Kind.Location) }
@@ -56,7 +56,7 @@ impl Default for State {
     }
 }
 
-/// A state without the place that has it.
+/// A state without the offset of its operation.
 #[derive(Clone, Copy, PartialEq, Eq)]
 pub struct StackState {
     pub height: u8,
@@ -65,7 +65,7 @@ pub struct StackState {
 }
 
 impl StackState {
-    /// The same at an offset.
+    /// The same state at an offset.
     #[inline(always)]
     pub fn at(self, offset: u32) -> State
         ensures { result ≡ at_offset offset self }
@@ -102,7 +102,7 @@ pub fn start_state(kind: Kind) -> StackState
     }
 }
 
-/// Whether an operation of this role may stand at this state.
+/// Whether an operation of this role is allowed at this state.
 #[inline(always)]
 pub fn may_stand_at_state(role: Role, state: StackState) -> bool
     ensures { result ≡ stands_alone role state.mode state.height }
@@ -124,7 +124,7 @@ pub fn may_stand_at_state(role: Role, state: StackState) -> bool
     }
 }
 
-/// The state behind an operation of this role that leaves this height.
+/// The state after an operation of this role that leaves this height.
 #[inline(always)]
 pub fn next_state(role: Role, height: u8, pieced: bool) -> StackState
     ensures { result ≡ next_mode role height pieced }
@@ -142,7 +142,7 @@ pub fn next_state(role: Role, height: u8, pieced: bool) -> StackState
     }
 }
 
-/// Whether the end gives a result, of an expression with or without operations.
+/// Whether an expression, with or without operations, has a result if it ends at this state.
 pub fn has_result(kind: Kind, is_empty: bool, state: StackState) -> bool
     ensures { result ≡ has_result kind state.mode is_empty state.pieced state.height }
 {

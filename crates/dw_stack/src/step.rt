@@ -13,7 +13,7 @@ use crate::target::place_of_operation;
 use dw_bytes::FaultKind;
 use dw_ops::Operation;
 
-/// What one step learned of its operation.
+/// What one step learned about its operation.
 #[derive(Clone, Copy)]
 pub struct Done {
     pub state: StackState,

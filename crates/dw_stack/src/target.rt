@@ -22,7 +22,7 @@ pub fn place_of_operation(operations: &[(u32, Operation<'_>)], end: u32, i: usiz
     }
 }
 
-/// Where a jump leads that is counted from the next operation; nowhere for one backward.
+/// Where a jump leads, counted from the next operation; `None` for a backward jump.
 #[inline(always)]
 fn jump_target(next: u32, jump: i16) -> Option<u64>
     ensures { result ≡ branch_target next jump }
@@ -33,7 +33,7 @@ fn jump_target(next: u32, jump: i16) -> Option<u64>
     Some(u64::from(next) + jump as u64)
 }
 
-/// The number of the operation behind `from` that begins at the target, or of the end, by halving.
+/// The number of the operation after `from` that begins at the target, or of the end, by binary search.
 #[tactic(auto, using(crate::proofs::Lists::places))]
 fn place_at_target(
     operations: &[(u32, Operation<'_>)],
@@ -66,7 +66,7 @@ fn place_at_target(
     }
 }
 
-/// The number of the operation behind `from` that begins so far behind it, or of the end.
+/// The number of the operation after `from` that a jump leads to, or of the end.
 #[tactic(auto, using(crate::proofs::Lists::places))]
 #[inline(always)]
 pub fn place_of_jump(

@@ -1,18 +1,18 @@
-//! What an ABI says of registers that a row gives no rule.
+//! ABI rules for registers to which a row gives no rule.
 
 use crate::inputs::{FUNCTION, LITTLE};
 use dw_bytes::Fault;
 use dw_rows::{Abi, CheckedFrame, check_frame};
 use std::alloc::Global;
 
-/// The number of the fault of an ABI that keeps these registers and has this stack pointer, and its place.
+/// The fault number and index for an ABI with these callee-saved registers and this stack pointer, if it is refused.
 fn refused(kept: &[u16], stack_pointer: Option<u16>) -> Option<(u8, u32)> {
     Abi::new(kept, stack_pointer)
         .err()
         .map(|fault| (fault.kind.number(), fault.at))
 }
 
-/// The same of an ABI that keeps the numbers from 0, so many of them, 128 at most.
+/// The same for an ABI whose callee-saved registers are 0 to `count` - 1; `count` is at most 128.
 fn refused_from_zero(count: usize, stack_pointer: Option<u16>) -> Option<(u8, u32)> {
     let mut numbers = [0; 128];
     for number in 0..128u16 {
@@ -21,7 +21,7 @@ fn refused_from_zero(count: usize, stack_pointer: Option<u16>) -> Option<(u8, u3
     refused(&numbers[..count.min(128)], stack_pointer)
 }
 
-/// Registers that are kept, stack pointers, and the number of the fault and its place.
+/// Callee-saved registers, stack pointers, and the fault's number and index.
 const NAMED: [(&[u16], Option<u16>, Option<(u8, u32)>); 7] = [
     (&[6, 7, 6], None, Some((63, 2))),
     (&[6, 7, 6], Some(7), Some((63, 2))),
@@ -43,7 +43,7 @@ fn names_a_register_that_stands_twice(rt: HostRuntime) {
     }
 }
 
-/// How many numbers from 0 are kept, stack pointers, and the number of the fault and its place.
+/// The number of callee-saved registers, counted from register 0, stack pointers, and the fault's number and index.
 const COUNTED: [(usize, Option<u16>, Option<(u8, u32)>); 4] = [
     (128, None, Some((62, 127))),
     (127, None, None),
@@ -62,7 +62,7 @@ fn keeps_127_registers_and_a_stack_pointer(rt: HostRuntime) {
     }
 }
 
-/// Registers of the row of an address under an ABI, as text: each with its rule.
+/// The registers of an address's row under an ABI, as text: each with its rule.
 fn registers_at(
     alloc: Global,
     frame: &CheckedFrame<'_>,
@@ -79,7 +79,7 @@ fn registers_at(
     Some(text)
 }
 
-/// Addresses of the function, and what an ABI says there of registers: 6 has a rule from 0x1001 on, and 16 in each row.
+/// Addresses of the function, and the ABI's rules for registers there: 6 has a rule from 0x1001 on, and 16 in each row.
 const REGISTERS: [(u64, &str); 2] = [
     (
         0x1000,
@@ -108,7 +108,7 @@ fn gives_registers_under_an_abi(rt: HostRuntime) -> Result<(), Fault> {
     Ok(())
 }
 
-/// The rules of a row under an ABI as text.
+/// The rules of a row under an ABI, as text.
 fn rules_at(alloc: Global, frame: &CheckedFrame<'_>, abi: &Abi, address: u64) -> Option<String> {
     let row = frame.row_for_address(address)?;
     let mut text = String::new(alloc);

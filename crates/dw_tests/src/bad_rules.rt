@@ -1,4 +1,4 @@
-//! Rules whose expressions are bad, each in its own way, and what is judged before and behind them.
+//! Rules with bad expressions, each bad in its own way, and what is checked before and after them.
 
 use crate::inputs::LITTLE;
 use dw_bytes::{Fault, FaultKind};
@@ -6,17 +6,18 @@ use dw_check::{CheckFault, Section, check};
 use dw_stack::MAX_HEIGHT;
 use std::alloc::{AllocError, Global};
 
-/// What stands before the program of a CIE, behind its length: the CFA is register 7 and 8, and register 16 is saved 8 below it.
+/// The part of a CIE between its length and its program: the CFA is register 7 plus 8, and register 16 is saved 8 below
+/// it.
 const CIE: [u8; 16] = [
     0xff, 0xff, 0xff, 0xff, 4, 0, 8, 0, 1, 0x78, 0x10, 0x0c, 7, 8, 0x90, 1,
 ];
 
-/// What stands before the program of an FDE of that CIE, behind its length: it covers 0x1000 to 0x1020.
+/// The part of an FDE of that CIE between its length and its program: it covers 0x1000 to 0x1020.
 const FDE: [u8; 20] = [
     0, 0, 0, 0, 0, 0x10, 0, 0, 0, 0, 0, 0, 0x20, 0, 0, 0, 0, 0, 0, 0,
 ];
 
-/// As many literals as an expression may push where nothing stands before them.
+/// The greatest number of literals that an expression may push onto an empty stack.
 const DEEP: [u8; MAX_HEIGHT as usize] = [0x30; MAX_HEIGHT as usize];
 
 /// Expressions of registers, which begin with the CFA on the stack, and the fault of each, counted from its first byte.
@@ -59,7 +60,7 @@ fn push_record(section: &mut Vec<u8>, header: &[u8], program: &[u8]) -> Option<(
     section.extend_from_slice(program).ok()
 }
 
-/// The first fault of a CIE that goes on with one program, and an FDE with the other.
+/// The first fault of a CIE whose program continues with `common`, and an FDE whose program is `own`.
 fn first_fault(alloc: Global, common: &[u8], own: &[u8]) -> Option<CheckFault> {
     let mut section = Vec::new(alloc);
     push_record(&mut section, &CIE, common)?;
@@ -67,7 +68,7 @@ fn first_fault(alloc: Global, common: &[u8], own: &[u8]) -> Option<CheckFault> {
     check(alloc, section.as_slice(), &[], LITTLE).err()
 }
 
-/// Saves register 6 where an expression says, which begins at the fifth byte.
+/// A rule that saves register 6 at the address of an expression, which begins at the fifth byte.
 fn saved_by(alloc: Global, expression: &[u8]) -> Option<Vec<u8>> {
     let length = u8::try_from(expression.len()).ok()?;
     let mut program = Vec::new(alloc);
@@ -78,7 +79,7 @@ fn saved_by(alloc: Global, expression: &[u8]) -> Option<Vec<u8>> {
     Some(program)
 }
 
-/// The first fault where the expression stands in a CIE, and where it stands in an FDE.
+/// The first fault with the expression in a CIE, and with it in an FDE.
 fn faults_by(alloc: Global, expression: &[u8]) -> Option<(CheckFault, CheckFault)> {
     let program = saved_by(alloc, expression)?;
     let common = first_fault(alloc, &program, &[])?;
@@ -131,7 +132,7 @@ fn names_the_fault_that_comes_before_an_expressions(rt: HostRuntime) {
     }
 }
 
-/// A program with as many rules as there may be, and behind them this one.
+/// A program with the greatest number of rules, followed by this one.
 fn behind_most(alloc: Global, rule: &[u8]) -> Result<Vec<u8>, AllocError> {
     let mut program = Vec::new(alloc);
     for register in 0..128u8 {
@@ -141,13 +142,13 @@ fn behind_most(alloc: Global, rule: &[u8]) -> Result<Vec<u8>, AllocError> {
     Ok(program)
 }
 
-/// Rules behind them, with a bad expression and with a good one.
+/// Rules after them, with a bad expression and with a good one.
 const ONE_TOO_MANY: [(&[u8], FaultKind, u32); 2] = [
     (&[0x10, 0x80, 1, 1, 0x18], FaultKind::UnknownOperation, 304),
     (&[0x10, 0x80, 1, 0], FaultKind::TooManyRules, 300),
 ];
 
-/// The expression of the rule that is one too many is judged before their number.
+/// The expression of the rule that is one too many is checked before the number of rules.
 #[test]
 fn names_an_expressions_fault_before_too_many_rules(rt: HostRuntime) -> Result<(), AllocError> {
     for &(rule, kind, at) in &ONE_TOO_MANY {

@@ -1,17 +1,17 @@
-//! Callers of frames by the library's own calls.
+//! Callers of frames, found by the library's own calls.
 
 use crate::inputs::{FUNCTION, LITTLE, OneRegister, Unknown};
 use dw_check::{Answer, Caller, check, unwind, unwind_by, unwind_by_section};
 use dw_rows::{Abi, check_frame};
 use std::alloc::Global;
 
-/// All that is known of the frame: register 6, as in the worked unwinding of the function.
+/// The only known register of the frame: register 6, as in the worked unwinding of the function.
 const REGISTERS: OneRegister = OneRegister {
     known: 6,
     content: 0x7f00,
 };
 
-/// Whether it is the worked caller at 0x1010: the CFA is 16 above register 6, and all that is saved below it can't be read.
+/// Whether it is the worked caller at 0x1010: the CFA is 16 above register 6, and what is saved below it can't be read.
 fn is_worked(caller: &Option<Caller>) -> bool {
     let Some(caller) = caller else {
         return false;
@@ -22,7 +22,8 @@ fn is_worked(caller: &Option<Caller>) -> bool {
         && caller.return_address == Answer::Unreadable
 }
 
-/// The callers at an address, without an ABI or under one that says nothing: over both sections, the frame section and its table.
+/// The callers at an address, without an ABI or under one without rules: by both sections, the frame section and its
+/// table.
 fn callers(alloc: Global, address: u64) -> Option<[Option<Caller>; 3]> {
     let checked = check(alloc, &FUNCTION, &[], LITTLE).ok()?;
     let frame = check_frame(alloc, &FUNCTION, LITTLE).ok()?;

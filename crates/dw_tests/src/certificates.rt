@@ -1,4 +1,4 @@
-//! Expressions, their depths and counts of operations, and their first faults.
+//! Expressions, their depths and numbers of operations, and their first faults.
 
 use crate::inputs::LITTLE;
 use dw_bytes::{Fault, FaultKind};
@@ -7,10 +7,10 @@ use dw_stack::{Kind, certify, check_expression};
 use std::alloc::{AllocError, Global};
 use std::process::Abort;
 
-/// The depth and the count of operations, or the refusal.
+/// The depth and the number of operations, or the fault.
 pub(crate) type Verdict = Result<(u8, u32), Fault>;
 
-/// The verdict on an expression.
+/// The result of checking an expression.
 pub(crate) fn judged(rt: &impl Abort, alloc: Global, bytes: &[u8], kind: Kind) -> Verdict {
     assert!(rt; bytes.len() < 0x1_0000);
     let checked = check_expression(alloc, Expression::new(bytes, LITTLE), kind)?;
@@ -21,7 +21,7 @@ pub(crate) fn refusal(kind: FaultKind, at: u32) -> Verdict {
     Err(Fault { kind, at })
 }
 
-/// Expressions, and the depth and the count of operations of each; the last two branch.
+/// Expressions, and the depth and the number of operations of each; the last two branch.
 const ACCEPTED: [(&[u8], Kind, u8, u32); 5] = [
     (&[], Kind::Location, 0, 0),
     (&[0x35], Kind::FrameCfa, 1, 1),
@@ -38,7 +38,7 @@ fn gives_the_depth_and_count_of_what_is_good(rt: HostRuntime) {
     }
 }
 
-/// Expressions, and the first fault of each: of reading, of the kind, and of a path.
+/// Expressions, and the first fault of each: in reading, by its kind, and on a path.
 const REFUSED: [(&[u8], Kind, FaultKind, u32); 3] = [
     (&[0x12, 0x08], Kind::Location, FaultKind::Truncated, 2),
     (&[0x9f], Kind::FrameCfa, FaultKind::NotInFrame, 0),
@@ -53,7 +53,7 @@ fn names_the_first_fault_of_what_is_bad(rt: HostRuntime) {
     }
 }
 
-/// The same bytes so many times.
+/// Appends the same bytes `count` times.
 pub(crate) fn push_times(bytes: &mut Vec<u8>, part: &[u8], count: usize) -> Result<(), AllocError> {
     for _ in 0..count {
         bytes.extend_from_slice(part)?;

@@ -1,4 +1,4 @@
-//! Sections that are cut or changed: a check answers, and what it accepts holds together.
+//! Sections that are cut or changed: each check gives an answer, and what it accepts is consistent.
 
 use crate::inputs::{EXPRESSIONS, FUNCTION, LITTLE, OVERLAPPING, PAIR_AND_DEFAULT, Unknown};
 use dw_bytes::{Fault, FaultKind};
@@ -18,7 +18,7 @@ fn text_of(alloc: Global, row: &UnwindTableRow<'_, '_>) -> Result<String, AllocE
     Ok(text)
 }
 
-/// A look-up of this address gives this row.
+/// A look-up of this address finds this row.
 fn is_found(
     rt: &impl Abort,
     alloc: Global,
@@ -36,7 +36,7 @@ fn is_found(
     Ok(())
 }
 
-/// The rows of the FDE that covers these addresses lie one behind the other over them, and no look-up disagrees.
+/// The rows of the FDE that covers these addresses cover them one after the other, and each look-up agrees.
 fn rows_cover(
     rt: &impl Abort,
     alloc: Global,
@@ -59,7 +59,7 @@ fn rows_cover(
     Ok(())
 }
 
-/// The rows beside these addresses, if there are any, don't reach into them.
+/// The rows next to these addresses, if any, don't overlap them.
 fn rows_end(rt: &impl Abort, frame: &CheckedFrame<'_>, start: u64, end: u64) {
     if let Some(row) = frame.row_for_address(end) {
         assert!(rt; row.start_address() >= end);
@@ -71,7 +71,7 @@ fn rows_end(rt: &impl Abort, frame: &CheckedFrame<'_>, start: u64, end: u64) {
     }
 }
 
-/// Where an address is covered, it has a row and a caller, and else none.
+/// An address that is covered has a row and a caller, any other none.
 fn covered_have_callers(rt: &impl Abort, checked: &Checked<'_>, address: u64) {
     let is_covered = checked.frame().fde_for_address(address).is_some();
     let has_row = checked.frame().row_for_address(address).is_some();
@@ -80,7 +80,7 @@ fn covered_have_callers(rt: &impl Abort, checked: &Checked<'_>, address: u64) {
     assert_eq!(rt; caller.is_some(), is_covered);
 }
 
-/// All this of each FDE.
+/// All this for each FDE.
 fn rows_agree(rt: &impl Abort, alloc: Global, checked: &Checked<'_>) -> Result<(), AllocError> {
     let frame = checked.frame();
     for fde in frame.fdes() {
@@ -108,7 +108,7 @@ fn has_expression(lists: &CheckedLists<'_>, offset: u32) -> bool {
     false
 }
 
-/// Each list is found, and what it says of an address are expressions of the section.
+/// Each list is found, and the expressions that it gives at an address are the section's.
 fn lists_agree(rt: &impl Abort, lists: &CheckedLists<'_>) {
     for list in lists.lists() {
         let Some(found) = lists.list(list.offset()) else {
@@ -123,7 +123,7 @@ fn lists_agree(rt: &impl Abort, lists: &CheckedLists<'_>) {
     }
 }
 
-/// A check answers; its refusal stands in the section that it names, and what it accepts agrees.
+/// A check gives an answer; its fault is in the section that it names, and what it accepts is consistent.
 fn answers(rt: &impl Abort, alloc: Global, frame: &[u8], lists: &[u8]) -> Result<(), AllocError> {
     match check(alloc, frame, lists, LITTLE) {
         Ok(checked) => {
@@ -142,7 +142,7 @@ fn answers(rt: &impl Abort, alloc: Global, frame: &[u8], lists: &[u8]) -> Result
     }
 }
 
-/// What `answers` says of a section, as a frame section or as lists.
+/// `answers` for a section, as a frame section or as lists.
 fn section_answers(
     rt: &impl Abort,
     alloc: Global,
@@ -155,7 +155,7 @@ fn section_answers(
     }
 }
 
-/// The same of each beginning, and of each change of one byte.
+/// The same for each beginning of the section, and for each change of one byte.
 fn each_change_answers(
     rt: &impl Abort,
     alloc: Global,
@@ -211,7 +211,7 @@ const FUNCTION_CHANGES: [(usize, u8, FaultKind, u32); 12] = [
     (55, 0x80, FaultKind::Truncated, 55),
 ];
 
-/// Changes of the list of a pair and a default.
+/// Changes of the list with a pair and a default.
 const LIST_CHANGES: [(usize, u8, FaultKind, u32); 9] = [
     (0, 0x11, FaultKind::NoEnd, 21),
     (4, 4, FaultKind::ListVersion, 4),
@@ -224,7 +224,7 @@ const LIST_CHANGES: [(usize, u8, FaultKind, u32); 9] = [
     (21, 5, FaultKind::Truncated, 22),
 ];
 
-/// The section with another byte.
+/// The section with one byte changed.
 fn changed(
     rt: &impl Abort,
     alloc: Global,
@@ -281,7 +281,7 @@ const ROW_CHANGES: [(usize, u8, u64, &str); 2] = [
     ),
 ];
 
-/// The row of an address as text, where the section is accepted.
+/// The row of an address as text, if the section is accepted.
 fn row_at(alloc: Global, section: &[u8], address: u64) -> Option<String> {
     let checked = check(alloc, section, &[], LITTLE).ok()?;
     let row = checked.frame().row_for_address(address)?;

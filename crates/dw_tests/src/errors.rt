@@ -1,4 +1,4 @@
-//! Errors as text, and those that are made of others.
+//! Errors as text, and errors converted from others.
 
 use crate::inputs::{FUNCTION, LITTLE};
 use crate::texts::cases::asked;
@@ -8,7 +8,7 @@ use std::alloc::{AllocError, Global};
 use std::error::Error;
 use std::process::Abort;
 
-/// Every kind, as docs/PROFILE.md numbers and names it.
+/// Every kind, with the number and name in docs/PROFILE.md.
 const KINDS: [(FaultKind, u8, &str); 47] = [
     (FaultKind::Truncated, 1, "Truncated"),
     (FaultKind::LebRange, 2, "LebRange"),

@@ -1,4 +1,4 @@
-//! Callers that are proved: what a caller learns from the contracts of `dw_rows`, `dw_eval` and `dw_check`.
+//! Proved callers: what a caller learns from the contracts of `dw_rows`, `dw_eval` and `dw_check`.
 
 ghost use Rattle.std.specs.Prelude.{◌≡◌, ◌<◌, ◌^◌, ℕ, None, Some, IfSome, option_map};
 ghost use Rattle.dw_unwind.specs.Caller.{Unwinds, machine};
@@ -16,10 +16,10 @@ use dw_eval::{Context, Memory, Outcome, Registers, evaluate};
 use dw_rows::{Abi, CheckedFrame, RegisterRule, UnwindTable};
 use dw_stack::CheckedExpression;
 
-/// Where a function has saved a register at an address: so many bytes from the CFA.
+/// Where a function has saved a register at an address: the offset from the CFA in bytes.
 ///
-/// It is the rule of the one row that has the address (`dw_rows::laws::exact_rows`): the look-up can't fail, so `None` says
-/// that no FDE covers the address, or that the register has another rule.
+/// It is the rule of the one row that has the address (`dw_rows::laws::exact_rows`): the look-up can't fail, so `None`
+/// means that no FDE covers the address, or that the register has another rule.
 pub fn saved_offset(frame: &CheckedFrame<'_>, address: u64, register: u16) -> Option<i64>
     ensures { IfSome result (λ n. (row : Row) × (row_of frame.now address ≡ Some row)
         × (rule_in row.rules register ≡ offset n)) }
@@ -31,10 +31,10 @@ pub fn saved_offset(frame: &CheckedFrame<'_>, address: u64, register: u16) -> Op
     }
 }
 
-/// What a checked expression gives over some registers and memory, if it gives a value.
+/// The value of a checked expression with given registers and memory, if it has a value.
 ///
-/// That a run ends, within its number of operations and with the standard's value, needs no test here: it is what
-/// `CheckedExpression` promises. `None` says that something isn't known, or that the expression is a location.
+/// That a run ends, within its number of operations and with the standard's value, needs no test here:
+/// `CheckedExpression` promises it. `None` means that something isn't known, or that the expression is a location.
 pub fn computed_value<R: Registers, M: Memory>(
     expression: &CheckedExpression<'_>,
     registers: &R,
@@ -63,8 +63,8 @@ pub fn computed_value<R: Registers, M: Memory>(
     }
 }
 
-/// The caller of a frame by a table that was compiled before: of whichever section it is a table, it is the caller by that section,
-/// the bytes of which may be gone.
+/// The caller of a frame by a table that was compiled before. It is the caller by the table's section, whichever that is;
+/// the section's bytes may be gone.
 pub fn caller_by_table<R: Registers, M: Memory>(
     table: &UnwindTable,
     abi: &Abi,

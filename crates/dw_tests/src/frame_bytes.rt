@@ -4,7 +4,7 @@ use crate::inputs::{BIG_FUNCTION, BIG_SHORT, FUNCTION, LITTLE, bytes_of};
 use dw_bytes::{AddressSize, Fault, FaultKind, Format, Order, Target};
 use dw_frame::{CallFrameInstruction, Entry, cie_at, entries};
 
-/// The first fault of the records of a section, and where it stands.
+/// The first fault of the records of a section, and its offset.
 fn first_fault(section: &[u8], target: Target) -> Option<(FaultKind, u32)>
     requires { length section.now < 2 ^ 32 }
 {
@@ -32,7 +32,8 @@ fn first_program_fault(section: &[u8], target: Target) -> Option<(FaultKind, u32
     None
 }
 
-/// Where the first instruction of the second record stands, and where its expression does and its bytes: a def_cfa_expression of an FDE.
+/// Of a def_cfa_expression of an FDE that is the second record: the offset of the instruction, the offset of its
+/// expression, and the expression's bytes.
 fn first_cfa_expression(section: &[u8]) -> Option<(u32, u32, &[u8])>
     requires { length section.now < 2 ^ 32 }
 {
@@ -47,7 +48,7 @@ fn first_cfa_expression(section: &[u8]) -> Option<(u32, u32, &[u8])>
     }
 }
 
-/// Programs, and where their expression begins: behind a count of one byte, and of two.
+/// Programs, and where their expression begins: after a length of one byte, and of two.
 const WITH_EXPRESSIONS: [([u8; 8], u32); 2] = [
     ([0x0f, 3, 0x77, 8, 6, 0, 0, 0], 50),
     ([0x0f, 0x83, 0, 0x77, 8, 6, 0, 0], 51),
@@ -65,7 +66,7 @@ fn an_expression_begins_after_its_count(rt: HostRuntime) {
     }
 }
 
-/// A CIE and an FDE in the 64-bit format, of little order.
+/// A CIE and an FDE in the 64-bit format, in little-endian order.
 const LONG: [u8; 80] = [
     0xff, 0xff, 0xff, 0xff, 0x14, 0, 0, 0, 0, 0, 0, 0, 0xff, 0xff, 0xff, 0xff, 0xff, 0xff, 0xff,
     0xff, 4, 0, 8, 0, 1, 0x78, 0x10, 0x0c, 7, 8, 0x90, 1, 0xff, 0xff, 0xff, 0xff, 0x24, 0, 0, 0, 0,
@@ -73,7 +74,7 @@ const LONG: [u8; 80] = [
     0x0e, 0x10, 0x86, 2, 0x43, 0x0d, 6, 0, 0, 0, 0,
 ];
 
-/// What a record's header says, and where its program begins and ends.
+/// The fields of a record's header, and where its program begins and ends.
 type Header = (u32, Format, u64, i64, u64, u32, u32);
 
 /// The header of a record.
@@ -157,7 +158,7 @@ fn takes_a_record_of_any_length(rt: HostRuntime) {
     assert!(rt; records.next().is_none());
 }
 
-/// An FDE in the 32-bit format behind a CIE in the 64-bit one.
+/// An FDE in the 32-bit format after a CIE in the 64-bit one.
 #[test]
 fn reads_both_formats_in_one_section(rt: HostRuntime) {
     let mut section = [0; 64];
@@ -186,15 +187,15 @@ fn names_the_field_that_is_cut_off(rt: HostRuntime) {
     }
 }
 
-/// A CIE and an FDE in the 64-bit format, of big order and with addresses of four bytes.
+/// A CIE and an FDE in the 64-bit format, in big-endian order and with addresses of four bytes.
 const LONG_BIG: [u8; 55] = [
     0xff, 0xff, 0xff, 0xff, 0, 0, 0, 0, 0, 0, 0, 0x0f, 0xff, 0xff, 0xff, 0xff, 0xff, 0xff, 0xff,
     0xff, 4, 0, 4, 0, 4, 0x7c, 0x0e, 0xff, 0xff, 0xff, 0xff, 0, 0, 0, 0, 0, 0, 0, 0x10, 0, 0, 0, 0,
     0, 0, 0, 0, 0, 0, 0x80, 0, 0, 0, 0, 0x10,
 ];
 
-/// CIEs of versions 1 and 3 in both formats, in little-endian order of return address column 144, in big-endian order of 14. The
-/// column has a byte more in version 3.
+/// CIEs of versions 1 and 3 in both formats, the little-endian ones with return address column 144, the big-endian ones
+/// with 14. The column has one more byte in version 3.
 const OLDER: [(Target, &str); 8] = [
     (LITTLE, "14000000ffffffff01000178900c07089001000000000000"),
     (LITTLE, "14000000ffffffff0300017890010c070890010000000000"),
@@ -218,7 +219,7 @@ const OLDER: [(Target, &str); 8] = [
     ),
 ];
 
-/// Where the length and each field of the header of such a CIE end.
+/// The ends of the length and of each field of the header of such a CIE.
 fn older_fields(section: &[u8]) -> Option<[usize; 7]> {
     let (head, id) = if *section.first()? == 0xff {
         (12, 20)
@@ -229,14 +230,14 @@ fn older_fields(section: &[u8]) -> Option<[usize; 7]> {
     Some([head, id, id + 1, id + 2, id + 3, id + 4, id + 4 + column])
 }
 
-/// Of the first CIE of a section: its version, and what its header says.
+/// The version and the header of the first CIE of a section.
 fn first_cie(section: &[u8], target: Target) -> Option<(u8, Header)> {
     u32::try_from(section.len()).ok()?;
     let cie = cie_at(section, target, 0).ok().flatten()?;
     Some((cie.version(), header_of(&Entry::Cie(cie))))
 }
 
-/// What such a CIE says: its code alignment factor is 1, and its data alignment factor -8.
+/// The fields of such a CIE: its code alignment factor is 1, and its data alignment factor -8.
 fn older_cie(section: &[u8], target: Target) -> Option<(u8, Header)> {
     let fields = older_fields(section)?;
     let format = match fields[0] {
@@ -297,8 +298,8 @@ fn misjudged(
 
 #[test]
 fn names_the_field_that_a_body_cuts_off(rt: HostRuntime) {
-    // The section, its target, where the record begins, where the last byte of its length stands in
-    // it, and where the length and each field of its header end.
+    // The section, its target, where the record begins, the index of the last byte of its length, and the ends of the
+    // length and of each field of its header.
     let headers: [(&[u8], Target, usize, usize, &[usize]); 8] = [
         (&FUNCTION, LITTLE, 0, 0, &[4, 8, 9, 10, 11, 12, 13, 14, 15]),
         (&FUNCTION, LITTLE, 24, 0, &[4, 8, 16, 24]),
@@ -399,7 +400,7 @@ fn names_the_fault_of_a_changed_header(rt: HostRuntime) {
     }
 }
 
-/// Headers that are bad in themselves, and where.
+/// Headers that are bad in themselves, and the offset of the fault.
 const BAD_HEADERS: [(&str, Target, FaultKind, u32); 5] = [
     ("f0ffffff", LITTLE, FaultKind::ReservedLength, 0),
     ("fffffffe", BIG_SHORT, FaultKind::ReservedLength, 0),
@@ -446,7 +447,7 @@ fn takes_a_range_up_to_the_last_address(rt: HostRuntime) {
 
 #[test]
 fn finds_cies_by_their_offset(rt: HostRuntime) {
-    // What has the CIE's offset, no CIE, or where the fault stands.
+    // What has the CIE's offset, no CIE, or the offset of the fault.
     let cases: [(usize, u64, Result<Option<u32>, u32>); 5] = [
         (56, 0, Ok(Some(0))),
         (56, 24, Ok(None)),

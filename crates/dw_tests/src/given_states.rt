@@ -1,4 +1,4 @@
-//! States that are handed in.
+//! States that are given.
 
 ghost use Rattle.std.specs.Prelude.{◌<◌, ◌^◌, length};
 
@@ -10,7 +10,7 @@ use dw_stack::{Kind, Mode, State, certify, recheck};
 use std::alloc::{AllocError, Global};
 use std::process::Abort;
 
-/// The depth and the count of operations, or the refusal.
+/// The depth and the number of operations, or the fault.
 fn rechecked(
     rt: &impl Abort,
     alloc: Global,
@@ -23,7 +23,8 @@ fn rechecked(
     Ok((checked.depth(), checked.operation_count()))
 }
 
-/// States before these operations, each with its offset and the height of the stack, whose location is on the stack.
+/// States before these operations, each with its offset and its number of stack entries; the location is on the
+/// stack.
 fn states_of(alloc: Global, numbers: &[(u32, u8)]) -> Result<Vec<State>, AllocError> {
     let mut states = Vec::new(alloc);
     for (offset, height) in numbers {
@@ -42,10 +43,10 @@ const SUM: [u8; 3] = [0x32, 0x33, 0x22];
 
 const STATES_OF_SUM: [(u32, u8); 3] = [(0, 0), (1, 1), (2, 2)];
 
-/// A branch past a literal, whose ways meet with another height.
+/// A branch over a literal, whose two ways meet with different heights.
 const MEETING: [u8; 6] = [0x30, 0x28, 0x01, 0x00, 0x31, 0x32];
 
-/// Expressions, states, and the first fault where they are handed in.
+/// Expressions, states, and the first fault with these states.
 const REFUSED: [(&[u8], Kind, &[(u32, u8)], FaultKind, u32); 7] = [
     (
         &SUM,
@@ -89,7 +90,7 @@ const REFUSED: [(&[u8], Kind, &[(u32, u8)], FaultKind, u32); 7] = [
         FaultKind::Mismatch,
         5,
     ),
-    // The given state comes before the kind.
+    // The given state is checked before the kind.
     (&[0x9c], Kind::FrameCfa, &[(0, 1)], FaultKind::CertState, 0),
 ];
 
@@ -103,7 +104,7 @@ fn refuses_other_states(rt: HostRuntime) -> Result<(), AllocError> {
     Ok(())
 }
 
-/// Expressions, their states, and their depths and counts of operations.
+/// Expressions, their states, and their depths and numbers of operations.
 const ACCEPTED: [(&[u8], Kind, &[(u32, u8)], u8, u32); 2] = [
     (&SUM, Kind::Location, &STATES_OF_SUM, 2, 3),
     (&[0x12, 0x22], Kind::FrameRegister, &[(0, 1), (1, 2)], 2, 2),
@@ -142,7 +143,7 @@ struct Certified<'a> {
 }
 
 impl Certified<'_> {
-    /// These states are refused so.
+    /// These states are refused with this fault.
     fn refuses_states(
         &self,
         rt: &impl Abort,
@@ -155,7 +156,7 @@ impl Certified<'_> {
         assert_eq!(rt; found, refusal(fault, at));
     }
 
-    /// The state with this number is another, which is refused there.
+    /// A changed state with this number is refused there.
     fn refuses(
         &self,
         rt: &impl Abort,
@@ -208,7 +209,7 @@ impl Certified<'_> {
         self.refuses(rt, alloc, i, State { pieced, ..state })
     }
 
-    /// One state is left out, or comes twice.
+    /// One state is left out, or occurs twice.
     fn refuses_counts(&self, rt: &impl Abort, alloc: Global) -> Result<(), AllocError> {
         let mut given = self.states.to_vec(alloc)?;
         let Some(last) = given.pop() else {
@@ -230,7 +231,7 @@ fn own_states(alloc: Global, bytes: &[u8], kind: Kind) -> Option<Vec<State>>
     certificate.states().to_vec(alloc).ok()
 }
 
-/// The certificate's states are taken; none that differs in one place is, nor one with a state more or less.
+/// The certificate's states are accepted; none changed in one field is, nor one more or one fewer.
 fn takes_only_its_own(
     rt: &impl Abort,
     alloc: Global,

@@ -1,4 +1,4 @@
-//! Expressions that are made to take long, or to come close to a limit.
+//! Expressions designed to take long, or to come close to a limit.
 
 use crate::certificates::{judged, push_times, refusal};
 use dw_bytes::FaultKind;
@@ -59,7 +59,7 @@ fn judges_the_farthest_branch(rt: HostRuntime) -> Result<(), AllocError> {
     Ok(())
 }
 
-/// One way of a branch pushes so many entries and takes them off again, the other goes past them.
+/// One way of a branch pushes `count` entries and drops them again, the other skips them.
 fn one_high_way(alloc: Global, count: u8) -> Result<Vec<u8>, AllocError> {
     let mut bytes = Vec::new(alloc);
     let [low, high] = (2 * u16::from(count)).to_le_bytes();

@@ -1,4 +1,4 @@
-//! Targets, sections, a machine and the spelling of cases that several tests use.
+//! Targets, sections, a machine and the notation of cases, shared by several tests.
 
 ghost use Rattle.std.specs.Prelude.{◌==◌, if◌then◌else◌, Some, None};
 
@@ -29,8 +29,8 @@ pub(crate) const FUNCTION: [u8; 56] = [
     0x10, 0x86, 2, 0x43, 0x0d, 6,
 ];
 
-/// A CIE and an FDE of 0x8000 to 0x8010 in big-endian order, with addresses of four bytes: from 0x8008 on the CFA is register
-/// 13 and 8, and register 14 is saved at 4 below it.
+/// A CIE and an FDE of 0x8000 to 0x8010 in big-endian order, with addresses of four bytes: from 0x8008 on the CFA is
+/// register 13 plus 8, and register 14 is saved at 4 below it.
 pub(crate) const BIG_FUNCTION: [u8; 44] = [
     0, 0, 0, 0x10, 0xff, 0xff, 0xff, 0xff, 4, 0, 4, 0, 4, 0x7c, 0x0e, 0x0c, 0x0d, 0, 0, 0, 0, 0, 0,
     0x14, 0, 0, 0, 0, 0, 0, 0x80, 0, 0, 0, 0, 0x10, 0x42, 0x0e, 8, 0x8e, 1, 0, 0, 0,
@@ -43,19 +43,19 @@ pub(crate) const EXPRESSIONS: [u8; 56] = [
     0x23, 8, 0x16, 7, 0,
 ];
 
-/// The CIE, and an FDE of 0 to 0x20 whose caller goes on at 7, whatever is known: a walk without end.
+/// The CIE, and an FDE of 0 to 0x20 whose return address is 7, whatever is known: an endless walk.
 pub(crate) const ROUND: [u8; 56] = [
     0x14, 0, 0, 0, 0xff, 0xff, 0xff, 0xff, 4, 0, 8, 0, 1, 0x78, 0x10, 0x0c, 7, 8, 0x90, 1, 0, 0, 0,
     0, 0x1c, 0, 0, 0, 0, 0, 0, 0, 0, 0, 0, 0, 0, 0, 0, 0, 0x20, 0, 0, 0, 0, 0, 0, 0, 0x0f, 1, 0x3f,
     0x14, 0x10, 1, 0, 0,
 ];
 
-/// A list at 0xc: 0 to 0x10 behind the base in register 0, and else the value 0.
+/// A list at 0xc: 0 to 0x10 after the base in register 0, and else the value 0.
 pub(crate) const PAIR_AND_DEFAULT: [u8; 22] = [
     0x12, 0, 0, 0, 5, 0, 8, 0, 0, 0, 0, 0, 4, 0, 0x10, 1, 0x50, 5, 2, 0x30, 0x9f, 0,
 ];
 
-/// A list at 0xc: behind the base 0x2000, 0x2000 to 0x2010 in register 0, 0x2008 to 0x2018 in register 1, and an empty
+/// A list at 0xc: with the base 0x2000, 0x2000 to 0x2010 in register 0, 0x2008 to 0x2018 in register 1, and an empty
 /// range in register 2.
 pub(crate) const OVERLAPPING: [u8; 58] = [
     0x36, 0, 0, 0, 5, 0, 8, 0, 0, 0, 0, 0, 6, 0, 0x20, 0, 0, 0, 0, 0, 0, 4, 0, 0x10, 1, 0x50, 8, 8,
@@ -63,7 +63,7 @@ pub(crate) const OVERLAPPING: [u8; 58] = [
     1, 0x52, 0,
 ];
 
-/// Registers and memory of which nothing is known.
+/// Registers and memory with no known contents.
 #[derive(Clone, Copy)]
 pub(crate) struct Unknown;
 
@@ -84,7 +84,7 @@ impl Memory for Unknown {
     }
 }
 
-/// One register that is known.
+/// One known register.
 #[derive(Clone, Copy)]
 pub(crate) struct OneRegister {
     pub(crate) known: u16,
@@ -103,12 +103,12 @@ impl Registers for OneRegister {
     }
 }
 
-/// The bytes that hex digits spell.
+/// The bytes written in hex digits.
 pub(crate) fn bytes_of(alloc: Global, digits: &str) -> Option<Vec<u8>> {
     hex::decode(alloc, digits).ok()
 }
 
-/// What a line of cases says in front of its first colon and behind it.
+/// The parts of a line of cases before and after its first colon.
 pub(crate) fn parts_of<'a>(rt: &impl Abort, case: &'a str) -> (&'a str, &'a str) {
     match case.split_once(": ") {
         Some(parts) => parts,

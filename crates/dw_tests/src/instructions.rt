@@ -1,4 +1,4 @@
-//! One case a line of the table of instructions, each alone in the program of an FDE.
+//! One case for each line of the table of instructions, each alone in the program of an FDE.
 
 use crate::inputs::{BIG_SHORT, bytes_of, parts_of};
 use dw_bytes::Fault;
@@ -24,7 +24,7 @@ fn first_program(section: &[u8]) -> Option<Program<'_>> {
     }
 }
 
-/// The instruction that is all of a program, as text.
+/// The only instruction of a program, as text.
 fn shown(alloc: Global, bytes: &[u8]) -> Option<String> {
     let section = section_with(alloc, bytes)?;
     let program = first_program(&section)?;
@@ -34,7 +34,7 @@ fn shown(alloc: Global, bytes: &[u8]) -> Option<String> {
     }
 }
 
-/// The fault of the first instruction of a program, and where it stands, as text.
+/// The fault of the first instruction of a program and its offset, as text.
 fn first_fault(alloc: Global, bytes: &[u8]) -> Option<String> {
     let section = section_with(alloc, bytes)?;
     let program = first_program(&section)?;
@@ -73,7 +73,7 @@ ff | 16: Restore { register: 63 }
 160602309f | 19: ValExpression { register: 6, expression: UnwindExpression { offset: 19, expression: Expression { bytes: [48, 159], target: Target { order: Big, address_size: Four } } } }
 ";
 
-/// The bytes encode this instruction, and without the last one its last field is cut short.
+/// The bytes encode this instruction, and without their last byte its last field is cut short.
 fn is_instruction(rt: &(impl Abort + AllocGlobal), digits: &str, last: &str, wanted: &str) {
     let Some(bytes) = bytes_of(rt.alloc(), digits) else {
         panic!(rt; "{digits}")
@@ -125,7 +125,7 @@ fn instructions_come_in_order(rt: HostRuntime) {
     assert_eq!(rt; found.as_deref(), Some(LISTED));
 }
 
-/// The fault that ends the instructions of a program, behind which there are none, as text.
+/// The fault that ends the instructions of a program, after which there are none, as text.
 fn last_fault(alloc: Global, digits: &str) -> Option<String> {
     let section = section_with(alloc, &bytes_of(alloc, digits)?)?;
     let mut instructions = first_program(&section)?.instructions();

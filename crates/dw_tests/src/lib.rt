@@ -1,5 +1,5 @@
-//! Tests of the libraries by their public calls alone; those of what `run` writes are in `texts`.
-//! `examples` has callers that are proved.
+//! Tests of the libraries, only through their public calls; those of the output of `run` are in
+//! `texts`. `examples` has proved callers.
 #![tactic(auto)]
 
 #[cfg(test)]

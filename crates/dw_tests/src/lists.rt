@@ -1,4 +1,4 @@
-//! Sections of location lists by the library's own calls.
+//! Sections of location lists, by the library's own calls.
 
 use crate::inputs::{LITTLE, PAIR_AND_DEFAULT};
 use dw_bytes::{Fault, FaultKind};

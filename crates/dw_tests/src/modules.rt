@@ -8,7 +8,7 @@ use dw_eval::{MemoryBlock, Registers};
 use dw_rows::{Abi, CheckedFrame, UnwindTable, check_frame};
 use std::alloc::Global;
 
-/// A frame whose register 6 is known alone: its stack begins at 0x7000.
+/// A frame in which only register 6 is known: its stack begins at 0x7000.
 #[derive(Clone, Copy)]
 struct FramePointer {}
 
@@ -20,7 +20,7 @@ impl Registers for FramePointer {
     }
 }
 
-/// The saved frame pointer and the return address of two frames: the first goes on at 0x101010, the second at 0x5000.
+/// The saved frame pointer and the return address of two frames: the first returns to 0x101010, the second to 0x5000.
 const STACK: MemoryBlock<'static> = MemoryBlock {
     base: 0x7000,
     bytes: &[
@@ -41,7 +41,7 @@ fn program_and_library(alloc: Global) -> Option<[Module<UnwindTable>; 2]> {
     ])
 }
 
-/// From the library to the program, and to where nothing covers.
+/// From the library to the program, and to an address that nothing covers.
 const FRAMES: [BriefFrame; 3] = [
     BriefFrame {
         address: 0x20_1010,
@@ -127,7 +127,7 @@ fn a_backtrace_keeps_the_frames_of_the_walk(rt: HostRuntime) {
     }
 }
 
-/// The CFA at an address by these modules, none where no module covers it.
+/// The CFA at an address by these modules, none if no module covers it.
 fn cfa_in(modules: &[Module<&CheckedFrame<'_>>], address: u64) -> Option<Answer> {
     match unwind_in(modules, &Abi::none(), address, &FramePointer {}, &STACK) {
         Some(caller) => Some(caller.cfa),

@@ -1,6 +1,6 @@
-//! Calls that may lack memory. Where a request for memory is refused, the answer is want of memory and nothing else, and the
-//! call gives its worked answer when it is made again. `bench/refused_memory.py` runs each test with its Nth request refused,
-//! for every N; with ample memory the worked answers alone are compared.
+//! Calls that may run out of memory. If an allocation is refused, the answer is out of memory and nothing else, and the
+//! call gives its worked answer when it is made again. `bench/refused_memory.py` runs each test with its Nth allocation
+//! refused, for every N; with enough memory only the worked answers are compared.
 
 ghost use Rattle.std.specs.Prelude.{◌≡◌, ◌≤◌, ◌<◌, ◌^◌, length};
 
@@ -21,7 +21,7 @@ use std::io;
 use std::io::Write;
 use std::process::Abort;
 
-/// An expression that pushes forty times.
+/// An expression with forty pushes.
 const PUSHES: [u8; 40] = [0x30; 40];
 
 /// The function as hex text.
@@ -54,7 +54,7 @@ expr frame 0x00000033 register ops 1 depth 1
 expr frame 0x00000038 register ops 0 depth 1
 ";
 
-/// A writer over an array, which takes no memory.
+/// A writer to an array, which doesn't allocate.
 #[derive(Drop)]
 struct Fixed {
     bytes: [u8; 512],
@@ -88,7 +88,7 @@ impl Write for Fixed {
     }
 }
 
-/// A call that may lack memory.
+/// A call that may run out of memory.
 #[derive(Clone, Copy)]
 enum Call {
     Operations,
@@ -109,7 +109,8 @@ enum Call {
 }
 
 impl Call {
-    /// Makes the call. It has the memory that it asks for and gives its worked answer, or answers want of memory.
+    /// Makes the call. Either it gets the memory that it requests and gives its worked answer, or it answers out of
+    /// memory.
     fn has_memory(self, rt: &impl Abort, alloc: Global) -> bool {
         match self {
             Call::Operations => reads_operations(rt, alloc),
@@ -202,7 +203,7 @@ fn rechecks(rt: &impl Abort, alloc: Global) -> bool {
     }
 }
 
-/// How many CIEs, FDEs, tables, lists and expressions there are.
+/// The numbers of CIEs, FDEs, tables, lists and expressions.
 fn counts_of(checked: &Checked<'_>) -> (usize, usize, usize, usize, usize) {
     let (frame, lists) = (checked.frame(), checked.lists());
     (
@@ -281,14 +282,14 @@ fn requests(rt: &impl Abort, alloc: Global) -> bool {
     }
 }
 
-/// The one file of a request.
+/// The only file of a request.
 fn files(alloc: Global, text: &str) -> Result<Vec<Vec<u8>>, AllocError> {
     let mut files: Vec<Vec<u8>> = Vec::new(alloc);
     files.push(Vec::from_slice(alloc, text.as_bytes())?)?;
     Ok(files)
 }
 
-/// The request of these words, and its file with this content, if there is memory for them.
+/// The request of these words, and its file with this content, if there is enough memory for them.
 fn request_and_files(alloc: Global, content: &str) -> Option<(Request, Vec<Vec<u8>>)> {
     let request = request(alloc, words(alloc).ok()?).ok()?;
     Some((request, files(alloc, content).ok()?))
@@ -348,7 +349,7 @@ fn walks(rt: &impl Abort, alloc: Global) -> bool {
     }
 }
 
-/// A table of a section, in which the row of an address ends so.
+/// A table of a section, in which the row of an address ends at `end`.
 fn compiles(rt: &impl Abort, alloc: Global, section: &[u8], address: u64, end: u64) -> bool
     requires { length section.now < 2 ^ 32 }
 {
@@ -371,7 +372,7 @@ fn compiles(rt: &impl Abort, alloc: Global, section: &[u8], address: u64, end: u
     }
 }
 
-/// A table of a thousand rows with as many gaps: its lists grow again and again.
+/// A table of a thousand rows and a thousand gaps: its lists grow again and again.
 fn compiles_many(rt: &impl Abort, alloc: Global) -> bool {
     let Ok(section) = descending(alloc) else {
         return false;
@@ -404,7 +405,7 @@ fn finds_rows(rt: &impl Abort, frame: &CheckedFrame<'_>) {
     assert!(rt; frame.row_for_address(0x101f).is_some());
 }
 
-/// A list, and what it says of an address.
+/// A list, and what it gives at an address.
 fn finds_locations(rt: &impl Abort, lists: &CheckedLists<'_>) {
     let Some(list) = lists.list(0xc) else {
         panic!(rt; "no list")
@@ -414,7 +415,7 @@ fn finds_locations(rt: &impl Abort, lists: &CheckedLists<'_>) {
     }
 }
 
-/// A check, and behind it every call that takes no memory.
+/// A check, followed by every call that doesn't allocate.
 fn looks_up(rt: &impl Abort, alloc: Global) -> bool {
     let Ok(checked) = check(alloc, &EXPRESSIONS, &PAIR_AND_DEFAULT, LITTLE) else {
         return false;
@@ -426,7 +427,7 @@ fn looks_up(rt: &impl Abort, alloc: Global) -> bool {
     true
 }
 
-/// A call that lacks memory is made again.
+/// Makes a call again if it ran out of memory.
 fn is_made(rt: &(impl Abort + Print + AllocGlobal), call: Call) {
     if !call.has_memory(rt, rt.alloc()) {
         assert!(rt; println!(rt; "refused").is_ok());
@@ -504,7 +505,7 @@ fn compile_of_many_lacks_memory(rt: HostRuntime) {
     is_made(&rt, Call::CompileOfMany);
 }
 
-/// These ask for as many requests as the check of the same sections alone.
+/// These make as many allocations as the check of the same sections alone.
 #[test]
 fn look_ups_take_no_memory(rt: HostRuntime) {
     is_made(&rt, Call::LookUps);

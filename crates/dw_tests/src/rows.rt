@@ -22,7 +22,7 @@ fn records(section: &[u8]) -> Option<(CommonInformationEntry<'_>, FrameDescripti
     Some((cie?, fde?))
 }
 
-/// What the check of a section's last CIE says, and that of its last FDE.
+/// The results of checking a section's last CIE, and its last FDE.
 fn judged(alloc: Global, section: &[u8]) -> Option<(Result<(), Fault>, Result<(), Fault>)>
     requires { length section.now < 2 ^ 32 }
 {
@@ -34,7 +34,7 @@ fn judged(alloc: Global, section: &[u8]) -> Option<(Result<(), Fault>, Result<()
 fn checks_a_cie_and_its_fde(rt: HostRuntime) {
     assert_eq!(rt; judged(rt.alloc(), &FUNCTION), Some((Ok(()), Ok(()))));
     let mut section = FUNCTION;
-    // An advance in the CIE's program.
+    // An advance_loc in the CIE's program.
     section[15] = 0x41;
     let refused = Err(Fault {
         kind: FaultKind::NotInCie,
@@ -46,7 +46,7 @@ fn checks_a_cie_and_its_fde(rt: HostRuntime) {
 /// Addresses, and where the row of each begins and ends.
 type Ranges = [(u64, Option<(u64, u64)>); 4];
 
-/// A look-up of each of these addresses gives such a row.
+/// A look-up of each of these addresses gives a row with this range.
 fn has_ranges(rt: &impl Abort, frame: &CheckedFrame<'_>, ranges: &Ranges) {
     for (address, range) in ranges {
         assert_eq!(rt; range_at(frame, *address), *range, "{address:#x}");
@@ -62,7 +62,7 @@ pub(crate) fn descending(alloc: Global) -> Result<Vec<u8>, AllocError> {
     Ok(section)
 }
 
-/// One more FDE of eight nops, of the first CIE.
+/// Appends an FDE of eight nops, of the first CIE.
 pub(crate) fn push_fde(section: &mut Vec<u8>, initial: u64, range: u64) -> Result<(), AllocError> {
     section.extend_from_slice(&[0x1c, 0, 0, 0, 0, 0, 0, 0])?;
     section.extend_from_slice(&initial.to_le_bytes())?;
@@ -77,7 +77,7 @@ fn range_at(frame: &CheckedFrame<'_>, address: u64) -> Option<(u64, u64)> {
     Some((row.start_address(), row.end_address()))
 }
 
-/// How many rows the FDE of 0x1000 has.
+/// The number of rows of the FDE of 0x1000.
 fn row_count(alloc: Global, section: &[u8]) -> Option<u32>
     requires { length section.now < 2 ^ 32 }
 {
@@ -90,7 +90,7 @@ fn row_count(alloc: Global, section: &[u8]) -> Option<u32>
     Some(count)
 }
 
-/// Where the first two rows of an FDE end, and where the first one ends once more, in the place of others.
+/// Where the first two rows of an FDE end, and where the first one ends again, from the reused iterator.
 fn ends_at(frame: &CheckedFrame<'_>, address: u64) -> Option<(u64, u64, u64)> {
     let fde = frame.fde_for_address(address)?;
     let mut rows = frame.rows(&fde);
@@ -105,8 +105,8 @@ fn ends_at(frame: &CheckedFrame<'_>, address: u64) -> Option<(u64, u64, u64)> {
     }
 }
 
-/// Where the CIE and the FDE of an address begin, and where its row ends; and then where the same place ends, when it was asked
-/// for the row of another address.
+/// Where the CIE and the FDE of an address begin, and where its row ends; then where the row in the same variable
+/// ends after a look-up of another address.
 fn places_at(frame: &CheckedFrame<'_>, address: u64, other: u64) -> Option<(u32, u32, u64, u64)> {
     let mut row = UnwindTableRow::empty();
     let (cie, fde) = frame.row_for_address_into(address, &mut row)?;
@@ -136,7 +136,7 @@ fn checks_a_section(rt: HostRuntime) -> Result<(), Fault> {
     Ok(())
 }
 
-/// The last address of the first and of the last FDE of `descending`, each with the one behind it, which none covers.
+/// The last address of the first and of the last FDE of `descending`, each with the one after it, which none covers.
 const RANGES_AMONG_MANY: Ranges = [
     (0x100f, Some((0x1000, 0x1010))),
     (0x1010, None),

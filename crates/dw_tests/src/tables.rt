@@ -12,7 +12,7 @@ use std::process::Abort;
 /// Room for any table of these tests.
 const AMPLE: usize = 1 << 20;
 
-/// The table of a section. The checked section is gone when it is looked at.
+/// The table of a section. The checked section is gone when the table is used.
 fn compiled(alloc: Global, section: &[u8]) -> Result<Option<UnwindTable>, Fault>
     requires { length section.now < 2 ^ 32 }
 {
@@ -25,7 +25,7 @@ fn range_at(table: &UnwindTable, address: u64) -> Option<(u64, u64, u16)> {
     Some((row.start_address(), row.end_address(), register))
 }
 
-/// The same by the checked section.
+/// The same for the checked section.
 fn range_in(frame: &CheckedFrame<'_>, address: u64) -> Option<(u64, u64, u16)> {
     let row = frame.row_for_address(address)?;
     let cie = frame.cie_of(&frame.fde_for_address(address)?);
@@ -36,7 +36,7 @@ fn range_in(frame: &CheckedFrame<'_>, address: u64) -> Option<(u64, u64, u16)> {
     ))
 }
 
-/// The rows of the function, each by its last address, and the addresses beside it.
+/// The rows of the function, each by its last address, and the addresses next to it.
 const ROWS: [(u64, Option<(u64, u64, u16)>); 5] = [
     (0xfff, None),
     (0x1000, Some((0x1000, 0x1001, 16))),
@@ -284,10 +284,10 @@ fn a_table_gives_the_first_and_last_short_addresses(rt: HostRuntime) -> Result<(
     Ok(())
 }
 
-/// How many CIEs there are, each with a return address register of its own.
+/// The number of CIEs, each with a return address register of its own.
 const CIES: u8 = 100;
 
-/// CIEs as that of `FUNCTION`, the return address registers of which are 0, 1 and so on.
+/// CIEs like that of `FUNCTION`, whose return address registers are 0, 1 and so on.
 fn push_cies(section: &mut Vec<u8>) -> Result<(), AllocError> {
     for register in 0..CIES {
         let mut cie = FUNCTION;
@@ -326,7 +326,7 @@ fn each_row_of_a_table_has_the_return_register_of_its_cie(rt: HostRuntime) -> Re
     Ok(())
 }
 
-/// 128 times: one address further the CFA is register 7 and as many bytes as 128 times a number, and 0 to 127 more.
+/// 128 rows, each one address further: the CFA is register 7 plus 128 times a number plus 0 to 127.
 fn push_cfas(section: &mut Vec<u8>, high: u8) -> Result<(), AllocError> {
     for low in 0x80..=0xffu8 {
         section.extend_from_slice(&[0x41, 0x0e, low, high])?;
@@ -334,8 +334,8 @@ fn push_cfas(section: &mut Vec<u8>, high: u8) -> Result<(), AllocError> {
     Ok(())
 }
 
-/// The CIE of `FUNCTION`, and two FDEs of 385 rows, each of one address: that of the address i after the first has its CFA at
-/// register 7 and 127 + i. Both have the same rules.
+/// The CIE of `FUNCTION`, and two FDEs of 385 rows, each of one address: that of the address i after the first has its
+/// CFA at register 7 plus 127 + i. Both have the same rules.
 fn with_many_rules(alloc: Global) -> Result<Vec<u8>, AllocError> {
     let mut section = FUNCTION[..24].to_vec(alloc)?;
     for high in [0x10, 0x20] {
@@ -348,7 +348,7 @@ fn with_many_rules(alloc: Global) -> Result<Vec<u8>, AllocError> {
     Ok(section)
 }
 
-/// How far from register 7 the CFA of an address is.
+/// The offset of an address's CFA from register 7.
 fn cfa_offset(table: &UnwindTable, address: u64) -> Option<i64> {
     match table.row_for_address(address)?.cfa() {
         CfaRule::RegisterAndOffset {
@@ -376,7 +376,7 @@ fn a_table_keeps_hundreds_of_rules_apart(rt: HostRuntime) -> Result<(), Fault> {
     Ok(())
 }
 
-/// In how many of these rooms, from none on, the table of a section is not made.
+/// For how many of these rooms, from 0 on, the table of a section isn't made.
 fn refusals(rt: &impl Abort, alloc: Global, frame: &CheckedFrame<'_>, rooms: usize) -> usize {
     let mut refused = 0usize;
     for room in 0..rooms {

@@ -1,4 +1,4 @@
-//! Tests of the texts that `dw_check` writes, by `request` and `run` alone.
+//! Tests of the output of `dw_check`, only through `request` and `run`.
 
 mod abi_lines;
 mod callers;

@@ -1,4 +1,4 @@
-//! What a section holds as one number, or the number of its first fault.
+//! The contents of a section as one number, or the number of its first fault.
 
 use crate::meaning::add_expression;
 use crate::mixed::Mixed;
@@ -43,7 +43,7 @@ fn add_fde(mixed: &mut Mixed, fde: &FrameDescriptionEntry<'_>) {
     mixed.add_three(fde.cie_pointer, fde.initial_location, fde.address_range);
 }
 
-/// Mixes in where the bytes of an expression stand, and how many they are.
+/// Mixes in the offset and length of an expression's bytes.
 fn add_named(mixed: &mut Mixed, offset: u32, expression: &CheckedExpression<'_>) {
     mixed.add(u64::from(offset));
     mixed.add(expression.expression().bytes().len() as u64);
@@ -61,7 +61,7 @@ pub(crate) fn add_cfa(mixed: &mut Mixed, cfa: CfaRule<'_>) {
     }
 }
 
-/// Mixes in a register's rule, but for one that says that it can't be had.
+/// Mixes in a register's rule, unless the rule is undefined.
 pub(crate) fn add_rule(mixed: &mut Mixed, register: u16, rule: RegisterRule<'_>) {
     let number = u64::from(register);
     match rule {
@@ -91,7 +91,7 @@ fn add_row(mixed: &mut Mixed, row: &UnwindTableRow<'_, '_>) {
     }
 }
 
-/// Mixes in the rows that are to come.
+/// Mixes in the remaining rows.
 fn add_rows<'f, 'a>(mixed: &mut Mixed, rows: &mut Rows<'f, 'a>, row: &mut UnwindTableRow<'f, 'a>) {
     'rows: while rows.next_into(row) {
         add_row(mixed, row);
@@ -124,7 +124,7 @@ fn frame_number(alloc: Global, frame: &CheckedFrame<'_>) -> u64 {
     mixed.answer()
 }
 
-/// What a section of frames holds: its CIEs, its FDEs and their rows, and its expressions.
+/// The contents of a section of frames: its CIEs, its FDEs and their rows, and its expressions.
 #[unsafe(no_mangle)]
 pub extern "C" fn bench_frame_answer(alloc: Global, section: &[u8], big: bool, small: bool) -> u64 {
     if section.len() >= 1 << 32 {
@@ -158,7 +158,8 @@ fn lists_number(alloc: Global, lists: &CheckedLists<'_>, base: u64, addresses: &
     mixed.answer()
 }
 
-/// What a section of location lists holds: where its lists are, what they say of some addresses, and its expressions.
+/// The contents of a section of location lists: where its lists are, what they give at some addresses, and its
+/// expressions.
 #[unsafe(no_mangle)]
 pub extern "C" fn bench_lists_answer(
     alloc: Global,
@@ -177,7 +178,7 @@ pub extern "C" fn bench_lists_answer(
     }
 }
 
-/// What an expression says: of a register's rule, or a location.
+/// The meaning of an expression: a register's rule, or a location.
 #[unsafe(no_mangle)]
 pub extern "C" fn bench_expression_answer(
     alloc: Global,

@@ -1,5 +1,5 @@
-//! The libraries as `bench/beside_gimli` times them: each export does one kind of work, and answers a number that all of it goes
-//! into.
+//! The libraries as `bench/beside_gimli` times them: each export does one kind of work, and returns a number that depends
+//! on all of it.
 #![tactic(auto)]
 
 mod answers;
@@ -21,13 +21,13 @@ use dw_rows::{CheckedFrame, Rows, UnwindTableRow, check_frame};
 use dw_stack::{CheckedExpression, Kind, certify, check_expression};
 use std::alloc::Global;
 
-/// What is timed is little-endian, with addresses of eight bytes.
+/// The timed sections are little-endian, with addresses of eight bytes.
 const TARGET: Target = Target {
     order: Order::Little,
     address_size: AddressSize::Eight,
 };
 
-/// A machine whose registers all have 7, and whose memory isn't known.
+/// A machine whose registers all contain 7, and whose memory isn't known.
 struct Sevens {}
 
 impl Registers for Sevens {
@@ -55,7 +55,7 @@ impl Memory for Sevens {
     }
 }
 
-/// The section, where it is short enough and accepted.
+/// The section, if it is short enough and accepted.
 fn checked<'a>(alloc: Global, section: &'a [u8]) -> Option<CheckedFrame<'a>> {
     if section.len() >= 1 << 32 {
         return None;
@@ -63,7 +63,7 @@ fn checked<'a>(alloc: Global, section: &'a [u8]) -> Option<CheckedFrame<'a>> {
     check_frame(alloc, section, TARGET).ok()
 }
 
-/// The check of a section.
+/// Checks a section.
 #[unsafe(no_mangle)]
 pub extern "C" fn bench_check(alloc: Global, section: &[u8]) -> usize {
     match checked(alloc, section) {
@@ -72,7 +72,7 @@ pub extern "C" fn bench_check(alloc: Global, section: &[u8]) -> usize {
     }
 }
 
-/// The check of a section of location lists.
+/// Checks a section of location lists.
 #[unsafe(no_mangle)]
 pub extern "C" fn bench_check_lists(alloc: Global, section: &[u8]) -> usize {
     if section.len() >= 1 << 32 {
@@ -84,7 +84,7 @@ pub extern "C" fn bench_check_lists(alloc: Global, section: &[u8]) -> usize {
     }
 }
 
-/// The ends of all rows by the iterator, added up.
+/// The ends of all rows from the iterator, added up.
 fn iterated_sum(frame: &CheckedFrame<'_>) -> u64 {
     let mut sum = 0u64;
     for fde in frame.fdes() {
@@ -95,7 +95,7 @@ fn iterated_sum(frame: &CheckedFrame<'_>) -> u64 {
     sum
 }
 
-/// The check, and all rows by the iterator.
+/// Checks a section, and gets all rows from the iterator.
 #[unsafe(no_mangle)]
 pub extern "C" fn bench_rows(alloc: Global, section: &[u8]) -> u64 {
     match checked(alloc, section) {
@@ -104,7 +104,7 @@ pub extern "C" fn bench_rows(alloc: Global, section: &[u8]) -> u64 {
     }
 }
 
-/// The ends of the rows that are to come, added up.
+/// The ends of the remaining rows, added up.
 fn sum_of<'f, 'a>(rows: &mut Rows<'f, 'a>, row: &mut UnwindTableRow<'f, 'a>) -> u64 {
     let mut sum = 0u64;
     'rows: while rows.next_into(row) {
@@ -113,7 +113,7 @@ fn sum_of<'f, 'a>(rows: &mut Rows<'f, 'a>, row: &mut UnwindTableRow<'f, 'a>) -> 
     sum
 }
 
-/// The ends of all rows in the place of one, added up.
+/// The ends of all rows, each read into the same row, added up.
 fn streamed_sum(frame: &CheckedFrame<'_>) -> u64 {
     let Some(first) = frame.fdes().first() else {
         return 0;
@@ -128,7 +128,7 @@ fn streamed_sum(frame: &CheckedFrame<'_>) -> u64 {
     sum
 }
 
-/// The check, and all rows in the place of one.
+/// Checks a section, and reads all rows into the same row.
 #[unsafe(no_mangle)]
 pub extern "C" fn bench_rows_into(alloc: Global, section: &[u8]) -> u64 {
     match checked(alloc, section) {
@@ -137,7 +137,7 @@ pub extern "C" fn bench_rows_into(alloc: Global, section: &[u8]) -> u64 {
     }
 }
 
-/// The ends of all rows by the iterator, which begins again in one place for each FDE, added up.
+/// The ends of all rows from one iterator, which is reset for each FDE, added up.
 fn iterated_again_sum(frame: &CheckedFrame<'_>) -> u64 {
     let Some(first) = frame.fdes().first() else {
         return 0;
@@ -153,7 +153,7 @@ fn iterated_again_sum(frame: &CheckedFrame<'_>) -> u64 {
     sum
 }
 
-/// The check, and all rows by the iterator in one place.
+/// Checks a section, and gets all rows from one iterator.
 #[unsafe(no_mangle)]
 pub extern "C" fn bench_rows_again(alloc: Global, section: &[u8]) -> u64 {
     match checked(alloc, section) {
@@ -162,7 +162,7 @@ pub extern "C" fn bench_rows_again(alloc: Global, section: &[u8]) -> u64 {
     }
 }
 
-/// The ends of the rows of all these addresses so many times, added up.
+/// The ends of the rows of all these addresses, `times` times, added up.
 fn found_sum(frame: &CheckedFrame<'_>, addresses: &[u64], times: u32) -> u64 {
     let mut row = UnwindTableRow::empty();
     let mut sum = 0u64;
@@ -176,7 +176,7 @@ fn found_sum(frame: &CheckedFrame<'_>, addresses: &[u64], times: u32) -> u64 {
     sum
 }
 
-/// The check, and so many times the rows of all these addresses.
+/// Checks a section, and looks up the rows of all these addresses `times` times.
 #[unsafe(no_mangle)]
 pub extern "C" fn bench_look_up(
     alloc: Global,
@@ -197,7 +197,7 @@ fn number_of(answer: Answer) -> u64 {
     }
 }
 
-/// The callers of the frames that stand at all these addresses, so many times, each as a number, added up.
+/// The callers of the frames at all these addresses, `times` times, each as a number, added up.
 fn callers_sum(checked: &Checked<'_>, addresses: &[u64], times: u32) -> u64 {
     let mut sum = 0u64;
     for _ in 0..times {
@@ -213,7 +213,7 @@ fn callers_sum(checked: &Checked<'_>, addresses: &[u64], times: u32) -> u64 {
     sum
 }
 
-/// The check, with no lists, and so many times the callers of the frames that stand at all these addresses.
+/// Checks a section, without lists, and finds the callers of the frames at all these addresses `times` times.
 #[unsafe(no_mangle)]
 pub extern "C" fn bench_unwind(
     alloc: Global,
@@ -240,7 +240,7 @@ fn value_of(expression: &CheckedExpression<'_>) -> u64 {
     }
 }
 
-/// One judgement of a register's expression, and so many evaluations.
+/// Checks a register's expression once, and evaluates it `times` times.
 #[unsafe(no_mangle)]
 pub extern "C" fn bench_evaluate(alloc: Global, bytes: &[u8], times: u32) -> u64 {
     if bytes.len() >= 1 << 32 {
@@ -258,7 +258,7 @@ pub extern "C" fn bench_evaluate(alloc: Global, bytes: &[u8], times: u32) -> u64
     }
 }
 
-/// So many judgements without states.
+/// Checks an expression `times` times, without states.
 #[unsafe(no_mangle)]
 pub extern "C" fn bench_check_expression(alloc: Global, bytes: &[u8], times: u32) -> u64 {
     if bytes.len() >= 1 << 32 {
@@ -274,7 +274,7 @@ pub extern "C" fn bench_check_expression(alloc: Global, bytes: &[u8], times: u32
     sum
 }
 
-/// So many certificates.
+/// Makes `times` certificates.
 #[unsafe(no_mangle)]
 pub extern "C" fn bench_certify(alloc: Global, bytes: &[u8], times: u32) -> u64 {
     if bytes.len() >= 1 << 32 {

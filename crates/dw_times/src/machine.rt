@@ -1,11 +1,11 @@
-//! A machine that answers whatever it is asked.
+//! A machine in which everything is known.
 
 ghost use Rattle.std.specs.Prelude.{◌+◌, Some};
 
 use dw_bytes::Order;
 use dw_eval::{Context, Memory, Registers};
 
-/// A machine in which register N has N + 7, and each byte of memory 0x5a.
+/// A machine in which register N contains N + 7, and each byte of memory is 0x5a.
 pub(crate) struct Known {}
 
 impl Registers for Known {
@@ -32,7 +32,7 @@ impl Memory for Known {
     }
 }
 
-/// What the place in the program gives an expression.
+/// The values that the point in the program supplies to an expression.
 pub(crate) const CONTEXT: Context = Context {
     cfa: Some(0x1000),
     frame_base: Some(0x2000),

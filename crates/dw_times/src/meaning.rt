@@ -1,4 +1,4 @@
-//! What an expression says, mixed into a number: its operations, and what it comes to on a known machine.
+//! The meaning of an expression, mixed into a number: its operations, and its outcome on a known machine.
 
 use crate::machine::{CONTEXT, Known};
 use crate::mixed::Mixed;
@@ -7,7 +7,7 @@ use dw_ops::{Expression, Operation, operations};
 use dw_stack::CheckedExpression;
 use std::alloc::Global;
 
-/// What an operation is told apart by: a number of its own, and its operands.
+/// What identifies an operation: a number of its own, and its operands.
 type Parts = (u64, u64, u64);
 
 /// Those that push a number.
@@ -69,7 +69,7 @@ fn computing(operation: Operation<'_>) -> Option<Parts> {
     }
 }
 
-/// All others. A word has so many bytes.
+/// All others. A word has `word` bytes.
 fn other(operation: Operation<'_>, word: u64) -> Parts {
     match operation {
         Operation::Deref => (50, word, 0),
@@ -123,7 +123,7 @@ fn add_location(mixed: &mut Mixed, location: Location<'_>) {
     }
 }
 
-/// Mixes in how much of an object a piece is: bits, and from where.
+/// Mixes in the size of a piece of an object: bits, and from where.
 fn add_size(mixed: &mut Mixed, size: PieceSize) {
     match size {
         PieceSize::Bytes(bytes) => mixed.add_three(1, u64::from(bytes) * 8, 0),
@@ -131,7 +131,7 @@ fn add_size(mixed: &mut Mixed, size: PieceSize) {
     }
 }
 
-/// Mixes in what an evaluation comes to.
+/// Mixes in the outcome of an evaluation.
 fn add_outcome(mixed: &mut Mixed, outcome: &Outcome<'_>) {
     match outcome {
         Outcome::Value(value) => mixed.add_three(1, *value, 0),
@@ -151,7 +151,7 @@ fn add_outcome(mixed: &mut Mixed, outcome: &Outcome<'_>) {
     }
 }
 
-/// Mixes in an expression that was checked: where it stands, its operations, and what it comes to.
+/// Mixes in a checked expression: where it is, its operations, and its outcome.
 pub(crate) fn add_expression(
     alloc: Global,
     mixed: &mut Mixed,

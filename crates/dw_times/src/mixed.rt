@@ -1,13 +1,13 @@
 //! Numbers mixed into one, so that two readers of the same bytes can be compared by one number each.
 
-/// Numbers mixed into one, each behind those before it.
+/// Numbers mixed into one, in order.
 #[derive(Clone, Copy)]
 pub(crate) struct Mixed {
     number: u64,
 }
 
 impl Mixed {
-    /// Of no number yet.
+    /// No number yet.
     pub(crate) fn new() -> Self {
         Mixed { number: 0 }
     }
@@ -25,7 +25,7 @@ impl Mixed {
         self.add(third);
     }
 
-    /// Mixes bytes in, and how many there are.
+    /// Mixes in bytes, and their number.
     pub(crate) fn add_bytes(&mut self, bytes: &[u8]) {
         self.add(bytes.len() as u64);
         for byte in bytes {
@@ -33,7 +33,7 @@ impl Mixed {
         }
     }
 
-    /// The number, with its first bit set: it is no fault's.
+    /// The number, with its first bit set, so that it isn't a fault's.
     pub(crate) fn answer(self) -> u64 {
         self.number | 0x8000_0000_0000_0000
     }

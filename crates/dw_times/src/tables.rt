@@ -6,13 +6,13 @@ use crate::mixed::Mixed;
 use crate::{TARGET, number_of};
 use dw_bytes::Target;
 use dw_check::unwind_by;
-use dw_rows::{Abi, UnwindRow, UnwindTable, check_frame};
+use dw_rows::{Abi, RegisterRule, UnwindRow, UnwindTable, check_frame};
 use std::alloc::Global;
 
 /// Room for any table.
 const AMPLE: usize = 1 << 40;
 
-/// The table of a section, where that is short enough and accepted. The checked section is gone.
+/// The table of a section, if that is short enough and accepted. The checked section is gone.
 fn compiled(alloc: Global, section: &[u8], target: Target) -> Option<UnwindTable> {
     if section.len() >= 1 << 32 {
         return None;
@@ -44,6 +44,45 @@ pub extern "C" fn bench_look_up_by_table(
 ) -> u64 {
     match compiled(alloc, section, TARGET) {
         Some(table) => found_sum(&table, addresses, times),
+        None => 0,
+    }
+}
+
+/// The registers of all rules of the rows of all these addresses, looked up a number of times and added up.
+fn read_sum(table: &UnwindTable, addresses: &[u64], times: u32) -> u64 {
+    let mut sum = 0u64;
+    for _ in 0..times {
+        for address in addresses {
+            if let Some((row, _)) = table.row_and_return_register(*address) {
+                sum = sum.wrapping_add(rules_sum(&row));
+            }
+        }
+    }
+    sum
+}
+
+/// The registers and offsets of a row's rules, added up.
+fn rules_sum(row: &UnwindRow<'_, '_>) -> u64 {
+    let mut sum = row.end_address();
+    for (register, rule) in row.rules() {
+        sum = sum.wrapping_add(u64::from(register));
+        if let RegisterRule::Offset(offset) = rule {
+            sum = sum.wrapping_add(offset as u64);
+        }
+    }
+    sum
+}
+
+/// The check, the table, and the rows of all these addresses with their rules, a number of times.
+#[unsafe(no_mangle)]
+pub extern "C" fn bench_read_by_table(
+    alloc: Global,
+    section: &[u8],
+    addresses: &[u64],
+    times: u32,
+) -> u64 {
+    match compiled(alloc, section, TARGET) {
+        Some(table) => read_sum(&table, addresses, times),
         None => 0,
     }
 }
@@ -100,7 +139,7 @@ fn add_found(mixed: &mut Mixed, table: &UnwindTable, address: u64) {
     }
 }
 
-/// What the table of a section gives at these addresses, 0 where the section is refused.
+/// What the table of a section gives at these addresses, 0 if the section is refused.
 #[unsafe(no_mangle)]
 pub extern "C" fn bench_table_answer(
     alloc: Global,

@@ -23,7 +23,7 @@ impl<'a> Registers for Contents<'a> {
     }
 }
 
-/// A frame section, and where its module is loaded.
+/// A frame section, and the load address of its module.
 #[repr(C)]
 #[derive(Drop)]
 pub struct LoadedSection<'a> {
@@ -31,7 +31,7 @@ pub struct LoadedSection<'a> {
     pub bytes: &'a [u8],
 }
 
-/// What a walk begins with.
+/// The start of a walk.
 #[repr(C)]
 #[derive(Drop)]
 pub struct WalkStart<'a> {
@@ -40,11 +40,11 @@ pub struct WalkStart<'a> {
     /// Where the stack's bytes begin.
     pub base: u64,
     pub stack: &'a [u8],
-    /// How often it is walked.
+    /// The number of times it is walked.
     pub times: u32,
 }
 
-/// A frame: the kind of its CFA is 1 where that is a value, and 0 where no row is found for it.
+/// A frame: the kind of its CFA is 1 if that is a value, and 0 if no row is found for it.
 #[repr(C)]
 #[derive(Clone, Copy, Debug)]
 pub struct WalkFrame {
@@ -53,7 +53,7 @@ pub struct WalkFrame {
     pub cfa_kind: u32,
 }
 
-/// How many frames there are, and why there are no more.
+/// The number of frames, and why there are no more.
 #[repr(C)]
 #[derive(Clone, Copy, Debug)]
 pub struct WalkEnd {
@@ -61,7 +61,7 @@ pub struct WalkEnd {
     pub stop: u32,
 }
 
-/// The modules with their sections' tables, where all are accepted. The sections are gone.
+/// The modules with their sections' tables, if all are accepted. The sections are gone.
 fn modules_of(alloc: Global, sections: &[LoadedSection<'_>]) -> Option<Vec<Module<UnwindTable>>> {
     let mut modules = Vec::new(alloc);
     for section in sections {
@@ -100,13 +100,13 @@ fn stop_number(stop: Option<Stop>) -> u32 {
     }
 }
 
-/// The next frame of a walk. A loop that calls `next` itself has to show that the iterator ends, and a walk need not.
+/// The next frame of a walk. A loop that calls `next` itself must be shown to end, and a walk need not end.
 #[inline(always)]
 fn next_frame(walk: &mut Walk<'_, &[Module<UnwindTable>], MemoryBlock<'_>>) -> Option<BriefFrame> {
     walk.next()
 }
 
-/// Walks once, and writes the frames, as many as there are places for.
+/// Walks once, and writes the frames, as many as there are slots for.
 fn walk_once(
     modules: &[Module<UnwindTable>],
     abi: &Abi,
@@ -138,7 +138,8 @@ fn walk_once(
     }
 }
 
-/// The checks, the tables, and so many walks. `false` where a section is refused or memory runs out.
+/// Checks the sections, makes the tables, and walks `start.times` times. `false` if a section is refused or memory
+/// runs out.
 #[unsafe(no_mangle)]
 pub extern "C" fn bench_walk(
     alloc: Global,

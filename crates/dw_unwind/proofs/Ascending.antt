@@ -15,7 +15,7 @@ pub ascends-push : (n : ℕ) (xs : List (ℕ × declared.Answer)) (bound : ℕ) 
 ascends-push n [] bound x h le = (omega (arith, h, le), omega arith)
 ascends-push n (y ∷ xs) bound x h le = (h.0, ascends-push (suc y.0) xs bound x h.1 le)
 
--- the one at a place is at or above the first number
+-- the one at an index is at or above the first number
 from_first : (n : ℕ) (xs : List (ℕ × declared.Answer)) (bound p : ℕ) (x : ℕ × Answer) → Ascends n xs bound
     → slice_get (map found_in xs) p ≡ Some x → n ≤ x.0
 from_first n [] bound p x h is = absurd (cc)
@@ -37,7 +37,7 @@ content_at_place n (y ∷ xs) bound (suc p) x h is =
     let other : (y.0 == x.0) ≡ false = grind (arith, nat_tests, more) in
     rw other (content_at_place (suc y.0) xs bound p x h.1 is)
 
--- what is no value is no content
+-- an answer without a value has no content
 pub no_content : (a : declared.Answer) → ((n : ℕ) → a ≡ answers.Value n → ⊥) → content_of (answer_in a) ≡ None
 no_content (answers.Value n) other = absurd (other n refl)
 no_content answers.Undefined other = refl

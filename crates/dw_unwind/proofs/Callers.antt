@@ -1,4 +1,4 @@
--- The caller by a row, and its registers, one after the other.
+-- The caller by a row, and its registers, one by one.
 use Rattle.std.proofs.Common.{◌≡◌, ℕ, suc, ◌+◌, ◌<◌, ◌≤◌, List, [], ◌∷◌, ◌++◌, length, map, refl, ap, sym, subst, ◌∙◌, arith, length-append}
 use Rattle.std.specs.Prelude.{All, Option, Some, None, zero, slice_get}
 use Rattle.std.specs.List.{AllByRecursion}
@@ -14,7 +14,7 @@ use Rattle.dw_stack.specs.Located.{LocatedExpression}
 use Rattle.dw_eval.specs.World.{World}
 use Rattle.dw_unwind.specs.Caller.{Answer, Gives, IsCfa, IsRegister, AreRegisters, Caller, IsCaller, Unwinds, UnwindsBy}
 
--- as many as there are rules
+-- there is one answer per rule
 pub as_many : (e : World) (cfa : Answer) (rules : List (ℕ × Rule)) (answers : List (ℕ × Answer)) → AreRegisters e cfa rules answers
     → length answers ≡ length rules
 as_many e cfa [] [] h = refl
@@ -40,7 +40,7 @@ has_room e cfa came left rest all answers x most h whole next few =
     let one : length left ≡ suc (length rest) = ap length next in
     omega (arith, many, cut, one, few)
 
--- ---- a loop over what things stand for: the next one has come
+-- ---- a loop over views: the next element was visited
 
 pub comes : {X Y : Type 0} (view : X → Y) (came : List X) (x : X) (left rest all : List Y) → map view came ++ left ≡ all
     → left ≡ view x ∷ rest → map view (came ++ x ∷ []) ++ rest ≡ all
@@ -124,7 +124,8 @@ by_rules e abi number row rule rules cfa returned answers cfa_is has_cfa rules_a
   return_address = returns;
 }
 
--- an answer among those of rules that are each its register's is that register's
+-- if each of the answers for these rules is that of its register, one found there is that of the
+-- register looked up
 pub found_register : (e : World) (cfa : Answer) (of : ℕ → Rule) (rules : List (ℕ × Rule)) (answers : List (ℕ × Answer)) (k r : ℕ)
     (a : Answer) → AllByRecursion (λ (entry : ℕ × Rule). entry.1 ≡ of entry.0) rules → AreRegisters e cfa rules answers
     → slice_get answers k ≡ Some (r, a) → IsRegister e cfa r (of r) a

@@ -1,4 +1,4 @@
--- The numbers of a caller are below 2^w, by what is said of checked sections and of runs.
+-- The numbers of a caller are below 2^w, given what is known of checked sections and of runs.
 use Rattle.std.proofs.Common.{◌≡◌, ℕ, pos, negsuc, ◌+◌, ◌-◌, ◌^◌, ◌<◌, ◌≤◌, ◌==◌, Bool, true, false, if◌then◌else◌, List}
 use Rattle.std.proofs.Common.{[], ◌∷◌, length, All, IfSome, refl, sym, subst, arith, inl, inr}
 use Rattle.std.specs.Prelude.{ℤ, Option, Some, None, nat_le}
@@ -61,9 +61,9 @@ needs_fit m undefined Is a each h = subst (AnswerFits m) (sym h) tt
 needs_fit m unreadable Is a each h = subst (AnswerFits m) (sym h) tt
 needs_fit m division_by_zero Is a each h = subst (AnswerFits m) (sym h) tt
 
--- ---- expressions of which the numbers are below the modulus of an address
+-- ---- expressions whose numbers are below the modulus of an address
 
--- the numbers of its runs are ones of addresses of this size
+-- the numbers of its runs are those of addresses of this size
 abbrev IsWithin : AddressSize → LocatedExpression → Type 0
 IsWithin size x = (n : ℕ) → n < 2 ^ width_of x.target.address_size → n < 2 ^ width_of size
 

@@ -1,4 +1,5 @@
--- At each address of a section that is accepted there is a caller, or no FDE covers it, by what is said of rows and of callers.
+-- At each address of an accepted section there is a caller, or no FDE covers it, given what is known of rows and of
+-- callers.
 use Rattle.std.proofs.Common.{◌≡◌, ℕ, zero, suc, ◌+◌, ◌==◌, nat_le, nat_lt, Bool, true, false, cond, List, [], ◌∷◌}
 use Rattle.std.proofs.Common.{refl, ap, sym, subst, ◌∙◌, arith, inl, inr}
 use Rattle.std.specs.Prelude.{◌⊎◌, Option, Some, None, Contains, filter}
@@ -69,7 +70,7 @@ kept_among : {X : Type 0} (test : X → Bool) (xs : List X) (x : X) (ys : List X
 kept_among test [] x ys e = absurd cc
 kept_among test (y ∷ xs) x ys e = kept_or test y xs x ys (test y) refl e (kept_among test xs x ys)
 
--- ---- what an unwinding comes to
+-- ---- the result of an unwinding
 
 module _ (covered : (s : FrameSection) (a : ℕ) → IsChecked s → (f : Fde) → Contains s.fdes f → Covers f a → HasOneRow s a)
     (has : (e : World) (abi : Abi) (back : ℕ) (frame : FrameSection) (fde : Fde) (row : Row) → IsChecked frame → Contains frame.fdes fde

@@ -1,4 +1,4 @@
--- What a walk has given, frame after frame, and the walk with a limit that begins so.
+-- What a walk has given, frame by frame, and the walk with a limit that begins so.
 use Rattle.std.proofs.Common.{◌≡◌, ℕ, zero, suc, ◌+◌, ◌-◌, ◌<◌, ◌≤◌, List, [], ◌∷◌, ◌++◌, length, Option, None, Some, inl, inr}
 use Rattle.std.proofs.Common.{refl, sym, subst, arith, append-nil, append_assoc, length-append}
 use Rattle.std.specs.Prelude.{◌⊎◌, option_map}
@@ -26,7 +26,7 @@ module _ (u : CallerRelation) (first : Place) where
       → UnderWay u first frames (after (about_to_give begin) frames)
   given_so_far begin frames at given = further [] (about_to_give begin) frames (begins u first begin at) given
 
-  -- they are a walk where none is given next, and where they are as many as its limit
+  -- they are a walk if none is given next, and if their number is its limit
   pub given_and_ended : (begin : WalkedFrame) (limit : ℕ) (frames : List WalkedFrame) (stop : Stop) → IsFrameAt u first begin
       → GivesFrames u (about_to_give begin) frames → stop_of (after (about_to_give begin) frames) ≡ Some stop → length frames < limit
       → Walks u first limit frames stop
@@ -90,7 +90,7 @@ module _ (u : CallerRelation) (first : Place) where
         rest_of_walk limit (limit - length frames) frames (after (about_to_give begin) frames) (given_so_far begin frames at given)
         (omega (arith, few))
 
--- ---- one frame more
+-- ---- one more frame
 
 pub one_more_given : (u : CallerRelation) (p : Progress) (frames : List WalkedFrame) (f : WalkedFrame) → GivesFrames u p frames
     → GivesFrame u (after p frames) f → GivesFrames u p (frames ++ f ∷ [])

@@ -1,4 +1,4 @@
--- Unwinding through modules, by what is said of each.
+-- Unwinding through modules, given what is known of each.
 use Rattle.std.proofs.Common.{◌≡◌, ℕ, zero, suc, ◌<◌, ◌^◌, ◌+◌, ◌*◌, List, [], ◌∷◌, Option, None, Some, pos, refl, sym, subst, ap, ◌∙◌, arith}
 use Rattle.std.specs.Prelude.{◌↔◌, unsigned_abs, ◌-ℤ◌, IfSome}
 use Rattle.std.specs.Borrow.{Bor}
@@ -55,7 +55,7 @@ module _ {T : Type 0} (target_of : T → Target) (over : T → CallerRelation) w
       let found = some_else own.0 (over_modules target_of over modules registers a) (some_through modules each.1 registers a) in
       (found.0, (own.0, own.1, found.1))
 
--- what others say may be said by more
+-- what holds of one answer can be weakened
 else_goes : (own : Option Caller) (A B : Option Caller → Type 0) (c : Option Caller) → ((x : Option Caller) → A x → B x)
     → OrElse own A c → OrElse own B c
 else_goes None A B c goes h = goes c h
@@ -155,7 +155,7 @@ module _ {T : Type 0} (target_of : T → Target) (over : T → CallerRelation) (
   by_one_module registers a c fits h =
       (c, subst (λ (n : ℕ). over rows registers n c) (sym (as_loaded (target_of rows) a fits)) h, none_or c)
 
--- a caller that goes on below a bound goes on where the address before is below it
+-- if a caller's return address is below a bound, so is the address before it
 pub leads_below : (bound : ℕ) (c : Caller) → CallerFits bound c
     → IfSome (content_of c.return_address) (λ n. IfSome (address_before n) (λ (a : ℕ). a < bound))
 leads_below bound c fits = of_answer c.return_address fits.return_address

@@ -1,4 +1,4 @@
--- There is one caller, by what is said of evaluations.
+-- There is one caller, given what is known of evaluations.
 use Rattle.std.proofs.Common.{◌≡◌, ℕ, ◌≤◌, ◌==◌, if◌then◌else◌, Bool, true, false, List, [], ◌∷◌, refl, ap, sym, subst, ◌∙◌, length}
 use Rattle.std.specs.Prelude.{Option, Some, None, IfSome, All}
 use Rattle.dw_rows.specs.Abi.{Abi, Role, unnamed, kept, stack_pointer, rule_of_role, or_rule, rule_under, rules_under}
@@ -36,7 +36,7 @@ rule_good es [] r good = tt
 rule_good es (entry ∷ rules) r good =
     if_good es (entry.0 == r) entry.1 (rule_in rules r) good.0 (rule_good es rules r good.1)
 
--- ---- and so are those under an ABI, whose own name no expression
+-- ---- and so are those under an ABI, whose own rules name no expression
 
 or_good : (es : List LocatedExpression) (x : Rule) (role : Role) → IsGoodRule es x → IsGoodRule es (or_rule x (rule_of_role role))
 or_good es default unnamed good = tt
@@ -66,7 +66,7 @@ abbrev pub known : Kind → Target → List ℕ → ℕ → Checked
 known kind target bytes depth =
     record { kind = kind; target = target; bytes = bytes; depth = depth; count = length (operations_in target bytes) }
 
--- a good one is good as one of its rule
+-- a good expression is good as one of its rule
 good_as : (es : List LocatedExpression) (kind : Kind) (x : LocatedExpression) → IsGoodAmong es kind x
     → IsGoodExpression kind x.target x.bytes
 good_as es kind x good = subst (λ k. IsGoodExpression k x.target x.bytes) good.of_kind good.good

@@ -1,4 +1,5 @@
--- There is one walk from a place with a limit, by what is said of callers, and a longer one begins with it.
+-- There is one walk from a position with a limit, given what is known of callers, and a longer one begins
+-- with it.
 use Rattle.std.proofs.Common.{◌≡◌, ℕ, zero, suc, ◌≤◌, ◌==◌, List, [], ◌∷◌, length, Option, None, Some, true, false, inl, inr}
 use Rattle.std.proofs.Common.{refl, sym, ap, subst, ◌∙◌, arith, take}
 use Rattle.std.proofs.lemmas.Bool.{cases_lt}
@@ -17,7 +18,7 @@ use Rattle.dw_unwind.specs.Walks.{content_of, stop_of_return, stop_of_caller, st
 ends : ℕ → List WalkedFrame → Option Stop
 ends limit frames = if length frames == limit then Some Limit else stop_after frames
 
--- These frames are all behind one with this caller, or as many as the limit.
+-- After a frame with this caller, these are all frames, or their number is the limit.
 Ended : ℕ → Option Caller → List WalkedFrame → Type 0
 Ended n caller [] = (n ≡ 0) ⊎ ((stop : Stop) × (stop_of_caller caller ≡ Some stop))
 Ended zero caller (f ∷ frames) = ⊥
@@ -36,13 +37,13 @@ ended_after (suc n) f (g ∷ frames) stop few is = ended_after n g frames stop (
         → (if k == m then Some Limit else stop_after (g ∷ frames)) ≡ Some stop
     same k m h = let one : (suc k == suc m) ≡ (k == m) = grind (arith, nat_tests) in rw one at h
 
--- no frames are the end of none
+-- an empty list of frames has no end
 none_ends : (n : ℕ) (stop : Stop) → (if 0 == suc n then Some Limit else None) ≡ Some stop → ⊥
 none_ends n stop is =
     let other : (0 == suc n) ≡ false = grind (arith, nat_tests) in
     let no : ◌≡◌ {A = Option Stop} None (Some stop) = rw other at is in cc
 
--- an end leaves no place
+-- after an end there is no next position
 no_place : (c : Option Caller) (stop : Stop) → stop_of_caller c ≡ Some stop → next_place c ≡ None
 no_place None stop is = refl
 no_place (Some caller) stop is = go caller.return_address is
@@ -53,7 +54,7 @@ no_place (Some caller) stop is = go caller.return_address is
     go unreadable h = refl
     go division_by_zero h = refl
 
--- and where there is no place is an end
+-- and without a next position there is an end
 some_end : (c : Option Caller) → next_place c ≡ None → (stop : Stop) × (stop_of_caller c ≡ Some stop)
 some_end None is = (NotCovered, refl)
 some_end (Some caller) is = go caller.return_address is

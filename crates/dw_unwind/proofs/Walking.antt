@@ -1,4 +1,4 @@
--- Walks, frame after frame.
+-- Walks, frame by frame.
 use Rattle.std.proofs.Common.{◌≡◌, ℕ, zero, suc, ◌-◌, ◌<◌, ◌≤◌, ◌==◌, List, [], ◌∷◌, ◌++◌, length, Option, None, Some}
 use Rattle.std.proofs.Common.{refl, sym, ap, subst, ◌∙◌, arith}
 use Rattle.std.proofs.lemmas.List.{map-append}
@@ -36,7 +36,7 @@ none_before (suc n) none = absurd (none (omega arith))
 
 -- ---- a walk under way
 
--- These frames were given. Whichever is given next comes after them, and where none is, that is why they end.
+-- These frames were given. Any frame given next comes after them; if none is given, that is why they end.
 pub record UnderWay (u : CallerRelation) (first : Place) (frames : List WalkedFrame) (p : Progress) : Type 0 where
   pub are : AreFrames u (Some first) frames
   pub next : (f : WalkedFrame) → GivesFrame u p f → AreFrames u (Some first) (frames ++ f ∷ [])

@@ -11,7 +11,8 @@ use Rattle.dw_unwind.specs.Walks.{CallerRelation, Place, WalkedFrame, AreFrames,
 use Rattle.dw_unwind.specs.Walks.{address_before, content_of, place_of_caller}
 use Rattle.dw_unwind.proofs.Callers.{found-unwinds, unwinds-found}
 
--- What holds at each address that a walk looks up, since it holds at the first and goes on from a frame to the next.
+-- What holds at each address that a walk looks up, since it holds at the first and carries over from a frame to the
+-- next.
 module _ (u v : CallerRelation) (P : ℕ → Type 0)
     (each : (registers : ℕ → Option ℕ) (address : ℕ) (caller : Option Caller) → P address → u registers address caller
     → v registers address caller)
@@ -75,7 +76,7 @@ walks_same u v same first limit frames stop = (
   walk_over v u (λ registers address caller. (same registers address caller).1) first limit frames stop,
 )
 
--- ---- by what is found in a section, by what a table gives, and over a table of a section
+-- ---- by what is found in a section, by what a table gives, and with a table of a section
 
 pub over_what_is_found : (s : FrameSection) (abi : Abi) (memory registers : ℕ → Option ℕ) (address : ℕ) (caller : Option Caller)
     → over_rows s.target (IsFoundAt s) abi memory registers address caller ↔ over_section s abi memory registers address caller

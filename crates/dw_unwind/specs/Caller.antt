@@ -1,4 +1,4 @@
--- The frame that called: its registers, its CFA, and where it goes on (DWARF 5, section 6.4.1).
+-- The calling frame: its registers, its CFA, and its return address (DWARF 5, section 6.4.1).
 use Rattle.std.specs.Prelude.{◌≡◌, ℕ, ◌+◌, ◌^◌, nat_le, ℤ, pos, ◌+ℤ◌, if◌then◌else◌, List, [], ◌∷◌, length, Option, Some, None, Contains}
 use Rattle.dw_bytes.specs.declared.target.Target.{Target}
 use Rattle.dw_bytes.specs.Encoding.{bytes_of_address}
@@ -16,17 +16,18 @@ use Rattle.dw_eval.specs.World.{World, width, number_at}
 use Rattle.dw_eval.specs.Results as results
 use Rattle.dw_eval.specs.Results.{Outcome, IsRun}
 
--- What is known of a number: it; that it can't be had; that registers or memory lack what it, or the CFA that it needs, takes, or that
--- a read goes past 2^w - 1; or that its expression, or that of the CFA that it needs, divides by zero.
+-- What is known of a number: its value; that it isn't available; that it, or the CFA that it needs, requires a register
+-- or memory that isn't given, or a read goes past 2^w - 1; or that its expression, or that of the CFA that it needs,
+-- divides by zero.
 pub data Answer : Type 0 where
   value : ℕ → Answer
   undefined : Answer
   unreadable : Answer
   division_by_zero : Answer
 
--- ---- what is handed in
+-- ---- the inputs
 
--- registers and memory alone, under a target
+-- only registers and memory, under a target
 abbrev pub machine : Target → (ℕ → Option ℕ) → (ℕ → Option ℕ) → World
 machine target registers memory =
     record { target = target; registers = registers; memory = memory; cfa = None; frame_base = None; object = None }
@@ -36,7 +37,7 @@ abbrev pub with_cfa : World → ℕ → World
 with_cfa e c =
     record { target = e.target; registers = e.registers; memory = e.memory; cfa = Some c; frame_base = None; object = None }
 
--- the same under a target, as that of an expression, which is its section's
+-- the same under a target: an expression's target is its section's
 abbrev pub under : Target → World → World
 under target e = record {
   target = target;
@@ -60,17 +61,18 @@ content_plus e by None = unreadable
 abbrev pub content : World → ℕ → Answer
 content e r = content_plus e (pos 0) (e.registers r)
 
--- the address-sized word at an address, of which the last byte is at most at 2^w - 1
+-- the address-sized word at an address, whose last byte is at 2^w - 1 or below
 abbrev pub word : World → ℕ → Answer
 word e a = if nat_le (a + bytes_of_address e.target.address_size) (2 ^ width e)
     then content_plus e (pos 0) (number_at e.memory e.target.order a (bytes_of_address e.target.address_size)) else unreadable
 
--- what comes of a value, or that there is none
+-- the result for a value; without one, the same answer
 abbrev pub if_value : Answer → (ℕ → Answer) → Answer
 if_value (value n) f = f n
 if_value other f = other
 
--- What an expression of a frame comes to, run as one of a kind: that of a CFA begins with nothing, that of a register with the CFA.
+-- The result of an expression of a frame, run as one of a kind: that of a CFA begins with an empty stack, that of a
+-- register with the CFA.
 abbrev pub answer_of : Outcome → Answer
 answer_of (results.value n) = value n
 answer_of (results.division_by_zero at) = division_by_zero
@@ -88,12 +90,12 @@ IsCfa e (Some (register_and_offset r n)) answer = answer ≡ content_plus e n (e
 IsCfa e (Some (cfa_expression x)) answer = Gives e FrameCfa x answer
 IsCfa e None answer = answer ≡ unreadable
 
--- a rule that needs the CFA has its outcome where it has no value (own)
+-- if the CFA has no value, a rule that needs it has the CFA's answer (own)
 abbrev pub NeedsCfa : Answer → (ℕ → Answer → Type 0) → Answer → Type 0
 NeedsCfa (value c) Is answer = Is c answer
 NeedsCfa other Is answer = answer ≡ other
 
--- What a register of the caller is, by its rule and the CFA. The CFA is pushed before the expression of a register.
+-- The value of a caller's register, by its rule and the CFA. The CFA is pushed before the expression of a register.
 abbrev pub IsRegister : World → Answer → ℕ → Rule → Answer → Type 0
 IsRegister e cfa r default answer = answer ≡ undefined
 IsRegister e cfa r RuleOver.undefined answer = answer ≡ undefined
@@ -114,20 +116,20 @@ AreRegisters e cfa _ _ = ⊥
 
 -- ---- the caller
 
--- Its CFA; each register that has a rule, of the row or of the ABI, by ascending numbers; and where it goes on.
+-- Its CFA; each register that has a rule, from the row or from the ABI, by ascending numbers; and its return address.
 pub record Caller : Type 0 where
   pub cfa : Answer
   pub registers : List (ℕ × Answer)
   pub return_address : Answer
 
--- The caller by a row, under registers, memory and an ABI, whose rules hold where the row has none. The return address is what the
--- register of its column is, which the CIE names.
+-- The caller by a row, with given registers, memory and an ABI, whose rules apply if the row has none. The return address
+-- is the value of the column's register, which the CIE names.
 pub record IsCaller (e : World) (abi : Abi) (column : ℕ) (row : Row) (caller : Caller) : Type 0 where
   pub cfa : IsCfa e row.cfa caller.cfa
   pub registers : AreRegisters e caller.cfa (rules_under abi row.rules) caller.registers
   pub return_address : IsRegister e caller.cfa column (rule_under abi row.rules column) caller.return_address
 
--- The caller at an address: by the FDE that covers it, that one's CIE, and the row of the address.
+-- The caller at an address: by the FDE that covers it, that FDE's CIE, and the row of the address.
 pub record IsCallerAt (e : World) (abi : Abi) (frame : FrameSection) (address : ℕ) (caller : Caller) : Type 0 where
   pub fde : Fde
   pub covers : IsCoverOf frame.fdes address (Some fde)
@@ -144,7 +146,7 @@ Unwinds e abi frame address None = (f : Fde) → Contains frame.fdes f → ¬ Co
 
 -- ---- by what is found
 
--- The caller by what is found at an address: a row with the register that names where the caller goes on, or none.
+-- The caller by what is found at an address: a row with the return address register, or none.
 abbrev pub UnwindsBy : World → Abi → Option (Row × ℕ) → Option Caller → Type 0
 UnwindsBy e abi (Some found) (Some caller) = IsCaller e abi found.1 found.0 caller
 UnwindsBy e abi None None = Unit {0}

@@ -1,4 +1,4 @@
--- Which callers and frames have numbers below the modulus alone.
+-- Which callers and frames have only numbers below the modulus.
 use Rattle.std.specs.Prelude.{ℕ, ◌<◌, All, IfSome}
 use Rattle.dw_unwind.specs.Caller.{Answer, value, Caller}
 use Rattle.dw_unwind.specs.Walks.{WalkedFrame}
@@ -15,11 +15,11 @@ pub record CallerFits (m : ℕ) (caller : Caller) : Type 0 where
   pub registers : All (λ found. AnswerFits m found.1) caller.registers
   pub return_address : AnswerFits m caller.return_address
 
--- and those of a frame
+-- and so are those of a frame
 pub record FrameFits (m : ℕ) (frame : WalkedFrame) : Type 0 where
   pub address : frame.address < m
   pub caller : IfSome frame.caller (CallerFits m)
 
--- those of the frame that a walk has come to
+-- and those of the current frame of a walk
 abbrev pub ProgressFits : ℕ → Progress → Type 0
 ProgressFits m progress = FrameFits m (frame_at progress)

@@ -1,4 +1,4 @@
--- What the types of an unwinding stand for.
+-- What the types of an unwinding mean.
 use Rattle.std.specs.Prelude.{ℕ, map, Option, None}
 use Rattle.dw_eval.specs.World.{World}
 use Rattle.dw_unwind.specs.declared.unwinding.Answer as declared_answer
@@ -24,7 +24,7 @@ caller_in c = record {
   return_address = answer_in c.return_address;
 }
 
--- what is handed in
+-- the inputs
 abbrev pub machine_in : {R M : Type 0} → (R → ℕ → Option ℕ) → (M → ℕ → Option ℕ) → Present R M → World
 machine_in contents bytes m = machine m.target (contents m.registers.now) (bytes m.memory.now)
 

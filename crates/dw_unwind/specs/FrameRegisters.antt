@@ -1,4 +1,4 @@
--- The registers that a walk keeps of a frame.
+-- The registers of a frame inside a walk.
 use Rattle.std.specs.Prelude.{◌≡◌, ℕ, suc, ◌≤◌, Bool, true, List, [], ◌∷◌, length, take}
 use Rattle.dw_unwind.specs.declared.unwinding.Answer.{Answer}
 
@@ -7,7 +7,7 @@ abbrev pub Ascends : ℕ → List (ℕ × Answer) → ℕ → Type 0
 Ascends n [] bound = n ≤ bound
 Ascends n (x ∷ xs) bound = (n ≤ x.0) × Ascends (suc x.0) xs bound
 
--- places for registers, of which the first `count` are in use, with guesses of where they are
+-- slots for registers, the first `count` of which are in use, with guesses of their indices
 pub record IsRoom (most guesses : ℕ) (found : List (ℕ × Answer)) (count : ℕ) (places : List ℕ) (is_ascending : Bool) (bound : ℕ) : Type 0 where
   pub few : count ≤ most
   pub room : length found ≡ most

@@ -1,5 +1,5 @@
--- The modules of a process: its executable and its libraries, each with rows and a load address of its own. Addresses in rows are as
--- linked, those on the stack are as loaded.
+-- The modules of a process: its executable and its libraries, each with its own rows and load address. Addresses in rows
+-- are as linked, those on the stack are as loaded.
 use Rattle.std.specs.Prelude.{◌≡◌, ℕ, ◌≤◌, ◌^◌, pos, ◌-ℤ◌, List, [], ◌∷◌, map, All, Option, Some, None}
 use Rattle.std.specs.Borrow.{Bor}
 use Rattle.dw_bytes.specs.declared.target.Target.{Target}
@@ -12,35 +12,36 @@ use Rattle.dw_unwind.specs.Caller.{Caller}
 use Rattle.dw_unwind.specs.Walks.{CallerRelation, over_rows, over_section, over_table}
 use Rattle.dw_unwind.specs.declared.modules.Module.{Module}
 
--- the address as linked of an address as loaded: less the load address, modulo 2^w
+-- the address as linked for an address as loaded: the load address subtracted, modulo 2^w
 abbrev pub as_linked : Target → ℕ → ℕ → ℕ
 as_linked target load_address address = wrap (width_of target.address_size) (pos address -ℤ pos load_address)
 
--- the caller that was found, or else what others say
+-- the caller that was found, or else what the other modules give
 abbrev pub OrElse : Option Caller → (Option Caller → Type 0) → Option Caller → Type 0
 OrElse (Some found) Others caller = caller ≡ Some found
 OrElse None Others caller = Others caller
 
--- The caller by the first module that has one at the address as linked there, or none. A module has one exactly where it has a row.
+-- The caller by the first module that has one at the address as linked there, or none. A module has one exactly if it has
+-- a row.
 abbrev pub over_modules : {T : Type 0} → (T → Target) → (T → CallerRelation) → List (Module T) → CallerRelation
 over_modules target_of over [] registers address caller = caller ≡ None
 over_modules target_of over (m ∷ modules) registers address caller = (own : Option Caller)
     × over m.rows registers (as_linked (target_of m.rows) m.load_address address) own
     × OrElse own (over_modules target_of over modules registers address) caller
 
--- ---- whatever gives the rows of a module
+-- ---- any supplier of a module's rows
 
--- over what gives rows
+-- with a supplier of rows
 abbrev pub over_modules_of_rows : {T : Type 0} → (T → Target) → (T → ℕ → Option (Row × ℕ) → Type 0) → Abi → (ℕ → Option ℕ)
     → List (Module T) → CallerRelation
 over_modules_of_rows target_of finds abi memory =
     over_modules target_of (λ rows. over_rows (target_of rows) (finds rows) abi memory)
 
--- over checked sections
+-- with checked sections
 abbrev pub over_sections : Abi → (ℕ → Option ℕ) → List (Module FrameSection) → CallerRelation
 over_sections abi memory = over_modules (λ (s : FrameSection). s.target) (λ s. over_section s abi memory)
 
--- over tables of rows
+-- with tables of rows
 abbrev pub over_tables : Abi → (ℕ → Option ℕ) → List (Module RowTable) → CallerRelation
 over_tables abi memory = over_modules (λ (t : RowTable). t.target) (λ t. over_table t abi memory)
 
@@ -52,7 +53,7 @@ unborrowed modules = map (λ m. record { rows = m.rows.now; load_address = m.loa
 abbrev pub where_linked : {T : Type 0} → T → List (Module T)
 where_linked rows = record { rows = rows; load_address = 0 } ∷ []
 
--- modules and others with the same load addresses, whose rows have to do with theirs, one by one
+-- modules and others with the same load addresses, whose rows are related one by one
 abbrev pub AreLike : {S T : Type 0} → (S → T → Type 0) → List (Module S) → List (Module T) → Type 0
 AreLike Is [] [] = Unit {0}
 AreLike Is (s ∷ modules) (t ∷ others) = (t.load_address ≡ s.load_address) × Is s.rows t.rows × AreLike Is modules others

@@ -1,4 +1,4 @@
--- What an unwinding into a list of registers stands for.
+-- What an unwinding into a list of registers means.
 use Rattle.std.specs.Prelude.{ℕ, List, Option, Some, None}
 use Rattle.dw_unwind.specs.declared.unwinding.Unwound.{Unwound}
 use Rattle.dw_unwind.specs.Caller.{Answer, Caller}
@@ -11,7 +11,7 @@ use Rattle.dw_unwind.specs.declared.frames.Stop.TheVariants.{NotCovered}
 abbrev pub caller_with : List (ℕ × Answer) → Unwound → Caller
 caller_with registers u = record { cfa = answer_in u.cfa; registers = registers; return_address = answer_in u.return_address }
 
--- why there is no frame after one that was unwound to this
+-- why there is no frame after one with this unwinding
 abbrev pub stop_of_unwound : Option Unwound → Option Stop
 stop_of_unwound None = Some NotCovered
 stop_of_unwound (Some u) = stop_of_return (answer_in u.return_address)

@@ -1,16 +1,16 @@
--- A walk that is under way, frame after frame.
+-- A walk that is under way, frame by frame.
 use Rattle.std.specs.Prelude.{◌≡◌, ℕ, List, [], ◌∷◌, Option, Some, None, option_map}
 use Rattle.dw_rows.specs.Rules.{PlacedRule}
 use Rattle.dw_unwind.specs.Caller.{Answer, Caller}
 use Rattle.dw_unwind.specs.Walks.{CallerRelation, WalkedFrame, AreFrames, UnwindsAt, address_before, contents_of, next_place, stop_of_caller}
 use Rattle.dw_unwind.specs.declared.frames.Stop.{Stop}
 
--- How far a walk has come: it is about to give its first frame, or it has given a frame.
+-- The progress of a walk: it is about to give its first frame, or it has given a frame.
 pub data Progress : Type 0 where
   about_to_give : WalkedFrame → Progress
   has_given : WalkedFrame → Progress
 
--- a walk: what it goes over, the ABI, as its rules, and the memory, which stay the same, and how far it has come
+-- a walk: what it unwinds with, the ABI, as its rules, and the memory, which stay the same, and its progress
 pub record WalkState (U M : Type 0) : Type 0 where
   pub unwinder : U
   pub abi : List (ℕ × PlacedRule)
@@ -27,7 +27,7 @@ abbrev pub GivesFrames : CallerRelation → Progress → List WalkedFrame → Ty
 GivesFrames u p [] = Unit {0}
 GivesFrames u p (frame ∷ frames) = GivesFrame u p frame × GivesFrames u (has_given frame) frames
 
--- how far a walk has come after these
+-- the progress of a walk after these
 abbrev pub after : Progress → List WalkedFrame → Progress
 after p [] = p
 after p (frame ∷ frames) = after (has_given frame) frames
@@ -37,12 +37,12 @@ abbrev pub stop_of : Progress → Option Stop
 stop_of (about_to_give first) = None
 stop_of (has_given last) = stop_of_caller last.caller
 
--- the frame that a walk has come to
+-- the current frame of a walk
 abbrev pub frame_at : Progress → WalkedFrame
 frame_at (about_to_give first) = first
 frame_at (has_given last) = last
 
--- the CFA of a frame, none where no FDE covers the address that is looked up
+-- the CFA of a frame, none if no FDE covers the address that is looked up
 abbrev pub cfa_of : WalkedFrame → Option Answer
 cfa_of frame = option_map (λ (c : Caller). c.cfa) frame.caller
 
@@ -55,7 +55,7 @@ having_given frame w =
 abbrev pub GivesNext : {U M : Type 0} → CallerRelation → WalkState U M → WalkState U M → Type 0
 GivesNext u old new = (frame : WalkedFrame) × GivesFrame u old.progress frame × (new ≡ having_given frame old)
 
--- The caller of a frame that is a caller itself and goes on at an address. Nothing is said where there was no caller.
+-- The caller of a frame at an address that is itself a caller. States nothing if there was no caller.
 abbrev pub UnwindsFrom : CallerRelation → Option Caller → ℕ → Option Caller → Type 0
 UnwindsFrom u None address next = Unit {0}
 UnwindsFrom u (Some caller) address next = UnwindsAt u (contents_of caller.registers) (address_before address) next

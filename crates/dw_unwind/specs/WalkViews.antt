@@ -1,4 +1,4 @@
--- What the types of a walk stand for.
+-- What the types of a walk mean.
 use Rattle.std.specs.Prelude.{◌≡◌, ℕ, Bool, true, false, if◌then◌else◌, IfSome, List, MatchOption, Some, map, Option, option_map}
 use Rattle.dw_unwind.specs.declared.frames.BriefFrame.{BriefFrame}
 use Rattle.dw_unwind.specs.declared.frames.Frame as declared
@@ -26,7 +26,7 @@ brief_of frame = (frame.address, cfa_of frame)
 
 -- ---- a walk's fields
 
--- the frame at an address, with the registers of its caller in one of two rooms
+-- the frame at an address, with the registers of its caller in one of two lists
 abbrev pub frame_with : ℕ → Bool → List (ℕ × Answer) → List (ℕ × Answer) → Option Unwound → WalkedFrame
 frame_with address is_other one other unwound =
     record { address = address; caller = option_map (caller_with (if is_other then other else one)) unwound }
@@ -37,7 +37,7 @@ progress_with true frame = has_given frame
 
 -- ---- a call of `next`
 
--- It gives the next frame, in brief; or none, for which there is a reason, and then nothing changes. Numbers stay below a bound of
+-- It gives the next frame, in brief; or none, for a reason, and then nothing changes. Numbers stay below a bound of
 -- addresses.
 pub record NextFrame {U M : Type 0} (u : CallerRelation) (IsBound : ℕ → Type 0) (old : WalkState U M) (given : Option BriefFrame)
     (new : WalkState U M) : Type 0 where

@@ -1,6 +1,6 @@
--- A walk up the stack: frame after frame, each the caller of the one before it. DWARF 5, section 6.4.1, says what one caller is,
--- and section 6.4.4 that a walk is complete where the return address is undefined, and that the call is looked for at the return
--- address less 1. Which registers have a content, the limit and the other ends are the profile's own.
+-- A walk up the stack, each frame the caller of the one before it. DWARF 5, section 6.4.1, defines one caller. Section
+-- 6.4.4 states that a walk is complete where the return address is undefined, and that the call is looked for at the
+-- return address less 1. Which registers have a content, the limit and the other ends are the profile's own.
 use Rattle.std.specs.Prelude.{◌≡◌, ℕ, zero, suc, ◌≤◌, ◌==◌, if◌then◌else◌, List, [], ◌∷◌, length, Option, Some, None, option_map}
 use Rattle.dw_bytes.specs.declared.target.Target.{Target}
 use Rattle.dw_rows.specs.Abi.{Abi}
@@ -11,43 +11,44 @@ use Rattle.dw_unwind.specs.Caller.{Answer, value, undefined, unreadable, divisio
 use Rattle.dw_unwind.specs.declared.frames.Stop.{Stop}
 use Rattle.dw_unwind.specs.declared.frames.Stop.TheVariants.{Limit, NotCovered, ReturnUndefined, ReturnUnreadable, ReturnDivisionByZero}
 
--- ---- what is walked over
+-- ---- what a walk unwinds with
 
--- Which caller a frame has: a relation between the frame's registers, the address that is looked up for it, and the caller, none where
--- nothing covers the address.
+-- Which caller a frame has: a relation between the frame's registers, the address looked up for it, and the caller, none
+-- if nothing covers the address.
 abbrev pub CallerRelation : Type 1
 CallerRelation = (ℕ → Option ℕ) → ℕ → Option Caller → Type 0
 
--- over a checked section, under an ABI and memory, which stay the same on a walk
+-- with a checked section, under an ABI and with memory, which stay the same on a walk
 abbrev pub over_section : FrameSection → Abi → (ℕ → Option ℕ) → CallerRelation
 over_section frame abi memory = λ registers address caller. Unwinds (machine frame.target registers memory) abi frame address caller
 
--- over a table of rows
+-- with a table of rows
 abbrev pub over_table : RowTable → Abi → (ℕ → Option ℕ) → CallerRelation
 over_table table abi memory =
     λ registers address caller. UnwindsBy (machine table.target registers memory) abi (row_at table address) caller
 
--- over whatever gives rows: what it finds at an address is a row with its return address register, or none
+-- with any supplier of rows: at an address it finds a row with its return address register, or none
 abbrev pub over_rows : Target → (ℕ → Option (Row × ℕ) → Type 0) → Abi → (ℕ → Option ℕ) → CallerRelation
 over_rows target Finds abi memory = λ registers address caller. (found : Option (Row × ℕ)) × Finds address found
     × UnwindsBy (machine target registers memory) abi found caller
 
 -- ---- places and frames
 
--- Where a walk has come to: the address of a frame, the address that its FDE is looked up at, if there is one, and its registers.
+-- The current position of a walk: the address of a frame, the address that its FDE is looked up at, if there is one, and
+-- its registers.
 pub record Place : Type 0 where
   pub address : ℕ
   pub looked_up : Option ℕ
   pub registers : ℕ → Option ℕ
 
--- A frame: its address, and its caller, none where no FDE covers the address that is looked up.
+-- A frame: its address, and its caller, none if no FDE covers the address that is looked up.
 pub record WalkedFrame : Type 0 where
   pub address : ℕ
   pub caller : Option Caller
 
 -- ---- from a frame to the next
 
--- a register has a content where the answer for it is a value
+-- a register has a content if the answer for it is a value
 abbrev pub content_of : Answer → Option ℕ
 content_of (value n) = Some n
 content_of _ = None
@@ -61,32 +62,32 @@ abbrev pub address_before : ℕ → Option ℕ
 address_before zero = None
 address_before (suc a) = Some a
 
--- the first place: a frame is looked up at its own address
+-- the first position: a frame is looked up at its own address
 abbrev pub first_place : ℕ → (ℕ → Option ℕ) → Place
 first_place address registers = record { address = address; looked_up = Some address; registers = registers }
 
--- The place of a caller. It goes on after a call, which lies before that address: the next frame is looked up there.
+-- The position of a caller at an address. Its call lies before the address, so its frame is looked up there.
 abbrev pub place_of_caller : Caller → ℕ → Place
 place_of_caller caller address =
     record { address = address; looked_up = address_before address; registers = contents_of caller.registers }
 
--- the place after a frame: that of its caller, where there is one and its return address has a value
+-- the position after a frame: that of its caller, if there is one and its return address has a value
 abbrev pub next_place : Option Caller → Option Place
 next_place None = None
 next_place (Some caller) = option_map (place_of_caller caller) (content_of caller.return_address)
 
--- the caller at a place, or none where there is no address to be looked up
+-- the caller at a position, or none if there is no address to be looked up
 abbrev pub UnwindsAt : CallerRelation → (ℕ → Option ℕ) → Option ℕ → Option Caller → Type 0
 UnwindsAt u registers None caller = caller ≡ None
 UnwindsAt u registers (Some a) caller = u registers a caller
 
--- a frame at a place
+-- a frame at a position
 abbrev pub IsFrameAt : CallerRelation → Place → WalkedFrame → Type 0
 IsFrameAt u p f = (f.address ≡ p.address) × UnwindsAt u p.registers p.looked_up f.caller
 
 -- ---- the frames of a walk
 
--- These are frames from a place on, each the caller of the one before it. After the last one there may be more.
+-- Frames from a position on, each the caller of the one before it. There may be more after the last one.
 abbrev pub AreFrames : CallerRelation → Option Place → List WalkedFrame → Type 0
 AreFrames u p [] = Unit {0}
 AreFrames u None (f ∷ frames) = ⊥
@@ -103,14 +104,14 @@ abbrev pub stop_of_caller : Option Caller → Option Stop
 stop_of_caller None = Some NotCovered
 stop_of_caller (Some caller) = stop_of_return caller.return_address
 
--- why there is none after the last of frames
+-- why there is none after the last of these frames
 abbrev pub stop_after : List WalkedFrame → Option Stop
 stop_after [] = None
 stop_after (f ∷ []) = stop_of_caller f.caller
 stop_after (f ∷ g ∷ frames) = stop_after (g ∷ frames)
 
--- What a walk gives: its first frames, as many as the limit, or all if there are fewer, and why it ends with these. It is the limit
--- wherever there are as many frames.
+-- The result of a walk: its first frames, as many as the limit allows, and why it ends with these. The reason is the
+-- limit whenever the number of frames reaches it.
 pub record Walks (u : CallerRelation) (first : Place) (limit : ℕ) (frames : List WalkedFrame) (stop : Stop) : Type 0 where
   pub are : AreFrames u (Some first) frames
   pub few : length frames ≤ limit

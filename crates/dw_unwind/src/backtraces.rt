@@ -19,7 +19,7 @@ use dw_eval::{Memory, Registers};
 use dw_rows::{Abi, CheckedFrame, UnwindRows};
 use std::alloc::Global;
 
-/// Walks up the stack by whatever unwinds, and keeps the frames.
+/// Walks up the stack with any unwinder, and collects the frames.
 fn backtrace_over<U: Unwinder + Drop, R: Registers, M: Memory>(
     alloc: Global,
     unwinder: U,
@@ -52,13 +52,15 @@ fn backtrace_over<U: Unwinder + Drop, R: Registers, M: Memory>(
     })
 }
 
-/// Walks up the stack through the modules of a process: from a frame at an address as loaded, with its registers, over memory, to its
-/// caller, that one's caller and so on, at most `limit` frames, and why there are no more (DWARF 5, sections 6.4.1 and 6.4.4).
+/// Walks up the stack through the modules of a process: from a frame, given its address as loaded, its registers and
+/// memory, to its caller, that frame's caller and so on. Gives at most `limit` frames, and why there are no more (DWARF
+/// 5, sections 6.4.1 and 6.4.4).
 ///
-/// The first frame is looked up at its own address, each other at the address before its own; the module of an address is the first
-/// that has a row for it. Addresses of frames are as loaded. After the first frame a register has a value only where the answer for it
-/// was one. Each frame costs what `unwind_in` costs, and takes some 6 KB, since a caller has room for all registers that a row and an
-/// ABI can name; `Walk` gives the same frames one by one and takes no memory. The one fault is `Memory`, at 0.
+/// Frame 0 is looked up at its own address, each later frame at its address minus 1; the module of an address is the
+/// first that has a row for it. Addresses of frames are as loaded. After frame 0 a register has a value only if the
+/// answer for it was one. Each frame costs what `unwind_in` costs, and takes some 6 KB, since a caller has room for all
+/// registers that a row and an ABI can name; `Walk` gives the same frames one by one and allocates nothing. The only
+/// fault is `Memory`, with offset 0.
 pub fn backtrace_in<T: UnwindRows, R: Registers, M: Memory>(
     alloc: Global,
     modules: &[Module<T>],
@@ -75,21 +77,21 @@ pub fn backtrace_in<T: UnwindRows, R: Registers, M: Memory>(
     ensures lacks { IfErr result (λ fault. fault ≡ want_of_memory) }
     ensures none { limit ≡ 0 → IsOk result }
 
-    // All numbers are below 2^w for the widest module's w, where the first frame's address is.
+    // All numbers are below 2^w for the widest module's w, if the first frame's address is.
     ensures fits { IfOk result (λ walk. (bound : ℕ) → AreBelow T.target_of modules.now bound
         → address < bound → All (FrameFits bound) (frames_in walk.frames.items)) }
 {
     backtrace_over(alloc, modules, abi, address, registers, memory, limit)
 }
 
-/// Walks up the stack over whatever gives rows, a checked section or a compiled table: from a frame at an address, with its
-/// registers, over memory, to its caller, that one's caller and so on, at most `limit` frames, and why there are no more (DWARF 5,
+/// Walks up the stack with a checked section or a compiled table: from a frame, given its address, registers and memory,
+/// to its caller, that frame's caller and so on. Gives at most `limit` frames, and why there are no more (DWARF 5,
 /// sections 6.4.1 and 6.4.4).
 ///
-/// The first frame is looked up at its own address, each other at the address before its own. After the first frame a register has a
-/// value only where the answer for it was one. Each frame costs what `unwind_by` costs, and takes some 6 KB, since a caller has
-/// room for all registers that a row and an ABI can name; `Walk` gives the same frames one by one and takes no memory. The one fault
-/// is `Memory`, at 0.
+/// Frame 0 is looked up at its own address, each later frame at its address minus 1. After frame 0 a register has a value
+/// only if the answer for it was one. Each frame costs what `unwind_by` costs, and takes some 6 KB, since a caller has
+/// room for all registers that a row and an ABI can name; `Walk` gives the same frames one by one and allocates nothing.
+/// The only fault is `Memory`, with offset 0.
 pub fn backtrace_by<T: UnwindRows, R: Registers, M: Memory>(
     alloc: Global,
     rows: &T,
@@ -107,7 +109,7 @@ pub fn backtrace_by<T: UnwindRows, R: Registers, M: Memory>(
     ensures lacks { IfErr result (λ fault. fault ≡ want_of_memory) }
     ensures none { limit ≡ 0 → IsOk result }
 
-    // All numbers are below 2^w, w being the size of an address in bits, where the first frame's address is.
+    // All numbers are below 2^w, w being the size of an address in bits, if the first frame's address is.
     ensures fits { IfOk result (λ walk.
         address < 2 ^ width_of (T.target_of rows.now).address_size
         → All (FrameFits (2 ^ width_of (T.target_of rows.now).address_size))
@@ -116,7 +118,7 @@ pub fn backtrace_by<T: UnwindRows, R: Registers, M: Memory>(
     backtrace_over(alloc, rows, abi, address, registers, memory, limit)
 }
 
-/// Walks up the stack over a checked frame section: `backtrace_by` it, for a caller that has no location lists.
+/// Walks up the stack with a checked frame section: `backtrace_by` for a caller that has no location lists.
 pub fn backtrace_by_section<R: Registers, M: Memory>(
     alloc: Global,
     frame: &CheckedFrame<'_>,
@@ -133,7 +135,7 @@ pub fn backtrace_by_section<R: Registers, M: Memory>(
     ensures lacks { IfErr result (λ fault. fault ≡ want_of_memory) }
     ensures none { limit ≡ 0 → IsOk result }
 
-    // All numbers are below 2^w, w being the size of an address in bits, where the first frame's address is.
+    // All numbers are below 2^w, w being the size of an address in bits, if the first frame's address is.
     ensures fits { IfOk result (λ walk.
         address < 2 ^ width_of frame.now.target.address_size
         → All (FrameFits (2 ^ width_of frame.now.target.address_size))

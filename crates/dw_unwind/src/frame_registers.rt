@@ -1,4 +1,4 @@
-//! The registers of a caller, in a list that a walk fills again for each frame.
+//! The registers of a caller, in a list that a walk refills for each frame.
 
 ghost use Rattle.std.specs.Prelude.{◌≡◌, ◌<◌, ◌≤◌, [], ℕ, IfSome, Some, length, map, slice_get, true};
 ghost use Rattle.dw_unwind.specs.CallerViews.{answer_in, found_in};
@@ -10,22 +10,23 @@ use crate::unwinding::{Answer, FoundRegisters, MAX_FOUND};
 use dw_eval::Registers;
 use std::marker::Model;
 
-/// The number of guesses that are kept of where a register is: one for each number modulo this.
+/// The size of the table of guesses where a register is: one for each number modulo this.
 const GUESSES: usize = 64;
 
-/// The registers of a caller with their answers. As the registers of a frame they have a content where the answer is a value.
+/// The registers of a caller with their answers. As registers of a frame, they have a content if the answer is a value.
 ///
-/// There is room for all that a row and an ABI can name, but emptying the list writes only its count: a frame costs what its own
-/// registers cost.
+/// There is room for all that a row and an ABI can name, but emptying the list writes only its count, so a frame costs
+/// only what its own registers cost.
 #[derive(Drop)]
 pub struct FrameRegisters {
-    /// The registers, and after the first `count` of them what earlier frames left.
+    /// The first `count` are the registers; those after them are left over from earlier frames.
     found: [(u16, Answer); MAX_FOUND],
     count: usize,
-    /// Where a register was put last, by its number modulo `GUESSES`. It may have been of an earlier frame: a guess is believed only
-    /// after a look.
+    /// The index where a register was put last, by its number modulo `GUESSES`. It may be left over from an earlier
+    /// frame: a guess is used only after a check.
     places: [u8; GUESSES],
-    /// Whether each number is above those before it, and all of them are below `bound`. A register is then at one place at most.
+    /// Whether each number is above those before it, and all of them are below `bound`. A register is then at one index
+    /// at most.
     is_ascending: bool,
     bound: u32,
 }
@@ -47,7 +48,7 @@ impl Model for FrameRegisters {
     ghost invariant = { λ r. IsRoom MAX_FOUND GUESSES r.found r.count r.places r.is_ascending r.bound };
 }
 
-/// The content of a register by what was found of a caller.
+/// The content of a register, from what was found of a caller.
 fn content_among(found: &[(u16, Answer)], number: u16) -> Option<u64>
     ensures { result ≡ contents_of (map found_in found.now) number }
 {
@@ -62,7 +63,7 @@ fn content_among(found: &[(u16, Answer)], number: u16) -> Option<u64>
     None
 }
 
-/// What was found of a register, if it is at this place.
+/// The answer for a register, if it is at this index.
 #[inline(always)]
 fn answer_at(found: &[(u16, Answer)], place: usize, number: u16) -> Option<Answer>
     ensures { IfSome result (λ answer. (k : ℕ)
@@ -79,7 +80,8 @@ fn answer_at(found: &[(u16, Answer)], place: usize, number: u16) -> Option<Answe
     }
 }
 
-/// The content of a register among those with ascending numbers, if the register is at this place: it is at no other.
+/// The content of a register among those with ascending numbers, if the register is at this index. It is then at no
+/// other.
 #[inline(always)]
 fn content_at(found: &[(u16, Answer)], place: usize, number: u16) -> Option<Option<u64>>
     requires { (bound : ℕ) × Ascends 0 found.now bound }
@@ -91,7 +93,7 @@ fn content_at(found: &[(u16, Answer)], place: usize, number: u16) -> Option<Opti
     }
 }
 
-/// Whether numbers that are below a bound still ascend with one more at their end.
+/// Whether numbers below a bound still ascend with one more at the end.
 #[inline(always)]
 fn stays_ascending(is_ascending: bool, bound: u32, number: u16) -> bool
     ensures { result ≡ true → (is_ascending ≡ true) × (bound ≤ number) }
@@ -121,12 +123,12 @@ impl FrameRegisters {
         &self.found[..self.count]
     }
 
-    /// A copy, as a caller has them.
+    /// A copy, in the form that a caller has them.
     pub fn to_list(&self) -> FoundRegisters
         ensures { map found_in result.items ≡ self.now }
     {
         let mut list = FoundRegisters::new();
-        // They fit: both have the same number of places.
+        // They fit: both have the same number of slots.
         let _ = list.try_extend_from_slice(self.as_slice());
         list
     }

@@ -1,38 +1,39 @@
-//! What a walk up the stack gives.
+//! The results of a walk up the stack.
 
 use crate::unwinding::{Answer, Caller};
 
 /// A frame of a walk up the stack.
 #[derive(Clone, Debug, Drop, PartialEq, Eq)]
 pub struct Frame {
-    /// Where it is: the first one's address is handed in, and that of each other is where it goes on after a call.
+    /// Its address. Frame 0's is given; that of each later frame is the return address of the frame before it.
     pub address: u64,
-    /// Its caller, none exactly where no FDE covers the address that is looked up. That is the first frame's own, and the address
-    /// before that of each other, since a call may be the last instruction that an FDE covers (DWARF 5, section 6.4.4). There is none
-    /// before 0, and no FDE covers it.
+    /// Its caller, none exactly if no FDE covers the address that is looked up. Frame 0 looks up its address, later
+    /// frames their address minus 1, since a call may be the last instruction that an FDE covers (DWARF 5, section
+    /// 6.4.4). A later frame at 0 is never covered.
     pub caller: Option<Caller>,
 }
 
 /// A frame of a walk in brief.
 #[derive(Clone, Copy, Debug, PartialEq, Eq)]
 pub struct BriefFrame {
-    /// Where it is, as in `Frame`.
+    /// Its address, as in `Frame`.
     pub address: u64,
-    /// Its canonical frame address, none exactly where no FDE covers the address that is looked up.
+    /// Its canonical frame address, none exactly if no FDE covers the address that is looked up.
     pub cfa: Option<Answer>,
 }
 
 /// Why a walk ends.
 #[derive(Clone, Copy, Debug, PartialEq, Eq)]
 pub enum Stop {
-    /// There are as many frames as were asked for, whatever the last one holds. Only a `Backtrace` has this: a `Walk` has no limit.
+    /// The limit on frames was reached, whatever the last one contains. Only a `Backtrace` has this: a `Walk` has no
+    /// limit.
     Limit,
     /// No FDE of any module covers the address where the last frame is looked up.
     NotCovered,
     /// The last frame's return address is undefined: the walk is complete (DWARF 5, section 6.4.4).
     ReturnUndefined,
-    /// The last frame's return address, or the CFA that it needs, takes a register or memory that isn't handed in, or a read goes
-    /// past the greatest address.
+    /// The last frame's return address, or the CFA that it needs, requires a register or memory that isn't given, or a
+    /// read goes past the greatest address.
     ReturnUnreadable,
     /// The expression of the last frame's return address, or of the CFA that it needs, divides by zero.
     ReturnDivisionByZero,
@@ -51,7 +52,7 @@ pub enum Stop {
 /// ```
 #[derive(Clone, Debug, Drop, PartialEq, Eq)]
 pub struct Backtrace {
-    /// The frames, at most as many as were asked for.
+    /// The frames, no more than the limit.
     pub frames: Vec<Frame>,
     /// Why there are no more.
     pub stop: Stop,

@@ -20,7 +20,7 @@ ghost use Rattle.dw_unwind.specs.declared.unwinding.TheConstants.{MAX_FOUND};
 
 use crate::unwinder::Unwinder;
 
-/// Over a section that is accepted an unwinding has one answer: none, or one caller.
+/// With an accepted section, unwinding has at most one answer: none, or one caller.
 pub fn one_caller()
     ensures { (e : World) (abi : Abi) (frame : FrameSection) (address : ℕ) (c d : Option Caller)
         → IsChecked frame → Unwinds e abi frame address c
@@ -31,7 +31,7 @@ pub fn one_caller()
     dw_eval::laws::evaluations_are_determined();
 }
 
-/// Over each row of a section that is accepted there is a caller.
+/// With each row of an accepted section there is a caller.
 pub fn each_row_has_a_caller()
     ensures { (e : World) (abi : Abi) (column : ℕ) (frame : FrameSection) (fde : Fde) (row : Row)
         → IsChecked frame → Contains frame.fdes fde
@@ -44,7 +44,7 @@ pub fn each_row_has_a_caller()
     dw_eval::laws::each_has_an_evaluation();
 }
 
-/// At each address of a section that is accepted an unwinding has an answer.
+/// At each address, unwinding with an accepted section has an answer.
 pub fn each_address_has_an_unwinding()
     ensures { (e : World) (abi : Abi) (frame : FrameSection) (address : ℕ) → IsChecked frame
         → (c : Option Caller) × Unwinds e abi frame address c }
@@ -53,8 +53,8 @@ pub fn each_address_has_an_unwinding()
     each_row_has_a_caller();
 }
 
-/// An unwinding by what is found at an address of a section is one over the section, and the other way round. So is one over a table
-/// of the section.
+/// Unwinding by what is found at an address of a section is equivalent to unwinding with the section. So is unwinding
+/// with a table of the section.
 pub fn unwinding_by_what_is_found()
     ensures found { (e : World) (abi : Abi) (frame : FrameSection) (address : ℕ)
         (found : Option (Row × ℕ)) (c : Option Caller) → IsFoundAt frame address found
@@ -64,7 +64,7 @@ pub fn unwinding_by_what_is_found()
         → UnwindsBy e abi (row_at table address) c ↔ Unwinds e abi frame address c }
 {}
 
-/// Over a section that is accepted a walk is determined by where it begins and by its limit.
+/// With an accepted section, a walk is determined by where it begins and by its limit.
 pub fn one_walk()
     ensures { (frame : FrameSection) (abi : Abi) (memory : ℕ → Option ℕ) (first : Place) (limit : ℕ)
         (xs ys : List WalkedFrame) (a b : Stop) → IsChecked frame
@@ -74,7 +74,7 @@ pub fn one_walk()
     one_caller();
 }
 
-/// And there is one.
+/// And such a walk exists.
 pub fn each_has_a_walk()
     ensures { (frame : FrameSection) (abi : Abi) (memory : ℕ → Option ℕ) (first : Place) (limit : ℕ)
         → IsChecked frame → (xs : List WalkedFrame) × (stop : Stop)
@@ -83,7 +83,7 @@ pub fn each_has_a_walk()
     each_address_has_an_unwinding();
 }
 
-/// A walk with a smaller limit is the beginning of the one with a greater.
+/// A walk with a smaller limit is a prefix of the one with a greater limit.
 pub fn longer_walks_begin_so()
     ensures { (frame : FrameSection) (abi : Abi) (memory : ℕ → Option ℕ) (first : Place) (m n : ℕ)
         (xs ys : List WalkedFrame) (a b : Stop) → IsChecked frame
@@ -93,8 +93,8 @@ pub fn longer_walks_begin_so()
     one_walk();
 }
 
-/// A walk by what is found at addresses of a section is one over the section, one by what a table gives is one over the table, and one
-/// over a table of the section is one over the section; and the other way round.
+/// These are equivalent: a walk by what is found at addresses of a section and a walk with the section; a walk by what a
+/// table gives and a walk with the table; a walk with a table of the section and a walk with the section.
 pub fn walks_over_what_is_found()
     ensures found { (frame : FrameSection) (abi : Abi) (memory : ℕ → Option ℕ) (first : Place)
         (limit : ℕ) (xs : List WalkedFrame) (stop : Stop)
@@ -111,7 +111,7 @@ pub fn walks_over_what_is_found()
         ↔ Walks (over_section frame abi memory) first limit xs stop }
 {}
 
-/// Through the modules of a process whose sections are accepted an unwinding has one answer: none, or one caller.
+/// Through the modules of a process whose sections are accepted, unwinding has at most one answer: none, or one caller.
 pub fn one_caller_through_modules()
     ensures { (sections : List (Module FrameSection)) (abi : Abi) (memory registers : ℕ → Option ℕ)
         (address : ℕ) (c d : Option Caller) → All (λ m. IsChecked m.rows) sections
@@ -130,7 +130,7 @@ pub fn each_address_has_an_unwinding_through_modules()
     each_address_has_an_unwinding();
 }
 
-/// Through such modules a walk is determined by where it begins and by its limit.
+/// Through such modules, a walk is determined by where it begins and by its limit.
 pub fn one_walk_through_modules()
     ensures { (sections : List (Module FrameSection)) (abi : Abi) (memory : ℕ → Option ℕ)
         (first : Place) (limit : ℕ) (xs ys : List WalkedFrame) (a b : Stop)
@@ -141,7 +141,7 @@ pub fn one_walk_through_modules()
     one_caller_through_modules();
 }
 
-/// And there is one.
+/// And such a walk exists.
 pub fn each_has_a_walk_through_modules()
     ensures { (sections : List (Module FrameSection)) (abi : Abi) (memory : ℕ → Option ℕ)
         (first : Place) (limit : ℕ) → All (λ m. IsChecked m.rows) sections
@@ -151,7 +151,7 @@ pub fn each_has_a_walk_through_modules()
     each_address_has_an_unwinding_through_modules();
 }
 
-/// A walk through modules with a smaller limit is the beginning of the one with a greater.
+/// A walk through modules with a smaller limit is a prefix of the one with a greater limit.
 pub fn longer_walks_through_modules_begin_so()
     ensures { (sections : List (Module FrameSection)) (abi : Abi) (memory : ℕ → Option ℕ)
         (first : Place) (m n : ℕ) (xs ys : List WalkedFrame) (a b : Stop)
@@ -162,8 +162,8 @@ pub fn longer_walks_through_modules_begin_so()
     one_walk_through_modules();
 }
 
-/// An unwinding through modules by what is found in each is one through their sections or through their tables, and one through tables
-/// of sections is one through the sections; and the other way round.
+/// These are equivalent: unwinding through modules by what is found in each, and through their sections or through their
+/// tables; unwinding through tables of sections, and through the sections.
 pub fn unwindings_through_what_is_found()
     ensures found { (modules : List (Module (Bor FrameSection))) (abi : Abi)
         (memory registers : ℕ → Option ℕ) (address : ℕ) (c : Option Caller)
@@ -187,7 +187,7 @@ pub fn unwindings_through_what_is_found()
         ↔ over_sections abi memory sections registers address c }
 {}
 
-/// And so are walks.
+/// The same holds of walks.
 pub fn walks_through_what_is_found()
     ensures found { (modules : List (Module (Bor FrameSection))) (abi : Abi)
         (memory : ℕ → Option ℕ) (first : Place) (limit : ℕ) (xs : List WalkedFrame) (stop : Stop)
@@ -213,8 +213,8 @@ pub fn walks_through_what_is_found()
     unwindings_through_what_is_found();
 }
 
-/// One module that is loaded where it is linked is as its section: an unwinding or a walk through it is one over the section, and the
-/// other way round, at addresses below 2^w, w being the size of an address in bits.
+/// One module that is loaded where it is linked is equivalent to its section: unwinding or walking through it is the same
+/// as with the section, at addresses below 2^w, w being the size of an address in bits.
 pub fn one_module_is_its_section()
     ensures unwindings { (frame : FrameSection) (abi : Abi) (memory registers : ℕ → Option ℕ)
         (address : ℕ) (c : Option Caller) → address < 2 ^ width_of frame.target.address_size
@@ -232,9 +232,9 @@ pub fn one_module_is_its_section()
     dw_eval::laws::numbers_of_evaluations_fit();
 }
 
-/// What a `Walk` gives, frame after frame, is a walk with a limit, over whatever it goes. After frames that were given comes the next one.
-/// Where none is given next, the frames are the walk with any limit above their number; with their number as the limit they are the
-/// walk in any case. If every address has an answer, they are the beginning of a walk with any limit from their number on.
+/// What a `Walk` gives, frame by frame, is a walk with a limit, whatever it unwinds with. If no further frame is given,
+/// the frames are the walk with any limit above their number; with their number as the limit they are the walk in any
+/// case. If every address has an answer, they are a prefix of a walk with any limit that is at least their number.
 pub fn frames_that_are_given_are_a_walk<U: Unwinder>()
     ensures more { (unwinder : U) (abi : Abi) (memory : ℕ → Option ℕ) (from : Progress)
         (xs : List WalkedFrame) (next : WalkedFrame)

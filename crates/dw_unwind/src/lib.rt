@@ -1,5 +1,5 @@
-//! The frame that called, and walks up the stack, by the rows of checked sections and compiled tables: over one of these, or
-//! through the modules of a process.
+//! Finds the calling frame, and walks up the stack, by the rows of checked sections and compiled tables: with one of
+//! these, or through the modules of a process.
 #![tactic(auto)]
 
 mod backtraces;

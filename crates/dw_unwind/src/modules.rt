@@ -15,8 +15,8 @@ use dw_bytes::Target;
 use dw_eval::{Memory, Registers, Width};
 use dw_rows::{Abi, UnwindRows};
 
-/// A module of a process, its executable or a library: what gives its rows, a checked section or a compiled table, and its load
-/// address. All modules of one process have the address size of the process.
+/// A module of a process, its executable or a library: what supplies its rows, a checked section or a compiled table, and
+/// its load address. All modules of one process have the address size of the process.
 ///
 /// ```rust
 /// let sections = [Module::new(&program, 0x5555_5555_4000), Module::new(&library, 0x7fff_f7dc_3000)];
@@ -24,11 +24,11 @@ use dw_rows::{Abi, UnwindRows};
 /// ```
 #[derive(Clone, Copy, Debug, Drop)]
 pub struct Module<T> {
-    /// What gives its rows: `&CheckedFrame`, `UnwindTable` or `&UnwindTable`.
+    /// What supplies its rows: `&CheckedFrame`, `UnwindTable` or `&UnwindTable`.
     pub rows: T,
-    /// What is added to an address as linked, modulo 2^w, w being the size of an address in bits, to have the address as loaded. For a
-    /// position-independent module, which is linked at 0, that is where /proc/PID/maps shows its beginning; for a program that is
-    /// loaded where it is linked it is 0, even if it is mapped at 0x400000.
+    /// What is added to an address as linked, modulo 2^w, w being the size of an address in bits, to get the address as
+    /// loaded. For a position-independent module, which is linked at 0, that is the beginning shown in /proc/PID/maps;
+    /// for a program that is loaded where it is linked it is 0, even if it is mapped at 0x400000.
     pub load_address: u64,
 }
 
@@ -41,7 +41,8 @@ impl<T> Module<T> {
     }
 }
 
-/// The address as linked of an address as loaded: less the load address, modulo 2^w, w being the size of an address in bits.
+/// The address as linked for an address as loaded: subtracts the load address, modulo 2^w, w being the size of an address
+/// in bits.
 #[inline(always)]
 pub fn as_linked(target: Target, load_address: u64, address: u64) -> u64
     ensures { result ≡ as_linked target load_address address }
@@ -52,7 +53,7 @@ pub fn as_linked(target: Target, load_address: u64, address: u64) -> u64
     width.minus(address, load_address)
 }
 
-/// The modules of a process. The module of an address is the first of which an FDE covers the address as linked there.
+/// The modules of a process. The module of an address is the first in which an FDE covers the address as linked there.
 impl<'m, T: UnwindRows> Unwinder for &'m [Module<T>] {
     ghost use Rattle.dw_unwind.specs.Modules.{AreBelow, over_modules_of_rows};
 
@@ -80,11 +81,11 @@ impl<'m, T: UnwindRows> Unwinder for &'m [Module<T>] {
     }
 }
 
-/// The caller of the frame at an address as loaded, over the frame's registers and memory, by the first module that has a row for the
-/// address, or none where no module has one (DWARF 5, section 6.4.1).
+/// The caller of the frame at an address as loaded, given the frame's registers and memory. Uses the first module that
+/// has a row for the address; none if no module has one (DWARF 5, section 6.4.1).
 ///
-/// It is what `unwind_by` gives at the address less the module's load address, modulo 2^w. A module that doesn't cover the address
-/// costs one look-up.
+/// The result is that of `unwind_by` at the address less the module's load address, modulo 2^w. A module that doesn't
+/// cover the address costs one look-up.
 ///
 /// ```rust
 /// let modules = [Module::new(program, 0x5555_5555_4000), Module::new(library, 0x7fff_f7dc_3000)];

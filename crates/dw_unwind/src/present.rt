@@ -1,4 +1,4 @@
-//! What registers and memory have, and what rules make of it.
+//! The contents of registers and memory, and the answers that rules compute from them.
 
 ghost use Rattle.std.specs.Prelude.{◌≡◌, ◌≤◌, ℕ, All, Some, length};
 ghost use Rattle.dw_rows.specs.Views.{cfa_rule_of, rule_of};
@@ -67,8 +67,8 @@ impl<'m, R: Registers, M: Memory> Present<'m, R, M> {
         self.content_plus(self.memory.read(address, size, self.target.order), 0)
     }
 
-    /// What an expression of a row gives, which begins with the CFA where that is handed in. Few rules have one, and an evaluation in
-    /// the midst of the others would slow them down.
+    /// The result of an expression of a row, which begins with the CFA if that is given. It isn't inlined: few rules have
+    /// an expression, and an evaluation amid the others would slow them down.
     #[inline(never)]
     fn outcome(&self, expression: &CheckedExpression<'_>, cfa: Option<u64>) -> Answer
         ensures { (at : ℕ) → Gives (with_optional_cfa (machine_in R.contents M.bytes self.now) cfa)
@@ -136,7 +136,7 @@ impl<'m, R: Registers, M: Memory> Present<'m, R, M> {
         }
     }
 
-    /// Writes the registers of these rules, in their order, in the place of those that are in the list.
+    /// Replaces the contents of a list by the registers of these rules, in their order.
     #[inline(always)]
     pub fn registers_into<L: RegisterList>(
         &self,

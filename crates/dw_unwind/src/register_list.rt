@@ -5,7 +5,8 @@ ghost use Rattle.dw_unwind.specs.CallerViews.{answer_in, found_in};
 
 use crate::unwinding::{Answer, FoundRegisters, MAX_FOUND};
 
-/// Where the registers of a caller are written, in the order of their rules: a list that goes with the caller, or one that a walk keeps.
+/// Where the registers of a caller are written, in the order of their rules: a list that is part of the caller, or one
+/// inside a walk.
 pub trait RegisterList {
     ghost use Rattle.std.specs.Prelude.{ℕ, List};
     ghost use Rattle.dw_unwind.specs.Caller.{Answer};
@@ -13,16 +14,16 @@ pub trait RegisterList {
     /// The registers in the list.
     ghost registers: { Self → List (ℕ × Answer) };
 
-    /// Takes all of them out.
+    /// Removes all registers.
     fn clear(&mut self)
         ensures { registers self.new ≡ [] };
 
-    /// Puts one more at the end.
+    /// Appends a register.
     fn push(&mut self, number: u16, answer: Answer)
         requires { length (registers self.old) < MAX_FOUND }
         ensures { registers self.new ≡ registers self.old ++ (number, answer_in answer) ∷ [] };
 
-    /// What was found of a register, if the list can tell without a search.
+    /// The answer for a register, if the list can tell without a search.
     fn answer(&self, number: u16) -> Option<Answer>
         ensures { IfSome result (λ answer. (k : ℕ)
             × (slice_get (registers self.now) k ≡ Some (number, answer_in answer))) };

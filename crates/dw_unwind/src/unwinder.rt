@@ -10,22 +10,24 @@ use crate::unwinding::{Unwound, unwind_into};
 use dw_eval::{Memory, Registers};
 use dw_rows::{Abi, UnwindRows};
 
-/// What finds the caller of a frame, for `Walk`: a checked section or a compiled table, as `&&CheckedFrame` or `&UnwindTable`, or the
-/// modules of a process, as `&[Module<T>]`. Other crates can't implement it: its registers go to a list that is private here.
+/// What finds the caller of a frame, for `Walk`: a checked section or a compiled table, as `&&CheckedFrame` or
+/// `&UnwindTable`, or the modules of a process, as `&[Module<T>]`. Other crates can't implement it: its registers go to a
+/// list that is private here.
 pub trait Unwinder {
     ghost use Rattle.std.specs.Prelude.{ℕ, Option};
     ghost use Rattle.dw_rows.specs.Abi.{Abi};
     ghost use Rattle.dw_unwind.specs.Walks.{CallerRelation};
 
-    /// Which caller a frame has, under an ABI and over memory: a relation between the frame's registers, the address that is looked up
-    /// for it, and the caller, none where nothing covers the address.
+    /// Which caller a frame has, under an ABI and with given memory: a relation between the frame's registers, the
+    /// address looked up for it, and the caller, none if nothing covers the address.
     ghost unwinds: { Self → Abi → (ℕ → Option ℕ) → CallerRelation };
 
-    /// A bound of addresses: 2^w or more, w being the size of an address in bits. Where one is given, callers have no greater numbers.
+    /// A bound of addresses: 2^w or more, w being the size of an address in bits. If there is one, the numbers of callers
+    /// are below it.
     ghost is_bound: { Self → ℕ → Type 0 };
 
-    /// Finds the caller of the frame at an address, and writes its registers to a list, in the place of what is there. Where there is
-    /// no caller, the list may have anything.
+    /// Finds the caller of the frame at an address, and replaces the contents of a list by its registers. If there is no
+    /// caller, the list's contents are unspecified.
     fn unwind_into<R: Registers, M: Memory, L: RegisterList>(
         &self,
         abi: &Abi,

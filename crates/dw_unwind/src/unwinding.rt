@@ -1,4 +1,4 @@
-//! The frame that called: its registers, its CFA, and where it goes on.
+//! The calling frame: its registers, its CFA, and its return address.
 
 ghost use Rattle.std.specs.Prelude.{◌≡◌, ◌^◌, ℕ, IfSome, Option, option_map};
 ghost use Rattle.dw_eval.specs.Numbers.{width_of};
@@ -19,20 +19,22 @@ use arrayvec::ArrayVec;
 use dw_eval::{Memory, Registers};
 use dw_rows::{Abi, CheckedFrame, MAX_RULES, UnwindRow, UnwindRows};
 
-/// What is known of a register of the caller, of its CFA or of its return address.
+/// What is known of a register of the caller, its CFA or its return address.
 #[derive(Clone, Copy, Debug, PartialEq, Eq)]
 pub enum Answer {
     /// It is this number, below 2^w, w being the size of an address in bits.
     Value(u64),
-    /// It can't be had: no instruction has given the register a rule and the ABI doesn't name it, or the rule says so.
+    /// It isn't available: no instruction gave the register a rule and the ABI doesn't name it, or the rule is
+    /// `undefined`.
     Undefined,
-    /// It, or the CFA that it needs, takes a register or memory that isn't handed in, or a read goes past the greatest address.
+    /// It, or the CFA that it needs, requires a register or memory that isn't given, or a read goes past the greatest
+    /// address.
     Unreadable,
     /// Its expression, or that of the CFA that it needs, divides by zero.
     DivisionByZero,
 }
 
-/// What fills the places of a list that aren't used.
+/// Fills the unused slots of a list.
 impl Default for Answer {
     fn default() -> Self
         ensures { result ≡ Answer.Undefined }
@@ -41,33 +43,33 @@ impl Default for Answer {
     }
 }
 
-/// The most registers that can have a rule, of a row and of an ABI together.
+/// The greatest number of registers that can have a rule, from a row and an ABI together.
 pub const MAX_FOUND: usize = 2 * MAX_RULES;
 
 /// Registers with their answers, in ascending order.
 pub type FoundRegisters = ArrayVec<(u16, Answer), MAX_FOUND>;
 
-/// The frame that called (DWARF 5, section 6.4.1).
+/// The calling frame (DWARF 5, section 6.4.1).
 #[derive(Clone, Debug, Drop, PartialEq, Eq)]
 pub struct Caller {
     /// The canonical frame address.
     pub cfa: Answer,
     /// Each register that has a rule other than `Default`, or that the ABI names, ascending.
     pub registers: FoundRegisters,
-    /// Where the caller goes on: what the register is that the CIE names for it.
+    /// The return address: the value of the CIE's return_address_register.
     pub return_address: Answer,
 }
 
-/// What an unwinding gives beside the registers of the caller.
+/// What an unwinding gives besides the registers of the caller.
 #[derive(Clone, Copy, Debug)]
 pub struct Unwound {
     /// The canonical frame address.
     pub cfa: Answer,
-    /// Where the caller goes on.
+    /// The return address.
     pub return_address: Answer,
 }
 
-/// Where the caller goes on, which may be among its registers.
+/// The return address, which may be that of one of the caller's registers.
 #[inline(always)]
 fn return_address<R: Registers, M: Memory, L: RegisterList>(
     present: &Present<'_, R, M>,
@@ -89,8 +91,8 @@ fn return_address<R: Registers, M: Memory, L: RegisterList>(
     }
 }
 
-/// Unwinds as `unwind_by` does, and writes the caller's registers to a list, in the place of what is there. Where there is no caller,
-/// the list may have anything.
+/// Unwinds as `unwind_by` does, and replaces the contents of a list by the caller's registers. If there is no caller, the
+/// list's contents are unspecified.
 #[inline(always)]
 pub(crate) fn unwind_into<T: UnwindRows, R: Registers, M: Memory, L: RegisterList>(
     rows: &T,
@@ -106,7 +108,7 @@ pub(crate) fn unwind_into<T: UnwindRows, R: Registers, M: Memory, L: RegisterLis
     ensures fits { IfSome (option_map (caller_with (L.registers into.new)) result)
         (CallerFits (2 ^ width_of (T.target_of rows.now).address_size)) }
 {
-    // What is said of ABIs and of evaluations gives that numbers fit.
+    // The laws of ABIs and of evaluations show that numbers fit.
     dw_rows::laws::rules_under_abis();
     dw_eval::laws::numbers_of_evaluations_fit();
     let mut slot = rows.slot();
@@ -126,7 +128,7 @@ pub(crate) fn unwind_into<T: UnwindRows, R: Registers, M: Memory, L: RegisterLis
     })
 }
 
-/// The caller of the frame at an address, by whatever unwinds.
+/// The caller of the frame at an address, found by any unwinder.
 pub(crate) fn unwind_over<U: Unwinder, R: Registers, M: Memory>(
     unwinder: &U,
     abi: &Abi,
@@ -150,12 +152,12 @@ pub(crate) fn unwind_over<U: Unwinder, R: Registers, M: Memory>(
     Some(caller)
 }
 
-/// The caller of the frame at an address, over the frame's registers and memory, by the row that a checked section or a compiled
-/// table gives there, or none where it gives none (DWARF 5, section 6.4.1). The ABI says what a register is that no instruction has
-/// given a rule.
+/// The caller of the frame at an address, given the frame's registers and memory. Uses the row of a checked section or a
+/// compiled table; none if that has no row at the address (DWARF 5, section 6.4.1). The ABI gives the rule of a register
+/// to which no instruction has given one.
 ///
-/// Contents and sums are taken modulo 2^w, and what is saved is an address-sized word. A rule that needs the CFA has the CFA's
-/// answer where that has no value. It costs the look-up and one evaluation for each expression of the row.
+/// Contents and sums are taken modulo 2^w, and a saved value is an address-sized word. If the CFA has no value, a rule
+/// that needs it has the CFA's answer. The cost is the look-up and one evaluation for each expression of the row.
 ///
 /// ```rust
 /// let Some(table) = frame.compile(alloc, 1 << 20)? else {
@@ -181,7 +183,7 @@ pub fn unwind_by<T: UnwindRows, R: Registers, M: Memory>(
     unwind_over(&rows, abi, address, registers, memory)
 }
 
-/// The same over a checked frame section, for a caller that has no location lists.
+/// The same for a checked frame section, if the caller has no location lists.
 pub fn unwind_by_section<R: Registers, M: Memory>(
     frame: &CheckedFrame<'_>,
     abi: &Abi,

@@ -1,4 +1,4 @@
-//! A walk up the stack, frame after frame.
+//! A walk up the stack, frame by frame.
 
 ghost use Rattle.std.specs.Prelude.{◌≡◌, ℕ, IfOk, IfSome, MatchOption, MatchResult, Some, option_map};
 ghost use Rattle.std.specs.Option.{IsSomeAnd};
@@ -19,14 +19,15 @@ use dw_eval::{Memory, Registers};
 use dw_rows::Abi;
 use std::marker::Model;
 
-/// A walk up the stack, frame after frame: from a frame at an address, with its registers, over memory, to its caller, that one's
-/// caller and so on (DWARF 5, sections 6.4.1 and 6.4.4). It goes over the modules of a process, a checked section or a compiled table.
+/// A walk up the stack, frame by frame: from a frame, given its address, registers and memory, to its caller, that
+/// frame's caller and so on (DWARF 5, sections 6.4.1 and 6.4.4). It unwinds with a checked section, a compiled table, or
+/// the modules of a process.
 ///
-/// It allocates nothing. It holds the registers of two frames in itself, some 12 KB: a step reads those of one and writes those of the
-/// other, and writes only what a frame's rules and the ABI name. Moving it copies all of that, so keep it where it is.
+/// It allocates nothing. It contains the registers of two frames, some 12 KB: a step reads one set and writes the other,
+/// and writes only what a frame's rules and the ABI name. A move copies all of that, so keep the walk in one location.
 ///
-/// Ask for no more frames than you want: a stack whose frames call each other in a circle has no end. `backtrace_in` and its kin take
-/// a limit for that reason.
+/// Take only as many frames as you need: a stack whose frames call each other in a circle never ends. `backtrace_in` and
+/// its kin take a limit for that reason.
 ///
 /// ```rust
 /// let mut walk = Walk::new(modules.as_slice(), &abi, address, &registers, &memory);
@@ -42,11 +43,11 @@ pub struct Walk<'w, U: Unwinder, M: Memory> {
     unwinder: U,
     abi: &'w Abi,
     memory: &'w M,
-    /// The frame that it has come to, and whether that has been given.
+    /// The current frame, and whether it has been given.
     address: u64,
     unwound: Option<Unwound>,
     is_given: bool,
-    /// Which of the two has the registers of the frame's caller.
+    /// Which of the two holds the registers of the frame's caller.
     is_other: bool,
     one: FrameRegisters,
     other: FrameRegisters,
@@ -67,8 +68,8 @@ impl<'w, U: Unwinder, M: Memory> Model for Walk<'w, U, M> {
     } };
 }
 
-/// The caller of a frame that is itself a caller and goes on at an address, over its registers. It is looked up at the address before,
-/// since that of a call is there.
+/// The caller of a frame at an address that is itself a caller, given its registers. The look-up uses the address before,
+/// which is inside the call.
 #[inline(always)]
 fn unwind_caller<U: Unwinder, M: Memory>(
     unwinder: &U,
@@ -90,7 +91,7 @@ fn unwind_caller<U: Unwinder, M: Memory>(
     }
 }
 
-/// Where a caller goes on, or why that isn't known.
+/// The return address, or why it isn't known.
 #[inline(always)]
 fn return_address(unwound: Option<Unwound>) -> Result<u64, Stop>
     ensures { MatchResult result
@@ -109,8 +110,8 @@ fn return_address(unwound: Option<Unwound>) -> Result<u64, Stop>
 }
 
 impl<'w, U: Unwinder, M: Memory> Walk<'w, U, M> {
-    /// A walk that begins at the frame at an address, with its registers, and has given no frame yet. The frame is looked up at its
-    /// own address.
+    /// A walk that begins at the frame at an address, with its registers, and has given no frame yet. That frame is
+    /// looked up at its own address.
     pub fn new<R: Registers>(
         unwinder: U,
         abi: &'w Abi,
@@ -127,22 +128,25 @@ impl<'w, U: Unwinder, M: Memory> Walk<'w, U, M> {
         ensures fits { (bound : ℕ) → U.is_bound unwinder bound
             → IfSome (frame_at result.progress).caller (CallerFits bound) }
     {
-        let mut one = FrameRegisters::none();
-        let unwound = unwinder.unwind_into(abi, address, registers, memory, &mut one);
-        Walk {
+        // The registers are written where they stay, since each copy of them takes 6 KB of stack.
+        let mut walk = Walk {
             unwinder,
             abi,
             memory,
             address,
-            unwound,
+            unwound: None,
             is_given: false,
             is_other: false,
-            one,
+            one: FrameRegisters::none(),
             other: FrameRegisters::none(),
-        }
+        };
+        walk.unwound = walk
+            .unwinder
+            .unwind_into(abi, address, registers, memory, &mut walk.one);
+        walk
     }
 
-    /// Goes to the caller of the frame that was given last, which goes on at this address.
+    /// Moves to the caller of the frame that was given last. This is the caller's address.
     #[inline(always)]
     fn go_to(&mut self, address: u64)
         requires { self.old.progress ≡ has_given (frame_at self.old.progress) }
@@ -180,7 +184,7 @@ impl<'w, U: Unwinder, M: Memory> Walk<'w, U, M> {
         }
     }
 
-    /// GivesNext the next frame, or says why there is none.
+    /// Gives the next frame, or the reason why there is none.
     #[inline(always)]
     pub(crate) fn advance(&mut self) -> Result<(), Stop>
         ensures gives { MatchResult result
@@ -199,8 +203,8 @@ impl<'w, U: Unwinder, M: Memory> Walk<'w, U, M> {
         Ok(())
     }
 
-    /// Why the frame that was given last is the last one: none where another one follows, and before the first is given. It is never
-    /// `Limit`, since a walk has none.
+    /// Why the frame that was given last is the last one. None if another one follows, and before the first is given.
+    /// Never `Limit`, since a walk has no limit.
     #[inline(always)]
     pub fn stop(&self) -> Option<Stop>
         ensures { result ≡ stop_of self.now.progress }
@@ -212,8 +216,8 @@ impl<'w, U: Unwinder, M: Memory> Walk<'w, U, M> {
         }
     }
 
-    /// The registers of the caller of the frame that was given last, or of the first one before that is given: each that has a rule,
-    /// with what is known of it. None where no FDE covers the address that is looked up.
+    /// The registers of the caller of the frame that was given last, or of the first frame before that is given: each
+    /// register that has a rule, with what is known of it. None if no FDE covers the address that is looked up.
     pub fn caller_registers(&self) -> Option<&FrameRegisters>
         ensures { option_map (λ r. r.now) result
             ≡ option_map (λ c. c.registers) (frame_at self.now.progress).caller }
@@ -225,7 +229,7 @@ impl<'w, U: Unwinder, M: Memory> Walk<'w, U, M> {
         }
     }
 
-    /// The caller of the frame that was given last, or of the first one before that is given.
+    /// The caller of the frame that was given last, or of the first frame before that is given.
     pub fn caller(&self) -> Option<Caller>
         ensures { option_map caller_in result ≡ (frame_at self.now.progress).caller }
     {
@@ -239,7 +243,8 @@ impl<'w, U: Unwinder, M: Memory> Walk<'w, U, M> {
         })
     }
 
-    /// The frame that was given last, or the first one before that is given, with all that is known of its caller: some 6 KB.
+    /// The frame that was given last, or the first frame before that is given, with all that is known of its caller: some
+    /// 6 KB.
     pub fn frame(&self) -> Frame
         ensures { frame_in result ≡ frame_at self.now.progress }
     {
@@ -261,8 +266,8 @@ impl<'w, U: Unwinder + Drop, M: Memory> Iterator for Walk<'w, U, M> {
         (U.unwinds old.unwinder (roles_of old.abi) (M.bytes old.memory)) (U.is_bound old.unwinder)
         old frame new };
 
-    /// The next frame: the one that the walk begins at, and then each time the caller of the one before. Once there is none, which
-    /// `stop` then says why, it gives none ever after.
+    /// The next frame: first the one that the walk begins at, then each time the caller of the one before. Once there is
+    /// none (`stop` gives the reason), it gives none from then on.
     #[inline(always)]
     fn next(&mut self) -> Option<BriefFrame> {
         match self.advance() {

@@ -14,15 +14,15 @@ use std::{env, fs, io};
 /// How the program ends.
 #[derive(Debug, Drop)]
 enum Ending {
-    /// The words ask for nothing.
+    /// The words give no request.
     Usage(Usage),
     /// A word isn't UTF-8.
     NotUtf8,
     /// This file can't be read.
     CannotRead(String),
-    /// This file is to be hex text and isn't.
+    /// This file must be hex text and isn't.
     NotHex(String),
-    /// The run ended so otherwise.
+    /// The run ended in another way.
     Run(End),
 }
 
@@ -56,12 +56,13 @@ impl<T: Drop> From<AllocFailed<T>> for Ending {
     }
 }
 
-/// Whether memory for this program ran out. The machine's own want of memory names a number of its own.
+/// Whether this program ran out of memory. An out-of-memory error of the operating system has an error
+/// number.
 fn is_want_of_memory(error: &io::Error) -> bool {
     error.kind() == ErrorKind::OutOfMemory && error.raw_os_error().is_none()
 }
 
-/// The words of the command line, or the program's name alone where the machine hands in none.
+/// The words of the command line, or only the program's name if the system passes none.
 fn words_of(rt: &(impl Env + AllocGlobal)) -> Result<Vec<String>, Ending> {
     let mut words: Vec<String> = match env::args(rt) {
         Ok(given) => given.collect(rt.alloc())?,
@@ -74,7 +75,7 @@ fn words_of(rt: &(impl Env + AllocGlobal)) -> Result<Vec<String>, Ending> {
     Ok(words)
 }
 
-/// The bytes of a file, this many at most.
+/// The first bytes of a file, at most this many.
 fn file_content(
     rt: &(impl Files + AllocGlobal),
     name: &String,
@@ -92,7 +93,7 @@ fn file_content(
     }
 }
 
-/// What is needed of the bytes of each file.
+/// The needed bytes of each file.
 fn file_contents(rt: &(impl Files + AllocGlobal), request: &Request) -> Result<Vec<Vec<u8>>, Ending>
     ensures { IfOk result (λ contents. vec_len contents ≡ length request.now.files) }
 {
@@ -104,7 +105,7 @@ fn file_contents(rt: &(impl Files + AllocGlobal), request: &Request) -> Result<V
     Ok(contents)
 }
 
-/// Runs the request over standard output.
+/// Runs the request, writing to standard output.
 fn run_to_output(rt: &(impl Print + AllocGlobal), request: &Request, files: &[Vec<u8>]) -> End
     requires { length files.now ≡ length request.now.files }
     ensures { IsPlaceIn (length request.now.files) result }
@@ -121,7 +122,7 @@ fn run_to_output(rt: &(impl Print + AllocGlobal), request: &Request, files: &[Ve
     }
 }
 
-/// Does what the words ask for.
+/// Does what the words request.
 fn do_words(rt: &(impl Env + Files + Print + AllocGlobal)) -> Result<Ending, Ending> {
     let request = dw_check::request(rt.alloc(), words_of(rt)?)?;
     let files = file_contents(rt, &request)?;

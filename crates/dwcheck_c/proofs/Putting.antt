@@ -1,4 +1,4 @@
--- What is put into slots, one after the other.
+-- What is put into slots, one by one.
 use Rattle.std.proofs.Common.{◌≡◌, ℕ, suc, ◌+◌, ◌<◌, ◌≤◌, List, [], ◌∷◌, ◌++◌, length, map, take, append_assoc, length-append, refl, sym, ap, ◌∙◌, arith}
 use Rattle.std.specs.Prelude.{slice_set}
 use Rattle.std.proofs.Math.ListN.{get_or}
@@ -13,14 +13,14 @@ puts_next [] (s ∷ slots) x = refl
 puts_next (y ∷ xs) [] x = refl
 puts_next (y ∷ xs) (s ∷ slots) x = ap (λ l. y ∷ l) (puts_next xs slots x)
 
--- the same of elements in another form, of which this many came before
+-- the same for elements in another form, this many of which came before
 pub puts_shown : {X Y : Type 0} (f : X → Y) (xs : List X) (slots : List Y) (count : ℕ) (x : X) → count ≡ length (map f xs)
     → slice_set (put_into (map f xs) slots) count (f x) ≡ put_into (map f (xs ++ x ∷ [])) slots
 puts_shown f xs slots count x many =
     ap (λ n. slice_set (put_into (map f xs) slots) n (f x)) many ∙ puts_next (map f xs) slots (f x)
     ∙ ap (λ l. put_into l slots) (sym (map-append f xs (x ∷ [])))
 
--- the same of the elements of a list up to a place
+-- the same for the elements of a list up to an index
 pub puts_at : {X Y Z : Type 0} (f : X → Y) (g : Y → Z) (xs : List X) (slots : List Z) (i : ℕ) (d : X) → i < length xs
     → slice_set (put_into (map g (map f (take i xs))) slots) i (g (f (get_or xs i d))) ≡ put_into (map g (map f (take (i + 1) xs))) slots
 puts_at f g xs slots i d room =
@@ -29,7 +29,7 @@ puts_at f g xs slots i d room =
     puts_shown g (map f (take i xs)) slots i (f (get_or xs i d)) many
     ∙ ap (λ l. put_into (map g l) slots) (sym (map-append f (take i xs) (get_or xs i d ∷ [])) ∙ ap (map f) (sym next))
 
--- the same of a list itself
+-- the same for a list itself
 pub puts_from : {X : Type 0} (xs slots : List X) (i : ℕ) (d : X) → i < length xs
     → slice_set (put_into (take i xs) slots) i (get_or xs i d) ≡ put_into (take (i + 1) xs) slots
 puts_from xs slots i d room =
@@ -38,7 +38,7 @@ puts_from xs slots i d room =
     ap (λ n. slice_set (put_into (take i xs) slots) n (get_or xs i d)) many ∙ puts_next (take i xs) slots (get_or xs i d)
     ∙ ap (λ l. put_into l slots) (sym next)
 
--- the next one of those that are left has come
+-- the next one was visited
 pub comes : {X Y : Type 0} (view : X → Y) (came : List X) (x : X) (left rest all : List Y) → map view came ++ left ≡ all
     → left ≡ view x ∷ rest → map view (came ++ x ∷ []) ++ rest ≡ all
 comes view came x left rest all whole next =
@@ -50,7 +50,7 @@ pub one_more : {X Y : Type 0} (view : X → Y) (came : List X) (x : X) (count : 
 one_more view came x count many =
     ap (λ n. n + 1) many ∙ sym (length-append (map view came) (view x ∷ [])) ∙ ap length (sym (map-append view came (x ∷ [])))
 
--- what comes after as many as there are slots doesn't fit
+-- elements after the slots are full don't fit
 pub puts_no_more : {X : Type 0} (xs ys slots : List X) → length slots ≤ length xs → put_into (xs ++ ys) slots ≡ put_into xs slots
 puts_no_more [] [] slots few = refl
 puts_no_more [] (y ∷ ys) [] few = refl

@@ -1,4 +1,4 @@
--- Callers as C has them.
+-- Callers in C's form.
 use Rattle.std.specs.Prelude.{◌≡◌, ℕ, List, length, map, Option, Some}
 use Rattle.dw_rows.specs.Abi.{Abi}
 use Rattle.dw_unwind.specs.Caller.{Answer, Caller}
@@ -12,7 +12,7 @@ use Rattle.dwcheck_c.specs.declared.callers.CCaller.{CCaller}
 abbrev pub cregister_of : ℕ × Answer → CRegister
 cregister_of found = record { value = (canswer_of found.1).value; kind = (canswer_of found.1).kind; number = found.0 }
 
--- a caller, and its registers, of which as many are in the slots as fit
+-- a caller, and its registers, as many of them in the slots as fit
 pub record ShowsCaller (caller : Caller) (out : CCaller) (old new : List CRegister) : Type 0 where
   pub cfa : out.cfa ≡ canswer_of caller.cfa
   pub return_address : out.return_address ≡ canswer_of caller.return_address

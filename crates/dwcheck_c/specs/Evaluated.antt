@@ -1,4 +1,4 @@
--- What C hands to an evaluation, and what it gets.
+-- What C passes to an evaluation, and what it gets.
 use Rattle.std.specs.Prelude.{◌≡◌, ◌==◌, if◌then◌else◌, ℕ, List, [], length, map, slice_get, Option, Some, None}
 use Rattle.dw_bytes.specs.declared.target.Target.{Target}
 use Rattle.dw_stack.specs.declared.state.Kind.{Kind}
@@ -14,7 +14,7 @@ use Rattle.dwcheck_c.specs.declared.value.CPiece.{CPiece}
 use Rattle.dwcheck_c.specs.Machine.{registers_of, memory_of}
 use Rattle.dwcheck_c.specs.Slots.{put_into}
 
--- ---- what is handed in
+-- ---- the inputs
 
 -- the rule of a CFA, that of a register, and a location
 abbrev pub kind_by : ℕ → Option Kind
@@ -34,7 +34,7 @@ world_by target state c = record {
   object = given_by c.has_object c.object;
 }
 
--- ---- what comes of it
+-- ---- the results
 
 abbrev pub kind_of_location : LocationDescription → ℕ
 kind_of_location Nowhere = 3
@@ -43,7 +43,7 @@ kind_of_location (InRegister r) = 5
 kind_of_location (HasValue v) = 6
 kind_of_location (HasBytes bs) = 7
 
--- an address, a register, a value, or how many bytes there are
+-- an address, a register, a value, or the number of bytes
 abbrev pub number_of_location : LocationDescription → ℕ
 number_of_location Nowhere = 0
 number_of_location (AtAddress a) = a
@@ -97,7 +97,7 @@ cvalue_of outcome steps = record {
   count = length (pieces_of outcome);
 }
 
--- how many bytes or bits a piece has, from which bit on, and whether it is bits
+-- the number of bytes or bits of a piece, the first bit, and whether it is bits
 abbrev pub cpiece_by : LocationDescription → PieceExtent → CPiece
 cpiece_by l (bytes n) =
     record { value = number_of_location l; kind = kind_of_location l; size = n; bit_offset = 0; is_bits = 0 }
@@ -114,14 +114,14 @@ pub record ShowsOutcome (outcome : Outcome) (steps n : ℕ) (out : CValue) (old_
   pub pieces : new_pieces ≡ put_into (map cpiece_of (pieces_of outcome)) old_pieces
   pub bytes : new_bytes ≡ put_into (bytes_of_outcome n outcome) old_bytes
 
--- the run of an expression, as one of a kind, comes to this
+-- the run of an expression, as one of a kind, has this outcome
 pub record IsRunOf (kind : Kind) (target : Target) (expression : List ℕ) (state : CState) (context : CContext) (n : ℕ) (out : CValue)
     (old_pieces new_pieces : List CPiece) (old_bytes new_bytes : List ℕ) : Type 0 where
   pub outcome : Outcome
   pub run : IsRun (world_by target state context) kind (operations_in target expression) (length expression) outcome out.steps
   pub shows : ShowsOutcome outcome out.steps n out old_pieces new_pieces old_bytes new_bytes
 
--- kinds and targets that C names, of which some hold
+-- C's numbers name a kind and a target, of which this holds
 abbrev pub WithBoth : Option Kind → Option Target → (Kind → Target → Type 0) → Type 0
 WithBoth (Some kind) (Some target) P = P kind target
 WithBoth _ _ P = ⊥

@@ -1,4 +1,4 @@
--- Faults as C has them.
+-- Faults in C's form.
 use Rattle.std.specs.Prelude.{◌≡◌, ℕ, Option, Some}
 use Rattle.dw_bytes.specs.declared.fault.Fault.{Fault}
 use Rattle.dw_bytes.specs.Faults.{number_of}

@@ -1,4 +1,4 @@
--- Frames of a walk as C has them.
+-- Frames of a walk in C's form.
 use Rattle.std.specs.Prelude.{◌≡◌, ℕ, List, length, map, Option, Some, None}
 use Rattle.dw_rows.specs.Abi.{Abi}
 use Rattle.dw_unwind.specs.Caller.{Answer, value, undefined, unreadable, division_by_zero}
@@ -21,7 +21,7 @@ canswer_of undefined = canswer_by 2 0
 canswer_of unreadable = canswer_by 3 0
 canswer_of division_by_zero = canswer_by 4 0
 
--- of kind 0 where no FDE covers the address that is looked up
+-- of kind 0 if no FDE covers the address that is looked up
 abbrev pub optional_canswer : Option Answer → CAnswer
 optional_canswer None = canswer_by 0 0
 optional_canswer (Some answer) = canswer_of answer
@@ -40,8 +40,8 @@ stop_number ReturnUndefined = 2
 stop_number ReturnUnreadable = 3
 stop_number ReturnDivisionByZero = 4
 
--- The frames of a walk, of which as many are asked for as there are slots, are at the front of the slots, with their number and why
--- there are no more. The other slots are as before.
+-- The frames of a walk whose limit is the number of slots are at the front of the slots, with their number and why there
+-- are no more. The other slots are unchanged.
 pub record AreWritten (u : CallerRelation) (first : Place) (old new : List CFrame) (count stop : ℕ) : Type 0 where
   pub frames : List WalkedFrame
   pub why : Stop
@@ -50,7 +50,7 @@ pub record AreWritten (u : CallerRelation) (first : Place) (old new : List CFram
   pub count_is : count ≡ length frames
   pub stop_is : stop ≡ stop_number why
 
--- Through the modules of a process, under an ABI, over memory, from the frame at an address with its registers.
+-- Through the modules of a process, under an ABI, with given memory, from the frame at an address with its registers.
 pub record IsBacktrace (modules : Modules) (abi : Abi) (memory registers : ℕ → Option ℕ) (address : ℕ) (old new : List CFrame)
     (count stop : ℕ) : Type 0 where
   pub frames : AreWritten (over_tables abi memory modules) (first_place address registers) old new count stop

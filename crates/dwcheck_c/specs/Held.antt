@@ -1,4 +1,4 @@
--- What the pointer that C holds leads to.
+-- What C's pointer points to.
 use Rattle.std.specs.Prelude.{Option, None, Some}
 use Rattle.std.specs.Coded.{coded_option}
 use base.Fml.{Fml, ftrue}
@@ -11,7 +11,7 @@ use Rattle.std.specs.contracts.impls.GlobalAllocator.TheImpl.{ghosts}
 use Rattle.dw_process.specs.Processes.{Modules}
 use Rattle.dw_process.specs.contracts.process.Process as process
 
--- modules as they lie in memory
+-- modules as laid out in memory
 abbrev pub the_process : RattleType
 the_process = process.the_row
 

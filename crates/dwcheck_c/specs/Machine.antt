@@ -1,4 +1,4 @@
--- Registers, memory and the ABI, as C hands them in.
+-- Registers, memory and the ABI, as passed by C.
 use Rattle.std.specs.Prelude.{ℕ, ◌/◌, ◌%◌, ◌^◌, ◌==◌, Bool, false, if◌then◌else◌, List, [], ◌∷◌, slice_get, Option, Some, None}
 use Rattle.std.specs.Option.{option_or}
 use Rattle.dw_bytes.specs.declared.fault.Fault.{Fault}
@@ -7,7 +7,7 @@ use Rattle.dw_rows.specs.Abi.{Abi, abi_of, abi_fault}
 use Rattle.dwcheck_c.specs.declared.memory.CBlock.{CBlock}
 use Rattle.dwcheck_c.specs.declared.state.CState.{CState}
 
--- bit n of a byte, the least significant first; none where there is no byte
+-- bit n of a byte, the least significant first; false if there is no byte
 abbrev pub bit_of : Option ℕ → ℕ → Bool
 bit_of None n = false
 bit_of (Some byte) n = byte / 2 ^ n % 2 == 1
@@ -15,16 +15,16 @@ bit_of (Some byte) n = byte / 2 ^ n % 2 == 1
 abbrev pub is_known : List ℕ → ℕ → Bool
 is_known known n = bit_of (slice_get known (n / 8)) (n % 8)
 
--- register n has the n-th content, if its bit says that this is known
+-- register n has the n-th content, if its bit is set
 abbrev pub register_in : List ℕ → List ℕ → ℕ → Option ℕ
 register_in contents known n = if is_known known n then slice_get contents n else None
 
--- the byte at an address, by the first block that has it
+-- the byte at an address, from the first block that has it
 abbrev pub byte_in : List CBlock → ℕ → Option ℕ
 byte_in [] a = None
 byte_in (b ∷ blocks) a = option_or (block_byte b.base b.bytes.now a) (byte_in blocks a)
 
--- ---- what a stopped thread has
+-- ---- the state of a stopped thread
 
 abbrev pub registers_of : CState → ℕ → Option ℕ
 registers_of s = register_in s.contents.now s.known.now

@@ -1,4 +1,4 @@
--- Rows as C has them.
+-- Rows in C's form.
 use Rattle.std.specs.Prelude.{◌≡◌, ℕ, pos, List, length, map, Some, option_map}
 use Rattle.dw_rows.specs.Rules.{Rule, Cfa, default, undefined, same_value, offset, val_offset, register, expression, val_expression}
 use Rattle.dw_rows.specs.Rules.{register_and_offset, cfa_expression}
@@ -7,7 +7,7 @@ use Rattle.dwcheck_c.specs.Slots.{put_into}
 use Rattle.dwcheck_c.specs.declared.row.CRule.{CRule}
 use Rattle.dwcheck_c.specs.declared.row.CRow.{CRow}
 
--- a register with its rule; of an expression, where it begins in the section, and how long it is
+-- a register with its rule; of an expression, its offset in the section and its length
 abbrev pub coded : ℕ → Rule → CRule
 coded r default = record { offset = pos 0; length = 0; register = r; source = 0; kind = 0 }
 coded r undefined = record { offset = pos 0; length = 0; register = r; source = 0; kind = 1 }
@@ -26,7 +26,7 @@ abbrev pub cfa_coded : Cfa → CRule
 cfa_coded (register_and_offset r n) = record { offset = n; length = 0; register = r; source = 0; kind = 4 }
 cfa_coded (cfa_expression e) = record { offset = pos e.offset; length = length e.bytes; register = 0; source = 0; kind = 7 }
 
--- a row that was found, and its rules, of which as many are in the slots as fit
+-- a row that was found, and its rules, as many of them in the slots as fit
 pub record IsRowOf (found : FoundRow) (row : CRow) (old new : List CRule) : Type 0 where
   pub load_address : row.load_address ≡ found.load_address
   pub start : row.start ≡ found.row.start

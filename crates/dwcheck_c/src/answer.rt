@@ -1,4 +1,4 @@
-//! What is known of numbers, as C has it.
+//! What is known of numbers, in C's form.
 
 ghost use Rattle.std.specs.Prelude.{◌≡◌, option_map};
 ghost use Rattle.dw_unwind.specs.CallerViews.{answer_in};
@@ -7,8 +7,9 @@ ghost use Rattle.dwcheck_c.specs.Frames.{canswer_of, cframe_by, optional_canswer
 
 use dw_unwind::{Answer, BriefFrame, Stop};
 
-/// What is known of a number. Kind 0 says that no FDE covers the address that is looked up; 1 that it is the value; 2 that it is
-/// undefined; 3 that what it takes isn't handed in; 4 that its expression divides by zero. The value is 0 unless the kind is 1.
+/// What is known of a number. Kind 0: no FDE covers the address that is looked up; 1: it is the value; 2: it is
+/// undefined; 3: it requires something that isn't given; 4: its expression divides by zero. The value is 0 unless the
+/// kind is 1.
 #[repr(C)]
 #[derive(Clone, Copy, Debug)]
 pub struct CAnswer {

@@ -1,4 +1,4 @@
-//! Frames of a stack, in slots of C's.
+//! Frames of a stack, in C's slots.
 
 ghost use Rattle.std.specs.Prelude.{◌≡◌};
 ghost use Rattle.dw_rows.specs.AbiViews.{roles_of};
@@ -12,7 +12,7 @@ use dw_rows::Abi;
 use dw_unwind::laws::{frames_that_are_given_are_a_walk, walks_through_what_is_found};
 use dw_unwind::{Module, Stop, Unwinder, Walk};
 
-/// Walks up a stack, and writes its frames to slots. It answers how many there are, and why there are no more.
+/// Walks up a stack, and writes its frames to slots. Gives the number of frames, and why there are no more.
 fn write_frames<U: Unwinder + Drop, R: Registers, M: Memory>(
     unwinder: U,
     abi: &Abi,

@@ -1,4 +1,4 @@
-//! Callers as C has them.
+//! Callers in C's form.
 
 ghost use Rattle.std.specs.Prelude.{◌≡◌, map, option_map};
 ghost use Rattle.dw_rows.specs.AbiViews.{roles_of};
@@ -23,7 +23,8 @@ pub struct CRegister {
     pub number: u32,
 }
 
-/// A caller: its canonical frame address, where it goes on, and how many registers have a rule.
+/// A caller: its canonical frame address, its return address, and the number of registers that have
+/// a rule.
 #[repr(C)]
 #[derive(Clone, Copy, Debug)]
 pub struct CCaller {

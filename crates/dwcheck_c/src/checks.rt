@@ -1,4 +1,4 @@
-//! Sections checked.
+//! Checks sections.
 
 ghost use Rattle.std.specs.Prelude.{◌≡◌, ◌≢◌, ◌⊎◌, None};
 ghost use Rattle.std.specs.Option.{IsSomeAnd};

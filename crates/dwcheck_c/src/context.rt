@@ -1,4 +1,4 @@
-//! What the place in the program gives an expression, as C hands it in.
+//! The values that the point in the program supplies to an expression, as passed by C.
 
 ghost use Rattle.std.specs.Prelude.{◌≡◌};
 ghost use Rattle.dwcheck_c.specs.Evaluated.{given_by, kind_by};
@@ -6,7 +6,7 @@ ghost use Rattle.dwcheck_c.specs.Evaluated.{given_by, kind_by};
 use dw_eval::Context;
 use dw_stack::Kind;
 
-/// What the place in the program gives, each where its flag isn't 0.
+/// The values that the point in the program supplies, each if its flag isn't 0.
 #[repr(C)]
 #[derive(Clone, Copy, Debug)]
 pub struct CContext {
@@ -26,7 +26,7 @@ fn given(flag: u32, number: u64) -> Option<u64>
     if flag == 0 { None } else { Some(number) }
 }
 
-/// What is given.
+/// The given values.
 pub(crate) fn context(c: &CContext) -> Context
     ensures cfa { result.cfa ≡ given_by c.now.has_cfa c.now.cfa }
     ensures frame_base { result.frame_base ≡ given_by c.now.has_frame_base c.now.frame_base }

@@ -1,4 +1,4 @@
-//! Expressions checked and evaluated.
+//! Checks and evaluates expressions.
 
 ghost use Rattle.std.specs.Prelude.{◌≡◌, ◌≢◌, ◌≤◌, ◌<◌, ◌^◌, ◌⊎◌, IfErr, IfOk, None, length};
 ghost use Rattle.dw_bytes.specs.Answers.{memory};
@@ -21,7 +21,7 @@ use dw_ops::Expression;
 use dw_stack::{CheckedExpression, Kind, check_expression};
 use std::alloc::Global;
 
-/// Runs a checked expression, and writes what it comes to.
+/// Runs a checked expression, and writes its outcome.
 fn run(
     checked: &CheckedExpression<'_>,
     c: &CContext,
@@ -39,7 +39,7 @@ fn run(
     write_outcome(&evaluation, n, value, pieces, bytes);
 }
 
-/// Checks an expression, runs it, and writes what it comes to.
+/// Checks an expression, runs it, and writes its outcome.
 fn evaluated(
     alloc: Global,
     expression: &[u8],

@@ -1,4 +1,4 @@
-//! Faults as C has them.
+//! Faults in C's form.
 
 ghost use Rattle.std.specs.Prelude.{◌≡◌};
 ghost use Rattle.dwcheck_c.specs.Faults.{cfault_of};
@@ -14,7 +14,7 @@ pub const IN_EXPRESSION: u32 = 2;
 
 pub const IN_ABI: u32 = 3;
 
-/// Why something is refused: the fault's number, its offset, and what that counts in.
+/// Why an input is refused: the fault's number, its offset, and what that counts in.
 #[repr(C)]
 #[derive(Clone, Copy, Debug)]
 pub struct CFault {

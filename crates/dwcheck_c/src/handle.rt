@@ -1,4 +1,4 @@
-//! A process, as C has it.
+//! A process in C's form.
 
 ghost use Rattle.std.specs.Prelude.{◌≡◌, ◌↔◌, IsTrue, IsSome, None, Some, MatchOption};
 
@@ -7,7 +7,7 @@ use dw_process::Process;
 use std::alloc::Global;
 use std::mem::replace;
 
-/// A process that is open, or closed: one pointer and a flag. Where all of it is 0 it is closed.
+/// A process that is open or closed: one pointer and a flag. If all of it is 0, it is closed.
 #[repr(C)]
 pub struct CProcess {
     pub(crate) held: Held,
@@ -48,7 +48,7 @@ impl CProcess {
         }
     }
 
-    /// Takes what is held, and leaves it closed.
+    /// Takes the process that is held, and leaves this one closed.
     pub(crate) fn take(&mut self, alloc: Global) -> Option<Box<Process>>
         ensures taken { MatchOption result (held_in self.old ≡ None)
             (λ b. held_in self.old ≡ Some b.value) }

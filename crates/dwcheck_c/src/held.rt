@@ -12,7 +12,7 @@ use std::alloc::Global;
 use std::marker::{Model, Send};
 use std::ptr::null_mut;
 
-/// A box of a process without its type, which C can't have, or none.
+/// A box of a process, or none, without its type, which C can't have.
 #[repr(C)]
 #[derive(Drop)]
 pub struct Held {
@@ -36,7 +36,7 @@ impl Held {
         }
     }
 
-    /// What a box has.
+    /// Holds the process of a box.
     pub fn of(process: Box<Process>) -> Held
         ensures { result.modules ≡ Some process.value }
     {

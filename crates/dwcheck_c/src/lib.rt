@@ -1,4 +1,4 @@
-//! The libraries for C: each export is one call of theirs.
+//! The libraries for C: each export is one of their calls.
 #![tactic(auto)]
 
 mod answer;

@@ -1,4 +1,4 @@
-//! Location lists looked up.
+//! Looks up location lists.
 
 ghost use Rattle.std.specs.Prelude.{◌≡◌, ◌≢◌, ◌≤◌, ◌^◌, ◌⊎◌, None, length};
 ghost use Rattle.std.specs.Option.{IsSomeAnd};
@@ -15,7 +15,7 @@ use dw_bytes::FaultKind;
 use dw_loclists::{CheckedLists, check_lists};
 use std::alloc::Global;
 
-/// What is looked up: the list whose first byte is at an offset, over a unit's base, at an address.
+/// A look-up: the list whose first byte is at an offset, with a unit's base, at an address.
 #[repr(C)]
 #[derive(Clone, Copy, Debug)]
 pub struct CLookup {
@@ -25,7 +25,7 @@ pub struct CLookup {
     pub reserved: u32,
 }
 
-/// Writes the expressions of a list that hold at an address. It answers how many were written, or none where there is no such list.
+/// Writes the expressions of a list that hold at an address. Gives the number written, or none if there is no such list.
 fn look_up(lists: &CheckedLists<'_>, lookup: &CLookup, slots: &mut [CLocation]) -> Option<usize>
     ensures { HasLocations lists.now lookup.now.list lookup.now.base lookup.now.address slots.old
         slots.new result }

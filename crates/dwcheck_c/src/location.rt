@@ -1,4 +1,4 @@
-//! Expressions of location lists as C has them.
+//! Expressions of location lists in C's form.
 
 ghost use Rattle.std.specs.Prelude.{◌≡◌, length, map, min};
 ghost use Rattle.dw_stack.specs.Located.{located_of};
@@ -8,7 +8,7 @@ ghost use Rattle.dwcheck_c.specs.Slots.{put_into};
 use dw_loclists::LocationsAt;
 use dw_stack::CheckedExpression;
 
-/// An expression of a location list: the offset in the section where it begins, and how many bytes it has.
+/// An expression of a location list: the offset in the section where it begins, and its length in bytes.
 #[repr(C)]
 #[derive(Clone, Copy, Debug)]
 pub struct CLocation {
@@ -26,7 +26,7 @@ fn shown_location(offset: u32, checked: &CheckedExpression<'_>) -> CLocation
     }
 }
 
-/// Writes expressions to slots, and answers how many were written.
+/// Writes expressions to slots, and gives the number written.
 pub(crate) fn write_locations(found: LocationsAt<'_, '_>, slots: &mut [CLocation]) -> usize
     ensures written { slots.new ≡ put_into (map clocation_of found.entry) slots.old }
     ensures count { result ≡ min (length found.entry) (length slots.old) }

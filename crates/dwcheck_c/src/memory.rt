@@ -1,4 +1,4 @@
-//! Memory that C hands in.
+//! Memory passed by C.
 
 use byteorder::{BigEndian, ByteOrder, LittleEndian};
 use dw_bytes::Order;
@@ -27,7 +27,7 @@ impl<'a> CBlock<'a> {
     }
 }
 
-/// Memory of which several blocks are known. An address that two have is the first one's.
+/// Memory with several known blocks. If two blocks have an address, the first one's byte counts.
 #[derive(Drop)]
 pub(crate) struct Blocks<'m, 'a> {
     pub blocks: &'m [CBlock<'a>],
@@ -49,7 +49,8 @@ impl<'m, 'a> Blocks<'m, 'a> {
         None
     }
 
-    /// What `read` gives, where all bytes are the first block's: nearly always, since that is a stack.
+    /// The result of `read`, if all bytes are in the first block. They nearly always are, since that
+    /// is a stack.
     #[inline(always)]
     fn read_first(&self, address: u64, size: u8, order: Order) -> Option<u64>
         requires size { IsSize size }
@@ -67,7 +68,7 @@ impl<'m, 'a> Blocks<'m, 'a> {
         block.read(address, size, order)
     }
 
-    /// What `read` gives, byte by byte.
+    /// The result of `read`, byte by byte.
     fn read_by_bytes(&self, address: u64, size: u8, order: Order) -> Option<u64>
         requires size { IsSize size }
         requires within { address + size ≤ 2 ^ 64 }

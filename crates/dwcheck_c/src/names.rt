@@ -11,8 +11,8 @@ use crate::slots::write_all;
 use crate::status::{DONE, NONE};
 use dw_bytes::FaultKind;
 
-/// The version of this interface: 65536 times the first number, plus the second. Where the first number is the same, what a program
-/// was built with goes on to work.
+/// The version of this interface: 65536 times the first number, plus the second. As long as the first number stays the
+/// same, existing programs keep working.
 const VERSION: u32 = 0x1_0000;
 
 /// All kinds of faults.
@@ -66,7 +66,7 @@ const KINDS: [FaultKind; 47] = [
     FaultKind::CertState,
 ];
 
-/// The first of these kinds that has a number.
+/// The first of these kinds that has this number.
 fn kind_among(kinds: &[FaultKind], number: u32) -> Option<FaultKind>
     ensures first { result ≡ find (λ k. number_of k == number) kinds.now }
     ensures numbered { IfSome result (λ kind. number_of kind ≡ number) }
@@ -87,7 +87,7 @@ fn kind_with(number: u32) -> Option<FaultKind>
     kind_among(&KINDS, number)
 }
 
-/// The name of the fault with a number, in slots, and how long it is.
+/// Writes the name of the fault with a number to slots, and gives the name's length.
 #[unsafe(no_mangle)]
 pub extern "C" fn dwcheck_fault_name(number: u32, text: &mut [u8], size: &mut usize) -> u32
     ensures named { (kind : OfKind) → number_of kind ≡ number → (result ≡ DONE)

@@ -19,7 +19,7 @@ use dw_bytes::{FaultKind, OUT_OF_MEMORY, Target};
 use dw_process::{Process, Refusal};
 use std::alloc::Global;
 
-/// Adds a module to a process that may be closed. A closed one is opened only where the module is added.
+/// Adds a module to a process that may be closed. A closed one is opened only if the module is added.
 fn add(
     alloc: Global,
     process: &mut CProcess,
@@ -116,7 +116,7 @@ pub extern "C" fn dwcheck_process_remove(
     if found { DONE } else { NONE }
 }
 
-/// The same modules in another process. None where memory lacks.
+/// The same modules in another process. None if there isn't enough memory.
 fn shared(alloc: Global, held: &Process) -> Option<CProcess>
     ensures { IfSome result (λ other. modules_of other ≡ held.now) }
 {
@@ -127,7 +127,7 @@ fn shared(alloc: Global, held: &Process) -> Option<CProcess>
     }
 }
 
-/// Makes another process of the same modules, in the place of what is there.
+/// Replaces a process by another of the same modules.
 #[unsafe(no_mangle)]
 pub extern "C" fn dwcheck_process_share(
     alloc: Global,
@@ -154,7 +154,7 @@ pub extern "C" fn dwcheck_process_share(
     }
 }
 
-/// Lets all modules of a process go.
+/// Releases all modules of a process.
 #[unsafe(no_mangle)]
 pub extern "C" fn dwcheck_process_close(alloc: Global, process: &mut CProcess)
     ensures { modules_of process.new ≡ [] }

@@ -1,4 +1,4 @@
-//! Rows as C has them.
+//! Rows in C's form.
 
 ghost use Rattle.std.specs.Prelude.{◌≡◌, ◌≤◌, length, map, pos};
 ghost use Rattle.dw_rows.specs.Views.{rule_of, cfa_rule_of};
@@ -11,9 +11,9 @@ use dw_process::FoundRow;
 use dw_rows::{CfaRule, MAX_RULES, RegisterRule, RegisterRules};
 use dw_stack::CheckedExpression;
 
-/// A register's rule. Kind 1 is undefined; 2 the same value; 3 saved at the CFA plus the offset; 4 the CFA plus the offset; 5 in the
-/// register `source`; 6 saved where an expression says; 7 what an expression gives. The expression begins at the offset in the
-/// section and has this length.
+/// A register's rule. Kind 1 is undefined; 2 the same value; 3 saved at the CFA plus the offset; 4 the CFA plus the
+/// offset; 5 in the register `source`; 6 saved at the address that an expression gives; 7 the value that an expression
+/// gives. The expression begins at the offset in the section and has this length.
 #[repr(C)]
 #[derive(Clone, Copy, Debug)]
 pub struct CRule {
@@ -30,13 +30,13 @@ pub struct CRule {
 pub struct CRow {
     /// The load address of the module.
     pub load_address: u64,
-    /// The addresses as linked from here on to before the end.
+    /// The row covers the addresses as linked from `start` up to, not including, `end`.
     pub start: u64,
     pub end: u64,
     pub cfa: CRule,
     /// The register of the return address.
     pub return_register: u32,
-    /// How many registers have a rule.
+    /// The number of registers that have a rule.
     pub count: u32,
 }
 
@@ -114,7 +114,7 @@ fn shown_cfa(rule: CfaRule<'_>) -> CRule
     }
 }
 
-/// Writes rules to slots, and answers how many there are.
+/// Writes rules to slots, and gives the number of rules.
 fn write_rules(rules: RegisterRules<'_, '_>, slots: &mut [CRule]) -> u32
     requires { length rules ≤ MAX_RULES }
     ensures written { slots.new ≡ put_into (map crule_of rules.entry) slots.old }

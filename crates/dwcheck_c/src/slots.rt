@@ -1,9 +1,9 @@
-//! Slots of C's that are filled from the front.
+//! C's slots, filled from the front.
 
 ghost use Rattle.std.specs.Prelude.{◌≡◌, slice_set};
 ghost use Rattle.dwcheck_c.specs.Slots.{put_into};
 
-/// Writes to the slot at an index, if it is there.
+/// Writes to the slot at an index, if there is one.
 pub(crate) fn put<X: Copy>(slots: &mut [X], index: usize, x: X)
     ensures { slots.new ≡ slice_set slots.old index x }
 {

@@ -55,7 +55,7 @@ pub extern "C" fn dwcheck_row_at(
     status
 }
 
-/// The caller of a frame, over what C hands in.
+/// The caller of a frame, from C's input.
 fn caller_of(
     modules: &[Module<SharedTable>],
     abi: &Abi,
@@ -129,7 +129,7 @@ pub extern "C" fn dwcheck_unwind(
     }
 }
 
-/// The frames of a stack, over what C hands in.
+/// The frames of a stack, from C's input.
 fn frames_of(
     modules: &[Module<SharedTable>],
     abi: &Abi,

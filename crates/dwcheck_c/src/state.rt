@@ -1,9 +1,9 @@
-//! What a stopped thread has, as C hands it in.
+//! The state of a stopped thread, as passed by C.
 
 use crate::memory::{Blocks, CBlock};
 use dw_eval::Registers;
 
-/// The content of register n is the n-th, where bit n of the flags is set.
+/// The content of register n is the n-th, if bit n of the flags is set.
 #[derive(Drop)]
 pub(crate) struct Contents<'a> {
     pub contents: &'a [u64],
@@ -38,16 +38,16 @@ impl<'a> Registers for Contents<'a> {
     }
 }
 
-/// What a stopped thread has, and what calls of its ABI keep.
+/// The state of a stopped thread, and the callee-saved registers of its ABI.
 #[repr(C)]
 #[derive(Drop)]
 pub struct CState<'a> {
-    /// The content of register n is the n-th, where bit n % 8 of byte n / 8 of `known` is set.
+    /// The content of register n is the n-th, if bit n % 8 of byte n / 8 of `known` is set.
     pub contents: &'a [u64],
     pub known: &'a [u8],
     /// The memory that is known.
     pub blocks: &'a [CBlock<'a>],
-    /// The registers that calls keep.
+    /// The callee-saved registers.
     pub kept: &'a [u16],
     /// The stack pointer, whose value in a caller is the CFA, if `has_stack_pointer` isn't 0.
     pub stack_pointer: u16,

@@ -1,25 +1,25 @@
-//! What calls come to.
+//! Statuses of calls.
 
-/// It is done: what the call writes is there.
+/// Done: the call's results are written.
 pub const DONE: u32 = 0;
 
-/// What was handed in is refused, and the fault says why.
+/// The input is refused, and the fault gives the reason.
 pub const REFUSED: u32 = 1;
 
 /// Memory ran out.
 pub const NO_MEMORY: u32 = 2;
 
-/// The rows of a section take more than the room that was given.
+/// The rows of a section take more than the given room.
 pub const NO_ROOM: u32 = 3;
 
-/// The byte order or the address size is none.
+/// The byte order or the address size is invalid.
 pub const BAD_TARGET: u32 = 4;
 
 /// A section or an expression has 2^32 bytes or more.
 pub const TOO_LONG: u32 = 5;
 
-/// The kind of an expression is none.
+/// The kind of an expression is invalid.
 pub const BAD_KIND: u32 = 6;
 
-/// There is none of what was asked for.
+/// What was looked up doesn't exist.
 pub const NONE: u32 = 7;

@@ -1,4 +1,4 @@
-//! What an evaluation comes to, as C has it.
+//! The outcome of an evaluation, in C's form.
 
 ghost use Rattle.std.specs.Prelude.{◌≡◌, map};
 ghost use Rattle.dw_eval.specs.Views.{location_description_of, outcome_of, piece_in};
@@ -8,21 +8,22 @@ ghost use Rattle.dwcheck_c.specs.Slots.{put_into};
 use crate::slots::{put, write_all};
 use dw_eval::{Evaluation, Location, Outcome, Piece, PieceSize};
 
-/// What an expression comes to. Kind 0 is a value; 1 unreadable and 2 a division by zero, both at the offset; a location is 3 nowhere,
-/// 4 at an address, 5 in a register, 6 a value, 7 bytes, of which `value` says how many there are, and 8 pieces, of which `count` does.
+/// The outcome of an expression. Kind 0 is a value; 1 unreadable and 2 a division by zero, both at the offset; a location
+/// is 3 nowhere, 4 at an address, 5 in a register, 6 a value, 7 bytes, `value` being their number, and 8 pieces, `count`
+/// being their number.
 #[repr(C)]
 #[derive(Clone, Copy, Debug)]
 pub struct CValue {
     pub value: u64,
     pub kind: u32,
     pub offset: u32,
-    /// How many operations were reached.
+    /// The number of operations that were reached.
     pub steps: u32,
-    /// How many pieces there are.
+    /// The number of pieces.
     pub count: u32,
 }
 
-/// A piece: where it is, as in `CValue`, and how many bytes it has, or bits from an offset on.
+/// A piece: where it is, as in `CValue`, and its number of bytes, or of bits from an offset on.
 #[repr(C)]
 #[derive(Clone, Copy, Debug)]
 pub struct CPiece {

@@ -1,4 +1,4 @@
-//! State lines that name the registers that calls keep, and the stack pointer.
+//! State lines that name callee-saved registers, and the stack pointer.
 
 use crate::inputs::parts_of;
 use crate::texts::cases::comes_to;
@@ -6,7 +6,7 @@ use crate::texts::expressions::{LOCATION, LOCATION_WITH_STATE, evaluate_to};
 use std::alloc::{AllocError, Global};
 use std::process::Abort;
 
-/// A run over a file and a state file has the outcome of the state file, or, if that is to be taken, this one.
+/// A run with a file and a state file has the outcome given for the state file, or, if that is `taken`, this one.
 fn ends_so(
     rt: &(impl Abort + AllocGlobal),
     (words, content, taken): (&str, &str, &str),
@@ -17,7 +17,7 @@ fn ends_so(
     comes_to(rt, words, &contents, outcome)
 }
 
-// Words that take a state file, with a file in front of it, and what they come to if it is taken.
+// Words that take a state file, a file for them, and the outcome if the state file is accepted.
 const EVALUATION: (&str, &str, &str) = (LOCATION_WITH_STATE, "56", "register 6/steps 1 depth 0");
 
 const LOOKUP: (&str, &str, &str) = (
@@ -28,7 +28,7 @@ const LOOKUP: (&str, &str, &str) = (
 
 const CALLER: (&str, &str, &str) = ("dwcheck unwind --hex f 0x0 s", "-", "none");
 
-/// `eval`, `locs` and `unwind` judge the state file of each line alike, and have its outcome.
+/// `eval`, `locs` and `unwind` check the state file of each line alike, and have its outcome.
 fn end_so(rt: &(impl Abort + AllocGlobal), cases: &str) -> Result<(), AllocError> {
     for case in cases.lines() {
         let parts = parts_of(rt, case);
@@ -39,7 +39,7 @@ fn end_so(rt: &(impl Abort + AllocGlobal), cases: &str) -> Result<(), AllocError
     Ok(())
 }
 
-/// State files with a line that is none or can't stand behind those before it.
+/// State files with a line that is malformed or contradicts those before it.
 const REFUSED: &str = "\
 keep: state line 1
 keep : state line 1
@@ -64,8 +64,8 @@ keep 7/sp 7/bad/: state line 2
 keep 7/bad/sp 7/: state line 2
 ";
 
-/// State files of which each line can stand behind those before it. A number that is kept already and a second stack pointer are
-/// skipped, whatever else that second one is.
+/// State files each line of which fits with those before it. A callee-saved register that occurs again and a second stack
+/// pointer are skipped, even if the second stack pointer wouldn't fit otherwise.
 const TAKEN: &str = "\
 keep 6: taken
 sp 7/: taken
@@ -83,7 +83,7 @@ fn takes_or_refuses_each_line(rt: HostRuntime) -> Result<(), AllocError> {
     end_so(&rt, TAKEN)
 }
 
-/// Lines that keep the numbers from 0 to 126: as many as may be kept.
+/// Lines that make 0 to 126 callee-saved: the greatest number allowed.
 fn most_lines(alloc: Global) -> Result<String, AllocError> {
     let mut lines = String::new(alloc);
     for number in 0..127u8 {
@@ -92,7 +92,7 @@ fn most_lines(alloc: Global) -> Result<String, AllocError> {
     Ok(lines)
 }
 
-/// Lines behind these.
+/// Lines after these.
 const MANY: &str = "\
 {MOST}: taken
 {MOST}keep 127/: state line 128
@@ -108,7 +108,7 @@ fn takes_127_kept_registers_and_no_more(rt: HostRuntime) -> Result<(), AllocErro
     end_so(&rt, &MANY.replace(rt.alloc(), "{MOST}", &most)?)
 }
 
-/// An expression comes to the same whatever an ABI says of its register.
+/// An expression has the same outcome whatever an ABI gives for its register.
 const UNUSED: &str = "\
 7600 | keep 6/: unreadable at 0x00000000/steps 1 depth 1
 7600 | sp 6/: unreadable at 0x00000000/steps 1 depth 1

@@ -3,8 +3,9 @@
 use crate::texts::cases::{cases_come_to, lines_come_to};
 use std::alloc::AllocError;
 
-/// Sections, state files, and callers: with rules that can't be had, with expressions, one that divides by zero among them, and with
-/// what an ABI says of registers without a rule. Sums are taken modulo 2^32, and a word that goes past the greatest address isn't read.
+/// Sections, state files, and callers: with undefined rules, with expressions, one of which divides by zero, and with an
+/// ABI's rules for registers without one. Sums are taken modulo 2^32, and a word that goes past the greatest address
+/// isn't read.
 const CALLERS: &str = "\
 {FUNCTION} | reg 6 0x7f00/mem 0x7f00 0080000000000000/mem 0x7f08 3412000000000000/
 dwcheck unwind --hex f 0x1010 s
@@ -97,7 +98,7 @@ fn shows_what_is_known_of_a_caller(rt: HostRuntime) -> Result<(), AllocError> {
     cases_come_to(&rt, CALLERS)
 }
 
-/// Hex text is judged before the state file, which is none itself, and a line of that before the section.
+/// Malformed hex text is found before a fault of the state file, and a bad line of that before a fault of the section.
 const IN_THEIR_ORDER: &str = "\
 f0ffff | reg 6 0x1: refused 1 Truncated frame 0x00000000
 f0ffffff | reg 6 0x1//reg 6/: state line 3

@@ -1,8 +1,8 @@
-//! Runs of `dwcheck` by `request` and `run`, and what they come to.
+//! Runs of `dwcheck` by `request` and `run`, and their outcomes.
 //!
-//! Files are spelled with ` | ` between two. In each a name like `{CIE}` stands for its part, a stroke for a LF, and `-` for an
-//! empty file. An outcome is what is written, a stroke for each LF but the last; or `state line N` or `bad hex N`, over which
-//! nothing is.
+//! Files are separated by ` | `. In each a name like `{CIE}` stands for its part, a slash for an LF, and `-` for an empty
+//! file. An outcome is the text written, with a slash for each LF but the last; or `state line N` or `bad hex N`, where
+//! nothing is written.
 
 ghost use Rattle.std.specs.Prelude.{◌≡◌, length};
 
@@ -12,7 +12,7 @@ use dw_check::{End, Request, Through, Usage, request, run};
 use std::alloc::{AllocError, Global};
 use std::process::Abort;
 
-/// What a line of words asks for, the program's name first and one blank between two.
+/// The request of a line of words, the first of which is the program's name, with single spaces between them.
 pub(crate) fn asked(alloc: Global, line: &str) -> Result<Result<Request, Usage>, AllocError> {
     let mut words: Vec<String> = Vec::new(alloc);
     for word in line.split(' ') {
@@ -21,7 +21,7 @@ pub(crate) fn asked(alloc: Global, line: &str) -> Result<Result<Request, Usage>,
     Ok(request(alloc, words))
 }
 
-/// The file that is spelled so.
+/// The file in this notation.
 pub(crate) fn file_of(alloc: Global, content: &str) -> Result<Vec<u8>, AllocError> {
     if content == "-" {
         return Ok(Vec::new(alloc));
@@ -30,7 +30,7 @@ pub(crate) fn file_of(alloc: Global, content: &str) -> Result<Vec<u8>, AllocErro
     Ok(content.replace(alloc, '/', "\n")?.into_bytes())
 }
 
-/// The files that are spelled so.
+/// The files in this notation.
 pub(crate) fn files_of(alloc: Global, contents: &str) -> Result<Vec<Vec<u8>>, AllocError> {
     let mut files: Vec<Vec<u8>> = Vec::new(alloc);
     for content in contents.split(" | ") {
@@ -39,7 +39,7 @@ pub(crate) fn files_of(alloc: Global, contents: &str) -> Result<Vec<Vec<u8>>, Al
     Ok(files)
 }
 
-/// How a run with this outcome ends, and what of the outcome it writes.
+/// How a run with this outcome ends, and the part of the outcome that it writes.
 fn end_of<'a>(outcome: &'a str) -> Option<(End, &'a str)> {
     if let Some(line) = outcome.strip_prefix("state line ") {
         return Some((End::StateLine(line.parse::<u64>().ok()?), ""));
@@ -55,7 +55,7 @@ fn end_of<'a>(outcome: &'a str) -> Option<(End, &'a str)> {
     Some((end, outcome))
 }
 
-/// The text that is spelled so.
+/// The text in this notation.
 pub(crate) fn text_of(alloc: Global, outcome: &str) -> Result<String, AllocError> {
     let mut text = outcome.replace(alloc, '/', "\n")?;
     if !outcome.is_empty() {
@@ -64,7 +64,7 @@ pub(crate) fn text_of(alloc: Global, outcome: &str) -> Result<String, AllocError
     Ok(text)
 }
 
-/// How a run over these files ends, and what it writes, if the line asks for something and takes so many files.
+/// How a run with these files ends, and what it writes, if the line gives a request with this number of files.
 fn ran(alloc: Global, line: &str, files: &[Vec<u8>]) -> Option<(End, Vec<u8>)> {
     let request = asked(alloc, line).ok()?.ok()?;
     if files.len() != request.files().len() {
@@ -75,7 +75,7 @@ fn ran(alloc: Global, line: &str, files: &[Vec<u8>]) -> Option<(End, Vec<u8>)> {
     Some((end, sink.into_inner()))
 }
 
-/// A run over these files has this outcome.
+/// A run with these files has this outcome.
 pub(crate) fn files_come_to(
     rt: &(impl Abort + AllocGlobal),
     line: &str,
@@ -94,7 +94,7 @@ pub(crate) fn files_come_to(
     Ok(())
 }
 
-/// The same over files that are spelled.
+/// The same for files in this notation.
 pub(crate) fn comes_to(
     rt: &(impl Abort + AllocGlobal),
     line: &str,
@@ -105,7 +105,7 @@ pub(crate) fn comes_to(
     files_come_to(rt, line, &files, outcome)
 }
 
-/// With these words the files of each line come to its outcome.
+/// With these words, the files of each line have the line's outcome.
 pub(crate) fn lines_come_to(
     rt: &(impl Abort + AllocGlobal),
     words: &str,
@@ -118,7 +118,7 @@ pub(crate) fn lines_come_to(
     Ok(())
 }
 
-/// What a paragraph of cases says: files, words, and the outcome.
+/// The parts of a paragraph of cases: files, words, and the outcome.
 pub(crate) fn case_of<'a>(rt: &impl Abort, case: &'a str) -> (&'a str, &'a str, &'a str) {
     let Some((contents, rest)) = case.trim_end().split_once('\n') else {
         panic!(rt; "{case} is no case")
@@ -127,7 +127,7 @@ pub(crate) fn case_of<'a>(rt: &impl Abort, case: &'a str) -> (&'a str, &'a str, 
     (contents, words, outcome)
 }
 
-/// The files and words of each paragraph come to its outcome, here with its LFs.
+/// The files and words of each paragraph have its outcome, here written with its LFs.
 pub(crate) fn cases_come_to(
     rt: &(impl Abort + AllocGlobal),
     cases: &str,

@@ -21,7 +21,7 @@ pub(crate) const LOCATION_WITH_STATE: &str = "dwcheck eval location --hex e --st
 
 const SHORT_LOCATION_WITH_STATE: &str = "dwcheck eval --addr4 location --hex e --state s";
 
-/// The expression comes to this, with the state file where there is one.
+/// The expression has this outcome, with the state file if there is one.
 pub(crate) fn evaluates_to(
     rt: &(impl Abort + AllocGlobal),
     words: &str,
@@ -36,7 +36,7 @@ pub(crate) fn evaluates_to(
     }
 }
 
-/// The expression of each line comes to its outcome.
+/// The expression of each line has the line's outcome.
 pub(crate) fn evaluate_to(
     rt: &(impl Abort + AllocGlobal),
     words: &str,
@@ -49,7 +49,7 @@ pub(crate) fn evaluate_to(
     Ok(())
 }
 
-/// Locations on a machine of which nothing is known, and their text but for its last LF.
+/// Locations on a machine with nothing known, and their text without its last LF.
 const LOCATIONS: &str = "\
 32 33 22: address 0x0000000000000005/steps 3 depth 2
 31 32 28 0000: address 0x0000000000000001/steps 3 depth 2
@@ -87,7 +87,7 @@ fn shows_what_locations_come_to(rt: HostRuntime) -> Result<(), AllocError> {
     evaluate_to(&rt, LOCATION, LOCATIONS)
 }
 
-/// The same text so many times.
+/// The same text `count` times.
 fn repeated(alloc: Global, part: &str, count: u32) -> Result<String, AllocError> {
     let mut text = String::new(alloc);
     for _ in 0..count {
@@ -96,7 +96,7 @@ fn repeated(alloc: Global, part: &str, count: u32) -> Result<String, AllocError>
     Ok(text)
 }
 
-/// There may be no more.
+/// No more are allowed.
 #[test]
 fn takes_32_pieces(rt: HostRuntime) -> Result<(), AllocError> {
     let pieces = repeated(rt.alloc(), "9300", 32)?;
@@ -119,7 +119,7 @@ fn takes_a_height_of_128_and_no_more(rt: HostRuntime) -> Result<(), AllocError> 
     comes_to(&rt, LOCATION, &higher, fault)
 }
 
-/// Locations, state files, and what they come to.
+/// Locations, state files, and their outcomes.
 const STATES: &str = "\
 30 | -: address 0x0000000000000000/steps 1 depth 1
 7700 | reg 00007 0x1: address 0x0000000000000001/steps 1 depth 1
@@ -236,7 +236,8 @@ fn names_the_first_fault_of_an_expression(rt: HostRuntime) -> Result<(), AllocEr
     comes_to(&rt, LOCATION, &pieces, fault)
 }
 
-/// State files with a line that is none. They come before the expression, which is refused otherwise, and behind hex text.
+/// State files with a malformed line. They are refused before the expression, which is refused otherwise, and after
+/// malformed hex text.
 const BAD_LINES: &str = "\
 12 | reg  7 0x1: state line 1
 12 | reg 7  0x1: state line 1

@@ -3,7 +3,8 @@
 use crate::texts::cases::{cases_come_to, lines_come_to};
 use std::alloc::AllocError;
 
-/// Sections, and what a list in them says of an address. Of the machine nothing is known, but in the last case.
+/// Sections, and what a list in them gives at an address. Nothing is known of the machine, except in the last
+/// case.
 const FOUND: &str = "\
 {PAIR_AND_DEFAULT}
 dwcheck locs --hex l 0xc 0x1000 0x1005
@@ -116,7 +117,7 @@ fn names_the_first_fault_of_lists(rt: HostRuntime) -> Result<(), AllocError> {
     lines_come_to(&rt, "dwcheck locs --hex l 0xc 0x0 0x0", REFUSED)
 }
 
-/// A bad line of the state file is judged before the section, and hex text before both.
+/// A bad line of the state file is found before a fault of the section, and malformed hex text before both.
 const IN_THEIR_ORDER: &str = "\
 080000 | reg 1 0x1//reg 1/: state line 3
 08000 | reg 1 0x1//reg 1/: bad hex 0

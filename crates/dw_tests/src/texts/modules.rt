@@ -1,9 +1,9 @@
-//! Modules that are loaded where there is room, through `request` and `run`.
+//! Modules loaded at other addresses than linked, through `request` and `run`.
 
 use crate::texts::cases::{cases_come_to, lines_come_to};
 use std::alloc::AllocError;
 
-/// Rows of a module that is loaded elsewhere, as they are linked. Addresses are taken modulo 2^w.
+/// Rows of a module that is loaded elsewhere, as linked. Addresses are taken modulo 2^w.
 const LOADED: &str = "\
 {FUNCTION}
 dwcheck row --load 0x400000 --hex f 0x401000
@@ -53,7 +53,7 @@ r16 undefined
 return undefined
 ";
 
-/// Walks from a further module into that of the first section, and from this one into a further one.
+/// Walks from a further module into that of the first section, and from that one into a further one.
 const WALKS: &str = "\
 {FUNCTION} | {STACK}{LAST_WORD} | {FUNCTION}
 dwcheck backtrace --module 0x400000=m --hex f 0x401010 s 9
@@ -81,7 +81,8 @@ frame 0 0x0000000000401010 none
 stop not covered
 ";
 
-/// Hex text is judged first, the state file before that of the further module, and then the sections in the order of the modules.
+/// Hex text is checked first, the state file before that of the further module, and then the sections in the order of the
+/// modules.
 const IN_THEIR_ORDER: &str = "\
 {FUNCTION} | - | f0ffffff: refused 3 ReservedLength frame 0x00000000
 f0ffff | - | f0ffffff: refused 1 Truncated frame 0x00000000

@@ -5,7 +5,8 @@ use crate::texts::expressions::{LOCATION, SHORT_LOCATION, evaluate_to, evaluates
 use std::alloc::AllocError;
 use std::process::Abort;
 
-/// Expressions, the addresses that they give in eight bytes and in four, and their steps and depth.
+/// Expressions, the addresses that they give with addresses of eight bytes and of four, and their
+/// steps and depth.
 const BOTH: &str = "\
 08ff: 0x00000000000000ff 0x000000ff steps 1 depth 1
 09ff: 0xffffffffffffffff 0xffffffff steps 1 depth 1
@@ -145,7 +146,7 @@ const SHORT: &str = "\
 920002 | reg 0 0xffffffff: address 0x00000001/steps 1 depth 1
 ";
 
-/// The expression gives the first of two addresses in eight bytes, and the other in four.
+/// The expression gives the first of two addresses with eight bytes, and the other with four.
 fn gives_both(
     rt: &(impl Abort + AllocGlobal),
     contents: &str,

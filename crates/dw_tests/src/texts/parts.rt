@@ -1,15 +1,16 @@
-//! Parts of files that have a name in cases.
+//! Named parts of files in cases.
 
 use std::alloc::{AllocError, Global};
 
-/// Names, and what they stand for. `CIE`, `BARE_CIE`, with nops for instructions, and those of versions 1 and 3, with column 16 or
-/// 144, have 24 bytes, `LONG_CIE`, in the 64-bit format, 32. `FDE` is the head of an FDE of 32 bytes over 0x1000 to 0x1020, `FDE_AT_ZERO` one
-/// over 0 to 0x20, and `FDE_AT` that of another up to its addresses. `PUSHES` is a program for it, `RULES` one with expressions of two registers' rules, the last of them empty.
+/// Names and their parts. `CIE`, `BARE_CIE`, with nops for instructions, and those of versions 1 and 3, with column 16 or
+/// 144, have 24 bytes, `LONG_CIE`, in the 64-bit format, 32. `FDE` is an FDE of 32 bytes over 0x1000 to 0x1020 up to its
+/// program, `FDE_AT_ZERO` one over 0 to 0x20, and `FDE_AT` one up to its addresses. `PUSHES` is a program for it, `RULES`
+/// one with expressions of two registers' rules, the second of them empty.
 ///
-/// The list of `PAIR_AND_DEFAULT`, at 0xc, has 0 to 0x10 behind the base in register 0, and else the value 0; that of
-/// `OVERLAPPING`, behind the base 0x2000, 0x2000 to 0x2010 in register 0, 0x2008 to 0x2018 in register 1, and an empty range in
-/// register 2. Under `--big --addr4` that of `BIG_SHORT` has 0x8000 to 0x8010 in the memory at register 13 plus 4. `LONG` is a
-/// table in the 64-bit format with an empty list at 0x1c.
+/// The list of `PAIR_AND_DEFAULT`, at 0xc, has 0 to 0x10 after the base in register 0, and else the value 0; that of
+/// `OVERLAPPING`, with the base 0x2000, 0x2000 to 0x2010 in register 0, 0x2008 to 0x2018 in register 1, and an empty
+/// range in register 2. Under `--big --addr4` that of `BIG_SHORT` has 0x8000 to 0x8010 in the memory at register 13 plus
+/// 4. `LONG` is a table in the 64-bit format with an empty list at 0x1c.
 ///
 /// `STACK` leads a walk over `FUNCTION` from 0x1010 to 0x1020, and would go on to 0x2000 with the last word too.
 const PARTS: &str = "\
@@ -37,7 +38,7 @@ const PARTS: &str = "\
 {LAST_WORD} mem 0x7f48 0020000000000000/
 ";
 
-/// The text with what each name in it stands for in its place.
+/// The text with each name in it replaced by its part.
 pub(crate) fn with_parts(alloc: Global, text: &str) -> Result<String, AllocError> {
     let mut whole = String::from_str(alloc, text)?;
     for line in PARTS.lines() {

@@ -1,4 +1,4 @@
-//! Readers that give little, and fail in the middle.
+//! Readers that give few bytes per call, and fail in the middle.
 
 use crate::texts::sections::first_row_digits;
 use dw_check::{LoadFault, Reading, Reads, Source, load};
@@ -7,7 +7,7 @@ use std::io;
 use std::io::{Error, ErrorKind, Read};
 use std::process::Abort;
 
-/// A reader that gives at most so many bytes a call, and fails after so many calls.
+/// A reader that gives at most `most` bytes per call, and fails after `calls` calls.
 #[derive(Drop)]
 struct LittleReader<'a> {
     bytes: &'a [u8],
@@ -28,7 +28,7 @@ impl Read for LittleReader<'_> {
     }
 }
 
-/// A reader that gives all of these bytes is asked once more, and then gives none: with fewer calls it fails.
+/// Reading all of these bytes takes one more call, which gives none: with fewer calls it fails.
 fn reads(rt: &impl Abort, alloc: Global, bytes: &[u8], most: usize, calls: usize) -> bool {
     let mut source = Reads::new(LittleReader { bytes, most, calls });
     assert_eq!(rt; source.state(), Reading::Open);
@@ -61,7 +61,7 @@ fn a_read_that_fails_ends_a_load(rt: HostRuntime) -> Result<(), AllocError> {
     Ok(())
 }
 
-/// More than one read asks for at once.
+/// More bytes than one read requests at once.
 #[test]
 fn loads_files_of_several_reads(rt: HostRuntime) -> Result<(), AllocError> {
     let mut bytes = Vec::new(rt.alloc());

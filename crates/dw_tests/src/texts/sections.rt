@@ -7,7 +7,7 @@ use std::process::Abort;
 /// The rows of a section as hex text.
 pub(crate) const ROWS: &str = "dwcheck rows --hex f";
 
-/// Sections, and their rows: records, programs, expressions of rules, the 64-bit format, and an FDE behind another.
+/// Sections, and their rows: records, programs, expressions of rules, the 64-bit format, and an FDE after another.
 const SHOWN: &str = "\
 {FUNCTION}
 dwcheck rows --hex f
@@ -151,7 +151,8 @@ fn shows_the_row_of_an_address(rt: HostRuntime) -> Result<(), AllocError> {
     cases_come_to(&rt, BY_ADDRESS)
 }
 
-/// Sections, and their first faults. Expressions are judged where they stand: the CFA's begins with nothing.
+/// Sections, and their first faults. Expressions are checked in their context: the CFA's begins with an empty
+/// stack.
 const REFUSED: &str = "\
 f0ffffff: refused 3 ReservedLength frame 0x00000000
 {CIE} {FDE} 0b 00000000000000: refused 16 RestoreWithoutRemember frame 0x00000030
@@ -211,7 +212,7 @@ pub(crate) fn first_row_digits(alloc: Global) -> Result<Vec<u8>, AllocError> {
     text.iter().copied().filter(|b| *b != b' ').collect(alloc)
 }
 
-/// The offset of the fault where the first row's section ends behind so many bytes, if that is within a record.
+/// The offset of the fault if the first row's section is cut to this length, if that is within a record.
 pub(crate) fn cut_off_at(length: usize) -> Option<u32> {
     match length {
         0 | 24 | 56 => None,
@@ -222,7 +223,7 @@ pub(crate) fn cut_off_at(length: usize) -> Option<u32> {
     }
 }
 
-/// A run over these files says that the frame section is truncated at this offset.
+/// A run with these files reports that the frame section is truncated at this offset.
 pub(crate) fn is_truncated(
     rt: &(impl Abort + AllocGlobal),
     line: &str,
@@ -247,7 +248,7 @@ fn names_where_a_section_is_cut_off(rt: HostRuntime) -> Result<(), AllocError> {
     Ok(())
 }
 
-/// Text that is no hex text.
+/// Malformed hex text.
 const BAD_HEX: &str = "\
 0: bad hex 0
 0g: bad hex 0

@@ -104,8 +104,8 @@ fn reports_on_two_sections(rt: HostRuntime) -> Result<(), AllocError> {
     cases_come_to(&rt, ACCEPTED)
 }
 
-/// Frame sections and lists, and their first faults: those of the frame section come first, and before both that a file is no
-/// hex text, in the order of the files.
+/// Frame sections and lists, and their first faults: those of the frame section come first, and malformed hex text before
+/// both, in the order of the files.
 const REFUSED: &str = "\
 f0ffffff | -: refused 3 ReservedLength frame 0x00000000
 f0ffffff | 080000: refused 3 ReservedLength frame 0x00000000

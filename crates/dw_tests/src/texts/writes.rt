@@ -1,4 +1,4 @@
-//! Writers that take little, and fail in the middle.
+//! Writers that accept few bytes per call, and fail in the middle.
 
 ghost use Rattle.std.specs.Prelude.{◌≡◌, length};
 
@@ -9,7 +9,7 @@ use std::io;
 use std::io::{Error, ErrorKind, Write};
 use std::process::Abort;
 
-/// A writer over an array that takes at most so many bytes a call, and fails after so many calls.
+/// A writer to an array that accepts at most `most` bytes per call, and fails after `calls` calls.
 struct Little {
     bytes: [u8; 512],
     len: usize,
@@ -39,8 +39,8 @@ impl Write for Little {
     }
 }
 
-/// How a run ends over a writer that takes at most so many bytes a call and fails after so many calls, and how much of this
-/// text it has written: nothing else was.
+/// How a run ends with a writer that accepts at most `most` bytes per call and fails after `calls` calls, and how much of
+/// this text it has written: it wrote nothing else.
 fn written(
     rt: &(impl Abort + AllocGlobal),
     line: &str,
@@ -73,8 +73,8 @@ fn written(
     Ok((end, len))
 }
 
-/// How much a writer takes a call, after how many calls it fails, how a check of two empty sections ends over it, and how much of
-/// the report it takes.
+/// How many bytes a writer accepts per call, after how many calls it fails, how a check of two empty sections ends with
+/// it, and how much of the report it accepts.
 const EMPTY_SECTIONS: [((usize, usize), End, usize); 4] = [
     ((3, 1), End::Output, 3),
     ((1, 1000), End::Done, 61),
@@ -93,7 +93,7 @@ fn writes_a_beginning_of_the_report_on_empty_sections(rt: HostRuntime) -> Result
     Ok(())
 }
 
-/// Over a writer that fails at its first call, its second and so on, until it takes the whole text.
+/// With a writer that fails at its first call, its second and so on, until it accepts the whole text.
 fn fails_at_each_write(
     rt: &(impl Abort + AllocGlobal),
     line: &str,

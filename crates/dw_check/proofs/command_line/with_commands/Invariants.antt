@@ -5,7 +5,7 @@ use Rattle.dw_check.specs.Commands.{with_commands}
 use Rattle.dw_check.specs.CommandViews.{command_in}
 use Rattle.dw_check.proofs.command_line.with_commands.Given as goal
 
--- the commands that are left lead to the app that all of them lead to
+-- adding the remaining commands gives the app with all commands
 abbrev pub invariant-loop-outline : goal.invariant-loop-outline
 invariant-loop-outline l = record {
   app : with_commands (app_of l.command) (map command_in (drop l.outline-index l.outlines))

@@ -5,7 +5,7 @@ use Rattle.dw_check.specs.Commands.{with_words}
 use Rattle.dw_check.specs.CommandViews.{file_words}
 use Rattle.dw_check.proofs.command_line.with_words.Given as goal
 
--- the words that are left lead to the app that all of them lead to
+-- adding the remaining words gives the app with all words
 abbrev pub invariant-loop-name : goal.invariant-loop-name
 invariant-loop-name l = record {
   app : with_words (app_of l.command) (file_words (drop l.name-index l.words))

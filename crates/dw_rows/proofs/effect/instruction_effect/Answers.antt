@@ -1,5 +1,5 @@
--- The offset that is kept is the product, since it fits. The factors of the code and of the definitions have one name: the search takes one
--- for the other here.
+-- The offset that is stored is the product, since it fits. The factors of the code and of the definitions have one name:
+-- the search takes one for the other here.
 use Rattle.std.proofs.Common.{rules, ◌≡◌, ◌∙◌, ap, to_z, of_z}
 use Rattle.std.specs.Int.{w128}
 use Rattle.dw_rows.specs.Effects.{sets}

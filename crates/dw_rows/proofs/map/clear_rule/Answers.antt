@@ -1,7 +1,7 @@
 use Rattle.std.proofs.Common.{arith, ◌≡◌}
 use Rattle.dw_rows.specs.RememberStack.{place_in}
 use Rattle.dw_rows.specs.Views.{entries_of}
-use Rattle.dw_rows.proofs.Edits.{clears-removed, clears-nothing, clears-end}
+use Rattle.dw_rows.proofs.Edits.{clears-removed, removed-place, clears-nothing, clears-end}
 use Rattle.dw_rows.proofs.map.clear_rule.Goals as goal
 use Rattle.dw_rows.proofs.map.clear_rule.Goals.{else-place-len-via-then-place-len+else-as_slice-place, else-place-len-via-else-place-len}
 
@@ -10,7 +10,13 @@ returns-then-as_slice-place c =
     let place : c.place_of_register-place.result ≡ place_in c.args.register (entries_of c.args.table.now.items) = cc in
     let k = clears-removed c.args.table.now.items _ c.remove.new.self.items c.args.register _ _ c.as_slice-then-place-len.ensures.value
     place (omega arith) c.if-as_slice-place.true c.remove.ensures.items c.requires in
-    record { table = k.table; rules = k.rules }
+    record {
+      table = k.table;
+      rules = k.rules;
+      value = removed-place c.args.table.now.items _ c.remove.new.self.items c.args.register _ _ c.as_slice-then-place-len.ensures.value
+          place (omega arith) c.if-as_slice-place.true c.remove.ensures.items c.requires;
+      within = omega (arith, c.remove.ensures.len, c.if-place-len.true);
+    }
 
 pub returns-else-place-len-clause-rules : goal.returns-else-place-len-clause-rules
 returns-else-place-len-clause-rules c =

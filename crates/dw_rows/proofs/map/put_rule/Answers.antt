@@ -10,34 +10,34 @@ use Rattle.dw_rows.proofs.map.put_rule.Goals as goal
 pub returns-then-full : goal.returns-then-full
 returns-then-full c =
     let old = entries_of c.args.table.now.items in
-    let mid = entries_of c.clear_rule.new.table.items in
-    let full : length c.clear_rule.new.table.items ≡ MAX_RULES = grind (arith, common_steps) in
-    let clears : Clears old c.args.register mid = record { table = c.clear_rule.ensures.table; rules = c.clear_rule.ensures.rules } in
+    let mid = entries_of c.clear_rule-place.new.table.items in
+    let full : length c.clear_rule-place.new.table.items ≡ MAX_RULES = grind (arith, common_steps) in
+    let clears : Clears old c.args.register mid = record { table = c.clear_rule-place.ensures.table; rules = c.clear_rule-place.ensures.rules } in
     let more = full-count old mid c.args.register (kept_rule_of c.args.rule) (omega arith)
     (kept_rule_of-some c.args.rule c.in_default.not-Default) clears in
     record {
-      table = c.clear_rule.ensures.table;
+      table = c.clear_rule-place.ensures.table;
       rules = tt;
-      few = omega (arith, c.is_full-full.ensures.fits, length-entries_of c.clear_rule.new.table.items);
+      few = omega (arith, c.is_full-full.ensures.fits, length-entries_of c.clear_rule-place.new.table.items);
       full =
-          omega (arith, more, length-entries_of c.clear_rule.new.table.items);
+          omega (arith, more, length-entries_of c.clear_rule-place.new.table.items);
     }
 
 pub returns : goal.returns
 returns c =
     let old = entries_of c.args.table.now.items in
-    let mid = entries_of c.clear_rule.new.table.items in
-    let place : c.place_of_register-place.result ≡ place_in c.args.register mid = cc in
-    let clears : Clears old c.args.register mid = record { table = c.clear_rule.ensures.table; rules = c.clear_rule.ensures.rules } in
+    let mid = entries_of c.clear_rule-place.new.table.items in
+    let place : c.clear_rule-place.result ≡ place_in c.args.register mid = c.clear_rule-place.ensures.value in
+    let clears : Clears old c.args.register mid = record { table = c.clear_rule-place.ensures.table; rules = c.clear_rule-place.ensures.rules } in
     let new : entries_of c.insert.new.self.items ≡ inserted c.args.register (kept_rule_of c.args.rule) mid =
-    rw (c.insert.ensures.items, place) (insert-place c.clear_rule.new.table.items c.args.register
+    rw (c.insert.ensures.items, place) (insert-place c.clear_rule-place.new.table.items c.args.register
     (kept_rule_of c.args.rule) c.entry_with_rule.result c.entry_with_rule.ensures) in
     let k = puts-inserted old mid (entries_of c.insert.new.self.items) c.args.register (kept_rule_of c.args.rule) (omega arith)
     (kept_rule_of-some c.args.rule c.in_default.not-Default) clears new in
     record {
       table = k.table;
       rules = k.rules;
-      few = let room : length c.clear_rule.new.table.items < MAX_RULES = grind
+      few = let room : length c.clear_rule-place.new.table.items < MAX_RULES = grind
           (arith, common_steps) in omega (arith, c.insert.ensures.len, length-entries_of c.insert.new.self.items);
       full = tt;
     }

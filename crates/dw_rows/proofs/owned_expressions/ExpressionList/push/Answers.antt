@@ -17,7 +17,7 @@ invariant_of-self-in_err-push c =
     let kept : c.push.new.self.items ≡ c.self.inside.kept.items = c.in_err-push.ensures.items in
     rw (more, kept) (are-grown c.self.inside.bytes.items c.bytes-bytes.result.now c.self.inside.kept.items c.self.invariant)
 
--- what is kept
+-- what is stored
 abbrev one : goal.In_ok-push → OwnedExpression
 one c = record {
   offset = c.args.offset;

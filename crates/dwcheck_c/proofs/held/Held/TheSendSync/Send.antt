@@ -1,4 +1,4 @@
--- What is held may go to another thread: the block, the modules in it, and a pointer.
+-- What is held can go to another thread: the block, the modules in it, and a pointer.
 use Rattle.std.specs.Prelude.{Option, None, Some}
 use mir.Raw.{raw}
 use denote.Memory.{lone}
