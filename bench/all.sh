@@ -4,7 +4,7 @@
 # Ten minutes with an idle processor; some lines more for each thing that failed are in the file that is named.
 #     bench/all.sh DWCHECK [DWCHECK_ELF]
 # LIBRARY=crates/dw_times/out/libdw_times.a adds walks beside libunwind (`rt lib` in crates/dw_times makes it),
-# TESTS=crates/dw_tests/out/dw_tests each request for memory refused (`rt test` in crates/dw_tests makes it).
+# TESTS=crates/dw_tests/out/dw_tests_tests each request for memory refused (`rt test` in crates/dw_tests makes it).
 # SEED chooses the random cases, 1 if not given.
 set -u
 program=$(realpath "$1") elf=${2:+$(realpath "$2")} seed=${SEED:-1}

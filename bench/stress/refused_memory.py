@@ -3,7 +3,7 @@
 
     bench/stress/refused_memory.py TESTS DWCHECK
 
-TESTS is the tests' program that `rt test` leaves in crates/dw_tests/out, DWCHECK the program. It needs cc and glibc.
+TESTS is the tests' program that `rt test` leaves, crates/dw_tests/out/dw_tests_tests, DWCHECK the program. It needs cc and glibc.
 
 A library that is loaded before the C library's refuses the Nth request. Each test of `refused_memory` then has to pass for every N from 1
 until none is refused: the call answers that memory ran out, or it does without that request and its answer is right. So do the check
