@@ -13,11 +13,14 @@ use std::process::exit;
 
 fn main() {
     let words: Vec<_> = std::env::args_os().skip(1).collect();
-    let [program, core] = words.as_slice() else {
-        eprintln!("usage: stack PROGRAM CORE");
-        exit(2);
+    let (program, core) = match words.as_slice() {
+        [program, core] => (Path::new(program), Path::new(core)),
+        _ => {
+            eprintln!("usage: stack PROGRAM CORE");
+            exit(2);
+        }
     };
-    if let Err(error) = show(Path::new(program), Path::new(core)) {
+    if let Err(error) = show(program, core) {
         eprintln!("stack: {}", error);
         exit(1);
     }

@@ -45,33 +45,55 @@ pub enum Within {
     Record(u64),
 }
 
-impl Defect {
+/// What faults of a frame section are told by.
+pub struct Terms<'a> {
+    frames: &'a Frames<'a>,
+    functions: &'a Functions<'a>,
+    /// The records of the bytes that `dwcheck` takes.
+    records: Vec<Record>,
+}
+
+impl<'a> Terms<'a> {
+    /// Reads the records of a section.
+    pub fn of(frames: &'a Frames<'a>, functions: &'a Functions<'a>) -> Self {
+        Terms { frames, functions, records: debug_frame::records(frames.bytes(), frames.target()) }
+    }
+
+    /// The records of the bytes that `dwcheck` takes, in order.
+    pub fn records(&self) -> &[Record] {
+        &self.records
+    }
+
     /// A fault that `dwcheck` found in the bytes that it was given, at an offset of these bytes.
-    pub fn of_frames(frames: &Frames<'_>, fault: Fault, functions: &Functions<'_>) -> Self {
+    pub fn defect(&self, fault: Fault) -> Defect {
         let offset = fault.offset as usize;
         let edge = if fault.kind == FaultKind::Overlap { Edge::Begin } else { Edge::End };
-        let place = frames.place(u64::from(fault.offset), edge);
-        let records = debug_frame::records(frames.bytes(), frames.target());
-        let record = records.iter().find(|record| match edge {
-            Edge::Begin => record.offset == offset,
-            Edge::End => record.offset < offset && offset <= record.end || record.offset == offset && offset == 0,
+        let place = self.frames.place(u64::from(fault.offset), edge);
+        let after = self.records.partition_point(|record| match edge {
+            Edge::Begin => record.offset <= offset,
+            Edge::End => record.offset < offset,
         });
-        let what = record.map_or_else(|| "record".to_string(), |record| what(frames, &fault, record));
+        let record = after.checked_sub(1).and_then(|before| self.records.get(before));
+        let record = record.filter(|record| offset <= record.end);
+        let what = record.map_or_else(|| "a record".to_string(), |record| what(self.frames, &fault, record));
         let within = place.map(|place| match place.kind {
             RecordKind::Fde { begin, size, .. } => Within::Fde(begin..begin.saturating_add(size)),
-            RecordKind::Cie => Within::Cie(place.record),
+            RecordKind::Cie if record.is_some() => Within::Cie(place.record),
+            RecordKind::Cie => Within::Record(place.record),
         });
         Defect {
-            section: frames.name(),
+            section: self.frames.name(),
             offset: place.map_or(u64::from(fault.offset), |place| place.offset),
             fault: fault.name(),
             what,
-            function: within.as_ref().and_then(|within| within.function(functions)),
+            function: within.as_ref().and_then(|within| within.function(self.functions)),
             record: within,
             rule: rule(fault.kind).to_string(),
         }
     }
+}
 
+impl Defect {
     /// A record of `.eh_frame` that has no counterpart in `.debug_frame`.
     pub fn of_bridge(error: &BridgeError) -> Self {
         Defect {

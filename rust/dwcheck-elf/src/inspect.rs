@@ -1,10 +1,9 @@
 //! Checks all sections of a program.
 
 use crate::bridge::{BridgeError, Edge, Options, RecordKind};
-use crate::debug_frame::{self, Kind, Record};
-use crate::fault::Defect;
+use crate::debug_frame::{Kind, Record};
+use crate::fault::{Defect, Terms};
 use crate::frames::{Frames, FramesError, Name};
-use crate::functions::Functions;
 use crate::loclists::Contents;
 use crate::program::{Program, ProgramError};
 use crate::row::Row;
@@ -123,11 +122,8 @@ fn inspect_frames<'data>(
         Err(Error::Refused(fault)) => {
             compared_by_gimli(&frames)?;
             let functions = program.functions();
-            Verdict::Refused(if check.all {
-                every_defect(&frames, fault, &functions)
-            } else {
-                vec![Defect::of_frames(&frames, fault, &functions)]
-            })
+            let terms = Terms::of(&frames, &functions);
+            Verdict::Refused(if check.all { every_defect(&frames, fault, &terms) } else { vec![terms.defect(fault)] })
         }
         Err(error) => return Err(InspectError::Dwcheck(frames.name(), error)),
     };
@@ -175,34 +171,28 @@ fn inspect_lists(lists: &[u8], target: Target) -> Result<Verdict, InspectError> 
 /// Every record that is refused: each CIE alone, each FDE alone with its CIE, and those that share addresses.
 ///
 /// An FDE whose CIE is refused isn't judged. `first` is the fault of the whole section.
-fn every_defect(frames: &Frames<'_>, first: Fault, functions: &Functions<'_>) -> Vec<Defect> {
-    let records = debug_frame::records(frames.bytes(), frames.target());
+fn every_defect(frames: &Frames<'_>, first: Fault, terms: &Terms<'_>) -> Vec<Defect> {
     let judge = Alone { bytes: frames.bytes(), target: frames.target() };
-    let mut faults = Vec::new();
-    let mut cies = HashMap::new();
-    for record in records.iter().filter(|record| matches!(record.kind, Kind::Cie { .. })) {
-        match judge.cie(record) {
-            None => drop(cies.insert(record.offset as u64, record)),
-            Some(fault) => faults.push(fault),
-        }
-    }
-    let is_cie = |at: u64| records.iter().any(|one| one.offset as u64 == at && matches!(one.kind, Kind::Cie { .. }));
-    for record in &records {
+    let cies = terms.records().iter().filter(|record| matches!(record.kind, Kind::Cie { .. }));
+    let judged: HashMap<u64, (&Record, Option<Fault>)> =
+        cies.map(|record| (record.offset as u64, (record, judge.cie(record)))).collect();
+    let mut faults: Vec<_> = judged.values().filter_map(|(_, fault)| *fault).collect();
+    for record in terms.records() {
         if let Kind::Fde { cie, .. } = record.kind {
-            match cies.get(&cie) {
-                Some(cie) => faults.extend(judge.fde(cie, record)),
-                None if is_cie(cie) => {}
+            match judged.get(&cie) {
+                Some((cie, None)) => faults.extend(judge.fde(cie, record)),
+                Some((_, Some(_))) => {}
                 None => faults.extend(judge.orphan(record)),
             }
         }
     }
     faults.extend(overlaps(frames));
-    faults.sort_by_key(|fault| fault.offset);
+    faults.sort_by_key(|fault| (fault.offset, fault.number()));
     faults.dedup_by_key(|fault| (fault.offset, fault.kind));
     if !faults.iter().any(|fault| fault.offset == first.offset && fault.kind == first.kind) {
         faults.insert(0, first);
     }
-    faults.into_iter().map(|fault| Defect::of_frames(frames, fault, functions)).collect()
+    faults.into_iter().map(|fault| terms.defect(fault)).collect()
 }
 
 /// Judges records one by one.

@@ -60,21 +60,33 @@ impl<'a> Stacks<'a> {
     /// [`missing`](Self::missing) says why.
     pub fn of(core: &'a CoreFile<'a>, files: &'a Files) -> Self {
         let memory = core.memory(files);
-        let (mut process, mut loaded, mut missing) = (Process::new(), Vec::new(), Vec::new());
-        for module in core.modules(files) {
-            match add(&mut process, &module) {
-                Ok((functions, problems)) => {
-                    let path = &module.path;
-                    missing.extend(problems.into_iter().map(|problem| (path.clone(), problem)));
-                    loaded.push(Loaded { module, functions });
-                }
-                Err(error) => missing.push((module.path, error)),
+        let mut stacks = Stacks { core, memory, process: Process::new(), loaded: Vec::new(), missing: Vec::new() };
+        core.modules(files).into_iter().for_each(|module| stacks.add(module));
+        let unread = files.all().iter();
+        let unread = unread.filter_map(|file| Some((file.path.clone(), file.bytes.as_ref().err()?.to_string())));
+        stacks.missing.extend(unread);
+        stacks
+    }
+
+    /// Adds the program of a core that doesn't say which files are mapped, as those of qemu. Another core's modules are
+    /// known; then nothing is done.
+    pub fn add_program(&mut self, path: &Path, bytes: &'a [u8]) {
+        if self.core.mappings().is_empty() {
+            if let Some(module) = self.core.program_module(path, bytes) {
+                self.add(module);
             }
         }
-        let unread =
-            files.all().iter().filter_map(|file| Some((file.path.clone(), file.bytes.as_ref().err()?.to_string())));
-        missing.extend(unread);
-        Stacks { core, memory, process, loaded, missing }
+    }
+
+    fn add(&mut self, module: Module<'a>) {
+        match add(&mut self.process, &module) {
+            Ok((functions, problems)) => {
+                let path = &module.path;
+                self.missing.extend(problems.into_iter().map(|problem| (path.clone(), problem)));
+                self.loaded.push(Loaded { module, functions });
+            }
+            Err(error) => self.missing.push((module.path, error)),
+        }
     }
 
     /// The files whose tables aren't used, and why.

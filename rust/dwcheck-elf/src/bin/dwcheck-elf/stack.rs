@@ -13,14 +13,16 @@ pub fn stack(words: &StackWords, out: &mut impl Write) -> Result<Done, Failure> 
     let bytes = read(&words.core)?;
     let core = CoreFile::read(&bytes).map_err(|error| failed(format!("{}: {}", words.core.display(), error)))?;
     let files = Files::read(&core, &words.root);
-    let stacks = Stacks::of(&core, &files);
+    let mut stacks = Stacks::of(&core, &files);
     let program = words.program.canonicalize();
     let program = program.map_err(|error| failed(format!("cannot read {}: {}", words.program.display(), error)))?;
+    let program_bytes = read(&program)?;
+    stacks.add_program(&program, &program_bytes);
     let mut warnings: Vec<_> =
         stacks.missing().iter().map(|(path, why)| format!("{}: {}", path.display(), why)).collect();
     let root = words.root.canonicalize().unwrap_or_else(|_| words.root.clone());
     let inside = program.strip_prefix(&root).map_or(program.clone(), |inside| std::path::Path::new("/").join(inside));
-    if !stacks.has(&inside) {
+    if !stacks.has(&inside) && !stacks.has(&program) {
         warnings.push(format!("{} isn't of this core file, or has changed since", words.program.display()));
     }
     if core.is_cut() {

@@ -12,6 +12,7 @@ use dwcheck_elf::fault::Defect;
 use dwcheck_elf::frames::Name;
 use dwcheck_elf::inspect::{inspect, Check, Inspected, Verdict};
 use dwcheck_elf::program::Program;
+use dwcheck_elf::validate::Agreement;
 use files::{content, Files};
 use indicatif::{ProgressBar, ProgressStyle};
 use rayon::prelude::*;
@@ -34,9 +35,28 @@ pub struct Surveyed {
 pub struct Section {
     name: Name,
     bytes: usize,
-    verdict: Verdict,
+    /// What it holds, where it was accepted.
+    held: Held,
+    /// What is wrong with it, where it was refused.
+    defects: Vec<Defect>,
     counts: Counts,
     mended: usize,
+}
+
+/// How much an accepted section holds.
+#[derive(Clone, Copy, Debug)]
+pub enum Held {
+    Frames {
+        cies: usize,
+        fdes: usize,
+        rows: usize,
+    },
+    Lists {
+        lists: usize,
+        expressions: usize,
+    },
+    /// It was refused.
+    Unknown,
 }
 
 /// Checks all files, and writes those that are refused.
@@ -92,14 +112,14 @@ impl Section {
         let bridged = frames.as_ref().map(|frames| frames.bridged());
         let counts = bridged.map_or(Counts::default(), |bridged| *bridged.counts());
         let mended = bridged.map_or(0, |bridged| bridged.mended().len());
-        Section { name, bytes, verdict, counts, mended }
-    }
-
-    fn defects(&self) -> &[Defect] {
-        match &self.verdict {
-            Verdict::Refused(defects) => defects,
-            _ => &[],
-        }
+        let (held, defects) = match verdict {
+            Verdict::Frames(Agreement { cies, fdes, rows, .. }) => (Held::Frames { cies, fdes, rows }, Vec::new()),
+            Verdict::Lists(found) => {
+                (Held::Lists { lists: found.lists, expressions: found.expressions.len() }, Vec::new())
+            }
+            Verdict::Refused(defects) => (Held::Unknown, defects),
+        };
+        Section { name, bytes, held, defects, counts, mended }
     }
 }
 
@@ -111,8 +131,8 @@ fn write_refused(out: &mut impl Write, files: &Files, surveyed: &[Surveyed]) -> 
     for Surveyed { path, outcome, .. } in surveyed {
         match outcome {
             Ok(sections) => {
-                let defects = sections.iter().flat_map(Section::defects);
-                defects.into_iter().try_for_each(|defect| write_defect(out, path, defect))?;
+                let mut defects = sections.iter().flat_map(|section| &section.defects);
+                defects.try_for_each(|defect| write_defect(out, path, defect))?;
             }
             Err(error) => {
                 let _ = writeln!(io::stderr(), "dwcheck-elf: {}: {}", path.display(), error);

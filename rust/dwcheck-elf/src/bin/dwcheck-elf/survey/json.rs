@@ -2,9 +2,8 @@
 
 use super::files::Files;
 use super::totals::Totals;
-use super::{Section, Surveyed};
+use super::{Held, Section, Surveyed};
 use dwcheck_elf::fault::{Defect, Within};
-use dwcheck_elf::inspect::Verdict;
 use std::fmt::Write as _;
 use std::io::{self, Write};
 
@@ -32,17 +31,15 @@ pub fn write(out: &mut impl Write, files: &Files, surveyed: &[Surveyed], totals:
 
 fn section(section: &Section) -> String {
     let start = format!("{{\"section\":\"{}\",\"bytes\":{}", section.name, section.bytes);
-    match &section.verdict {
-        Verdict::Frames(found) => {
-            let counts = format!("\"cies\":{},\"fdes\":{},\"rows\":{}", found.cies, found.fdes, found.rows);
-            format!("{},\"accepted\":true,{}}}", start, counts)
+    match section.held {
+        Held::Frames { cies, fdes, rows } => {
+            format!("{},\"accepted\":true,\"cies\":{},\"fdes\":{},\"rows\":{}}}", start, cies, fdes, rows)
         }
-        Verdict::Lists(found) => {
-            let counts = format!("\"lists\":{},\"expressions\":{}", found.lists, found.expressions.len());
-            format!("{},\"accepted\":true,{}}}", start, counts)
+        Held::Lists { lists, expressions } => {
+            format!("{},\"accepted\":true,\"lists\":{},\"expressions\":{}}}", start, lists, expressions)
         }
-        Verdict::Refused(defects) => {
-            let faults: Vec<_> = defects.iter().map(fault).collect();
+        Held::Unknown => {
+            let faults: Vec<_> = section.defects.iter().map(fault).collect();
             format!("{},\"accepted\":false,\"faults\":[{}]}}", start, faults.join(","))
         }
     }

@@ -1,9 +1,8 @@
 //! What a survey comes to.
 
 use super::files::Files;
-use super::{Section, Surveyed};
+use super::{Held, Section, Surveyed};
 use crate::end::Done;
-use dwcheck_elf::inspect::Verdict;
 use std::io::{self, Write};
 
 /// Counts over all files.
@@ -53,19 +52,19 @@ impl Totals {
     fn add(&mut self, section: &Section) {
         self.sections += 1;
         self.bytes += section.bytes;
-        self.accepted += usize::from(section.defects().is_empty());
-        self.refused += usize::from(!section.defects().is_empty());
-        match &section.verdict {
-            Verdict::Frames(agreement) => {
-                self.cies += agreement.cies;
-                self.fdes += agreement.fdes;
-                self.rows += agreement.rows;
+        self.accepted += usize::from(section.defects.is_empty());
+        self.refused += usize::from(!section.defects.is_empty());
+        match section.held {
+            Held::Frames { cies, fdes, rows } => {
+                self.cies += cies;
+                self.fdes += fdes;
+                self.rows += rows;
             }
-            Verdict::Lists(contents) => {
-                self.lists += contents.lists;
-                self.expressions += contents.expressions.len();
+            Held::Lists { lists, expressions } => {
+                self.lists += lists;
+                self.expressions += expressions;
             }
-            Verdict::Refused(_) => {}
+            Held::Unknown => {}
         }
         self.augmentations += section.counts.augmentations;
         self.signal_frames += section.counts.signal_frames;
