@@ -85,22 +85,28 @@ pub trait RowSource<'a> {
     fn next_row(&mut self, row: &mut Row<'a>) -> Result<bool, String>;
 }
 
-/// Compares rows one by one, and gives their number and whether both ended with the same error.
+/// Compares rows one by one, and gives their number and whether both ended with the same error. `rows` is room for one
+/// row of each.
 pub fn compare_rows<'a, 'b>(
     section: &mut impl RowSource<'a>,
     bridged: &mut impl RowSource<'b>,
+    rows: &mut (Row<'a>, Row<'b>),
 ) -> Result<(usize, bool), What> {
-    let (mut left, mut right) = (Row::default(), Row::default());
+    let (left, right) = rows;
     let mut number = 0;
     loop {
-        let (one, other) = (section.next_row(&mut left), bridged.next_row(&mut right));
+        let (one, other) = (section.next_row(left), bridged.next_row(right));
         match (&one, &other) {
-            (Ok(true), Ok(true)) if left == right => number += 1,
+            (Ok(true), Ok(true)) if same(left, right) => number += 1,
             (Ok(false), Ok(false)) => return Ok((number, false)),
             (Err(one), Err(other)) if one == other => return Ok((number, true)),
-            _ => return Err(What::Row { number, section: shown(&one, &left), bridged: shown(&other, &right) }),
+            _ => return Err(What::Row { number, section: shown(&one, left), bridged: shown(&other, right) }),
         }
     }
+}
+
+fn same<'r>(one: &Row<'r>, other: &Row<'r>) -> bool {
+    one == other
 }
 
 fn shown(outcome: &Result<bool, String>, row: &Row<'_>) -> String {

@@ -6,14 +6,14 @@ use crate::bytes::Cursor;
 use crate::debug_frame::{self, Kind};
 use crate::frames::{Frames, Name};
 use crate::row::{Cfa, Row, Rule};
-use dwcheck::{CfaRule, Process};
+use dwcheck::{CfaRule, Process, Rows, Span};
 use gimli::{BaseAddresses, DebugFrame, UnwindContext, UnwindOffset, UnwindSection};
 
 /// The rows of an FDE by `dwcheck`: each is looked up by its first address, which the row before it ends with.
 ///
 /// [`new`](Self::new) leaves out rules that say a register is undefined, as gimli does; [`whole`](Self::whole) has all.
 pub struct DwcheckRows<'a> {
-    process: &'a Process,
+    rows: Rows<'a>,
     /// The section that the process was made of, which has the expressions.
     bytes: &'a [u8],
     next: u64,
@@ -25,7 +25,7 @@ pub struct DwcheckRows<'a> {
 impl<'a> DwcheckRows<'a> {
     /// The rows of the addresses from `begin` to before `end`, which a section covers.
     pub fn new(process: &'a Process, bytes: &'a [u8], begin: u64, end: u64) -> Self {
-        DwcheckRows { process, bytes, next: begin, end, return_register: None, has_undefined: false }
+        DwcheckRows { rows: process.rows(), bytes, next: begin, end, return_register: None, has_undefined: false }
     }
 
     /// The same rows with all rules.
@@ -38,51 +38,60 @@ impl<'a> DwcheckRows<'a> {
         self.return_register
     }
 
-    fn rule(&self, rule: dwcheck::Rule) -> Result<Option<Rule<'a>>, String> {
-        let bytes =
-            |span: dwcheck::Span| span.of(self.bytes).ok_or_else(|| "an expression isn't in the section".to_string());
-        Ok(Some(match rule {
-            dwcheck::Rule::Undefined if self.has_undefined => Rule::Undefined,
-            dwcheck::Rule::Undefined => return Ok(None),
-            dwcheck::Rule::SameValue => Rule::SameValue,
-            dwcheck::Rule::Offset(offset) => Rule::Offset(offset),
-            dwcheck::Rule::ValOffset(offset) => Rule::ValOffset(offset),
-            dwcheck::Rule::Register(register) => Rule::Register(register),
-            dwcheck::Rule::Expression(span) => Rule::Expression(bytes(span)?),
-            dwcheck::Rule::ValExpression(span) => Rule::ValExpression(bytes(span)?),
-            other => return Err(format!("a rule that isn't known: {:?}", other)),
-        }))
+    /// Goes on with the rows of other addresses.
+    pub fn restart(&mut self, begin: u64, end: u64) {
+        self.next = begin;
+        self.end = end;
+        self.return_register = None;
     }
+}
 
-    fn cfa(&self, rule: CfaRule) -> Result<Cfa<'a>, String> {
-        match rule {
-            CfaRule::RegisterAndOffset { register, offset } => Ok(Cfa::RegisterOffset { register, offset }),
-            CfaRule::Expression(span) => {
-                let bytes = span.of(self.bytes).ok_or("an expression isn't in the section")?;
-                Ok(Cfa::Expression(bytes))
-            }
-            other => Err(format!("a rule that isn't known: {:?}", other)),
-        }
+/// The bytes of an expression of a section.
+fn expression(bytes: &[u8], span: Span) -> Result<&[u8], String> {
+    span.of(bytes).ok_or_else(|| "an expression isn't in the section".to_string())
+}
+
+fn rule_of(bytes: &[u8], rule: dwcheck::Rule) -> Result<Rule<'_>, String> {
+    Ok(match rule {
+        dwcheck::Rule::Undefined => Rule::Undefined,
+        dwcheck::Rule::SameValue => Rule::SameValue,
+        dwcheck::Rule::Offset(offset) => Rule::Offset(offset),
+        dwcheck::Rule::ValOffset(offset) => Rule::ValOffset(offset),
+        dwcheck::Rule::Register(register) => Rule::Register(register),
+        dwcheck::Rule::Expression(span) => Rule::Expression(expression(bytes, span)?),
+        dwcheck::Rule::ValExpression(span) => Rule::ValExpression(expression(bytes, span)?),
+        other => return Err(format!("a rule that isn't known: {:?}", other)),
+    })
+}
+
+fn cfa_of(bytes: &[u8], rule: CfaRule) -> Result<Cfa<'_>, String> {
+    match rule {
+        CfaRule::RegisterAndOffset { register, offset } => Ok(Cfa::RegisterOffset { register, offset }),
+        CfaRule::Expression(span) => expression(bytes, span).map(Cfa::Expression),
+        other => Err(format!("a rule that isn't known: {:?}", other)),
     }
 }
 
 impl<'a> RowSource<'a> for DwcheckRows<'a> {
     fn next_row(&mut self, row: &mut Row<'a>) -> Result<bool, String> {
-        if self.next >= self.end {
+        let DwcheckRows { rows, bytes, next, end, .. } = self;
+        if *next >= *end {
             return Ok(false);
         }
-        let found = self.process.row(self.next).ok_or_else(|| format!("no row for {:#x}", self.next))?;
-        if found.addresses.end <= self.next {
+        let found = rows.row(*next).ok_or_else(|| format!("no row for {:#x}", next))?;
+        if found.addresses.end <= *next {
             return Err(format!("a row that ends at {:#x}", found.addresses.end));
         }
         row.begin = found.addresses.start;
         row.end = found.addresses.end;
-        row.cfa = self.cfa(found.cfa)?;
+        row.cfa = cfa_of(bytes, found.cfa)?;
         row.rules.clear();
         for (register, rule) in &found.rules {
-            row.rules.extend(self.rule(*rule)?.map(|rule| (*register, rule)));
+            if self.has_undefined || *rule != dwcheck::Rule::Undefined {
+                row.rules.push((*register, rule_of(bytes, *rule)?));
+            }
         }
-        self.next = found.addresses.end;
+        *next = found.addresses.end;
         self.return_register = Some(found.return_register);
         Ok(true)
     }
@@ -113,6 +122,13 @@ pub fn validate_rows(frames: &Frames<'_>, process: &Process) -> Result<Agreement
     }
 }
 
+/// What is used again for each FDE.
+struct Room<'a> {
+    context: Box<UnwindContext<Bytes<'a>, Bounded>>,
+    ours: DwcheckRows<'a>,
+    rows: (Row<'a>, Row<'a>),
+}
+
 /// A section and what `dwcheck` made of it.
 struct Comparison<'a, S> {
     frames: &'a Frames<'a>,
@@ -127,7 +143,11 @@ where
     S::Offset: UnwindOffset<usize>,
 {
     fn run(&self) -> Result<Agreement, Difference> {
-        let mut context = Box::new(UnwindContext::<_, Bounded>::new_in());
+        let mut room = Room {
+            context: Box::new(UnwindContext::new_in()),
+            ours: DwcheckRows::new(self.process, self.frames.bytes(), 0, 0),
+            rows: Default::default(),
+        };
         let mut agreement = Agreement::default();
         let source = self.frames.eh_frame();
         let mut cursor = Cursor::new(source.bytes, source.target);
@@ -137,7 +157,7 @@ where
             let given = given.next().ok_or_else(|| fail(What::Missing))?;
             match given.kind {
                 Kind::Fde { .. } => {
-                    let rows = self.compare(offset, &mut context).map_err(fail)?;
+                    let rows = self.compare(offset, &mut room).map_err(fail)?;
                     agreement.fdes += 1;
                     agreement.rows += rows;
                 }
@@ -159,15 +179,16 @@ where
     }
 
     /// Compares the rows of an FDE, and counts them.
-    fn compare(&self, offset: usize, context: &mut UnwindContext<Bytes<'a>, Bounded>) -> Result<usize, What> {
+    fn compare(&self, offset: usize, room: &mut Room<'a>) -> Result<usize, What> {
         let unreadable = |error: gimli::Error| What::Unreadable(error.to_string());
         let fde = self.section.fde_from_offset(&self.bases, offset.into(), S::cie_from_offset).map_err(unreadable)?;
         let target = self.frames.target();
         let begin = target.wrap(fde.initial_address());
         let end = begin.saturating_add(target.wrap(fde.len()));
+        let Room { context, ours, rows } = room;
         let table = fde.rows(&self.section, &self.bases, context).map_err(unreadable)?;
-        let mut ours = DwcheckRows::new(self.process, self.frames.bytes(), begin, end);
-        let (rows, _) = compare_rows(&mut GimliRows { table, target }, &mut ours)?;
+        ours.restart(begin, end);
+        let (rows, _) = compare_rows(&mut GimliRows { table, target }, ours, rows)?;
         let expected = fde.cie().return_address_register().0;
         match ours.return_register() {
             Some(register) if register != expected => Err(What::Numbers),

@@ -104,7 +104,8 @@ impl<'a> Original<'a> {
         let theirs = counterpart.rows(&other.section, &other.bases, &mut other.context);
         match (ours, theirs) {
             (Ok(ours), Ok(theirs)) => {
-                compare_rows(&mut GimliRows { table: ours, target }, &mut GimliRows { table: theirs, target })
+                let (mut ours, mut theirs) = (GimliRows { table: ours, target }, GimliRows { table: theirs, target });
+                compare_rows(&mut ours, &mut theirs, &mut Default::default())
             }
             (Err(one), Err(other)) if one == other => Ok((0, true)),
             (Err(error), _) => Err(What::Unreadable(error.to_string())),

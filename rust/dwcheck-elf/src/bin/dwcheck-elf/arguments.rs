@@ -45,16 +45,26 @@ pub struct Reading {
     /// Refuse DW_CFA_def_cfa_register before the CFA has a rule, as GNU as writes it for alpha, mips and riscv
     #[arg(long)]
     pub strict: bool,
-    /// Say what of .eh_frame was dropped or changed
-    #[arg(long)]
-    pub notes: bool,
 }
 
 impl Reading {
     /// What the library needs.
-    pub fn check(self, all: bool) -> Check {
-        Check { bridge: Options { strict: self.strict }, all }
+    pub fn options(self) -> Options {
+        Options { strict: self.strict }
     }
+
+    /// The same, with every fault or the first.
+    pub fn check(self, all: bool) -> Check {
+        Check { bridge: self.options(), all }
+    }
+}
+
+/// What is said beside the answer.
+#[derive(Args, Clone, Copy, Debug)]
+pub struct Notes {
+    /// Say what of .eh_frame was dropped or changed
+    #[arg(long)]
+    pub notes: bool,
 }
 
 #[derive(Args, Debug)]
@@ -67,6 +77,8 @@ pub struct CheckWords {
     pub all: bool,
     #[command(flatten)]
     pub reading: Reading,
+    #[command(flatten)]
+    pub notes: Notes,
 }
 
 #[derive(Args, Debug)]
@@ -75,6 +87,8 @@ pub struct RowsWords {
     pub program: PathBuf,
     #[command(flatten)]
     pub reading: Reading,
+    #[command(flatten)]
+    pub notes: Notes,
 }
 
 #[derive(Args, Debug)]
@@ -168,4 +182,6 @@ pub struct SurveyWords {
     pub jobs: Option<usize>,
     #[command(flatten)]
     pub reading: Reading,
+    #[command(flatten)]
+    pub notes: Notes,
 }

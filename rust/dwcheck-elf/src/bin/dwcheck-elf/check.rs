@@ -50,7 +50,7 @@ fn check_one(words: &CheckWords, path: &Path, out: &mut impl Write) -> Result<Do
             writeln!(out, "{}: {}: accepted", path.display(), section.name)?;
             write_accepted(out, &program, section)?;
         }
-        if let Some(frames) = section.frames.as_ref().filter(|_| words.reading.notes) {
+        if let Some(frames) = section.frames.as_ref().filter(|_| words.notes.notes) {
             write_notes(out, section.name, frames.bridged())?;
         }
     }

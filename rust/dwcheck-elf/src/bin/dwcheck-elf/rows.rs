@@ -19,7 +19,7 @@ use std::io::Write;
 pub fn rows(words: &RowsWords, out: &mut impl Write) -> Result<Done, Failure> {
     let data = read(&words.program)?;
     let program = program(&words.program, &data)?;
-    let accepted = accepted_frames(&words.program, &program, words.reading.check(false).bridge)?;
+    let accepted = accepted_frames(&words.program, &program, words.reading.options())?;
     let accepted = match accepted {
         Ok(accepted) => accepted,
         Err(defect) => {
@@ -33,7 +33,7 @@ pub fn rows(words: &RowsWords, out: &mut impl Write) -> Result<Done, Failure> {
         add(&mut process, &words.program, std::slice::from_ref(frames), 0)?;
         writeln!(out, "section {}", frames.name())?;
         write_section(out, frames, &process, &functions)?;
-        if words.reading.notes {
+        if words.notes.notes {
             write_notes(out, frames.name(), frames.bridged())?;
         }
     }
@@ -87,7 +87,7 @@ pub fn row(words: &RowWords, out: &mut impl Write) -> Result<Done, Failure> {
     let load = number_argument(&words.load, target)?;
     let loaded = address(&words.address, target, &functions, load)?;
     let linked = target.wrap(loaded.wrapping_sub(load));
-    let accepted = match accepted_frames(&words.program, &program, words.reading.check(false).bridge)? {
+    let accepted = match accepted_frames(&words.program, &program, words.reading.options())? {
         Ok(accepted) => accepted,
         Err(defect) => {
             write_defect(out, &words.program, &defect)?;

@@ -80,7 +80,7 @@ pub fn survey(words: &SurveyWords, out: &mut impl Write) -> Result<Done, Failure
         json::write(out, &files, &surveyed, &totals)?;
     } else {
         write_refused(out, &files, &surveyed)?;
-        totals.write(out, words.reading.notes)?;
+        totals.write(out, words.notes.notes)?;
     }
     Ok(totals.done())
 }

@@ -67,7 +67,7 @@ fn loaded<'a>(
     given: &'a [Given],
     target: Target,
 ) -> Result<Result<Loaded<'a>, (PathBuf, Defect)>, Failure> {
-    let options = words.modules.reading.check(false).bridge;
+    let options = words.modules.reading.options();
     let mut all = Loaded { process: Process::new(), target, functions: Vec::new() };
     for Given { path, load, data } in given {
         let program = program(path, data)?;
