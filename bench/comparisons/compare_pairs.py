@@ -1,7 +1,7 @@
 #!/usr/bin/env python3
 """Random pairs of sections, state files and queries: compares what the program writes with models/pair_model.py.
 
-    bench/comparisons/compare_pairs.py DWCHECK COUNT [SEED]
+    bench/comparisons/compare_pairs.py DWCHECK COUNT [SEED]        1,000 cases take some 30 s
 
 Each pair goes through `check`, and its sections through `unwind`, `row` and `locs`. Most sections are good ones, with expressions in rules;
 some have slips, or are changed or cut. Few state files have a malformed line.
@@ -72,7 +72,7 @@ class PairMaker(SectionMaker):
         return self.unsigned(len(held)) + held
 
     def beside(self, low, high):
-        """An address that is so much more than the one where all is near, modulo the size of the address space."""
+        """An address at this distance from the one where all is near, modulo the size of the address space."""
         return (self.near + self.random.randrange(low, high)) % (self.top + 1)
 
     def memory(self):

@@ -10,7 +10,7 @@ import tempfile
 
 # Files by name; runs of the program on them; and the kinds under which the case is counted.
 Case = collections.namedtuple("Case", "files runs kinds")
-# What to say where the texts differ; the program's words but for flags, in which a file's name stands for its path; the text wanted.
+# What to say where the texts differ; the program's words but for flags, in which a file's name means its path; the text wanted.
 Run = collections.namedtuple("Run", "said words wanted")
 
 

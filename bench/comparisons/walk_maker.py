@@ -1,6 +1,6 @@
-"""Random frame sections with registers and memory in which walks go on for a while, and the state files that hand them in.
+"""Random frame sections with registers and memory in which walks go on for a while, and the state files that have them.
 
-A section is made first. Then a walk through it is dreamt: what it asks for and isn't there yet is made up so that the walk goes on,
+A section is made first. Then a walk through it is dreamt: what it needs and isn't there yet is made up so that the walk goes on,
 until it has had its frames. What was made up is written into a state file, some of it left out or changed.
 """
 import with_models  # noqa: F401

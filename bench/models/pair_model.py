@@ -74,7 +74,7 @@ class Caller:
             return "unreadable"
 
     def value(self, expression, cfa):
-        """What an expression gives that is handed a CFA, or none, and nothing else."""
+        """What an expression gives over a CFA, or none, and nothing else."""
         context = {"cfa": cfa, "frame": None, "object": None}
         (said, *held), _ = outcome_of(expression, self.given | context, self.big, self.size)
         return held[0] if said == "value" else said

@@ -1,7 +1,7 @@
 #!/usr/bin/env python3
 """Runs the program as a user would, on files, words and standard output that are not as they should be.
 
-    bench/stress/hostile.py DWCHECK
+    bench/stress/hostile.py DWCHECK        a minute
 
 It prints each run that ends otherwise than docs/OUTPUT.md says, in its status, its line on standard error or its text, and then ends
 with status 1. The largest file is sparse, but the program reads it whole: that run needs 6 GiB of free memory, and is left out with less.

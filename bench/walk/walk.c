@@ -67,7 +67,7 @@ APART int large(int n)
     return chosen(n) + bytes[50 * n];
 }
 
-/* a caller of what it is handed */
+/* calls the function that is passed */
 APART int each(const int *values, int count, callback call)
 {
     int sum = 0;

@@ -6,7 +6,7 @@ use crate::limits;
 use crate::random::Random;
 use crate::target::Target;
 
-/// A made section, with where programs and expressions stand, in which changes say most.
+/// A made section, with the places of its programs and expressions, where changes say most.
 pub struct Case {
     pub bytes: Vec<u8>,
     inner: Vec<(usize, usize)>,

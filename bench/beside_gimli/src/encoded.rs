@@ -130,7 +130,7 @@ impl Encoded {
         })
     }
 
-    /// Whether an expression stands in it.
+    /// Whether it has an expression.
     pub fn has_expression(&self) -> bool {
         self.parts.iter().any(|part| matches!(part, Part::Block(_)))
     }
