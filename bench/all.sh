@@ -1,7 +1,7 @@
 #!/usr/bin/env bash
-# Runs each comparison briefly: random input with the models, walks of real programs with gdb and perf, bad input, the pages'
-# commands; and, with rt and what they need, gimli and libunwind. Says of each whether it passed, and how long it took.
-# Ten minutes with an idle processor; some lines more for each thing that failed are in the file that is named.
+# Runs each comparison briefly: random input with the models, walks of real programs with gdb and perf, of nine targets under
+# qemu, bad input, and the pages' commands. Says of each whether it passed, and how long it took; what failed is in the file
+# that is named. Ten minutes with an idle processor. It needs the packages that pages.py and walk/targets.py name.
 #     bench/all.sh DWCHECK [DWCHECK_ELF]
 # LIBRARY=crates/dw_times/out/libdw_times.a adds walks beside libunwind (`rt lib` in crates/dw_times makes it),
 # TESTS=crates/dw_tests/out/dw_tests_tests each request for memory refused (`rt test` in crates/dw_tests makes it).
@@ -32,6 +32,7 @@ run modules "$here/comparisons/modules.py" "$program" 4000 "$seed" --jobs 2
 run reference "$here/comparisons/modules.py" "$program" 1000 "$seed" --jobs 2 --reference
 run walk "$here/walk/run.sh" "$program" 20
 run libraries "$here/walk/modules.sh" "$program" 8
+run targets "$here/walk/targets.py" "$program"
 run hostile "$here/stress/hostile.py" "$program"
 run pages "$here/pages.py" "$program" ${elf:+--elf "$elf"}
 if [ -n "${TESTS:-}" ]; then
