@@ -5,9 +5,9 @@
 #     bench/all.sh DWCHECK [DWCHECK_ELF]
 # LIBRARY=crates/dw_times/out/libdw_times.a adds walks beside libunwind (`rt lib` in crates/dw_times makes it),
 # TESTS=crates/dw_tests/out/dw_tests_tests each request for memory refused (`rt test` in crates/dw_tests makes it).
-# SEED chooses the random cases, 1 if not given.
+# SEED chooses the random cases, 1 if not given; COUNT is how many there are of each kind, 2000 if not given.
 set -u
-program=$(realpath "$1") elf=${2:+$(realpath "$2")} seed=${SEED:-1}
+program=$(realpath "$1") elf=${2:+$(realpath "$2")} seed=${SEED:-1} count=${COUNT:-2000}
 here=$(cd "$(dirname "$0")" && pwd)
 work=$(mktemp -d)
 passed=0 failed=0
@@ -25,11 +25,11 @@ run() { # a name and a command
 }
 
 for kind in expressions lists sections pairs; do
-    run "$kind" "$here/comparisons/compare_$kind.py" "$program" 2000 "$seed"
+    run "$kind" "$here/comparisons/compare_$kind.py" "$program" "$count" "$seed"
 done
-run walks "$here/comparisons/walks.py" "$program" 4000 "$seed" --jobs 2
-run modules "$here/comparisons/modules.py" "$program" 4000 "$seed" --jobs 2
-run reference "$here/comparisons/modules.py" "$program" 1000 "$seed" --jobs 2 --reference
+run walks "$here/comparisons/walks.py" "$program" "$count" "$seed" --jobs 2
+run modules "$here/comparisons/modules.py" "$program" "$count" "$seed" --jobs 2
+run reference "$here/comparisons/modules.py" "$program" "$count" "$seed" --jobs 2 --reference
 run walk "$here/walk/run.sh" "$program" 20
 run libraries "$here/walk/modules.sh" "$program" 8
 run targets "$here/walk/targets.py" "$program"

@@ -10,7 +10,8 @@ $REPO naming this repository. Each page that differs is shown, and the exit stat
 
     $ cat FILE          where FILE isn't there yet, it is written as the page shows it
     ...                 a line that stands for any lines
-    <!-- needs: W.. --> to the next heading: left out where one of these programs isn't there (perf: can't record)
+    <!-- needs: W.. --> to the next heading: left out where one of these programs isn't there (perf: can't record), as are
+                        all sessions with dwcheck-elf without --elf
     <!-- slow -->       to the next heading: run in the repository, and only with --slow, since it proves or builds
     ```c                a block that begins with `#include <dwcheck.h>` is compiled with that header
 
@@ -30,6 +31,9 @@ import tempfile
 
 TOP = os.path.dirname(os.path.dirname(os.path.abspath(__file__)))
 INDENT = "    "
+ELF = "dwcheck-elf"
+# What pages have for the folder of their sessions.
+SHOWN_FOLDER = "/home/user/session"
 # Stacks and libraries of x86-64 programs, stacks of Go's threads, of aarch64 and arm programs under qemu; threads.
 VARYING = re.compile(r"0x(0*7f[0-9a-f]{9,10}|0*c000[0-9a-f]{6}|0*5502[0-9a-f]{6}|3[ef][0-9a-f]{6})\b|(?<=thread )[0-9]+")
 
@@ -50,6 +54,11 @@ class Session:
 
     def __init__(self, heading, needs, is_slow):
         self.heading, self.needs, self.is_slow, self.commands = heading, needs, is_slow, []
+
+    def all_needs(self):
+        """The programs that it needs: dwcheck-elf without being said."""
+        is_elf = any(command.text.startswith(ELF + " ") for command in self.commands)
+        return self.needs + [ELF] * is_elf
 
 
 def sessions(lines):
@@ -98,7 +107,7 @@ class Shell:
         for line in self.process.stdout:
             if line == self.MARK + "\n":
                 break
-            written.append(line.rstrip("\n"))
+            written.append(line.rstrip("\n").replace(self.folder, SHOWN_FOLDER))
         # The empty line that the mark's own line begin needs.
         if written and not written[-1]:
             written.pop()
@@ -175,7 +184,7 @@ class Page:
         with tempfile.TemporaryDirectory(prefix="pages-") as folder:
             shell, slow_shell = Shell(folder, environment), Shell(TOP, environment)
             for session in self.sessions:
-                missing = [it for it in session.needs if not is_there(it)]
+                missing = [it for it in session.all_needs() if not is_there(it)]
                 if missing or session.is_slow and not is_slow:
                     self.left_out.append(f"{session.heading}: {'no ' + ' '.join(missing) if missing else 'slow'}")
                     continue
@@ -228,7 +237,7 @@ def main():
     with tempfile.TemporaryDirectory(prefix="pages-bin-") as programs:
         os.symlink(os.path.realpath(words.dwcheck), os.path.join(programs, "dwcheck"))
         if words.elf:
-            os.symlink(os.path.realpath(words.elf), os.path.join(programs, "dwcheck-elf"))
+            os.symlink(os.path.realpath(words.elf), os.path.join(programs, ELF))
         os.environ["PATH"] = programs + os.pathsep + os.environ["PATH"]
         environment = os.environ | {"REPO": TOP, "LC_ALL": "C", "GO111MODULE": "off", "DEBUGINFOD_URLS": ""}
         pages = [page for page in map(Page, words.pages or all_pages()) if page.sessions]
