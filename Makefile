@@ -58,12 +58,12 @@ elf = missing=$$(rust/cargo.sh packages | tr '\n' ' '); \
 # cargo builds again only what has changed. An old program doesn't stay where a new one can't be built.
 build/dwcheck-elf: build/libdwcheck.a FORCE
 	rm -f $@
-	$(elf) build --quiet --release --bin dwcheck-elf && cp $(CURDIR)/build/cargo/release/dwcheck-elf $(CURDIR)/$@
+	@$(elf) build --quiet --release --bin dwcheck-elf && cp $(CURDIR)/build/cargo/release/dwcheck-elf $(CURDIR)/$@
 
 check: all
 	c/tests/run.sh
 	DWCHECK_FLAGS="-I$(CURDIR)/c/include $(CURDIR)/build/libdwcheck.a" examples/c/run.sh
-	$(elf) test --release
+	@$(elf) test --release
 
 install: all
 	$(INSTALL) -d $(DESTDIR)$(BINDIR) $(DESTDIR)$(LIBDIR)/pkgconfig $(DESTDIR)$(INCLUDEDIR) \

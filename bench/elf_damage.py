@@ -5,7 +5,7 @@
 
 COUNT files of each kind are made of a few that gcc and gdb make: bytes are changed in headers, in sections and anywhere,
 and some files are cut. Each run has to end by itself within 60 seconds, with a status of its own, and without a panic;
-a survey has to have a line of JSON for each file. ELF files go through `survey --all` in folders of 250, and some of them
+a survey has to have a line of JSON for each file. ELF files go through `survey --all --lists` in folders of 250, and some of them
 through `check`, `rows` and `row` too; core files through `stack`. It needs gcc, gdb and binutils.
 """
 import argparse
@@ -29,6 +29,8 @@ __attribute__((noinline)) int deep(int n) {
 }
 int main(int argc, char **argv) { return deep(argc + 3); }
 """
+# Without what is refused in location lists.
+PLAIN = "-O2 -g -gdwarf-5 -gno-variable-location-views -fno-var-tracking-assignments -fvar-tracking -fno-var-tracking-uninit"
 IN_A_FOLDER = 250
 ODD = [0, 1, 0x7F, 0x80, 0xFF, 0xFE, 0x10, 0x9B, 0x2E, 0x0D]
 
@@ -49,9 +51,9 @@ def made(folder):
     with open(os.path.join(folder, "a.c"), "w") as file:
         file.write(SOURCE)
     lines = [
-        "gcc -O2 -g -gdwarf-5 a.c -o linked",
-        "gcc -O2 -g -gdwarf-5 -fno-asynchronous-unwind-tables -gz a.c -o compressed",
-        "gcc -O2 -g -gdwarf-5 -c a.c -o object.o",
+        f"gcc {PLAIN} a.c -o linked",
+        f"gcc {PLAIN} -fno-asynchronous-unwind-tables -gz a.c -o compressed",
+        f"gcc {PLAIN} -c a.c -o object.o",
         "gcc -O2 -static -Wl,-s a.c -o crash",
         "gdb --batch -ex 'set startup-with-shell off' -ex run -ex 'gcore core' ./crash < /dev/null",
     ]
@@ -114,7 +116,7 @@ def elf_files(program, made_elf, work, seed, count):
         if changed_bytes[:4] == b"\x7fELF":
             expected.add(changed_bytes)
     problems, came = [], Counter()
-    ran, wrong = run([program, "survey", "--all", "--notes", "--json", "--jobs", "1", "."], folder, (0, 1, 3))
+    ran, wrong = run([program, "survey", "--all", "--lists", "--notes", "--json", "--jobs", "1", "."], folder, (0, 1, 3))
     lines = [json.loads(line) for line in ran.stdout.splitlines()] if ran else []
     if wrong or len(lines) != len(expected) + 1:
         problems.append(f"seed {seed}: survey: {wrong or f'{len(lines)} lines of {len(expected) + 1}'}")

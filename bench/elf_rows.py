@@ -40,7 +40,7 @@ def rule_by_dwcheck(text):
         return text[1:-1]
     if text.startswith("c"):
         return "v" + text[1:]
-    return name_of(int(text[1:])) if text.startswith("r") else text
+    return text
 
 
 def cfa_by_dwcheck(text):
@@ -118,7 +118,8 @@ def compare(path, ours, theirs):
             equal += len(rows) if same else 0
             differ += 0 if same else 1
             if not same:
-                print(f"{path}: {section}: {extent[0]:#x}..{extent[1]:#x}: {rows[:3]} and {shown[:3]}")
+                first = next((pair for pair in zip(rows, shown) if pair[0] != pair[1]), (len(rows), len(shown)))
+                print(f"{path}: {section}: {extent[0]:#x}..{extent[1]:#x}: {first[0]} and {first[1]}")
     return equal, differ
 
 

@@ -152,23 +152,26 @@ fn what(frames: &Frames<'_>, fault: &Fault, record: &Record) -> String {
         FaultKind::RangePastTop => "address_range",
         FaultKind::Unrestored => "the end of the program",
         FaultKind::Overlap => return overlap(frames, record),
-        _ => return in_program(frames, fault.offset as usize, record),
+        _ => return in_program(frames, fault, record),
     };
     field.to_string()
 }
 
 /// The instruction or the operation at an offset.
-fn in_program(frames: &Frames<'_>, offset: usize, record: &Record) -> String {
+fn in_program(frames: &Frames<'_>, fault: &Fault, record: &Record) -> String {
+    let offset = fault.offset as usize;
+    // This one is where its expression ends, and the next instruction begins.
+    let is_end = fault.kind == FaultKind::EndsEmpty;
     let program = match &record.program {
         Some(program) if offset >= program.start => program.clone(),
         _ => return "a field".to_string(),
     };
-    if offset >= program.end {
+    if offset >= program.end && !is_end {
         return "the end of the program".to_string();
     }
     let target = frames.target();
     let all = debug_frame::instructions(frames.bytes(), program, target);
-    let holds = |instruction: &&Instruction| instruction.offset <= offset;
+    let holds = |instruction: &&Instruction| instruction.offset + usize::from(is_end) <= offset;
     match all.iter().rev().find(holds) {
         Some(instruction) => named(frames, instruction, offset),
         None => "an instruction".to_string(),

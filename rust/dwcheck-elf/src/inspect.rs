@@ -1,7 +1,7 @@
 //! Checks all sections of a program.
 
+use crate::alone::every_fault;
 use crate::bridge::{BridgeError, Edge, Options, RecordKind};
-use crate::debug_frame::{Kind, Record};
 use crate::fault::{Defect, Terms};
 use crate::frames::{Frames, FramesError, Name};
 use crate::loclists::Contents;
@@ -9,8 +9,7 @@ use crate::program::{Program, ProgramError};
 use crate::row::Row;
 use crate::target::Target;
 use crate::validate::{validate, validate_rows, Agreement, Difference, DwcheckRows, RowSource, What};
-use dwcheck::{Error, Fault, FaultKind, Process, Section};
-use std::collections::{BTreeMap, HashMap};
+use dwcheck::{Error, Process};
 use std::fmt;
 
 /// How to check.
@@ -123,7 +122,8 @@ fn inspect_frames<'data>(
             compared_by_gimli(&frames)?;
             let functions = program.functions();
             let terms = Terms::of(&frames, &functions);
-            Verdict::Refused(if check.all { every_defect(&frames, fault, &terms) } else { vec![terms.defect(fault)] })
+            let faults = if check.all { every_fault(&frames, fault) } else { vec![fault] };
+            Verdict::Refused(faults.into_iter().map(|fault| terms.defect(fault)).collect())
         }
         Err(error) => return Err(InspectError::Dwcheck(frames.name(), error)),
     };
@@ -166,105 +166,6 @@ fn inspect_lists(lists: &[u8], target: Target) -> Result<Verdict, InspectError> 
         Err(Error::Refused(fault)) => Ok(Verdict::Refused(vec![Defect::of_lists(lists, fault, target)])),
         Err(error) => Err(InspectError::Dwcheck(Name::DebugLoclists, error)),
     }
-}
-
-/// Every record that is refused: each CIE alone, each FDE alone with its CIE, and those that share addresses.
-///
-/// An FDE whose CIE is refused isn't judged. `first` is the fault of the whole section.
-fn every_defect(frames: &Frames<'_>, first: Fault, terms: &Terms<'_>) -> Vec<Defect> {
-    let judge = Alone { bytes: frames.bytes(), target: frames.target() };
-    let cies = terms.records().iter().filter(|record| matches!(record.kind, Kind::Cie { .. }));
-    let judged: HashMap<u64, (&Record, Option<Fault>)> =
-        cies.map(|record| (record.offset as u64, (record, judge.cie(record)))).collect();
-    let mut faults: Vec<_> = judged.values().filter_map(|(_, fault)| *fault).collect();
-    for record in terms.records() {
-        if let Kind::Fde { cie, .. } = record.kind {
-            match judged.get(&cie) {
-                Some((cie, None)) => faults.extend(judge.fde(cie, record)),
-                Some((_, Some(_))) => {}
-                None => faults.extend(judge.orphan(record)),
-            }
-        }
-    }
-    faults.extend(overlaps(frames));
-    faults.sort_by_key(|fault| (fault.offset, fault.number()));
-    faults.dedup_by_key(|fault| (fault.offset, fault.kind));
-    if !faults.iter().any(|fault| fault.offset == first.offset && fault.kind == first.kind) {
-        faults.insert(0, first);
-    }
-    faults.into_iter().map(|fault| terms.defect(fault)).collect()
-}
-
-/// Judges records one by one.
-struct Alone<'a> {
-    bytes: &'a [u8],
-    target: Target,
-}
-
-impl Alone<'_> {
-    fn part(&self, record: &Record) -> &[u8] {
-        self.bytes.get(record.offset..record.end).unwrap_or(&[])
-    }
-
-    fn fault(&self, section: &[u8]) -> Option<Fault> {
-        dwcheck::check(section, &[], self.target.into()).err()?.fault()
-    }
-
-    fn cie(&self, cie: &Record) -> Option<Fault> {
-        self.fault(self.part(cie)).map(|fault| moved(fault, 0, cie.offset))
-    }
-
-    /// The section of a CIE and one FDE.
-    fn fde(&self, cie: &Record, fde: &Record) -> Option<Fault> {
-        let mut section = self.part(cie).to_vec();
-        let start = section.len();
-        section.extend_from_slice(self.part(fde));
-        let pointer = start + fde.body - fde.offset;
-        section.iter_mut().skip(pointer).take(usize::from(fde.offset_size())).for_each(|byte| *byte = 0);
-        self.fault(&section).map(|fault| moved(fault, start, fde.offset))
-    }
-
-    /// An FDE without a CIE.
-    fn orphan(&self, fde: &Record) -> Option<Fault> {
-        self.fault(self.part(fde)).map(|fault| moved(fault, 0, fde.offset))
-    }
-}
-
-/// A fault of a section where a record is at `from`, in one where it is at `to`.
-fn moved(fault: Fault, from: usize, to: usize) -> Fault {
-    Fault { offset: (fault.offset as usize).saturating_sub(from).saturating_add(to) as u32, ..fault }
-}
-
-/// Each FDE that shares an address with one before it.
-fn overlaps(frames: &Frames<'_>) -> Vec<Fault> {
-    let mut taken: BTreeMap<u64, u64> = BTreeMap::new();
-    let mut found = Vec::new();
-    for record in frames.bridged().records() {
-        let (begin, end) = match record.kind {
-            RecordKind::Fde { begin, size, .. } if size > 0 => (begin, begin.saturating_add(size)),
-            _ => continue,
-        };
-        let meets = |(start, stop): (&u64, &u64)| *start < end && begin < *stop;
-        if taken.range(..end).next_back().map_or(false, meets) {
-            let offset = record.bridged as u32;
-            found.push(Fault { kind: FaultKind::Overlap, offset, section: Section::Frame });
-        }
-        insert(&mut taken, begin, end);
-    }
-    found
-}
-
-/// Adds a range to ranges that have no address in common, and makes one of those that meet.
-fn insert(taken: &mut BTreeMap<u64, u64>, mut begin: u64, mut end: u64) {
-    while let Some((start, stop)) = taken.range(..=end).next_back().map(|(start, stop)| (*start, *stop)) {
-        if stop < begin {
-            break;
-        }
-        taken.remove(&start);
-        begin = begin.min(start);
-        end = end.max(stop);
-    }
-    taken.insert(begin, end);
 }
 
 /// The offset in the file's section where a record of the bytes begins that `dwcheck` takes.

@@ -11,6 +11,7 @@
 #![warn(missing_docs)]
 
 pub mod abi;
+pub mod alone;
 pub mod bridge;
 mod bytes;
 pub mod core_file;

@@ -16,7 +16,7 @@ const DEFECTS: [(&str, &str, &str, &str); 13] = [
     ("unrestored", ".cfi_remember_state", "Unrestored", "the end of the program"),
     ("restored", ".cfi_escape 0x0b", "RestoreWithoutRemember", "restore_state"),
     ("past_end", ".cfi_escape 2, 0x7f", "LocationPastEnd", "advance_loc1"),
-    ("back", ".cfi_escape 1, 0, 0, 0, 0, 0, 0, 0, 0", "LocationBack", "set_loc"),
+    ("moved", ".cfi_escape 1, 0, 0, 0, 0", "LocationPastEnd", "set_loc"),
     ("unknown", ".cfi_escape 0x3f", "UnknownInstruction", "instruction 0x3f"),
     ("window", ".cfi_escape 0x2d", "UnknownInstruction", "GNU_window_save"),
     ("underflow", ".cfi_escape 0x0f, 1, 0x22", "Underflow", "DW_OP_plus of def_cfa_expression"),

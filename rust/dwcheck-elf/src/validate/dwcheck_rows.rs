@@ -7,7 +7,11 @@ use crate::debug_frame::{self, Kind};
 use crate::frames::{Frames, Name};
 use crate::row::{Cfa, Row, Rule};
 use dwcheck::{CfaRule, Process, Rows, Span};
-use gimli::{BaseAddresses, DebugFrame, UnwindContext, UnwindOffset, UnwindSection};
+use gimli::{
+    BaseAddresses, DebugFrame, Register, RegisterRule, UnwindContext, UnwindOffset, UnwindSection, UnwindTable,
+    UnwindTableRow,
+};
+use std::ops::Range;
 
 /// The rows of an FDE by `dwcheck`: each is looked up by its first address, which the row before it ends with.
 ///
@@ -125,6 +129,7 @@ pub fn validate_rows(frames: &Frames<'_>, process: &Process) -> Result<Agreement
 /// What is used again for each FDE.
 struct Room<'a> {
     context: Box<UnwindContext<Bytes<'a>, Bounded>>,
+    found: Rows<'a>,
     ours: DwcheckRows<'a>,
     rows: (Row<'a>, Row<'a>),
 }
@@ -145,6 +150,7 @@ where
     fn run(&self) -> Result<Agreement, Difference> {
         let mut room = Room {
             context: Box::new(UnwindContext::new_in()),
+            found: self.process.rows(),
             ours: DwcheckRows::new(self.process, self.frames.bytes(), 0, 0),
             rows: Default::default(),
         };
@@ -185,14 +191,74 @@ where
         let target = self.frames.target();
         let begin = target.wrap(fde.initial_address());
         let end = begin.saturating_add(target.wrap(fde.len()));
-        let Room { context, ours, rows } = room;
+        let Room { context, found, ours, rows } = room;
+        let register = fde.cie().return_address_register().0;
+        let table = fde.rows(&self.section, &self.bases, context).map_err(unreadable)?;
+        if let Some(count) = self.count_equal(table, begin..end, register, found) {
+            return Ok(count);
+        }
+        // They differ, or gimli refuses one. This way takes longer, and tells which.
         let table = fde.rows(&self.section, &self.bases, context).map_err(unreadable)?;
         ours.restart(begin, end);
-        let (rows, _) = compare_rows(&mut GimliRows { table, target }, ours, rows)?;
-        let expected = fde.cie().return_address_register().0;
+        let (count, _) = compare_rows(&mut GimliRows { table, target }, ours, rows)?;
         match ours.return_register() {
-            Some(register) if register != expected => Err(What::Numbers),
-            _ => Ok(rows),
+            Some(found) if found != register => Err(What::Numbers),
+            _ => Ok(count),
         }
+    }
+
+    /// How many rows an FDE has, if all of gimli's are `dwcheck`'s, and the return address is in a register.
+    fn count_equal(
+        &self,
+        mut table: UnwindTable<'_, '_, Bytes<'a>, Bounded>,
+        range: Range<u64>,
+        register: u16,
+        found: &mut Rows<'a>,
+    ) -> Option<usize> {
+        let target = self.frames.target();
+        let (mut next, mut count) = (range.start, 0);
+        while let Some(theirs) = table.next_row().ok()? {
+            let extent = target.wrap(theirs.start_address())..target.wrap(theirs.end_address());
+            if extent.start == extent.end {
+                continue;
+            }
+            let ours = found.row(next).filter(|ours| ours.addresses == extent && ours.return_register == register)?;
+            if !same_rules(ours, theirs, self.frames.bytes()) {
+                return None;
+            }
+            next = extent.end;
+            count += 1;
+        }
+        Some(count).filter(|_| next >= range.end)
+    }
+}
+
+/// Whether two rows have the same rules. gimli has none for a register that is undefined.
+fn same_rules(ours: &dwcheck::Row, theirs: &UnwindTableRow<Bytes<'_>, Bounded>, bytes: &[u8]) -> bool {
+    let same_cfa = match (&ours.cfa, theirs.cfa()) {
+        (
+            CfaRule::RegisterAndOffset { register, offset },
+            gimli::CfaRule::RegisterAndOffset { register: other, offset: by },
+        ) => *register == other.0 && offset == by,
+        (CfaRule::Expression(span), gimli::CfaRule::Expression(other)) => span.of(bytes) == Some(other.0.slice()),
+        _ => false,
+    };
+    let defined = ours.rules.iter().filter(|(_, rule)| *rule != dwcheck::Rule::Undefined);
+    let same = |(register, rule): &(u16, dwcheck::Rule)| same_rule(*rule, &theirs.register(Register(*register)), bytes);
+    same_cfa && ours.rules.iter().all(same) && defined.count() == theirs.registers().count()
+}
+
+fn same_rule(ours: dwcheck::Rule, theirs: &RegisterRule<Bytes<'_>>, bytes: &[u8]) -> bool {
+    match (ours, theirs) {
+        (dwcheck::Rule::Undefined, RegisterRule::Undefined) => true,
+        (dwcheck::Rule::SameValue, RegisterRule::SameValue) => true,
+        (dwcheck::Rule::Offset(offset), RegisterRule::Offset(other)) => offset == *other,
+        (dwcheck::Rule::ValOffset(offset), RegisterRule::ValOffset(other)) => offset == *other,
+        (dwcheck::Rule::Register(register), RegisterRule::Register(other)) => register == other.0,
+        (dwcheck::Rule::Expression(span), RegisterRule::Expression(other)) => span.of(bytes) == Some(other.0.slice()),
+        (dwcheck::Rule::ValExpression(span), RegisterRule::ValExpression(other)) => {
+            span.of(bytes) == Some(other.0.slice())
+        }
+        _ => false,
     }
 }

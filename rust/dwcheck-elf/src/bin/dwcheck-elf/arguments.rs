@@ -177,6 +177,9 @@ pub struct SurveyWords {
     /// List every FDE that is refused, not only the first of each section
     #[arg(long)]
     pub all: bool,
+    /// Check .debug_loclists too, which compilers write with entries that are refused
+    #[arg(long)]
+    pub lists: bool,
     /// How many files are checked at once, as many as there are processors if not given
     #[arg(long, value_name = "N")]
     pub jobs: Option<usize>,

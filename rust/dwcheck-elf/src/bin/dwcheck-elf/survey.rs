@@ -10,7 +10,7 @@ use crate::opened::write_defect;
 use dwcheck_elf::bridge::Counts;
 use dwcheck_elf::fault::Defect;
 use dwcheck_elf::frames::Name;
-use dwcheck_elf::inspect::{inspect, Check, Inspected, Verdict};
+use dwcheck_elf::inspect::{inspect, inspect_frame_sections, Check, Inspected, Verdict};
 use dwcheck_elf::program::Program;
 use dwcheck_elf::validate::Agreement;
 use files::{content, Files};
@@ -68,7 +68,7 @@ pub fn survey(words: &SurveyWords, out: &mut impl Write) -> Result<Done, Failure
     let check = words.reading.check(words.all);
     let surveyed: Vec<_> = pool.install(|| {
         let each = files.paths.par_iter().with_max_len(1).map(|path| {
-            let surveyed = inspected(path.clone(), check);
+            let surveyed = inspected(path.clone(), check, words.lists);
             bar.inc(1);
             surveyed
         });
@@ -92,7 +92,7 @@ fn progress(count: u64) -> ProgressBar {
     style.map_or(bar.clone(), |style| bar.with_style(style))
 }
 
-fn inspected(path: PathBuf, check: Check) -> Surveyed {
+fn inspected(path: PathBuf, check: Check, has_lists: bool) -> Surveyed {
     let data = match content(&path) {
         Ok(data) => data,
         Err(error) => return Surveyed { path, machine: None, outcome: Err(format!("cannot read: {}", error)) },
@@ -101,7 +101,8 @@ fn inspected(path: PathBuf, check: Check) -> Surveyed {
         Ok(program) => program,
         Err(error) => return Surveyed { path, machine: None, outcome: Err(error.to_string()) },
     };
-    let sections = inspect(&program, check).map_err(|error| error.to_string());
+    let sections = if has_lists { inspect(&program, check) } else { inspect_frame_sections(&program, check) };
+    let sections = sections.map_err(|error| error.to_string());
     let outcome = sections.map(|sections| sections.into_iter().map(Section::of).collect());
     Surveyed { path, machine: Some(program.machine()), outcome }
 }
