@@ -7,13 +7,14 @@
    - A pointer points to a whole, aligned value of its type, which no other thread writes during the call. What a pointer
      without const points to overlaps no other argument; the others may overlap. A pointer that comes with a length points
      to that many elements; for none it may be NULL where this header's macros are used, and any other address where they
-     aren't.
+     aren't. No other pointer may be NULL: `fault`, `count`, `stop`, `size`, `row`, `state`, `context` and the like never are.
    - A process (dwcheck_process) is passed to one call at a time, and is moved only by copying it and setting the old
-     one to DWCHECK_CLOSED. It may go from thread to thread, ordered by a lock, an atomic of memory_order_seq_cst, or a
-     thread's start or join. To use several threads at once, give each its own process by dwcheck_process_share: they
-     share the tables, and no lock is needed.
-   - malloc, realloc and free belong to one allocator and may be called from the thread. So calls described as allocating
-     are not for signal handlers, nor is any call for the forked child of a process with threads.
+     one to DWCHECK_CLOSED. A process that was added to, or made by dwcheck_process_share from an open one, has to be
+     closed, even after its modules are removed. It may go from thread to thread, ordered by a lock, an atomic of
+     memory_order_seq_cst, or a thread's start or join. To use several threads at once, give each its own process by
+     dwcheck_process_share: they share the tables, and no lock is needed.
+   - malloc, realloc and free belong to one allocator and may be called from the thread. So calls that allocate or free are
+     not for signal handlers, nor is any call for the forked child of a process with threads.
    - There is enough stack. Measured on x86-64 (Rattle kit 13f): dwcheck_backtrace and dwcheck_unwind take 61 KB, and up to 14
      KB more where a rule is an expression; dwcheck_process_add 82 KB; dwcheck_check 41 KB; dwcheck_evaluate 12 KB; the
      others less than 4 KB. So a walk is not for a signal handler on an alternate stack of the usual 8 KB.
@@ -23,7 +24,10 @@
    those named `reserved`.
 
    Addresses, offsets and registers are DWARF's numbers. A target is a byte order and an address size, 4 or 8
-   bytes; w is its size in bits.
+   bytes; w is its size in bits. Contents of registers and values of a context are taken modulo 2^w. The modules of a process
+   may have different targets: an address is looked up modulo 2^w in each, so one of 2^32 or more may be found in a module
+   with 4-byte addresses. In expressions, those of rows too, what DW_OP_addr pushes is as linked, while registers and memory
+   are as loaded.
 
    Link: cc .. $(pkg-config --cflags --libs dwcheck), or libdwcheck.a itself. */
 #ifndef DWCHECK_H
@@ -68,13 +72,15 @@ enum {
 typedef struct { uint32_t number, offset, within, reserved; } dwcheck_fault;
 
 /* The name of a fault, such as "NoSuchCie", without a final 0: as much of it as fits goes into `text`, and `size` is its
-   whole length, at most 22. DONE, or NONE if no fault has the number, and then nothing is written. Doesn't allocate. */
+   whole length, at most 22. DONE, or NONE if no fault has the number, and then nothing is written. Neither allocates nor
+   frees. */
 uint32_t dwcheck_fault_name(uint32_t number, uint8_t *text, size_t text_length, size_t *size);
 
 /* ---- sections ------------------------------------------------------------------------------------------------------ */
 
 /* Checks a .debug_frame section and a .debug_loclists section, either of which may be empty. DONE if both are well
-   formed; REFUSED with the first fault; NO_MEMORY; BAD_TARGET. A section of 2^32 bytes is refused with fault 61. It
+   formed; REFUSED with the first fault; NO_MEMORY; BAD_TARGET. A section of 2^32 bytes or more is refused with fault 61.
+   The length of the frame section is judged first, then that of the lists, then the frame section, then the lists. It
    allocates memory in proportion to the sections, and frees it. */
 uint32_t dwcheck_check(const uint8_t *frame, size_t frame_length, const uint8_t *lists, size_t lists_length,
                        uint32_t order, uint32_t address_size, dwcheck_fault *fault);
@@ -88,23 +94,26 @@ typedef struct { void *opaque; uint64_t opaque_open; } dwcheck_process;
 
 /* Checks a .debug_frame section, compiles all its rows, and adds them as the last module. The section's bytes aren't needed
    after the call returns. `load_address` is what is added to an address as linked, modulo 2^w, to get the address as
-   loaded: for a position-independent module the beginning of its first mapping, for any other 0. `room` is the number of
-   bytes that the rows may take, SIZE_MAX for no bound: those of compilers take some 1.5 times the section's length, those
-   of a hostile section 700 times its length and more.
+   loaded: for a position-independent module what dl_iterate_phdr gives as dlpi_addr, for any other 0. `room` is the number
+   of bytes that the rows may take, SIZE_MAX for no bound: those of compilers take some 1.5 times the section's length, those
+   of a hostile section 700 times its length and more. NO_ROOM may come although rows that share their rules would fit, but
+   never if there is room without sharing: 80 bytes, 80 for each FDE and each row, and 16 for each rule of a row. `room`
+   doesn't bound the memory that the check and the compiling take meanwhile.
    DONE; REFUSED with the first fault of the section; NO_MEMORY; NO_ROOM; BAD_TARGET; TOO_LONG. Only DONE changes the
    process, only REFUSED writes `fault`. Time: n log n for n bytes of programs and rows. */
 uint32_t dwcheck_process_add(dwcheck_process *process, const uint8_t *frame, size_t frame_length, uint32_t order,
                              uint32_t address_size, uint64_t load_address, size_t room, dwcheck_fault *fault);
 
-/* Removes the first module with a load address: DONE, or NONE if no module has it. Doesn't allocate. */
+/* Removes the first module with a load address, all 64 bits of which are compared: DONE, or NONE if no module has it.
+   Doesn't allocate; frees the table if no other process has it. */
 uint32_t dwcheck_process_remove(dwcheck_process *process, uint64_t load_address);
 
-/* Makes `other` a process of the same modules; what it was before is closed. The tables are shared, not copied, and are
-   freed with the last process that has them. Modules added to or removed from one of the two don't change the other.
-   DONE, or NO_MEMORY, and then `other` is unchanged. `process` is unchanged in either case. */
+/* Makes `other` a process of the same modules; what it was before is closed. It is closed if `process` is. The tables are
+   shared, not copied, and are freed with the last process that has them. Modules added to or removed from one of the two
+   don't change the other. DONE, or NO_MEMORY, and then `other` is unchanged. `process` is unchanged in either case. */
 uint32_t dwcheck_process_share(dwcheck_process *process, dwcheck_process *other);
 
-/* Releases all modules. A closed process may be closed again. */
+/* Releases all modules and closes the process. A closed process may be closed again. */
 void dwcheck_process_close(dwcheck_process *process);
 
 /* ---- the row of an address ----------------------------------------------------------------------------------------- */
@@ -130,23 +139,24 @@ typedef struct {
     uint64_t load_address, start, end;
     dwcheck_rule cfa;
     uint32_t return_reg; /* the register of the return address */
-    uint32_t count;      /* the number of registers that have a rule */
+    uint32_t count;      /* the number of registers that have a rule, at most DWCHECK_MAX_RULES */
 } dwcheck_row;
 
 /* The row of an address as loaded, from the first module that has one. The rules of its registers go into `rules` by
-   ascending registers, as many as fit. DONE, or NONE, and then nothing is written. Doesn't allocate. */
+   ascending registers, as many as fit. DONE, or NONE, and then nothing is written. Neither allocates nor frees. */
 uint32_t dwcheck_row_at(dwcheck_process *process, uint64_t address, dwcheck_row *row, dwcheck_rule *rules,
                         size_t rules_length);
 
 /* ---- callers and walks --------------------------------------------------------------------------------------------- */
 
-/* Memory from an address on. */
+/* Memory from an address on. It has at least one byte, or a pointer that isn't NULL: the macros don't replace this one. */
 typedef struct { uint64_t base; const uint8_t *bytes; size_t length; } dwcheck_block;
 
 /* The state of a stopped thread. Register n has contents[n] if bit n % 8 of known[n / 8] is set and both elements exist.
-   Memory is the blocks' bytes; if two blocks have an address, the first one's byte counts. `kept`: callee-saved registers,
-   127 at most. If has_stack_pointer isn't 0, the stack pointer's value in a caller is the CFA. No register occurs twice
-   among these. */
+   Memory is the blocks' bytes; if two blocks have an address, the first one's byte counts.
+   `kept` (callee-saved registers, 127 at most) and stack_pointer (if has_stack_pointer isn't 0) are the ABI. It applies to
+   registers that the row gives no rule: a kept one has its present value in the caller, the stack pointer is the CFA, and
+   any other register is undefined there. No register occurs twice among these. */
 typedef struct {
     const uint64_t *contents;
     size_t contents_length;
@@ -165,21 +175,22 @@ enum {
     DWCHECK_NOT_COVERED = 0,     /* no FDE covers the address that is looked up */
     DWCHECK_VALUE = 1,           /* it is `value`, below 2^w */
     DWCHECK_UNDEFINED = 2,       /* it isn't available */
-    DWCHECK_UNREADABLE = 3,      /* it requires a register or memory that isn't given */
+    DWCHECK_UNREADABLE = 3,      /* it requires a register or memory that isn't given, or memory past 2^w - 1 */
     DWCHECK_DIVISION_BY_ZERO = 4 /* its expression divides by zero */
 };
 typedef struct { uint64_t value; uint32_t kind, reserved; } dwcheck_answer;
 typedef struct { uint64_t value; uint32_t kind, number; } dwcheck_register;
 
 /* A caller: its canonical frame address, its return address, and the number of registers that have a rule from the row
-   or the ABI. */
+   or the ABI, at most DWCHECK_MAX_REGISTERS. */
 typedef struct { dwcheck_answer cfa, return_address; uint64_t count; } dwcheck_caller;
 
 #define DWCHECK_MAX_REGISTERS 256
 
-/* The caller of the frame at an address as loaded, by the first module that has a row for it. Its registers go into
-   `registers` by ascending numbers, as many as fit. DONE; NONE if no module has a row; REFUSED if the ABI names too many
-   registers or one twice, and only then `fault` is written. Doesn't allocate. */
+/* The caller of the frame at an address as loaded, by the first module that has a row for it. The address itself is looked
+   up: to go on from a caller pass its return address minus 1. Its registers go into `registers` by ascending numbers, as
+   many as fit. DONE; NONE if no module has a row; REFUSED if the ABI names too many registers or one twice. Only DONE writes
+   `caller` and `registers`, only REFUSED `fault`. Neither allocates nor frees. */
 uint32_t dwcheck_unwind(dwcheck_process *process, uint64_t address, const dwcheck_state *state, dwcheck_caller *caller,
                         dwcheck_register *registers, size_t registers_length, dwcheck_fault *fault);
 
@@ -190,14 +201,17 @@ typedef struct { uint64_t address; dwcheck_answer cfa; } dwcheck_frame;
 enum {
     DWCHECK_STOP_LIMIT = 0,            /* the number of frames reached the number of slots */
     DWCHECK_STOP_NOT_COVERED = 1,      /* no module has a row for the last frame */
-    DWCHECK_STOP_RETURN_UNDEFINED = 2, /* the walk is complete */
+    /* The row's rule for the return address is undefined, which completes the walk (DWARF 5, 6.4.4); or neither the row nor
+       `kept` names its register: on targets that keep it in a register put that into `kept`. */
+    DWCHECK_STOP_RETURN_UNDEFINED = 2,
     DWCHECK_STOP_RETURN_UNREADABLE = 3,
     DWCHECK_STOP_RETURN_DIVISION_BY_ZERO = 4
 };
 
 /* Walks up the stack from the frame at `address`, and writes the frames to `frames`, as many as fit; `count` is their
    number, and `stop` why there are no more. Frame 0 is looked up at its address, each later frame at its address minus 1.
-   DONE, or REFUSED like dwcheck_unwind; only DONE writes `frames`, `count` and `stop`. Doesn't allocate. */
+   DONE, or REFUSED like dwcheck_unwind; only DONE writes `frames`, `count` and `stop`, only REFUSED `fault`. Neither
+   allocates nor frees. */
 uint32_t dwcheck_backtrace(dwcheck_process *process, uint64_t address, const dwcheck_state *state, dwcheck_frame *frames,
                            size_t frames_length, size_t *count, uint32_t *stop, dwcheck_fault *fault);
 
@@ -212,10 +226,13 @@ typedef struct {
     uint32_t has_cfa, has_frame_base, has_object, reserved;
 } dwcheck_context;
 
-/* The outcome of an expression. */
+/* The outcome of an expression. `value` is 0 for the kinds that don't name it. `steps` is the number of operations reached,
+   the one without an answer included. */
 enum {
     DWCHECK_IS_VALUE = 0,                 /* of a frame's expression: `value` */
-    DWCHECK_IS_UNREADABLE = 1,            /* the operation at `offset` requires something that isn't given */
+    /* The operation at `offset` requires something that isn't given, or reads memory past 2^w - 1. The rule of a register
+       without has_cfa is unreadable at 0 after 0 steps. */
+    DWCHECK_IS_UNREADABLE = 1,
     DWCHECK_IS_DIVISION_BY_ZERO = 2,      /* the operation at `offset` divides by zero */
     DWCHECK_LOCATION_NOWHERE = 3,         /* of a location, or of a piece of it: the object was optimized away */
     DWCHECK_LOCATION_ADDRESS = 4,         /* in memory, at `value` */
@@ -235,7 +252,7 @@ typedef struct { uint64_t value; uint32_t kind, size, bit_offset, is_bits; } dwc
    go into `pieces`, as many as fit. The bytes of a location of bytes, or of the n-th piece if that is bytes, counted from
    0, go into `bytes`, as many as fit. DONE; REFUSED with the first fault of the expression; NO_MEMORY; BAD_TARGET;
    TOO_LONG; BAD_KIND. Only DONE writes `value`, `pieces` and `bytes`, only REFUSED `fault`. It allocates only for
-   expressions that branch, and frees the memory. */
+   expressions of more than 16 operations that branch or are refused, and frees the memory. */
 uint32_t dwcheck_evaluate(const uint8_t *expression, size_t expression_length, uint32_t order, uint32_t address_size,
                           uint32_t kind, const dwcheck_context *context, const dwcheck_state *state, uint32_t n,
                           dwcheck_value *value, dwcheck_piece *pieces, size_t pieces_length, uint8_t *bytes,
@@ -260,15 +277,16 @@ uint32_t dwcheck_locations(const uint8_t *lists, size_t lists_length, uint32_t o
 
 /* ---- NULL for empty arrays ----------------------------------------------------------------------------------------- */
 
-/* The calls themselves require a non-NULL pointer even if a length is 0. Here a macro of the same name wraps each of them
-   and replaces NULL by such a pointer, so that C and C++ may pass NULL. DWCHECK_NO_MACROS leaves the macros out. */
+/* The calls themselves require a non-NULL pointer even if a length is 0. Here a macro of the same name stands for a function
+   that replaces NULL by such a pointer, so that C and C++ may pass NULL for an array of length 0. DWCHECK_NO_MACROS leaves
+   these out. */
 #ifndef DWCHECK_NO_MACROS
-
-#define DWCHECK_OR_NOTHING(type, pointer) ((type *)dwcheck_or_nothing(pointer))
 
 static inline void *dwcheck_or_nothing(const void *pointer) {
     return (void *)(pointer ? (uintptr_t)pointer : (uintptr_t)16);
 }
+
+#define DWCHECK_OR_NOTHING(type, pointer) ((type *)dwcheck_or_nothing(pointer))
 
 static inline dwcheck_state dwcheck_state_or_nothing(const dwcheck_state *state) {
     dwcheck_state copy = *state;
@@ -279,46 +297,70 @@ static inline dwcheck_state dwcheck_state_or_nothing(const dwcheck_state *state)
     return copy;
 }
 
+static inline uint32_t dwcheck_fault_name_by(uint32_t number, uint8_t *text, size_t text_length, size_t *size) {
+    return dwcheck_fault_name(number, DWCHECK_OR_NOTHING(uint8_t, text), text_length, size);
+}
+
+static inline uint32_t dwcheck_check_by(const uint8_t *frame, size_t frame_length, const uint8_t *lists, size_t lists_length,
+                                        uint32_t order, uint32_t address_size, dwcheck_fault *fault) {
+    return dwcheck_check(DWCHECK_OR_NOTHING(const uint8_t, frame), frame_length, DWCHECK_OR_NOTHING(const uint8_t, lists),
+                         lists_length, order, address_size, fault);
+}
+
+static inline uint32_t dwcheck_process_add_by(dwcheck_process *process, const uint8_t *frame, size_t frame_length,
+                                              uint32_t order, uint32_t address_size, uint64_t load_address, size_t room,
+                                              dwcheck_fault *fault) {
+    return dwcheck_process_add(process, DWCHECK_OR_NOTHING(const uint8_t, frame), frame_length, order, address_size,
+                               load_address, room, fault);
+}
+
+static inline uint32_t dwcheck_row_at_by(dwcheck_process *process, uint64_t address, dwcheck_row *row, dwcheck_rule *rules,
+                                         size_t rules_length) {
+    return dwcheck_row_at(process, address, row, DWCHECK_OR_NOTHING(dwcheck_rule, rules), rules_length);
+}
+
 static inline uint32_t dwcheck_unwind_by(dwcheck_process *process, uint64_t address, const dwcheck_state *state,
-                                         dwcheck_caller *caller, dwcheck_register *registers, size_t length,
+                                         dwcheck_caller *caller, dwcheck_register *registers, size_t registers_length,
                                          dwcheck_fault *fault) {
     const dwcheck_state copy = dwcheck_state_or_nothing(state);
-    return dwcheck_unwind(process, address, &copy, caller, DWCHECK_OR_NOTHING(dwcheck_register, registers), length, fault);
+    return dwcheck_unwind(process, address, &copy, caller, DWCHECK_OR_NOTHING(dwcheck_register, registers), registers_length,
+                          fault);
 }
 
 static inline uint32_t dwcheck_backtrace_by(dwcheck_process *process, uint64_t address, const dwcheck_state *state,
-                                            dwcheck_frame *frames, size_t length, size_t *count, uint32_t *stop,
+                                            dwcheck_frame *frames, size_t frames_length, size_t *count, uint32_t *stop,
                                             dwcheck_fault *fault) {
     const dwcheck_state copy = dwcheck_state_or_nothing(state);
-    return dwcheck_backtrace(process, address, &copy, DWCHECK_OR_NOTHING(dwcheck_frame, frames), length, count, stop, fault);
+    return dwcheck_backtrace(process, address, &copy, DWCHECK_OR_NOTHING(dwcheck_frame, frames), frames_length, count, stop,
+                             fault);
 }
 
-static inline uint32_t dwcheck_evaluate_by(const uint8_t *expression, size_t length, uint32_t order, uint32_t address_size,
-                                           uint32_t kind, const dwcheck_context *context, const dwcheck_state *state,
-                                           uint32_t n, dwcheck_value *value, dwcheck_piece *pieces, size_t pieces_length,
-                                           uint8_t *bytes, size_t bytes_length, dwcheck_fault *fault) {
+static inline uint32_t dwcheck_evaluate_by(const uint8_t *expression, size_t expression_length, uint32_t order,
+                                           uint32_t address_size, uint32_t kind, const dwcheck_context *context,
+                                           const dwcheck_state *state, uint32_t n, dwcheck_value *value,
+                                           dwcheck_piece *pieces, size_t pieces_length, uint8_t *bytes, size_t bytes_length,
+                                           dwcheck_fault *fault) {
     const dwcheck_state copy = dwcheck_state_or_nothing(state);
-    return dwcheck_evaluate(DWCHECK_OR_NOTHING(const uint8_t, expression), length, order, address_size, kind, context, &copy,
-                            n, value, DWCHECK_OR_NOTHING(dwcheck_piece, pieces), pieces_length,
+    return dwcheck_evaluate(DWCHECK_OR_NOTHING(const uint8_t, expression), expression_length, order, address_size, kind,
+                            context, &copy, n, value, DWCHECK_OR_NOTHING(dwcheck_piece, pieces), pieces_length,
                             DWCHECK_OR_NOTHING(uint8_t, bytes), bytes_length, fault);
 }
 
-#define dwcheck_fault_name(number, text, length, size) \
-    dwcheck_fault_name(number, DWCHECK_OR_NOTHING(uint8_t, text), length, size)
-#define dwcheck_check(frame, frame_length, lists, lists_length, order, address_size, fault)                                  \
-    dwcheck_check(DWCHECK_OR_NOTHING(const uint8_t, frame), frame_length, DWCHECK_OR_NOTHING(const uint8_t, lists),          \
-                  lists_length, order, address_size, fault)
-#define dwcheck_process_add(process, frame, length, order, address_size, load_address, room, fault)                          \
-    dwcheck_process_add(process, DWCHECK_OR_NOTHING(const uint8_t, frame), length, order, address_size, load_address, room,  \
-                        fault)
-#define dwcheck_row_at(process, address, row, rules, length) \
-    dwcheck_row_at(process, address, row, DWCHECK_OR_NOTHING(dwcheck_rule, rules), length)
+static inline uint32_t dwcheck_locations_by(const uint8_t *lists, size_t lists_length, uint32_t order, uint32_t address_size,
+                                            const dwcheck_lookup *lookup, dwcheck_location *locations,
+                                            size_t locations_length, size_t *count, dwcheck_fault *fault) {
+    return dwcheck_locations(DWCHECK_OR_NOTHING(const uint8_t, lists), lists_length, order, address_size, lookup,
+                             DWCHECK_OR_NOTHING(dwcheck_location, locations), locations_length, count, fault);
+}
+
+#define dwcheck_fault_name dwcheck_fault_name_by
+#define dwcheck_check dwcheck_check_by
+#define dwcheck_process_add dwcheck_process_add_by
+#define dwcheck_row_at dwcheck_row_at_by
 #define dwcheck_unwind dwcheck_unwind_by
 #define dwcheck_backtrace dwcheck_backtrace_by
 #define dwcheck_evaluate dwcheck_evaluate_by
-#define dwcheck_locations(lists, length, order, address_size, lookup, locations, locations_length, count, fault)             \
-    dwcheck_locations(DWCHECK_OR_NOTHING(const uint8_t, lists), length, order, address_size, lookup,                         \
-                      DWCHECK_OR_NOTHING(dwcheck_location, locations), locations_length, count, fault)
+#define dwcheck_locations dwcheck_locations_by
 
 #endif
 

@@ -7,13 +7,15 @@
 #include <string.h>
 
 static long until = -1, asked, held;
-#ifdef REFUSING /* each allocation may be refused; allocations and memory in use are counted */
+#ifdef REFUSING /* each allocation may be refused; allocations, blocks in use and bytes are counted */
+static long given;
 void *malloc(size_t n) {
     static void *(*real)(size_t);
     if (!real) *(void **)&real = dlsym(RTLD_NEXT, "malloc");
     asked++;
     if (until >= 0 && until-- == 0) return NULL;
     __atomic_add_fetch(&held, 1, __ATOMIC_SEQ_CST);
+    given += (long)n;
     return real(n);
 }
 void *realloc(void *p, size_t n) {
@@ -22,6 +24,7 @@ void *realloc(void *p, size_t n) {
     asked++;
     if (until >= 0 && until-- == 0) return NULL;
     if (!p) __atomic_add_fetch(&held, 1, __ATOMIC_SEQ_CST);
+    given += (long)n;
     return real(p, n);
 }
 void free(void *p) {
@@ -47,6 +50,10 @@ static const uint8_t good[] = {
 static const uint8_t four[] = {
     0x14, 0, 0, 0, 0xff, 0xff, 0xff, 0xff, 4, 0, 4, 0, 1, 0x7c, 8, 0x0c, 4, 4, 0x88, 1, 0, 0, 0, 0,
     0x0c, 0, 0, 0, 0, 0, 0, 0, 0, 0x10, 0, 0, 0, 1, 0, 0};
+/* `good` with the most significant byte first */
+static const uint8_t big[] = {
+    0, 0, 0, 0x14, 0xff, 0xff, 0xff, 0xff, 4, 0, 8, 0, 1, 0x78, 16, 0x0c, 7, 8, 0x90, 1, 0, 0, 0, 0,
+    0, 0, 0, 0x14, 0, 0, 0, 0, 0, 0, 0, 0, 0, 0, 0x10, 0, 0, 0, 0, 0, 0, 0, 1, 0};
 static const uint8_t bad[] = {1, 0, 0, 0, 0};
 static const size_t room = 1 << 20;
 
@@ -256,8 +263,8 @@ static long memory(void) {
 static dwcheck_value value;
 static dwcheck_piece pieces[3];
 static uint8_t bytes[4];
+static dwcheck_context context = {0x7f10, 0, 0, 1, 0, 0, 0};
 static uint32_t evaluate(const char *expression, size_t length, uint32_t kind, uint32_t n) {
-    static const dwcheck_context context = {0x7f10, 0, 0, 1, 0, 0, 0};
     dwcheck_state s = state(0);
     memset(bytes, '.', sizeof bytes);
     memset(pieces, 0x55, sizeof pieces);
@@ -289,6 +296,15 @@ static void expressions(void) {
     IS(pieces[1].kind, DWCHECK_LOCATION_NOWHERE); IS(pieces[1].size, 2);
     IS(pieces[2].kind, DWCHECK_LOCATION_BYTES); IS(pieces[2].value, 2); IS(pieces[2].size, 3); IS(pieces[2].bit_offset, 1); IS(pieces[2].is_bits, 1);
     IS(evaluate("\x53\x93\x04", 3, DWCHECK_LOCATION, 9), DWCHECK_DONE); IS(memcmp(bytes, "....", 4), 0); IS(pieces[1].kind, 0x55555555);
+    IS(evaluate("\x91\x08", 2, DWCHECK_LOCATION, 0), DWCHECK_DONE); IS(value.kind, DWCHECK_IS_UNREADABLE); IS(value.steps, 1);
+    context.frame_base = 0x6000; context.has_frame_base = 1;
+    IS(evaluate("\x91\x08", 2, DWCHECK_LOCATION, 0), DWCHECK_DONE); IS(value.kind, DWCHECK_LOCATION_ADDRESS); IS(value.value, 0x6008);
+    IS(evaluate("\x97", 1, DWCHECK_LOCATION, 0), DWCHECK_DONE); IS(value.kind, DWCHECK_IS_UNREADABLE); IS(value.value, 0);
+    context.object = 0x5000; context.has_object = 1;
+    IS(evaluate("\x97", 1, DWCHECK_LOCATION, 0), DWCHECK_DONE); IS(value.kind, DWCHECK_LOCATION_ADDRESS); IS(value.value, 0x5000);
+    context.has_cfa = 0; /* the rule of a register without its CFA */
+    IS(evaluate("\x38\x1c", 2, DWCHECK_FRAME_REGISTER, 0), DWCHECK_DONE); IS(value.kind, DWCHECK_IS_UNREADABLE); IS(value.offset, 0); IS(value.steps, 0);
+    context.has_cfa = 1;
     value.kind = 99;
     IS(evaluate("\x13", 1, DWCHECK_LOCATION, 0), DWCHECK_REFUSED); IS(fault.number, 35); IS(fault.within, DWCHECK_IN_EXPRESSION); IS(value.kind, 99);
     IS(evaluate("\x31", 1, 3, 0), DWCHECK_BAD_KIND);
@@ -346,6 +362,138 @@ static void location_lists(void) {
     }
 }
 
+/* a 4-byte word that passes 2^32 - 1, though the next bytes are given */
+static void reads_past_the_top(void) {
+    static const uint8_t word[8] = {1, 2, 3, 4, 5, 6, 7, 8};
+    static const uint8_t at_the_top[] = {0x0c, 0xfc, 0xff, 0xff, 0xff, 0x06}, past_it[] = {0x0c, 0xfd, 0xff, 0xff, 0xff, 0x06};
+    dwcheck_block block = {0xfffffffc, word, sizeof word};
+    dwcheck_state s = {0};
+    s.blocks = &block; s.blocks_length = 1;
+    IS(dwcheck_evaluate(at_the_top, 6, DWCHECK_LITTLE, 4, DWCHECK_FRAME_CFA, &context, &s, 0, &value, NULL, 0, NULL, 0, &fault), DWCHECK_DONE);
+    IS(value.kind, DWCHECK_IS_VALUE); IS(value.value, 0x04030201);
+    IS(dwcheck_evaluate(past_it, 6, DWCHECK_LITTLE, 4, DWCHECK_FRAME_CFA, &context, &s, 0, &value, NULL, 0, NULL, 0, &fault), DWCHECK_DONE);
+    IS(value.kind, DWCHECK_IS_UNREADABLE); IS(value.offset, 5);
+}
+
+/* the CIE of `good` with these instructions, and its FDE */
+static size_t section_with(const char *instructions, size_t length, uint8_t *section) {
+    memcpy(section, good, 15);
+    memcpy(section + 15, instructions, length);
+    section[0] = (uint8_t)(11 + length);
+    memcpy(section + 15 + length, good + 24, 24);
+    return 39 + length;
+}
+
+/* DWARF 5, 6.4.2: def_cfa; undefined r3; same_value r6; register r8 in r9; expression r10: lit8, minus; val_expression r11:
+   lit8, plus; val_offset r12; offset r16 */
+static void rules_of_each_kind(void) {
+    dwcheck_process p = DWCHECK_CLOSED;
+    uint8_t section[80];
+    size_t length = section_with("\x0c\x07\x08\x07\x03\x08\x06\x09\x08\x09\x10\x0a\x02\x38\x1c\x16\x0b\x02\x38\x22\x14\x0c\x01\x90\x01", 25, section);
+    static const uint32_t kinds[7] = {DWCHECK_RULE_UNDEFINED, DWCHECK_RULE_SAME_VALUE, DWCHECK_RULE_REGISTER, DWCHECK_RULE_EXPRESSION,
+                                      DWCHECK_RULE_VAL_EXPRESSION, DWCHECK_RULE_VAL_OFFSET, DWCHECK_RULE_OFFSET};
+    static const uint16_t numbers[7] = {3, 6, 8, 10, 11, 12, 16};
+    dwcheck_rule found[DWCHECK_MAX_RULES];
+    dwcheck_row row;
+    size_t i;
+    IS(dwcheck_process_add(&p, section, length, DWCHECK_LITTLE, 8, 0, SIZE_MAX, &fault), DWCHECK_DONE); /* no bound */
+    IS(dwcheck_row_at(&p, 0x1010, &row, found, DWCHECK_MAX_RULES), DWCHECK_DONE); IS(row.count, 7);
+    for (i = 0; i < 7; i++) { IS(found[i].kind, kinds[i]); IS(found[i].reg, numbers[i]); }
+    IS(found[2].source, 9); IS(found[5].offset, -8); IS(found[6].offset, -8);
+    IS(found[3].length, 2); IS(memcmp(section + found[3].offset, "\x38\x1c", 2), 0);
+    IS(found[4].length, 2); IS(memcmp(section + found[4].offset, "\x38\x22", 2), 0);
+    dwcheck_process_close(&p);
+}
+
+static void walk_of(const char *instructions, size_t length, size_t keeps) {
+    dwcheck_process p = DWCHECK_CLOSED;
+    uint8_t section[80];
+    IS(dwcheck_process_add(&p, section, section_with(instructions, length, section), DWCHECK_LITTLE, 8, 0, room, &fault), DWCHECK_DONE);
+    IS(walk(&p, 0x1010, 8, keeps), DWCHECK_DONE);
+    dwcheck_process_close(&p);
+}
+
+static void ends_of_walks(void) {
+    /* undefined r16 */
+    walk_of("\x0c\x07\x08\x07\x10", 5, 2); IS(stop, DWCHECK_STOP_RETURN_UNDEFINED); IS(count, 1); IS(frames[0].cfa.value, 0x7f10);
+    /* val_expression r16: lit1, lit0, div */
+    walk_of("\x0c\x07\x08\x16\x10\x03\x31\x30\x1b", 9, 2); IS(stop, DWCHECK_STOP_RETURN_DIVISION_BY_ZERO); IS(count, 1);
+    /* no rule for r16: only if calls keep it, the return address is there */
+    contents[16] = 0x55005; known[2] = 1;
+    walk_of("\x0c\x07\x08", 3, 2); IS(stop, DWCHECK_STOP_RETURN_UNDEFINED); IS(count, 1);
+    kept[1] = 16;
+    walk_of("\x0c\x07\x08", 3, 2); IS(stop, DWCHECK_STOP_NOT_COVERED); IS(count, 2); IS(frames[1].address, 0x55005);
+    contents[16] = 0; known[2] = 0; kept[1] = 6;
+}
+
+static void big_endian(void) {
+    static const uint8_t word[8] = {0, 0, 0, 0, 0, 5, 0x50, 5};
+    dwcheck_process p = DWCHECK_CLOSED;
+    dwcheck_row row;
+    dwcheck_block stack = {0x7f08, word, 8};
+    dwcheck_state s = state(2);
+    s.blocks = &stack;
+    IS(dwcheck_process_add(&p, big, sizeof big, DWCHECK_BIG, 8, 0, room, &fault), DWCHECK_DONE);
+    IS(dwcheck_row_at(&p, 0x10ff, &row, rules, 4), DWCHECK_DONE); IS(row.start, 0x1000); IS(row.end, 0x1100); IS(row.return_reg, 16);
+    IS(dwcheck_backtrace(&p, 0x1010, &s, frames, 8, &count, &stop, &fault), DWCHECK_DONE); IS(count, 2); IS(frames[1].address, 0x55005);
+    dwcheck_process_close(&p);
+}
+
+static void refused_calls_keep_no_memory(void) {
+    char long_one[305];
+    long before = held;
+    memset(long_one, 0x96, sizeof long_one); /* nops, and then drop of nothing */
+    long_one[sizeof long_one - 1] = 0x13;
+    IS(dwcheck_check(good, sizeof good, bad, sizeof bad, DWCHECK_LITTLE, 8, &fault), DWCHECK_REFUSED);
+    IS(evaluate(long_one, sizeof long_one, DWCHECK_LOCATION, 0), DWCHECK_REFUSED);
+    IS(look_up(sizeof lists - 1, 0xc, 0x1005, 2), DWCHECK_REFUSED);
+    IS(held - before, 0);
+}
+
+#ifdef REFUSING
+static void share_frees_what_it_replaces(void) {
+    dwcheck_process closed_one = DWCHECK_CLOSED, other = DWCHECK_CLOSED;
+    long before = held;
+    IS(add(&other, 0), DWCHECK_DONE); IS(held > before, 1);
+    IS(dwcheck_process_share(&closed_one, &other), DWCHECK_DONE);
+    IS(held - before, 0); IS(other.opaque == NULL, 1);
+}
+
+static void last_remove_frees_the_table(void) {
+    dwcheck_process p = DWCHECK_CLOSED, q = DWCHECK_CLOSED;
+    long with_it;
+    IS(add(&p, 0), DWCHECK_DONE);
+    IS(dwcheck_process_share(&p, &q), DWCHECK_DONE);
+    with_it = held;
+    IS(dwcheck_process_remove(&p, 0), DWCHECK_DONE); IS(held, with_it); /* the other process still has it */
+    IS(dwcheck_process_remove(&q, 0), DWCHECK_DONE); IS(held < with_it, 1);
+    dwcheck_process_close(&p);
+    dwcheck_process_close(&q);
+}
+
+/* 1,000 FDEs, each of 0x100 bytes */
+static void share_copies_no_table(void) {
+    static uint8_t many[24 + 24 * 1000];
+    dwcheck_process p = DWCHECK_CLOSED, q = DWCHECK_CLOSED;
+    dwcheck_row row;
+    long before;
+    size_t i;
+    memcpy(many, good, 24);
+    for (i = 0; i < 1000; i++) {
+        uint64_t start = 0x1000 + 0x100 * i;
+        memcpy(many + 24 + 24 * i, good + 24, 24);
+        memcpy(many + 32 + 24 * i, &start, 8);
+    }
+    before = given;
+    IS(dwcheck_process_add(&p, many, sizeof many, DWCHECK_LITTLE, 8, 0, room, &fault), DWCHECK_DONE); IS(given - before > 16000, 1);
+    before = given;
+    IS(dwcheck_process_share(&p, &q), DWCHECK_DONE); IS(given - before < 1000, 1);
+    dwcheck_process_close(&p);
+    IS(dwcheck_row_at(&q, 0x1000 + 0x100 * 999, &row, rules, 4), DWCHECK_DONE); IS(row.start, 0x1000 + 0x100 * 999);
+    dwcheck_process_close(&q);
+}
+#endif
+
 static void names(void) {
     uint8_t text[32];
     size_t size = 99;
@@ -364,8 +512,6 @@ static void nothing(void) {
     dwcheck_process p = DWCHECK_CLOSED;
     dwcheck_state none;
     memset(&none, 0, sizeof none);
-    dwcheck_context context;
-    memset(&context, 0, sizeof context);
     dwcheck_row row;
     dwcheck_caller caller;
     dwcheck_lookup lookup = {0, 0x10, 0, 0};
@@ -401,6 +547,16 @@ int main(void) {
     names();
     expressions();
     location_lists();
+    reads_past_the_top();
+    rules_of_each_kind();
+    ends_of_walks();
+    big_endian();
+    refused_calls_keep_no_memory();
+#ifdef REFUSING
+    share_frees_what_it_replaces();
+    last_remove_frees_the_table();
+    share_copies_no_table();
+#endif
     nothing();
     threads();
     m = memory();

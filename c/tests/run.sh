@@ -1,6 +1,7 @@
 #!/bin/sh
 # Builds the C cases against the static library (crates/dwcheck_c, by `rt lib`) and runs them. The header is compiled as C11
-# and as C++17. They also run under sanitizers, and under valgrind if it is installed.
+# and as C++17; a pointer of a wrong type is an error there. They also run under sanitizers, and under valgrind if it is
+# installed.
 set -eu
 here=$(cd "$(dirname "$0")" && pwd)
 top=$(dirname "$(dirname "$here")")
@@ -13,6 +14,17 @@ cp "$out/header.c" "$out/header.cc"
 strict="-Wall -Wextra -pedantic -Werror -I$top/c/include"
 cc -std=c11 $strict -c "$out/header.c" -o "$out/header.o"
 c++ -std=c++17 $strict -c "$out/header.cc" -o "$out/header.o"
+frame() { # TYPE: a call with a frame section of elements of this type
+    printf '#include "dwcheck.h"\nuint32_t call(const %s *frame, dwcheck_fault *fault);\n' "$1"
+    printf 'uint32_t call(const %s *frame, dwcheck_fault *fault) { return dwcheck_check(frame, 1, NULL, 0, 0, 8, fault); }\n' "$1"
+}
+for language in c c++; do
+    frame uint8_t | cc $strict -x $language -c - -o "$out/right.o"
+    if frame uint16_t | cc $strict -x $language -c - -o "$out/wrong.o" 2> /dev/null; then
+        echo "$language takes a pointer of a wrong type"
+        exit 1
+    fi
+done
 build() { # NAME, then flags
     name=$1; shift
     cc -std=gnu11 -D_GNU_SOURCE $strict -O2 -g "$@" "$here/cases.c" "$library" "$kit/c/liblibc_c.a" -o "$out/$name" -pthread -ldl

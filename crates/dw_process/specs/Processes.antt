@@ -1,10 +1,10 @@
 -- The modules of a process, as they are added and removed, and the row of an address as loaded.
-use Rattle.std.specs.Prelude.{◌≡◌, ℕ, ◌==◌, if◌then◌else◌, List, [], ◌∷◌, ◌++◌, Option, None}
+use Rattle.std.specs.Prelude.{◌≡◌, ℕ, ◌*◌, ◌==◌, ◌≤◌, if◌then◌else◌, List, [], ◌∷◌, ◌++◌, length, Contains, Option, None}
 use Rattle.std.specs.Option.{option_or, option_map}
 use Rattle.dw_bytes.specs.declared.target.Target.{Target}
 use Rattle.dw_rows.specs.Rules.{Row}
 use Rattle.dw_rows.specs.Section.{frame_of, section_fault}
-use Rattle.dw_rows.specs.UnwindTables.{RowTable, IsTableOf, row_at}
+use Rattle.dw_rows.specs.UnwindTables.{RowTable, IsRowUnder, IsTableOf, row_at}
 use Rattle.dw_unwind.specs.Modules.{as_linked}
 use Rattle.dw_unwind.specs.declared.modules.Module.{Module}
 use Rattle.dw_process.specs.declared.found_row.FoundRow.{FoundRow}
@@ -15,11 +15,13 @@ Modules = List (Module RowTable)
 
 -- ---- added and removed
 
--- A section without a fault is added, after the other modules, as a table of its rows.
-pub record IsAdded (target : Target) (section : List ℕ) (load_address : ℕ) (old new : Modules) : Type 0 where
+-- A section without a fault is added, after the other modules, as a table of its rows, each of which takes 16 bytes of the
+-- room or more.
+pub record IsAdded (target : Target) (section : List ℕ) (load_address room : ℕ) (old new : Modules) : Type 0 where
   pub accepted : section_fault target section ≡ None
   pub table : RowTable
   pub table_is : IsTableOf (frame_of target section) table
+  pub within : 16 * length table.rows ≤ room
   pub modules : new ≡ old ++ record { rows = table; load_address = load_address } ∷ []
 
 -- the modules without the first one at a load address
@@ -32,6 +34,13 @@ without load_address (m ∷ modules) = if m.load_address == load_address then mo
 -- what is found for an address as loaded, in the module at a load address
 abbrev pub found_with : ℕ → Row × ℕ → FoundRow
 found_with load_address found = record { load_address = load_address; row = found.0; return_register = found.1 }
+
+-- A row that was found is one of a module with its load address, and its expressions are read under that module's target.
+pub record IsFoundIn (modules : Modules) (found : FoundRow) : Type 0 where
+  pub its_module : Module RowTable
+  pub among : Contains modules its_module
+  pub load_address : found.load_address ≡ its_module.load_address
+  pub under : IsRowUnder its_module.rows.target found.row
 
 -- from the first module that has a row for the address as linked there
 abbrev pub row_in : Modules → ℕ → Option FoundRow

@@ -2,7 +2,7 @@
 
 ghost use Rattle.std.specs.List.{list_any, position};
 ghost use Rattle.std.specs.Prelude.{◌==◌, ◌≡◌, ◌<◌, ◌^◌, IfErr, IfOk, IfSome, length, []};
-ghost use Rattle.dw_process.specs.Processes.{IsAdded, row_in, without};
+ghost use Rattle.dw_process.specs.Processes.{IsAdded, IsFoundIn, row_in, without};
 ghost use Rattle.dw_process.specs.Refusals.{IsRefused};
 
 use crate::found_row::FoundRow;
@@ -62,7 +62,8 @@ impl Process {
 
     /// Checks a `.debug_frame` section of fewer than 2^32 bytes under a target, compiles it, and adds it as the last
     /// module, with a load address. `room` is the number of bytes that its rows and their rules may take
-    /// (`CheckedFrame::compile`). If the section is refused, the modules are unchanged.
+    /// (`CheckedFrame::compile`); what the check and the compiling take meanwhile isn't bounded by it. If the section is
+    /// refused, the modules are unchanged.
     pub fn add(
         &mut self,
         alloc: Global,
@@ -73,7 +74,7 @@ impl Process {
     ) -> Result<(), Refusal>
         requires { length section.now < 2 ^ 32 }
         ensures added { IfOk result
-            (λ _. IsAdded target section.now load_address self.old self.new) }
+            (λ _. IsAdded target section.now load_address room self.old self.new) }
         ensures refused { IfErr result (λ why. IsRefused target section.now room why) }
         ensures same { IfErr result (λ _. self.new ≡ self.old) }
     {
@@ -107,7 +108,8 @@ impl Process {
     /// The row of an address as loaded, from the first module that has one, or none if no module has one. Doesn't
     /// allocate; takes one look-up for each module up to that one.
     pub fn row_for_address(&self, address: u64) -> Option<FoundRow<'_>>
-        ensures { result ≡ row_in self.now address }
+        ensures row { result ≡ row_in self.now address }
+        ensures under { IfSome result (IsFoundIn self.now) }
     {
         for module in &self.modules {
             let rows = &module.rows;

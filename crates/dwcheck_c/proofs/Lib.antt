@@ -1,5 +1,6 @@
 mod AsBox
 mod Assembled
 mod FirstBlock
+mod NameLengths
 mod Putting
 mod WrittenFrames

@@ -1,6 +1,6 @@
 //! Callers in C's form.
 
-ghost use Rattle.std.specs.Prelude.{◌≡◌, map, option_map};
+ghost use Rattle.std.specs.Prelude.{◌≡◌, ◌≤◌, map, option_map};
 ghost use Rattle.dw_rows.specs.AbiViews.{roles_of};
 ghost use Rattle.dw_unwind.specs.CallerViews.{answer_in, caller_in, found_in};
 ghost use Rattle.dwcheck_c.specs.Callers.{ShowsCaller, Unwinds, cregister_of};
@@ -12,7 +12,7 @@ use dw_eval::{Memory, Registers};
 use dw_process::SharedTable;
 use dw_rows::Abi;
 use dw_unwind::laws::unwindings_through_what_is_found;
-use dw_unwind::{Answer, Caller, Module, unwind_in};
+use dw_unwind::{Answer, Caller, MAX_FOUND, Module, unwind_in};
 
 /// A register of a caller: its number, with what is known of it, by the kinds of `CAnswer`.
 #[repr(C)]
@@ -56,7 +56,8 @@ fn write_registers(found: &[(u16, Answer)], slots: &mut [CRegister])
 
 /// Writes a caller, and its registers to slots.
 pub(crate) fn write_caller(caller: &Caller, out: &mut CCaller, slots: &mut [CRegister])
-    ensures { ShowsCaller (caller_in caller.now) out.new slots.old slots.new }
+    ensures caller { ShowsCaller (caller_in caller.now) out.new slots.old slots.new }
+    ensures few { out.new.count ≤ MAX_FOUND }
 {
     let found = caller.registers.as_slice();
     write_registers(found, slots);

@@ -39,6 +39,7 @@ pub extern "C" fn dwcheck_check(
     ensures refused { result ≡ REFUSED → IsSomeAnd (target_by order address_size)
         (λ target. ReportsOf (check_fault target frame.now lists.now) fault.new) }
     ensures target { result ≡ BAD_TARGET → target_by order address_size ≡ None }
+    ensures bad { target_by order address_size ≡ None → result ≡ BAD_TARGET }
     ensures codes { (result ≡ DONE) ⊎ (result ≡ REFUSED) ⊎ (result ≡ NO_MEMORY)
         ⊎ (result ≡ BAD_TARGET) }
     ensures unreported { result ≢ REFUSED → fault.new ≡ fault.old }

@@ -31,9 +31,10 @@ fn run(
     pieces: &mut [CPiece],
     bytes: &mut [u8],
 )
-    ensures { let checked = checked_of checked.now in
+    ensures run { let checked = checked_of checked.now in
         IsRunOf checked.kind checked.target checked.bytes state.now c.now n value.new pieces.old
         pieces.new bytes.old bytes.new }
+    ensures few { value.new.count ≤ 32 }
 {
     let evaluation = evaluate(checked, &context(c), &state.registers(), &state.memory());
     write_outcome(&evaluation, n, value, pieces, bytes);
@@ -56,6 +57,7 @@ fn evaluated(
     ensures good { IfOk result (λ _. IsGoodExpression kind target expression.now) }
     ensures run { IfOk result (λ _. IsRunOf kind target expression.now state.now c.now n value.new
         pieces.old pieces.new bytes.old bytes.new) }
+    ensures few { IfOk result (λ _. value.new.count ≤ 32) }
     ensures fault { IfErr result (λ f. (f ≡ memory)
         ⊎ (expression_fault kind target expression.now ≡ Some f)) }
     ensures unwritten { IfErr result (λ _. (value.new ≡ value.old) × (pieces.new ≡ pieces.old)
@@ -87,12 +89,17 @@ pub extern "C" fn dwcheck_evaluate(
     ensures done { result ≡ DONE → WithBoth (kind_by kind_number) (target_by order address_size)
         (λ kind target. IsRunOf kind target expression.now state.now c.now n value.new pieces.old
         pieces.new bytes.old bytes.new) }
+    ensures few { result ≡ DONE → value.new.count ≤ 32 }
     ensures refused { result ≡ REFUSED → WithBoth (kind_by kind_number)
         (target_by order address_size) (λ kind target.
         Reports IN_EXPRESSION (expression_fault kind target expression.now) fault.new) }
     ensures target { result ≡ BAD_TARGET → target_by order address_size ≡ None }
+    ensures bad { target_by order address_size ≡ None → result ≡ BAD_TARGET }
     ensures kind { result ≡ BAD_KIND → kind_by kind_number ≡ None }
+    ensures bad_kind { result ≢ BAD_TARGET → kind_by kind_number ≡ None → result ≡ BAD_KIND }
     ensures long { result ≡ TOO_LONG → 2 ^ 32 ≤ length expression.now }
+    ensures short { result ≢ BAD_TARGET → result ≢ BAD_KIND → result ≢ TOO_LONG
+        → length expression.now < 2 ^ 32 }
     ensures codes { (result ≡ DONE) ⊎ (result ≡ REFUSED) ⊎ (result ≡ NO_MEMORY)
         ⊎ (result ≡ BAD_TARGET) ⊎ (result ≡ TOO_LONG) ⊎ (result ≡ BAD_KIND) }
     ensures unwritten { result ≢ DONE → (value.new ≡ value.old) × (pieces.new ≡ pieces.old)

@@ -1,6 +1,6 @@
 //! Looks up location lists.
 
-ghost use Rattle.std.specs.Prelude.{◌≡◌, ◌≢◌, ◌≤◌, ◌^◌, ◌⊎◌, None, length};
+ghost use Rattle.std.specs.Prelude.{◌≡◌, ◌≢◌, ◌≤◌, ◌<◌, ◌^◌, ◌⊎◌, None, length};
 ghost use Rattle.std.specs.Option.{IsSomeAnd};
 ghost use Rattle.dw_loclists.specs.Reading.{lists_fault};
 ghost use Rattle.dwcheck_c.specs.Faults.{Reports};
@@ -62,7 +62,9 @@ pub extern "C" fn dwcheck_locations(
     ensures refused { result ≡ REFUSED → IsSomeAnd (target_by order address_size)
         (λ target. Reports IN_LISTS (lists_fault target lists.now) fault.new) }
     ensures target { result ≡ BAD_TARGET → target_by order address_size ≡ None }
+    ensures bad { target_by order address_size ≡ None → result ≡ BAD_TARGET }
     ensures long { result ≡ TOO_LONG → 2 ^ 32 ≤ length lists.now }
+    ensures short { result ≢ BAD_TARGET → result ≢ TOO_LONG → length lists.now < 2 ^ 32 }
     ensures codes { (result ≡ DONE) ⊎ (result ≡ NONE) ⊎ (result ≡ REFUSED) ⊎ (result ≡ NO_MEMORY)
         ⊎ (result ≡ BAD_TARGET) ⊎ (result ≡ TOO_LONG) }
     ensures unwritten { result ≢ DONE → (locations.new ≡ locations.old)

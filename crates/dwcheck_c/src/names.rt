@@ -1,6 +1,6 @@
 //! The names of faults, and the version.
 
-ghost use Rattle.std.specs.Prelude.{◌≡◌, ◌≢◌, ◌==◌, ◌⊎◌, IfSome, Some, find, length};
+ghost use Rattle.std.specs.Prelude.{◌≡◌, ◌≢◌, ◌≤◌, ◌==◌, ◌⊎◌, IfSome, Some, find, length};
 ghost use Rattle.std.specs.Option.{IsSomeAnd};
 ghost use Rattle.dw_bytes.specs.Faults.{number_of};
 ghost use Rattle.dw_bytes.specs.Names.{name_of};
@@ -88,12 +88,14 @@ fn kind_with(number: u32) -> Option<FaultKind>
 }
 
 /// Writes the name of the fault with a number to slots, and gives the name's length.
+#[tactic(auto, using(crate::proofs::NameLengths::name_is_short))]
 #[unsafe(no_mangle)]
 pub extern "C" fn dwcheck_fault_name(number: u32, text: &mut [u8], size: &mut usize) -> u32
     ensures named { (kind : OfKind) → number_of kind ≡ number → (result ≡ DONE)
         × (text.new ≡ put_into (name_of kind) text.old) × (size.new ≡ length (name_of kind)) }
     ensures none { ((kind : OfKind) → number_of kind ≢ number) → (result ≡ NONE)
         × (text.new ≡ text.old) × (size.new ≡ size.old) }
+    ensures few { result ≡ DONE → size.new ≤ 22 }
 {
     match kind_with(number) {
         Some(kind) => {

@@ -1,6 +1,6 @@
 //! Processes: modules added, removed and shared.
 
-ghost use Rattle.std.specs.Prelude.{◌≡◌, ◌≢◌, ◌≤◌, ◌<◌, ◌^◌, ◌⊎◌, ◌==◌, false, true, [], IfErr, IfOk, IfSome, None, length};
+ghost use Rattle.std.specs.Prelude.{◌≡◌, ◌≢◌, ◌≤◌, ◌<◌, ◌^◌, ◌⊎◌, ◌==◌, false, true, IfErr, IfOk, IfSome, None, Some, length, option_map};
 ghost use Rattle.std.specs.Option.{IsSomeAnd};
 ghost use Rattle.std.specs.List.{list_any};
 ghost use Rattle.dw_rows.specs.Section.{frame_of, section_fault};
@@ -8,7 +8,7 @@ ghost use Rattle.dw_rows.specs.UnwindTables.{table_bytes};
 ghost use Rattle.dw_process.specs.Processes.{IsAdded, without};
 ghost use Rattle.dw_process.specs.Refusals.{IsRefused};
 ghost use Rattle.dwcheck_c.specs.Faults.{Reports};
-ghost use Rattle.dwcheck_c.specs.Handles.{modules_of};
+ghost use Rattle.dwcheck_c.specs.Handles.{held_in, modules_of};
 ghost use Rattle.dwcheck_c.specs.Targets.{target_by};
 
 use crate::fault::{CFault, IN_FRAME, report};
@@ -29,10 +29,10 @@ fn add(
     room: usize,
 ) -> Result<(), Refusal>
     requires { length section.now < 2 ^ 32 }
-    ensures added { IfOk result (λ _. IsAdded target section.now load_address
+    ensures added { IfOk result (λ _. IsAdded target section.now load_address room
         (modules_of process.old) (modules_of process.new)) }
     ensures refused { IfErr result (λ why. IsRefused target section.now room why) }
-    ensures same { IfErr result (λ _. modules_of process.new ≡ modules_of process.old) }
+    ensures same { IfErr result (λ _. held_in process.new ≡ held_in process.old) }
 {
     match process.take(alloc) {
         Some(mut held) => {
@@ -65,16 +65,19 @@ pub extern "C" fn dwcheck_process_add(
     fault: &mut CFault,
 ) -> u32
     ensures added { result ≡ DONE → IsSomeAnd (target_by order address_size) (λ target.
-        IsAdded target section.now load_address (modules_of process.old) (modules_of process.new)) }
+        IsAdded target section.now load_address room (modules_of process.old)
+        (modules_of process.new)) }
     ensures refused { result ≡ REFUSED → IsSomeAnd (target_by order address_size) (λ target.
         Reports IN_FRAME (section_fault target section.now) fault.new) }
     ensures room { result ≡ NO_ROOM → IsSomeAnd (target_by order address_size) (λ target.
         (section_fault target section.now ≡ None)
         × (room < table_bytes (frame_of target section.now))) }
     ensures target { result ≡ BAD_TARGET → target_by order address_size ≡ None }
+    ensures bad { target_by order address_size ≡ None → result ≡ BAD_TARGET }
     ensures long { result ≡ TOO_LONG → 2 ^ 32 ≤ length section.now }
+    ensures short { result ≢ BAD_TARGET → result ≢ TOO_LONG → length section.now < 2 ^ 32 }
     ensures codes { result ≤ TOO_LONG }
-    ensures same { result ≢ DONE → modules_of process.new ≡ modules_of process.old }
+    ensures same { result ≢ DONE → held_in process.new ≡ held_in process.old }
     ensures unreported { result ≢ REFUSED → fault.new ≡ fault.old }
 {
     let Some(target) = target(order, address_size) else {
@@ -101,7 +104,8 @@ pub extern "C" fn dwcheck_process_remove(
     process: &mut CProcess,
     load_address: u64,
 ) -> u32
-    ensures removed { modules_of process.new ≡ without load_address (modules_of process.old) }
+    ensures removed { held_in process.new
+        ≡ option_map (without load_address) (held_in process.old) }
     ensures found { result ≡ DONE
         → list_any (λ m. m.load_address == load_address) (modules_of process.old) ≡ true }
     ensures none { result ≡ NONE
@@ -118,7 +122,7 @@ pub extern "C" fn dwcheck_process_remove(
 
 /// The same modules in another process. None if there isn't enough memory.
 fn shared(alloc: Global, held: &Process) -> Option<CProcess>
-    ensures { IfSome result (λ other. modules_of other ≡ held.now) }
+    ensures { IfSome result (λ other. held_in other ≡ Some held.now) }
 {
     let shared = held.share(alloc)?;
     match Box::new(alloc, shared) {
@@ -134,10 +138,10 @@ pub extern "C" fn dwcheck_process_share(
     process: &mut CProcess,
     other: &mut CProcess,
 ) -> u32
-    ensures shared { result ≡ DONE → modules_of other.new ≡ modules_of process.old }
-    ensures lacks { result ≡ NO_MEMORY → modules_of other.new ≡ modules_of other.old }
+    ensures shared { result ≡ DONE → held_in other.new ≡ held_in process.old }
+    ensures lacks { result ≡ NO_MEMORY → held_in other.new ≡ held_in other.old }
     ensures codes { (result ≡ DONE) ⊎ (result ≡ NO_MEMORY) }
-    ensures same { modules_of process.new ≡ modules_of process.old }
+    ensures same { held_in process.new ≡ held_in process.old }
 {
     let Some(held) = process.take(alloc) else {
         *other = CProcess::closed(alloc);
@@ -154,10 +158,10 @@ pub extern "C" fn dwcheck_process_share(
     }
 }
 
-/// Releases all modules of a process.
+/// Releases all modules of a process, which is closed then.
 #[unsafe(no_mangle)]
 pub extern "C" fn dwcheck_process_close(alloc: Global, process: &mut CProcess)
-    ensures { modules_of process.new ≡ [] }
+    ensures { held_in process.new ≡ None }
 {
     *process = CProcess::closed(alloc);
 }

@@ -130,7 +130,8 @@ fn write_rules(rules: RegisterRules<'_, '_>, slots: &mut [CRule]) -> u32
 
 /// Writes a row, and its rules to slots.
 pub(crate) fn write_row(found: &FoundRow<'_>, row: &mut CRow, rules: &mut [CRule])
-    ensures { IsRowOf found.now row.new rules.old rules.new }
+    ensures row { IsRowOf found.now row.new rules.old rules.new }
+    ensures few { row.new.count ≤ MAX_RULES }
 {
     let count = write_rules(found.row.rules(), rules);
     *row = CRow {

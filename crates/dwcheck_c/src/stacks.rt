@@ -1,6 +1,6 @@
 //! Stacks: the row of an address, the caller of a frame, and the frames of a walk.
 
-ghost use Rattle.std.specs.Prelude.{◌≡◌, ◌≢◌, ◌⊎◌, IfSome, MatchOption, None, option_map};
+ghost use Rattle.std.specs.Prelude.{◌≡◌, ◌≢◌, ◌≤◌, ◌⊎◌, IfSome, MatchOption, None, option_map};
 ghost use Rattle.std.specs.Option.{IsSomeAnd};
 ghost use Rattle.dw_rows.specs.AbiViews.{roles_of};
 ghost use Rattle.dw_process.specs.Processes.{row_in};
@@ -8,7 +8,7 @@ ghost use Rattle.dw_unwind.specs.CallerViews.{caller_in};
 ghost use Rattle.dwcheck_c.specs.Callers.{IsCaller, Unwinds};
 ghost use Rattle.dwcheck_c.specs.Faults.{Reports};
 ghost use Rattle.dwcheck_c.specs.Frames.{IsBacktrace, stop_number};
-ghost use Rattle.dwcheck_c.specs.Handles.{modules_of};
+ghost use Rattle.dwcheck_c.specs.Handles.{held_in, modules_of};
 ghost use Rattle.dwcheck_c.specs.Machine.{abi_fault_of, abi_in, memory_of, registers_of};
 ghost use Rattle.dwcheck_c.specs.Rows.{IsRowOf};
 
@@ -36,10 +36,11 @@ pub extern "C" fn dwcheck_row_at(
 ) -> u32
     ensures row { result ≡ DONE → IsSomeAnd (row_in (modules_of process.old) address)
         (λ found. IsRowOf found row.new rules.old rules.new) }
+    ensures few { result ≡ DONE → row.new.count ≤ 128 }
     ensures none { result ≡ NONE → row_in (modules_of process.old) address ≡ None }
     ensures codes { (result ≡ DONE) ⊎ (result ≡ NONE) }
     ensures unwritten { result ≡ NONE → (row.new ≡ row.old) × (rules.new ≡ rules.old) }
-    ensures same { modules_of process.new ≡ modules_of process.old }
+    ensures same { held_in process.new ≡ held_in process.old }
 {
     let Some(held) = process.take(alloc) else {
         return NONE;
@@ -78,7 +79,7 @@ fn caller_within(
 ) -> Option<Caller>
     ensures unwinds { Unwinds (modules_of process.old) (roles_of abi.now) (memory_of state.now)
         (registers_of state.now) address (option_map caller_in result) }
-    ensures same { modules_of process.new ≡ modules_of process.old }
+    ensures same { held_in process.new ≡ held_in process.old }
 {
     match process.take(alloc) {
         Some(held) => {
@@ -101,9 +102,11 @@ pub extern "C" fn dwcheck_unwind(
     registers: &mut [CRegister],
     fault: &mut CFault,
 ) -> u32
+    ensures accepted { result ≢ REFUSED → abi_fault_of state.now ≡ None }
     ensures done { result ≡ DONE → IsCaller (modules_of process.old) (abi_in state.now)
         (memory_of state.now) (registers_of state.now) address caller.new registers.old
         registers.new }
+    ensures few { result ≡ DONE → caller.new.count ≤ 256 }
     ensures none { result ≡ NONE → Unwinds (modules_of process.old) (abi_in state.now)
         (memory_of state.now) (registers_of state.now) address None }
     ensures refused { result ≡ REFUSED → Reports IN_ABI (abi_fault_of state.now) fault.new }
@@ -111,7 +114,7 @@ pub extern "C" fn dwcheck_unwind(
     ensures unwritten { result ≢ DONE
         → (caller.new ≡ caller.old) × (registers.new ≡ registers.old) }
     ensures unreported { result ≢ REFUSED → fault.new ≡ fault.old }
-    ensures same { modules_of process.new ≡ modules_of process.old }
+    ensures same { held_in process.new ≡ held_in process.old }
 {
     let abi = match Abi::new(state.kept, state.pointer()) {
         Ok(abi) => abi,
@@ -161,7 +164,7 @@ fn frames_in(
 ) -> (usize, Stop)
     ensures frames { IsBacktrace (modules_of process.old) (roles_of abi.now) (memory_of state.now)
         (registers_of state.now) address frames.old frames.new result.0 (stop_number result.1) }
-    ensures same { modules_of process.new ≡ modules_of process.old }
+    ensures same { held_in process.new ≡ held_in process.old }
 {
     match process.take(alloc) {
         Some(held) => {
@@ -185,6 +188,7 @@ pub extern "C" fn dwcheck_backtrace(
     stop: &mut u32,
     fault: &mut CFault,
 ) -> u32
+    ensures accepted { result ≢ REFUSED → abi_fault_of state.now ≡ None }
     ensures done { result ≡ DONE → IsBacktrace (modules_of process.old) (abi_in state.now)
         (memory_of state.now) (registers_of state.now) address frames.old frames.new count.new
         stop.new }
@@ -193,7 +197,7 @@ pub extern "C" fn dwcheck_backtrace(
     ensures unwritten { result ≡ REFUSED → (frames.new ≡ frames.old) × (count.new ≡ count.old)
         × (stop.new ≡ stop.old) }
     ensures unreported { result ≡ DONE → fault.new ≡ fault.old }
-    ensures same { modules_of process.new ≡ modules_of process.old }
+    ensures same { held_in process.new ≡ held_in process.old }
 {
     let abi = match Abi::new(state.kept, state.pointer()) {
         Ok(abi) => abi,

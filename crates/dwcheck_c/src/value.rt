@@ -1,6 +1,6 @@
 //! The outcome of an evaluation, in C's form.
 
-ghost use Rattle.std.specs.Prelude.{◌≡◌, map};
+ghost use Rattle.std.specs.Prelude.{◌≡◌, ◌≤◌, map};
 ghost use Rattle.dw_eval.specs.Views.{location_description_of, outcome_of, piece_in};
 ghost use Rattle.dwcheck_c.specs.Evaluated.{ShowsOutcome, bytes_of_location, cpiece_of, kind_of_location, number_of_location};
 ghost use Rattle.dwcheck_c.specs.Slots.{put_into};
@@ -130,6 +130,7 @@ pub(crate) fn write_outcome(
     ensures shows { ShowsOutcome (outcome_of evaluation.now.outcome) evaluation.now.steps n out.new
         pieces.old pieces.new bytes.old bytes.new }
     ensures steps { out.new.steps ≡ evaluation.now.steps }
+    ensures few { out.new.count ≤ 32 }
 {
     let steps = evaluation.steps;
     match &evaluation.outcome {

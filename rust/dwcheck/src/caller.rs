@@ -12,7 +12,7 @@ pub enum Answer {
     Value(u64),
     /// It can't be had: the table says so.
     Undefined,
-    /// It takes a register or memory that isn't handed in.
+    /// It takes a register or memory that isn't handed in, or memory past 2^w - 1.
     Unreadable,
     /// Its expression divides by zero.
     DivisionByZero,

@@ -102,7 +102,8 @@ pub enum Outcome {
     Location(Location),
     /// A location of pieces, 32 at most, in the order of the object.
     Pieces(Vec<Piece>),
-    /// The operation at this offset of the expression takes what isn't handed in.
+    /// The operation at this offset of the expression takes what isn't handed in, or reads memory past
+    /// 2^w - 1. The rule of a register without the CFA is unreadable at 0 after 0 steps.
     Unreadable {
         /// The operation's first byte.
         at: u32,
@@ -126,8 +127,9 @@ pub struct Evaluation {
 
 /// Checks an expression over all its paths, and runs it over registers and memory.
 ///
-/// The ABI of `state` isn't asked. The library takes memory only for expressions that branch, and
-/// gives it back. It runs once, and once more for each location that is bytes.
+/// The ABI of `state` isn't asked. What `DW_OP_addr` pushes is as linked, while registers and memory
+/// are as loaded. The library takes memory only for expressions of more than 16 operations that branch
+/// or are refused, and gives it back. It runs once, and once more for each location that is bytes.
 ///
 /// # Errors
 ///

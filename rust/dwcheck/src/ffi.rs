@@ -3,24 +3,26 @@
 //!
 //! What a caller owes for every call:
 //!
-//! - "A pointer points to a whole, aligned value of its type, which no other argument of the call
-//!   overlaps and no other thread writes during the call. A pointer that comes with a length points to
-//!   that many elements, and isn't null even for none: any address will do then." Here all come from
-//!   references and slices. Two that are `const` may overlap each other, as two sections that are one
-//!   slice: the library takes these as shared references, `&[u8]` or `&CState`.
-//! - "A process is handed to one call at a time, and is moved only by copying it and setting the old one
-//!   to closed. It may go from thread to thread, ordered by a lock, an atomic of memory_order_seq_cst,
-//!   or a thread's start or join." Here `Process` isn't `Sync`, Rust doesn't use what it moved from, and
-//!   whatever safe Rust hands a value over by orders what was before with what is after.
-//! - "malloc, realloc and free are of one allocator and may be called from the thread. So calls that are
-//!   said to take memory are not for signal handlers, nor is any call for the forked child of a process
+//! - "A pointer points to a whole, aligned value of its type, which no other thread writes during the
+//!   call. What a pointer without const points to overlaps no other argument; the others may overlap. A
+//!   pointer that comes with a length points to that many elements; for none it may be .. any other
+//!   address. No other pointer may be NULL." Here all come from references and slices. Two that are
+//!   `const` may be one slice: the library takes these as shared references, `&[u8]` or `&CState`.
+//! - "A process is passed to one call at a time, and is moved only by copying it and setting the old one
+//!   to DWCHECK_CLOSED. A process that was added to, or made by dwcheck_process_share from an open one,
+//!   has to be closed, even after its modules are removed. It may go from thread to thread, ordered by a
+//!   lock, an atomic of memory_order_seq_cst, or a thread's start or join." Here `Process` isn't `Sync`,
+//!   Rust doesn't use what it moved from, `Drop` closes each, and whatever safe Rust hands a value over
+//!   by orders what was before with what is after.
+//! - "malloc, realloc and free belong to one allocator and may be called from the thread. So calls that
+//!   allocate or free are not for signal handlers, nor is any call for the forked child of a process
 //!   with threads." Signal handlers and `fork` take `unsafe` of whoever uses them.
-//! - "There is stack enough." The library touches each page of its stack in turn, so a stack that is too
+//! - "There is enough stack." The library touches each page of its stack in turn, so a stack that is too
 //!   small ends the program at the guard page that Rust's threads have.
 //! - "Fields called `reserved` are set to 0."
 //!
-//! No export has a precondition beyond these. "Enumerations may gain values: take one that you don't
-//! know as something else."
+//! No export has a precondition beyond these. "Enumerations may gain values: treat one that you don't
+//! know as 'something else'."
 
 use std::mem::MaybeUninit;
 use std::os::raw::c_void;
@@ -99,7 +101,7 @@ pub const MAX_RULES: usize = 128;
 /// The addresses as linked from `start` to before `end`, of the module at a load address. The CFA
 /// is register cfa.reg plus cfa.offset (kind RULE_VAL_OFFSET), or what an expression gives
 /// (RULE_VAL_EXPRESSION). `return_reg` is the register of the return address, `count` how many
-/// registers have a rule.
+/// registers have a rule, at most MAX_RULES.
 #[repr(C)]
 #[derive(Clone, Copy, Debug, Default)]
 pub struct Row {
@@ -122,8 +124,10 @@ pub struct Block {
 
 /// What a stopped thread has. Register n has contents[n] where bit n % 8 of known[n / 8] is set,
 /// both being there. Memory is the blocks' bytes; an address that two blocks have is that of the
-/// first. Calls keep the registers `kept`, 127 at most; if has_stack_pointer isn't 0, the stack
-/// pointer's value in a caller is the CFA. No register stands there twice.
+/// first. `kept` (callee-saved registers, 127 at most) and stack_pointer (if has_stack_pointer isn't
+/// 0) are the ABI. It applies to registers that the row gives no rule: a kept one has its present
+/// value in the caller, the stack pointer is the CFA, and any other register is undefined there. No
+/// register occurs twice among these.
 #[repr(C)]
 pub struct State {
     pub contents: *const u64,
@@ -145,7 +149,7 @@ pub const NOT_COVERED: u32 = 0;
 pub const VALUE: u32 = 1;
 /// It can't be had.
 pub const UNDEFINED: u32 = 2;
-/// It takes a register or memory that isn't handed in.
+/// It takes a register or memory that isn't handed in, or memory past 2^w - 1.
 pub const UNREADABLE: u32 = 3;
 /// Its expression divides by zero.
 pub const DIVISION_BY_ZERO: u32 = 4;
@@ -169,7 +173,7 @@ pub struct Register {
 }
 
 /// A caller: its canonical frame address, where it goes on, and how many registers have a rule of
-/// the row or of the ABI.
+/// the row or of the ABI, at most MAX_REGISTERS.
 #[repr(C)]
 #[derive(Clone, Copy, Debug, Default)]
 pub struct Caller {
@@ -192,7 +196,8 @@ pub struct Frame {
 pub const STOP_LIMIT: u32 = 0;
 /// No module has a row for the last frame.
 pub const STOP_NOT_COVERED: u32 = 1;
-/// The walk is complete.
+/// The row's rule for the return address is undefined, which completes the walk (DWARF 5, 6.4.4); or
+/// neither the row nor `kept` names its register.
 pub const STOP_RETURN_UNDEFINED: u32 = 2;
 pub const STOP_RETURN_UNREADABLE: u32 = 3;
 pub const STOP_RETURN_DIVISION_BY_ZERO: u32 = 4;
@@ -218,7 +223,8 @@ pub struct Context {
 
 /// Of a frame's expression: `value`.
 pub const IS_VALUE: u32 = 0;
-/// The operation at `offset` takes what isn't handed in.
+/// The operation at `offset` takes what isn't handed in, or reads memory past 2^w - 1. The rule of a
+/// register without has_cfa is unreadable at 0 after 0 steps.
 pub const IS_UNREADABLE: u32 = 1;
 /// The operation at `offset` divides by zero.
 pub const IS_DIVISION_BY_ZERO: u32 = 2;
@@ -235,7 +241,8 @@ pub const LOCATION_BYTES: u32 = 7;
 /// `count` pieces, 32 at most.
 pub const LOCATION_PIECES: u32 = 8;
 
-/// What an expression comes to.
+/// What an expression comes to. `value` is 0 for the kinds that don't name it. `steps` is the number
+/// of operations reached, the one without an answer included.
 #[repr(C)]
 #[derive(Clone, Copy, Debug, Default)]
 pub struct Value {
@@ -297,8 +304,9 @@ extern "C" {
 
     /// Checks a .debug_frame section and a .debug_loclists section, either of which may be empty.
     /// DONE where both are well formed; REFUSED with the first fault; NO_MEMORY; BAD_TARGET. A
-    /// section of 2^32 bytes is refused with fault 61. It takes memory in proportion to the
-    /// sections, and gives it back.
+    /// section of 2^32 bytes or more is refused with fault 61. The length of the frame section is
+    /// judged first, then that of the lists, then the frame section, then the lists. It takes memory
+    /// in proportion to the sections, and gives it back.
     pub fn dwcheck_check(
         frame: *const u8,
         frame_length: usize,
@@ -311,9 +319,10 @@ extern "C" {
 
     /// Checks a .debug_frame section, compiles all its rows, and adds them as the last module.
     /// Nothing of the section's bytes is needed any more when the call returns. `room` is how many
-    /// bytes the rows may take; 700 times the section's length is always enough. DONE; REFUSED with
-    /// the first fault of the section; NO_MEMORY; NO_ROOM; BAD_TARGET; TOO_LONG. Only DONE changes
-    /// the process, only REFUSED writes `fault`.
+    /// bytes the rows may take, SIZE_MAX for no bound; it doesn't bound what the check and the
+    /// compiling take meanwhile. NO_ROOM may come although rows that share their rules would fit.
+    /// DONE; REFUSED with the first fault of the section; NO_MEMORY; NO_ROOM; BAD_TARGET; TOO_LONG.
+    /// Only DONE changes the process, only REFUSED writes `fault`.
     pub fn dwcheck_process_add(
         process: *mut Process,
         frame: *const u8,
@@ -325,16 +334,17 @@ extern "C" {
         fault: *mut Fault,
     ) -> u32;
 
-    /// Removes the first module with a load address: DONE, or NONE where no module has it. It takes
-    /// no memory.
+    /// Removes the first module with a load address, all 64 bits of which are compared: DONE, or NONE
+    /// where no module has it. It takes no memory.
     pub fn dwcheck_process_remove(process: *mut Process, load_address: u64) -> u32;
 
-    /// Makes `other` a process of the same modules, in the place of what it is, which is closed.
+    /// Makes `other` a process of the same modules, in the place of what it is, which is closed. It is
+    /// closed if `process` is.
     /// The tables are shared, not copied, and go with the last process that has them. DONE or
     /// NO_MEMORY, and then `other` is as it was. `process` is as it was in either case.
     pub fn dwcheck_process_share(process: *mut Process, other: *mut Process) -> u32;
 
-    /// Lets all modules go. A closed process may be closed again.
+    /// Releases all modules and closes the process. A closed process may be closed again.
     pub fn dwcheck_process_close(process: *mut Process);
 
     /// The row of an address as loaded, by the first module that has one. The rules of its
@@ -349,9 +359,10 @@ extern "C" {
     ) -> u32;
 
     /// The caller of the frame at an address as loaded, by the first module that has a row for it.
-    /// Its registers go into `registers` by ascending numbers, as many as fit. DONE; NONE where no
-    /// module has a row; REFUSED where the ABI names too many registers or one twice, and then
-    /// alone `fault` is written. It takes no memory.
+    /// The address itself is looked up: to go on from a caller pass its return address minus 1. Its
+    /// registers go into `registers` by ascending numbers, as many as fit. DONE; NONE where no module
+    /// has a row; REFUSED where the ABI names too many registers or one twice. Only DONE writes
+    /// `caller` and `registers`, only REFUSED `fault`. It takes no memory.
     pub fn dwcheck_unwind(
         process: *mut Process,
         address: u64,
@@ -365,7 +376,7 @@ extern "C" {
     /// Walks up the stack from the frame at `address`, into `frames`, as many as fit; `count` is
     /// how many there are, and `stop` why there are no more. The first frame is looked up at its
     /// address, each other at the address before its own. DONE, or REFUSED as dwcheck_unwind; only
-    /// DONE writes `frames`, `count` and `stop`. It takes no memory.
+    /// DONE writes `frames`, `count` and `stop`, only REFUSED `fault`. It takes no memory.
     pub fn dwcheck_backtrace(
         process: *mut Process,
         address: u64,
@@ -382,7 +393,8 @@ extern "C" {
     /// of bytes, or of the n-th piece if that is bytes, counted from 0, go into `bytes`, as many as
     /// fit. DONE; REFUSED with the first fault of the expression; NO_MEMORY; BAD_TARGET; TOO_LONG;
     /// BAD_KIND. Only DONE writes `value`, `pieces` and `bytes`, only REFUSED `fault`. It takes
-    /// memory only for expressions that branch, and gives it back.
+    /// memory only for expressions of more than 16 operations that branch or are refused, and gives
+    /// it back.
     pub fn dwcheck_evaluate(
         expression: *const u8,
         expression_length: usize,

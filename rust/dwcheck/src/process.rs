@@ -93,9 +93,10 @@ impl Process {
     /// Checks a `.debug_frame` section, compiles all its rows, and adds them as the last module.
     ///
     /// The section isn't needed any more afterwards. `load_address` is what is added to an address
-    /// as linked, modulo 2^w, to have the address as loaded: for a module that can lie anywhere
-    /// where its first mapping begins, for another 0. `room` is how many bytes the rows may take,
-    /// [`NO_BOUND`](Process::NO_BOUND) for any number.
+    /// as linked, modulo 2^w, to have the address as loaded: for a position-independent module what
+    /// `dl_iterate_phdr` gives as `dlpi_addr`, for any other 0. `room` is how many bytes the rows may
+    /// take, [`NO_BOUND`](Process::NO_BOUND) for any number; it doesn't bound what the check and the
+    /// compiling take meanwhile.
     ///
     /// Time is n log n for n bytes of programs and rows; a section of n bytes may have n rows.
     ///
@@ -127,7 +128,8 @@ impl Process {
         Error::check(status, fault)
     }
 
-    /// Removes the first module with a load address. `false` says that no module has it.
+    /// Removes the first module with a load address, all 64 bits of which are compared. `false` says
+    /// that no module has it.
     pub fn remove(&mut self, load_address: u64) -> bool {
         // SAFETY: the process is borrowed alone.
         let status = unsafe { ffi::dwcheck_process_remove(self.raw(), load_address) };

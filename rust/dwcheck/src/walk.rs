@@ -62,7 +62,9 @@ pub enum Stop {
     Limit,
     /// No module has a row for the last frame.
     NotCovered,
-    /// The last frame has no caller: the walk is complete.
+    /// The row's rule for the return address of the last frame is undefined, which completes the walk
+    /// (DWARF 5, section 6.4.4); or neither the row nor the ABI's kept registers name its register: on
+    /// targets that keep it in a register, the ABI has to name that.
     ReturnUndefined,
     /// The last frame's return address takes a register or memory that isn't handed in.
     ReturnUnreadable,
