@@ -6,7 +6,7 @@
 A PAGE is a Markdown file; without one, README.md and each page of docs/ and rust/dwcheck-elf/ that has sessions. A
 session is an indented block with lines that begin with `$ `; a command that ends with a backslash goes on in the next
 line. All sessions of a page run in one shell, in a folder that is empty at first, with the programs on the PATH and
-$REPO naming this repository. Each page that differs is shown, and the exit status is then 1. A minute or two.
+$REPO naming this repository. Each page that differs is shown, and the exit status is then 1. Less than a minute, but for --slow.
 
     $ cat FILE          where FILE isn't there yet, it is written as the page shows it
     ...                 a line that stands for any lines

@@ -1,7 +1,7 @@
 #!/usr/bin/env python3
 """Random expressions and state files: compares what the program writes with the model, models/expression_model.py.
 
-    bench/comparisons/compare_expressions.py DWCHECK COUNT [SEED]        1,000 cases take some 5 s
+    bench/comparisons/compare_expressions.py DWCHECK COUNT [SEED]        1,000 cases take at most 15 s
 
 Most expressions are good ones with branches, the others operations and bytes in any order.
 """

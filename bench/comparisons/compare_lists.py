@@ -1,7 +1,7 @@
 #!/usr/bin/env python3
 """Random location lists, queries and state files: compares what the program writes with models/list_model.py.
 
-    bench/comparisons/compare_lists.py DWCHECK COUNT [SEED]        1,000 cases take some 10 s
+    bench/comparisons/compare_lists.py DWCHECK COUNT [SEED]        1,000 cases take at most 25 s
 
 Most sections are good ones, some with a byte changed or cut.
 """

@@ -1,7 +1,7 @@
 #!/usr/bin/env python3
 """Random pairs of sections, state files and queries: compares what the program writes with models/pair_model.py.
 
-    bench/comparisons/compare_pairs.py DWCHECK COUNT [SEED]        1,000 cases take some 30 s
+    bench/comparisons/compare_pairs.py DWCHECK COUNT [SEED]        1,000 cases take at most 40 s
 
 Each pair goes through `check`, and its sections through `unwind`, `row` and `locs`. Most sections are good ones, with expressions in rules;
 some have slips, or are changed or cut. Few state files have a malformed line.

@@ -1,7 +1,7 @@
 #!/usr/bin/env python3
 """Random frame sections and addresses: compares what the program writes with models/frame_model.py.
 
-    bench/comparisons/compare_sections.py DWCHECK COUNT [SEED]        1,000 cases take some 10 s
+    bench/comparisons/compare_sections.py DWCHECK COUNT [SEED]        1,000 cases take at most 15 s
 
 Each section goes through `rows`, and through `row` with one address. Half of the sections are made to be good ones, the others with
 slips here and there; and some of either have a few bytes changed, or are cut.

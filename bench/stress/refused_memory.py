@@ -1,7 +1,7 @@
 #!/usr/bin/env python3
 """Refuses each request for memory in turn: of the tests of refused memory, and of the program.
 
-    bench/stress/refused_memory.py TESTS DWCHECK        some minutes
+    bench/stress/refused_memory.py TESTS DWCHECK
 
 TESTS is the tests' program that `rt test` leaves, crates/dw_tests/out/dw_tests_tests, DWCHECK the program. It needs cc and glibc.
 

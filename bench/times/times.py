@@ -1,7 +1,7 @@
 #!/usr/bin/env python3
 """Times the program on made sections and expressions, and prints the tables of docs/PERFORMANCE.md.
 
-    bench/times/times.py DWCHECK [BESIDE]        a minute; with BESIDE an hour
+    bench/times/times.py DWCHECK [BESIDE]        15 s without BESIDE
 
 With BESIDE, the program that bench/beside_gimli/run.sh builds, the sections are also given to readelf, llvm-dwarfdump and gimli,
 each for at most 100 seconds and 8 GB. It needs GNU time on the PATH, and as and objcopy for the others' object files.

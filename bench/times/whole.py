@@ -1,7 +1,7 @@
 #!/usr/bin/env python3
 """Times `dwcheck check` on frames and lists of real programs beside readelf on the frames alone, in turn.
 
-    bench/times/whole.py DWCHECK FRAME_BYTES LISTS_BYTES SECTION ..        a minute for some megabytes
+    bench/times/whole.py DWCHECK FRAME_BYTES LISTS_BYTES SECTION ..        some seconds
 
 Sections are raw and little-endian with addresses of 8 bytes, those of lists with names that end with .lists. They are put one
 after the other, again and again, as long as one fits into that number of bytes, each copy of an FDE at addresses of its own.

@@ -1,7 +1,7 @@
 #!/usr/bin/env python3
 """Compares walks of programs for nine targets with gdb's, under qemu: the address and the CFA of each frame of gdb's.
 
-    bench/walk/targets.py DWCHECK [TARGET]..        some 15 s a target
+    bench/walk/targets.py DWCHECK [TARGET]..        ten seconds
 
 clang compiles freestanding.c, qemu runs it, gdb stops it in its innermost function and after each of the next instructions,
 and tools/gdb_state.py writes the state file, with the target's lines `keep` and `sp`, and says how to run the program. It
