@@ -187,15 +187,15 @@ fn in_program(frames: &Frames<'_>, fault: &Fault, record: &Record) -> String {
 fn named(frames: &Frames<'_>, instruction: &Instruction, offset: usize) -> String {
     let (begin, length) = match instruction.expression {
         Some((begin, length)) if offset > instruction.offset => (begin, length),
-        _ => return instruction.name(),
+        _ => return instruction.name(frames.machine()),
     };
     let bytes = frames.bytes().get(begin..begin + length).unwrap_or(&[]);
     let all = expression::operations(bytes, frames.target());
     match all.iter().rev().find(|operation| begin + operation.offset <= offset) {
         Some(operation) if offset < begin + length => {
-            format!("{} of {}", expression::name_of(operation.code), instruction.name())
+            format!("{} of {}", expression::name_of(operation.code), instruction.name(frames.machine()))
         }
-        _ => format!("the end of the expression of {}", instruction.name()),
+        _ => format!("the end of the expression of {}", instruction.name(frames.machine())),
     }
 }
 

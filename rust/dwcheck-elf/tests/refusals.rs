@@ -135,6 +135,19 @@ fn strict_refuses_a_register_without_an_offset() {
     }
 }
 
+/// An instruction that aarch64 has for signed return addresses.
+#[test]
+fn a_code_of_a_machine_has_its_name() {
+    let folder = Folder::new("signed");
+    if !has("aarch64-linux-gnu-as") {
+        return;
+    }
+    folder.write("a.s", ".type f, %function\nf: .cfi_startproc\n nop\n .cfi_negate_ra_state\n nop\n .cfi_endproc\n");
+    folder.run("aarch64-linux-gnu-as a.s -o a.o");
+    let ran = dwcheck_elf(&folder, "check a.o");
+    assert!(ran.lines()[0].ends_with(": UnknownInstruction: AARCH64_negate_ra_state, FDE 0x0..0x8 (f)"), "{}", ran.out);
+}
+
 /// Unlinked objects of each machine: two sections of code, each at an address of its own.
 #[test]
 fn objects_of_each_machine() {
