@@ -92,7 +92,8 @@ def by_readelf(path):
         elif line.strip().startswith("LOC"):
             columns = line.split()[2:]
         elif line and rows is not None:
-            words = line.split()
+            # A register that holds another has its number, and its name in parentheses.
+            words = [word for word in line.split() if not word.startswith("(")]
             begin = int(words[0], 16)
             rules = {column: rule_by_readelf(rule) for column, rule in zip(columns, words[2:])}
             rules = {"rip" if one == "ra" else one: rule for one, rule in rules.items() if rule}

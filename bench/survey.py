@@ -38,9 +38,11 @@ def main():
             counts["accepted" if section["accepted"] else "refused"] += 1
             counts["fdes"] += section.get("fdes", 0)
             counts["rows"] += section.get("rows", 0)
-            kinds = Counter((fault["fault"], fault["what"]) for fault in section.get("faults", []))
-            for (fault, what), count in kinds.items():
-                refused.append((one["file"], section["section"], f"{fault}: {what}" + (f", {count} times" if count > 1 else "")))
+            # What an FDE shares addresses with is another one each time.
+            told = [(fault["fault"], fault["fault"] != "Overlap" and fault["what"]) for fault in section.get("faults", [])]
+            for (fault, what), count in Counter(told).items():
+                times = f", {count:,} times" if count > 1 else ""
+                refused.append((one["file"], section["section"], fault + (f": {what}" if what else "") + times))
     names = [".eh_frame", ".debug_frame", ".debug_loclists"]
     print("| Architecture | Files | " + " | ".join(f"`{name}`" for name in names) + " | Accepted | Refused | FDEs | Rows |")
     print("|---" * 9 + "|")

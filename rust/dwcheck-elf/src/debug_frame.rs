@@ -136,9 +136,9 @@ pub struct Instruction {
 }
 
 impl Instruction {
-    /// Its name, as `def_cfa_register`, or `instruction 0x3f`.
-    pub fn name(&self) -> String {
-        name_of(self.code).map_or_else(|| format!("instruction {:#04x}", self.code), str::to_string)
+    /// Its name, as `def_cfa_register`, or `instruction 0x3f`. Machines have codes of their own.
+    pub fn name(&self, machine: u16) -> String {
+        name_of(self.code, machine).map_or_else(|| format!("instruction {:#04x}", self.code), str::to_string)
     }
 }
 

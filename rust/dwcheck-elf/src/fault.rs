@@ -14,14 +14,16 @@ use std::ops::Range;
 
 /// A fault of a section, where it is in the file.
 ///
-/// As text it is one line without its end, as
+/// As text it is one line without its end, with the offset of the record, as
 /// `.eh_frame+0xeb30: CfaNotRegister: def_cfa_register, FDE 0xcb480..0xccad1 (name of the function)`.
 #[derive(Clone, Debug, PartialEq, Eq)]
 pub struct Defect {
     /// The section.
     pub section: Name,
-    /// The offset in the section of the file, decompressed.
+    /// The offset of the fault in the section of the file, decompressed.
     pub offset: u64,
+    /// The offset of the record that it is in, as readelf shows it; that of the fault itself where there is none.
+    pub at: u64,
     /// The fault's name, as `CfaNotRegister`.
     pub fault: &'static str,
     /// What is there: an instruction, an operation or a field.
@@ -84,6 +86,7 @@ impl<'a> Terms<'a> {
         Defect {
             section: self.frames.name(),
             offset: place.map_or(u64::from(fault.offset), |place| place.offset),
+            at: place.map_or(u64::from(fault.offset), |place| place.record),
             fault: fault.name(),
             what,
             function: within.as_ref().and_then(|within| within.function(self.functions)),
@@ -99,6 +102,7 @@ impl Defect {
         Defect {
             section: Name::EhFrame,
             offset: error.field,
+            at: error.record,
             fault: error.reason.name(),
             what: "a field".to_string(),
             record: Some(Within::Record(error.record)),
@@ -121,6 +125,7 @@ impl Defect {
         Defect {
             section: Name::DebugLoclists,
             offset: u64::from(fault.offset),
+            at: u64::from(fault.offset),
             fault: fault.name(),
             what,
             record: crate::loclists::table_of(lists, target, fault.offset as usize).map(Within::Record),
@@ -182,15 +187,15 @@ fn in_program(frames: &Frames<'_>, fault: &Fault, record: &Record) -> String {
 fn named(frames: &Frames<'_>, instruction: &Instruction, offset: usize) -> String {
     let (begin, length) = match instruction.expression {
         Some((begin, length)) if offset > instruction.offset => (begin, length),
-        _ => return instruction.name(),
+        _ => return instruction.name(frames.machine()),
     };
     let bytes = frames.bytes().get(begin..begin + length).unwrap_or(&[]);
     let all = expression::operations(bytes, frames.target());
     match all.iter().rev().find(|operation| begin + operation.offset <= offset) {
         Some(operation) if offset < begin + length => {
-            format!("{} of {}", expression::name_of(operation.code), instruction.name())
+            format!("{} of {}", expression::name_of(operation.code), instruction.name(frames.machine()))
         }
-        _ => format!("the end of the expression of {}", instruction.name()),
+        _ => format!("the end of the expression of {}", instruction.name(frames.machine())),
     }
 }
 
@@ -225,7 +230,7 @@ impl fmt::Display for Within {
 
 impl fmt::Display for Defect {
     fn fmt(&self, f: &mut fmt::Formatter<'_>) -> fmt::Result {
-        write!(f, "{}+{:#x}: {}: {}", self.section, self.offset, self.fault, self.what)?;
+        write!(f, "{}+{:#x}: {}: {}", self.section, self.at, self.fault, self.what)?;
         if let Some(record) = &self.record {
             write!(f, ", {}", record)?;
         }

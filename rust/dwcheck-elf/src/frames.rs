@@ -42,6 +42,7 @@ pub enum Name {
 pub struct Frames<'data> {
     name: Name,
     target: Target,
+    machine: u16,
     source: Section<'data>,
     text: Option<u64>,
     data: Option<u64>,
@@ -84,7 +85,7 @@ impl<'data> Frames<'data> {
             Name::EhFrame => bridge(&section, options).map_err(FramesError::Bridge)?,
             _ => without_empty_records(&source.bytes, target).ok_or(FramesError::TooLong(name))?,
         };
-        Ok(Some(Frames { name, target, source, text, data, bridged }))
+        Ok(Some(Frames { name, target, machine: program.machine(), source, text, data, bridged }))
     }
 
     /// Which section it is.
@@ -95,6 +96,11 @@ impl<'data> Frames<'data> {
     /// The byte order and the address size.
     pub fn target(&self) -> Target {
         self.target
+    }
+
+    /// The machine's number (`e_machine`).
+    pub fn machine(&self) -> u16 {
+        self.machine
     }
 
     /// The section's bytes in the file, decompressed and with relocations applied.

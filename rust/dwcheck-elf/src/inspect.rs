@@ -59,7 +59,7 @@ pub enum InspectError {
     Program(ProgramError),
     /// The rows of the section differ from those of what it was rewritten as.
     Difference(Difference),
-    /// `dwcheck` gave no verdict, for want of memory or room say.
+    /// `dwcheck` gave no verdict: memory or room ran out, say.
     Dwcheck(Name, Error),
 }
 

@@ -23,7 +23,7 @@ fn program(folder: &Folder) {
     folder.run("objcopy -R .eh_frame program program");
 }
 
-/// The lines without names of functions, which stand in parentheses after a space at the end.
+/// The lines without names of functions, which are in parentheses after a space at the end.
 fn nameless(text: &str) -> String {
     let cut = |line: &str| match line.rfind(" (") {
         Some(at) if line.ends_with(')') => line[..at].to_string(),

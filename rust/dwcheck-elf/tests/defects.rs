@@ -4,9 +4,10 @@ mod common;
 
 use common::{place_of, Folder};
 use dwcheck_elf::bridge::{bridge, BridgeError, Bridged, Edge, EhFrame, Options, Reason, RecordKind};
+use dwcheck_elf::frames::Frames;
 use dwcheck_elf::program::Program;
 use dwcheck_elf::target::{AddressSize, Order, Target};
-use dwcheck_elf::validate::{validate, Agreement, What};
+use dwcheck_elf::validate::{validate, validate_rows, Agreement, What};
 
 /// A function with these directives between its instructions, linked.
 fn function(folder: &Folder, directives: &str) -> Vec<u8> {
@@ -270,4 +271,30 @@ fn changes_are_seen() {
     let difference = validate(&program.eh_frame_of(&eh_frame), &lost).unwrap_err();
     assert_eq!((difference.record, difference.what), (last as u64, What::Missing));
     assert_eq!(lost.counts().fdes, fdes - 1);
+}
+
+/// dwcheck's rows of other bytes than the section's are a difference, which shows both rows.
+#[test]
+fn a_wrong_row_of_dwcheck_is_a_difference() {
+    let folder = Folder::new("difference");
+    function(&folder, ".cfi_def_cfa_offset 16");
+    let bytes = folder.bytes("linked");
+    let program = Program::read(&bytes).unwrap();
+    let frames = Frames::all(&program, Options::default()).next().unwrap().unwrap();
+    let agreement = validate_rows(&frames, &frames.process(0).unwrap()).unwrap();
+    assert_eq!((agreement.fdes, agreement.rows), (2, 3));
+    let mut changed = frames.bytes().to_vec();
+    let place = place_of(&changed, &[0x0e, 16]);
+    changed[place + 1] = 24;
+    let mut process = dwcheck::Process::new();
+    process.add(&changed, frames.target().into(), 0, dwcheck::Process::NO_BOUND).unwrap();
+    let difference = validate_rows(&frames, &process).unwrap_err();
+    match &difference.what {
+        What::Row { number: 1, section, bridged } => {
+            assert!(section.contains("cfa=r7+16") && bridged.contains("cfa=r7+24"), "{}", difference)
+        }
+        other => panic!("{:?}", other),
+    }
+    process.clear();
+    assert!(matches!(validate_rows(&frames, &process).unwrap_err().what, What::Row { number: 0, .. }));
 }

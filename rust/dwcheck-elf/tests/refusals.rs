@@ -54,6 +54,7 @@ fn each_defect_is_listed_in_the_terms_of_the_file() {
     let ran = dwcheck_elf(&folder, "check --all linked");
     assert_eq!(ran.status, 1, "{}", ran.out);
     let shown = folder.run("readelf --debug-dump=frames linked 2> /dev/null | grep FDE");
+    let offsets: Vec<_> = shown.lines().map(|line| common::hex(line.split(' ').next().unwrap())).collect();
     let ranges: Vec<_> =
         shown.lines().map(|line| line.rsplit_once("pc=").unwrap().1.split_once("..").unwrap()).collect();
     let lines = ran.lines();
@@ -62,10 +63,10 @@ fn each_defect_is_listed_in_the_terms_of_the_file() {
         let (begin, end) = ranges[number + 1];
         let range = format!("FDE {:#x}..{:#x}", common::hex(begin), common::hex(end));
         let (place, rest) = pair[0].split_once(": ").and_then(|(_, rest)| rest.split_once(": ")).unwrap();
-        assert!(place.starts_with(".eh_frame+0x"), "{}", pair[0]);
+        assert_eq!(place, format!(".eh_frame+{:#x}", offsets[number + 1]));
         let expected = if *name == "ends_empty" { "the end of the expression of def_cfa_expression" } else { what };
         assert_eq!(rest, format!("{}: {}, {} ({})", fault, expected, range, name));
-        assert!(pair[1].starts_with("    ") && pair[1].contains("(DWARF 5, "), "{}", pair[1]);
+        assert!(pair[1].starts_with("    at 0x") && pair[1].contains("(DWARF 5, "), "{}", pair[1]);
     }
     let first = dwcheck_elf(&folder, "check linked");
     assert_eq!((first.status, first.lines()), (1, lines[..2].to_vec()));
@@ -132,6 +133,19 @@ fn strict_refuses_a_register_without_an_offset() {
         assert_eq!(strict.status, 1);
         assert!(strict.out.contains("CfaNotRegister: def_cfa_register, CIE 0x0\n"), "{}", strict.out);
     }
+}
+
+/// An instruction that aarch64 has for signed return addresses.
+#[test]
+fn a_code_of_a_machine_has_its_name() {
+    let folder = Folder::new("signed");
+    if !has("aarch64-linux-gnu-as") {
+        return;
+    }
+    folder.write("a.s", ".type f, %function\nf: .cfi_startproc\n nop\n .cfi_negate_ra_state\n nop\n .cfi_endproc\n");
+    folder.run("aarch64-linux-gnu-as a.s -o a.o");
+    let ran = dwcheck_elf(&folder, "check a.o");
+    assert!(ran.lines()[0].ends_with(": UnknownInstruction: AARCH64_negate_ra_state, FDE 0x0..0x8 (f)"), "{}", ran.out);
 }
 
 /// Unlinked objects of each machine: two sections of code, each at an address of its own.

@@ -5,6 +5,7 @@ use super::records::{Bridge, CieParts};
 use super::Reason;
 use crate::bytes::{Cursor, ReadError};
 use crate::target::Target;
+use object::elf::EM_AARCH64;
 
 /// The operands of an instruction, as far as their sizes go.
 #[derive(Clone, Copy, Debug, PartialEq, Eq)]
@@ -73,7 +74,7 @@ fn block(cursor: &mut Cursor<'_>) -> Result<usize, ReadError> {
 }
 
 /// The name of an instruction by its code, as DWARF 5 has it in section 7.24, without `DW_CFA_`.
-pub(crate) fn name_of(code: u8) -> Option<&'static str> {
+pub(crate) fn name_of(code: u8, machine: u16) -> Option<&'static str> {
     Some(match code {
         0x40..=0x7f => "advance_loc",
         0x80..=0xbf => "offset",
@@ -102,6 +103,7 @@ pub(crate) fn name_of(code: u8) -> Option<&'static str> {
         0x15 => "val_offset_sf",
         0x16 => "val_expression",
         0x1d => "MIPS_advance_loc8",
+        0x2d if machine == EM_AARCH64 => "AARCH64_negate_ra_state",
         0x2d => "GNU_window_save",
         GNU_ARGS_SIZE => "GNU_args_size",
         0x2f => "GNU_negative_offset_extended",

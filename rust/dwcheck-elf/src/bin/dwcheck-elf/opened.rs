@@ -48,10 +48,10 @@ pub fn accepted_frames<'data>(
     Ok(Ok(accepted))
 }
 
-/// Writes what is refused: where it is, and the rule.
+/// Writes what is refused: its record, and then where it is and the rule.
 pub fn write_defect(out: &mut impl Write, path: &Path, defect: &Defect) -> io::Result<()> {
     writeln!(out, "{}: {}", path.display(), defect)?;
-    writeln!(out, "    {}", defect.rule)
+    writeln!(out, "    at {:#x}: {}", defect.offset, defect.rule)
 }
 
 /// Adds sections to a process, at one load address.

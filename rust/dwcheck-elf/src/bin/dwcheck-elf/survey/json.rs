@@ -46,13 +46,11 @@ fn section(section: &Section) -> String {
 }
 
 fn fault(defect: &Defect) -> String {
-    let Defect { offset, fault, what, record, function, rule, .. } = defect;
-    let mut shown = format!("{{\"offset\":{},\"fault\":\"{}\",\"what\":{}", offset, fault, text(what));
-    match record {
-        Some(Within::Fde(range)) => shown.push_str(&format!(",\"begin\":{},\"end\":{}", range.start, range.end)),
-        Some(Within::Cie(offset)) => shown.push_str(&format!(",\"cie\":{}", offset)),
-        Some(Within::Record(offset)) => shown.push_str(&format!(",\"record\":{}", offset)),
-        None => {}
+    let Defect { offset, at, fault, what, record, function, rule, .. } = defect;
+    let mut shown =
+        format!("{{\"record\":{},\"offset\":{},\"fault\":\"{}\",\"what\":{}", at, offset, fault, text(what));
+    if let Some(Within::Fde(range)) = record {
+        shown.push_str(&format!(",\"begin\":{},\"end\":{}", range.start, range.end));
     }
     if let Some(function) = function {
         shown.push_str(&format!(",\"function\":{}", text(function)));
