@@ -1,8 +1,10 @@
-# Builds and installs dwcheck: the program, the library for C, their manual pages.
-#   make            the program and both libraries, in build/
-#   make check      builds and runs the C cases and the C examples, whose frames gdb's are compared with
+# Builds and installs dwcheck: the program, the library for C, dwcheck-elf, their manual pages.
+#   make            the programs and both libraries, in build/
+#   make check      builds and runs the C cases and the C examples, whose frames gdb's are compared with, and the tests of
+#                   dwcheck-elf
 #   make install    into $(DESTDIR)$(PREFIX)
-# It needs the kit's rt, and cc and ar. Nothing here proves anything: the gate is `rt ci`.
+# It needs the kit's rt, and cc and ar; dwcheck-elf needs cargo and the packages that `rust/cargo.sh packages` names, and
+# is left out where these aren't there. Nothing here proves anything: the gate is `rt ci`.
 PREFIX ?= /usr/local
 BINDIR ?= $(PREFIX)/bin
 LIBDIR ?= $(PREFIX)/lib
@@ -20,7 +22,7 @@ built := build/dwcheck build/libdwcheck.a build/libdwcheck.so.$(version) build/d
 
 .PHONY: all check install clean FORCE
 
-all: $(built)
+all: $(built) build/dwcheck-elf
 
 build:
 	mkdir -p $@
@@ -47,14 +49,27 @@ build/dwcheck.pc: c/dwcheck.pc.in FORCE | build
 	sed -e 's|@PREFIX@|$(PREFIX)|' -e 's|@LIBDIR@|$(LIBDIR)|' -e 's|@INCLUDEDIR@|$(INCLUDEDIR)|' \
 	    -e 's|@VERSION@|$(version)|' $< >$@
 
+# Runs cargo on dwcheck-elf, or says what it needs.
+elf = missing=$$(rust/cargo.sh packages | tr '\n' ' '); \
+    if [ -n "$$missing" ]; then echo "dwcheck-elf is left out: it needs $$missing"; exit 0; fi; \
+    cd rust/dwcheck-elf && \
+    DWCHECK_LIB_DIR=$(CURDIR)/build CARGO_TARGET_DIR=$(CURDIR)/build/cargo DWCHECK=$(CURDIR)/build/dwcheck ../cargo.sh
+
+# cargo builds again only what has changed. An old program doesn't stay where a new one can't be built.
+build/dwcheck-elf: build/libdwcheck.a FORCE
+	rm -f $@
+	@$(elf) build --quiet --release --bin dwcheck-elf && cp $(CURDIR)/build/cargo/release/dwcheck-elf $(CURDIR)/$@
+
 check: all
 	c/tests/run.sh
 	DWCHECK_FLAGS="-I$(CURDIR)/c/include $(CURDIR)/build/libdwcheck.a" examples/c/run.sh
+	@$(elf) test --release
 
 install: all
 	$(INSTALL) -d $(DESTDIR)$(BINDIR) $(DESTDIR)$(LIBDIR)/pkgconfig $(DESTDIR)$(INCLUDEDIR) \
 	    $(DESTDIR)$(MANDIR)/man1 $(DESTDIR)$(MANDIR)/man3
 	$(INSTALL) -m 755 build/dwcheck $(DESTDIR)$(BINDIR)/
+	if [ -f build/dwcheck-elf ]; then $(INSTALL) -m 755 build/dwcheck-elf $(DESTDIR)$(BINDIR)/; fi
 	$(INSTALL) -m 644 build/libdwcheck.a $(DESTDIR)$(LIBDIR)/
 	$(INSTALL) -m 755 build/libdwcheck.so.$(version) $(DESTDIR)$(LIBDIR)/
 	ln -sf libdwcheck.so.$(version) $(DESTDIR)$(LIBDIR)/libdwcheck.so.$(major)
@@ -62,6 +77,7 @@ install: all
 	$(INSTALL) -m 644 build/dwcheck.pc $(DESTDIR)$(LIBDIR)/pkgconfig/
 	$(INSTALL) -m 644 c/include/dwcheck.h $(DESTDIR)$(INCLUDEDIR)/
 	$(INSTALL) -m 644 man/dwcheck.1 $(DESTDIR)$(MANDIR)/man1/
+	if [ -f build/dwcheck-elf ]; then $(INSTALL) -m 644 man/dwcheck-elf.1 $(DESTDIR)$(MANDIR)/man1/; fi
 	$(INSTALL) -m 644 man/dwcheck.3 $(DESTDIR)$(MANDIR)/man3/
 
 clean:

@@ -3,7 +3,7 @@
 #   bench/beside_gimli/run.sh times SECTION ..    processor times of both, the least of several runs, and their ratio
 #   bench/beside_gimli/run.sh read SECTION       gimli alone, all rows or entries, to be timed as a process
 #   bench/beside_gimli/run.sh differ FRAMES LISTS EXPRESSIONS SEED SECTION ..
-#                                                 so many random cases made of these sections, read by both; what came of them.
+#                                                 FRAMES, LISTS and EXPRESSIONS random cases made of these sections, read by both; what came of them.
 #                                                 Rows by compiled tables too, of the accepted cases and of the sections
 # Sections are raw and little-endian with addresses of 8 bytes: .debug_loclists where the name ends with .lists, else .debug_frame.
 # WORK=FOLDER keeps what was built. It needs gcc, cargo and Debian's librust-gimli-dev (apt-get install librust-gimli-dev).

@@ -4,7 +4,7 @@
     bench/walk/compare.py DWCHECK SECTION FOLDER [NAME=SECTION]..
 
 A NAME is the file of a further module. Where there are some, stops.py has written where each one is loaded, and the program itself.
-The folder has what stops.py wrote. From a whole stack each frame of the program has gdb's address and CFA, and behind them stands the first
+The folder has what stops.py wrote. From a whole stack each frame of the program has gdb's address and CFA, and after them comes the first
 address that is no more the program's; the caller's registers are gdb's too. From the top of a stack the frames are the first of these,
 and where they end early the copy did.
 """
@@ -31,7 +31,7 @@ def read(path):
 
 
 def wanted(frames):
-    """The lines of the frames in the program, and of the first behind them."""
+    """The lines of the frames in the program, and of the first after them."""
     inside = next((i for i, (_, _, is_inside) in enumerate(frames) if not is_inside), len(frames))
     lines = [f"frame {i} 0x{address:016x} cfa value 0x{cfa:016x}" for i, (address, cfa, _) in enumerate(frames[:inside])]
     return lines + [f"frame {inside} 0x{address:016x} none" for address, _, _ in frames[inside:inside + 1]]

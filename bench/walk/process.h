@@ -10,7 +10,7 @@
 
 typedef int (*callback)(int);
 
-/* Six levels up to a call of what it is handed. */
+/* Six frames, the last of which calls the function that is passed. */
 int through_library(int n, callback call);
 
 #endif

@@ -1,5 +1,5 @@
 #!/usr/bin/env bash
-# Compares walks of a program that stands still with gdb's, and walks of perf's samples of it with perf's: x86-64, by gcc and clang, where it
+# Compares walks of a stopped program with gdb's, and walks of perf's samples of it with perf's: x86-64, by gcc and clang, where it
 # is there, and at several levels of optimization. Needs gdb with Python; without perf the second half is left out.
 #     bench/walk/run.sh DWCHECK [STOPS]
 set -eu

@@ -1,4 +1,4 @@
-"""For gdb: stops a program in `innermost` and then behind each further instruction, and writes what it has there.
+"""For gdb: stops a program in `innermost` and then after each further instruction, and writes what it has there.
 
     STOPS=N FOLDER=F [MODULES=SYMBOLS] gdb --batch --nx -x stops.py PROGRAM
 

@@ -27,7 +27,7 @@ APART int innermost(int n)
     return sum + n;
 }
 
-/* a function that doesn't return: its caller's return address may lie behind its caller */
+/* a function that doesn't return: its caller's return address may be after its caller's end */
 _Noreturn APART void finish(int n)
 {
     sink = innermost(n) + innermost(n + 1);
@@ -67,7 +67,7 @@ APART int large(int n)
     return chosen(n) + bytes[50 * n];
 }
 
-/* a caller of what it is handed */
+/* calls the function that is passed */
 APART int each(const int *values, int count, callback call)
 {
     int sum = 0;
@@ -90,7 +90,7 @@ APART void last(int n)
     finish(n);
 }
 
-/* so many walks more before the last, where a word says so */
+/* this number of walks before the last, where a word gives one */
 int main(int argc, char **argv)
 {
     for (long i = argc > 1 ? atol(argv[1]) : 0; i > 0; i--)

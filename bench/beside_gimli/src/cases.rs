@@ -6,7 +6,7 @@ use crate::limits;
 use crate::random::Random;
 use crate::target::Target;
 
-/// A made section, with where programs and expressions stand, in which changes say most.
+/// A made section, with the places of its programs and expressions, where changes say most.
 pub struct Case {
     pub bytes: Vec<u8>,
     inner: Vec<(usize, usize)>,
@@ -282,7 +282,7 @@ impl Lists {
         case.bytes.extend(body.bytes);
     }
 
-    /// One to three expressions of lists, one behind the other.
+    /// One to three expressions of lists, one after the other.
     pub fn expression(&self, random: &mut Random, target: Target) -> Vec<u8> {
         let mut bytes = Vec::new();
         for _ in 0..1 + random.below(3) {

@@ -111,7 +111,7 @@ fn expression_case(lists: &Lists, random: &mut Random, target: Target, counts: &
     counts.add("expressions", &case, target, changed, ours, meaning::expression_answer(&case.bytes, kind, target));
 }
 
-/// So many cases of frames, and so many of lists and of expressions, in turn under each target.
+/// These numbers of cases of frames, lists and expressions, in turn under each target.
 pub fn run(sections: &[(String, Vec<u8>)], frame_count: u64, list_count: u64, expression_count: u64, seed: u64) -> bool {
     let (mut frames, mut lists) = (Frames::default(), Lists::default());
     for (name, section) in sections {

@@ -8,7 +8,7 @@ use crate::target::Target;
 enum Part {
     /// The same under every target.
     Bytes(Vec<u8>),
-    /// A number of so many bytes.
+    /// A number of this size, in bytes.
     Fixed(u64, usize),
     Address(u64),
     /// A counted expression.
@@ -20,7 +20,7 @@ pub struct Encoded {
     parts: Vec<Part>,
 }
 
-/// The operands of a call frame instruction: an address, numbers of so many bytes, LEB128 numbers (u) or blocks (b).
+/// The operands of a call frame instruction: an address, numbers of some bytes, LEB128 numbers (u) or blocks (b).
 fn instruction_operands(code: u8) -> Option<&'static str> {
     Some(match code {
         0x40..=0x7f | 0xc0..=0xff => "",
@@ -75,7 +75,7 @@ pub fn push_uleb(bytes: &mut Vec<u8>, mut number: u64) {
     bytes.push(number as u8);
 }
 
-/// A number of so many bytes, the least first.
+/// A number of this size in bytes, the least first.
 pub fn little(bytes: &[u8], size: usize) -> Option<u64> {
     let bytes = bytes.get(..size)?;
     Some(bytes.iter().rev().fold(0, |number, byte| number << 8 | u64::from(*byte)))
@@ -130,7 +130,7 @@ impl Encoded {
         })
     }
 
-    /// Whether an expression stands in it.
+    /// Whether it has an expression.
     pub fn has_expression(&self) -> bool {
         self.parts.iter().any(|part| matches!(part, Part::Block(_)))
     }

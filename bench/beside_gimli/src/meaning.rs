@@ -118,7 +118,7 @@ fn other(operation: Operation<Bytes<'_>>) -> Parts {
     }
 }
 
-/// The operations, each with its offset behind how many there are.
+/// The operations, each with its offset, after how many there are.
 fn add_operations(mixed: &mut Mixed, expression: Expression<Bytes<'_>>, target: Target) -> Result<(), Error> {
     let mut found = Vec::new();
     let mut operations = expression.operations(target.encoding());
@@ -421,7 +421,7 @@ impl<'a> Rows<'a> {
 
 /// An entry of a location list that has an expression.
 struct Entry<'a> {
-    /// Its range, counted from a base: the unit's, where that is none. None for a default.
+    /// Its range, counted from a base: the unit's, where there is no base. None for a default.
     range: Option<(Option<u64>, u64, u64)>,
     expression: Expression<Bytes<'a>>,
 }
@@ -432,7 +432,7 @@ struct List<'a> {
     entries: Vec<Entry<'a>>,
 }
 
-/// Reads a list. Gives the offset behind it, too.
+/// Reads a list. Gives the offset after it, too.
 fn list<'a>(lists: &LocationLists<Bytes<'a>>, section: Bytes<'a>, at: usize, target: Target) -> Result<(usize, List<'a>), Error> {
     let mut raw = lists.raw_locations(LocationListsOffset(at), target.encoding())?;
     let (mut end, mut base, mut entries) = (at, None, Vec::new());

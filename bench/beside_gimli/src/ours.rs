@@ -1,4 +1,4 @@
-//! The exports of crates/dw_times. A section or an expression is handed over as a pointer and a length.
+//! The exports of crates/dw_times. A section or an expression is passed as a pointer and a length.
 
 
 type Start = *const u8;

@@ -21,7 +21,7 @@ impl Random {
         ((u128::from(self.next()) * end as u128) >> 64) as usize
     }
 
-    /// Whether one of so many times comes.
+    /// True once in this number of times, on average.
     pub fn one_of(&mut self, times: usize) -> bool {
         self.below(times) == 0
     }

@@ -124,7 +124,7 @@ fn operations(expression: Expression<Bytes<'_>>, encoding: Encoding) -> u64 {
     count
 }
 
-/// Reads a list, and each operation of its expressions. Gives the offset behind it and the count of operations.
+/// Reads a list, and each operation of its expressions. Gives the offset after it and the count of operations.
 fn list(lists: &LocationLists<Bytes<'_>>, section: Bytes<'_>, at: usize, encoding: Encoding) -> (usize, u64) {
     let mut entries = lists.raw_locations(LocationListsOffset(at), encoding).expect("a list");
     let (mut at, mut count) = (at, 0);

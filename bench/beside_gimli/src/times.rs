@@ -29,7 +29,7 @@ fn time_of<T>(work: impl FnOnce() -> T) -> f64 {
     now() - start
 }
 
-/// The least of so many runs of each, which take turns, so that whatever else the machine does meets both.
+/// The least of some runs of each, which take turns, so that whatever else the machine does meets both.
 fn least_of_both<T, U>(runs: usize, mut ours: impl FnMut() -> T, mut theirs: impl FnMut() -> U) -> (f64, f64) {
     (0..runs).fold((f64::MAX, f64::MAX), |least, _| {
         (least.0.min(time_of(&mut ours)), least.1.min(time_of(&mut theirs)))

@@ -9,9 +9,7 @@ use std::error::Error;
 
 fn main() -> Result<(), Box<dyn Error>> {
     let mut words = std::env::args_os().skip(1);
-    let (Some(path), Some(out)) = (words.next(), words.next()) else {
-        return Err("usage: debug_frame PROGRAM OUT".into());
-    };
+    let (path, out) = words.next().zip(words.next()).ok_or("usage: debug_frame PROGRAM OUT")?;
     let data = std::fs::read(path)?;
     let program = Program::read(&data)?;
     let section = program.eh_frame()?.ok_or("no .eh_frame section")?;

@@ -14,13 +14,15 @@
 //! [`crate::validate`] compares the two sections.
 
 mod error;
-mod instructions;
+pub(crate) mod instructions;
 mod places;
+mod plain;
 mod pointer;
 mod records;
 
 pub use error::{BridgeError, Reason};
 pub use places::{Edge, Place, Record, RecordKind};
+pub use plain::without_empty_records;
 
 use crate::target::Target;
 use places::Places;

@@ -30,6 +30,11 @@ impl<'a> Cursor<'a> {
         self.at
     }
 
+    /// The byte order and the address size.
+    pub fn target(&self) -> Target {
+        self.target
+    }
+
     /// Whether all bytes were read.
     pub fn is_at_end(&self) -> bool {
         self.at >= self.bytes.len()

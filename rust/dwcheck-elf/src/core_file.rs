@@ -30,6 +30,7 @@ pub struct CoreFile<'data> {
     signal: Option<Signal>,
     mappings: Vec<Mapping<'data>>,
     vdso: Option<u64>,
+    entry: Option<u64>,
     segments: Vec<CoreSegment<'data>>,
 }
 
@@ -97,8 +98,8 @@ impl<'data> CoreFile<'data> {
                 }
             }
         }
-        let Notes { threads, signal, mappings, vdso, .. } = notes;
-        Ok(CoreFile { target, abi, threads, signal, mappings, vdso, segments })
+        let Notes { threads, signal, mappings, vdso, entry, .. } = notes;
+        Ok(CoreFile { target, abi, threads, signal, mappings, vdso, entry, segments })
     }
 
     /// The byte order and the address size.

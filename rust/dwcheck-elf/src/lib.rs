@@ -11,13 +11,25 @@
 #![warn(missing_docs)]
 
 pub mod abi;
+pub mod alone;
 pub mod bridge;
 mod bytes;
 pub mod core_file;
+pub mod debug_frame;
+pub mod expression;
+pub mod fault;
+pub mod frames;
 pub mod functions;
+pub mod inspect;
 mod layout;
+pub mod loclists;
+pub mod names;
 pub mod program;
 pub mod relocate;
 pub mod row;
+pub mod rules;
+pub mod stack;
+pub mod state_file;
 pub mod target;
+pub mod text;
 pub mod validate;

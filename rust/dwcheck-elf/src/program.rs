@@ -119,6 +119,11 @@ impl<'data> Program<'data> {
         self.kind
     }
 
+    /// The address of its first instruction, 0 if it has none.
+    pub fn entry(&self) -> u64 {
+        self.file.entry()
+    }
+
     /// The section `.debug_frame`, if the file has it and it has bytes.
     pub fn debug_frame(&self) -> Result<Option<Section<'data>>, ProgramError> {
         self.section(".debug_frame")

@@ -77,3 +77,18 @@ impl Target {
         }
     }
 }
+
+/// The same for the crate `dwcheck`.
+impl From<Target> for dwcheck::Target {
+    fn from(target: Target) -> Self {
+        let order = match target.order {
+            Order::Little => dwcheck::Order::Little,
+            Order::Big => dwcheck::Order::Big,
+        };
+        let address_size = match target.address_size {
+            AddressSize::Four => dwcheck::AddressSize::Four,
+            AddressSize::Eight => dwcheck::AddressSize::Eight,
+        };
+        dwcheck::Target { order, address_size }
+    }
+}

@@ -1,18 +1,22 @@
-//! Compares the rows of `.eh_frame` with those of the bridged bytes.
+//! Compares the rows of a section with those of the bytes that it was rewritten as.
 //!
-//! gimli reads both: the section as it is, and the bridged bytes as `.debug_frame`. The records of the section are
-//! found here by their lengths alone, and nothing is taken from the bridge but its bytes. So a record that the bridge
-//! lost, added or changed is a difference.
+//! [`validate_rows`] compares gimli's rows of the section with `dwcheck`'s rows of the bytes. [`validate`] has gimli
+//! read both, also where `dwcheck` refuses the bytes. The records of the section are found here by their lengths alone,
+//! and nothing is taken from the bridge but its bytes. So a record that the bridge lost, added or changed is a
+//! difference.
 
+mod dwcheck_rows;
 mod gimli_rows;
 
 use crate::bridge::{Bridged, EhFrame};
 use crate::bytes::Cursor;
+use crate::frames::Name;
 use crate::row::Row;
 use gimli::{CieOrFde, DebugFrame, UnwindSection};
 use gimli_rows::{compared_cies, BridgedSection, Original, OriginalEntry};
 use std::fmt;
 
+pub use dwcheck_rows::{validate_rows, DwcheckRows};
 pub use gimli_rows::GimliRows;
 
 /// What was compared.
@@ -31,7 +35,9 @@ pub struct Agreement {
 /// The first difference between the two sections.
 #[derive(Clone, Debug, PartialEq, Eq)]
 pub struct Difference {
-    /// The offset of the record in `.eh_frame`.
+    /// The section.
+    pub section: Name,
+    /// The offset of the record in the section.
     pub record: u64,
     /// What differs.
     pub what: What,
@@ -79,22 +85,28 @@ pub trait RowSource<'a> {
     fn next_row(&mut self, row: &mut Row<'a>) -> Result<bool, String>;
 }
 
-/// Compares rows one by one, and gives their number and whether both ended with the same error.
+/// Compares rows one by one, and gives their number and whether both ended with the same error. `rows` is room for one
+/// row of each.
 pub fn compare_rows<'a, 'b>(
     section: &mut impl RowSource<'a>,
     bridged: &mut impl RowSource<'b>,
+    rows: &mut (Row<'a>, Row<'b>),
 ) -> Result<(usize, bool), What> {
-    let (mut left, mut right) = (Row::default(), Row::default());
+    let (left, right) = rows;
     let mut number = 0;
     loop {
-        let (one, other) = (section.next_row(&mut left), bridged.next_row(&mut right));
+        let (one, other) = (section.next_row(left), bridged.next_row(right));
         match (&one, &other) {
-            (Ok(true), Ok(true)) if left == right => number += 1,
+            (Ok(true), Ok(true)) if same(left, right) => number += 1,
             (Ok(false), Ok(false)) => return Ok((number, false)),
             (Err(one), Err(other)) if one == other => return Ok((number, true)),
-            _ => return Err(What::Row { number, section: shown(&one, &left), bridged: shown(&other, &right) }),
+            _ => return Err(What::Row { number, section: shown(&one, left), bridged: shown(&other, right) }),
         }
     }
+}
+
+fn same<'r>(one: &Row<'r>, other: &Row<'r>) -> bool {
+    one == other
 }
 
 fn shown(outcome: &Result<bool, String>, row: &Row<'_>) -> String {
@@ -115,7 +127,7 @@ pub fn validate(section: &EhFrame<'_>, bridged: &Bridged) -> Result<Agreement, D
     let mut agreement = Agreement::default();
     let mut cursor = Cursor::new(section.bytes, section.target);
     while let Some(record) = next_record(&mut cursor) {
-        let fail = |what| Difference { record: record as u64, what };
+        let fail = |what| Difference { section: Name::EhFrame, record: record as u64, what };
         let theirs = entries.next().map_err(|error| fail(What::UnreadableBridged(error.to_string())))?;
         let theirs = theirs.ok_or_else(|| fail(What::Missing))?;
         let ours = original.entry(record).map_err(|error| fail(What::Unreadable(error.to_string())))?;
@@ -138,7 +150,7 @@ pub fn validate(section: &EhFrame<'_>, bridged: &Bridged) -> Result<Agreement, D
     }
     match entries.next() {
         Ok(None) => Ok(agreement),
-        _ => Err(Difference { record: section.bytes.len() as u64, what: What::Surplus }),
+        _ => Err(Difference { section: Name::EhFrame, record: section.bytes.len() as u64, what: What::Surplus }),
     }
 }
 
@@ -181,7 +193,7 @@ impl fmt::Display for What {
 
 impl fmt::Display for Difference {
     fn fmt(&self, f: &mut fmt::Formatter<'_>) -> fmt::Result {
-        write!(f, ".eh_frame record {:#x}: {}", self.record, self.what)
+        write!(f, "{} record {:#x}: {}", self.section, self.record, self.what)
     }
 }
 

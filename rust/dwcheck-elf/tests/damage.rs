@@ -5,6 +5,7 @@ mod common;
 use common::{has, Folder, C, CXX};
 use dwcheck_elf::bridge::{bridge, Edge, EhFrame, Options};
 use dwcheck_elf::core_file::{CoreFile, Files};
+use dwcheck_elf::inspect::{inspect, Check, Inspected, Verdict};
 use dwcheck_elf::program::Program;
 use dwcheck_elf::validate::{validate, What};
 use std::path::Path;
@@ -76,6 +77,19 @@ fn program(bytes: &[u8]) {
     let _ = (functions.parse("main+4"), program.debug_frame(), program.debug_loclists());
     if let Ok(Some(section)) = program.eh_frame() {
         frames(&program.eh_frame_of(&section));
+    }
+    match inspect(&program, Check { all: true, ..Check::default() }) {
+        Ok(sections) => sections.iter().for_each(told),
+        Err(error) => assert!(!error.to_string().is_empty()),
+    }
+}
+
+/// Each fault has a place in the section's bytes.
+fn told(section: &Inspected<'_>) {
+    if let (Verdict::Refused(defects), Some(frames)) = (&section.verdict, &section.frames) {
+        let end = frames.source().bytes.len() as u64;
+        assert!(!defects.is_empty());
+        assert!(defects.iter().all(|defect| defect.offset <= end && !defect.to_string().is_empty()), "{:?}", defects);
     }
 }
 

@@ -49,6 +49,7 @@ mod layout;
 mod lists;
 mod process;
 mod row;
+mod rows;
 mod state;
 mod steps;
 #[cfg(test)]
@@ -65,6 +66,7 @@ pub use fault::{Error, Fault, FaultKind, Section};
 pub use lists::{locations, Lookup};
 pub use process::Process;
 pub use row::{CfaRule, Row, Rule, Span};
+pub use rows::Rows;
 pub use state::{Block, Registers, State};
 pub use steps::{Step, Steps};
 pub use target::{AddressSize, Order, Target};

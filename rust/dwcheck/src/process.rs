@@ -4,6 +4,7 @@ use crate::caller::Caller;
 use crate::fault::Error;
 use crate::ffi;
 use crate::row::Row;
+use crate::rows::Rows;
 use crate::state::State;
 use crate::target::Target;
 use crate::walk::{Backtrace, Frame, Stop};
@@ -190,22 +191,39 @@ impl Process {
     /// # Ok::<(), dwcheck::Error>(())
     /// ```
     pub fn row(&self, address: u64) -> Option<Row> {
-        let mut row = ffi::Row::default();
-        let mut rules = [ffi::Rule::default(); ffi::MAX_RULES];
-        // SAFETY: the process is this thread's alone, and the others are ours.
+        let mut row = Row::empty();
+        let mut slots = [ffi::Rule::default(); ffi::MAX_RULES];
+        self.row_into(address, &mut slots, &mut row)?;
+        Some(row)
+    }
+
+    /// Looks rows up one after the other, in room that is taken once: for many addresses.
+    pub fn rows(&self) -> Rows<'_> {
+        Rows::new(self)
+    }
+
+    /// Writes the row of an address over another. `None` where no module has one.
+    pub(crate) fn row_into(
+        &self,
+        address: u64,
+        slots: &mut [ffi::Rule],
+        row: &mut Row,
+    ) -> Option<()> {
+        let mut raw = ffi::Row::default();
+        // SAFETY: the process is this thread's alone, the slots are borrowed alone, and the row is ours.
         let status = unsafe {
             ffi::dwcheck_row_at(
                 self.raw(),
                 address,
-                &mut row,
-                rules.as_mut_ptr(),
-                rules.len(),
+                &mut raw,
+                slots.as_mut_ptr(),
+                slots.len(),
             )
         };
         if status != ffi::DONE {
             return None;
         }
-        Row::of(&row, &rules)
+        row.set(&raw, slots)
     }
 
     /// The caller of the frame at an address, by the first module that has a row for it.

@@ -137,19 +137,29 @@ impl Row {
         Some(self.rules[place].1)
     }
 
-    /// What the library wrote. `None` where a register's number has more than 16 bits, which the
+    /// A row without addresses, to be written over.
+    pub(crate) fn empty() -> Row {
+        Row {
+            load_address: 0,
+            addresses: 0..0,
+            cfa: CfaRule::Other(0),
+            return_register: 0,
+            rules: Vec::new(),
+        }
+    }
+
+    /// Takes what the library wrote. `None` where a register's number has more than 16 bits, which the
     /// library never gives.
-    pub(crate) fn of(raw: &ffi::Row, rules: &[ffi::Rule]) -> Option<Row> {
+    pub(crate) fn set(&mut self, raw: &ffi::Row, rules: &[ffi::Rule]) -> Option<()> {
         let count = usize::try_from(raw.count).ok()?.min(rules.len());
-        Some(Row {
-            load_address: raw.load_address,
-            addresses: raw.start..raw.end,
-            cfa: CfaRule::of(&raw.cfa),
-            return_register: u16::try_from(raw.return_reg).ok()?,
-            rules: rules[..count]
-                .iter()
-                .map(|rule| (rule.reg, Rule::of(rule)))
-                .collect(),
-        })
+        self.load_address = raw.load_address;
+        self.addresses = raw.start..raw.end;
+        self.cfa = CfaRule::of(&raw.cfa);
+        self.return_register = u16::try_from(raw.return_reg).ok()?;
+        self.rules.clear();
+        let known = rules[..count].iter();
+        self.rules
+            .extend(known.map(|rule| (rule.reg, Rule::of(rule))));
+        Some(())
     }
 }

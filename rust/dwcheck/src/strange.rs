@@ -81,7 +81,8 @@ fn rows() {
         rule(ffi::RULE_EXPRESSION, -1),
         rule(ffi::RULE_EXPRESSION, i64::MAX),
     ];
-    let row = Row::of(&raw, &rules).unwrap();
+    let mut row = Row::empty();
+    row.set(&raw, &rules).unwrap();
     assert_eq!(row.cfa, CfaRule::Other(ffi::RULE_OFFSET));
     let found: Vec<Rule> = row.rules.iter().map(|(_, rule)| *rule).collect();
     assert_eq!(found[..3], [Rule::Other(0), Rule::Other(8), Rule::Other(6)]);
@@ -90,5 +91,5 @@ fn rows() {
         other => panic!("{:?}", other),
     }
     raw.return_reg = 0x10000;
-    assert_eq!(Row::of(&raw, &rules), None);
+    assert_eq!(row.set(&raw, &rules), None);
 }

@@ -1,4 +1,4 @@
-//! Faults by docs/PROFILE.md's table, and ABIs by its table of state lines.
+//! Faults by docs/PROFILE.md's table, and ABIs by docs/OUTPUT.md's table of `keep` and `sp`.
 
 use dwcheck::{Abi, FaultKind};
 

@@ -51,6 +51,22 @@ impl From<ReadError> for Reason {
 }
 
 impl Reason {
+    /// A name, as faults of `dwcheck` have: the fault's own where it is one of these.
+    pub fn name(&self) -> &'static str {
+        match self {
+            Reason::Truncated => "Truncated",
+            Reason::LebRange => "LebRange",
+            Reason::ReservedLength => "ReservedLength",
+            Reason::NoSuchCie => "NoSuchCie",
+            Reason::Version(_) => "Version",
+            Reason::Augmentation(_) => "Augmentation",
+            Reason::Encoding(_) | Reason::NoBase(_) => "PointerEncoding",
+            Reason::NegativeRange => "NegativeRange",
+            Reason::Unresolved => "Unresolved",
+            Reason::TooLong => "SectionTooLong",
+        }
+    }
+
     /// The error at a field of a record.
     pub(crate) fn at(self, record: usize, field: usize) -> BridgeError {
         BridgeError { record: record as u64, field: field as u64, reason: self }

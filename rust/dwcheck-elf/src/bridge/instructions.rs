@@ -4,10 +4,11 @@ use super::pointer;
 use super::records::{Bridge, CieParts};
 use super::Reason;
 use crate::bytes::{Cursor, ReadError};
+use crate::target::Target;
 
 /// The operands of an instruction, as far as their sizes go.
 #[derive(Clone, Copy, Debug, PartialEq, Eq)]
-enum Operands {
+pub(crate) enum Operands {
     None,
     Bytes(u64),
     Leb,
@@ -29,7 +30,7 @@ const DEF_CFA_OFFSET_SF: u8 = 0x13;
 const GNU_ARGS_SIZE: u8 = 0x2e;
 
 /// The operands of an instruction by its code, or nothing if the code isn't known.
-fn operands(code: u8) -> Option<Operands> {
+pub(crate) fn operands(code: u8) -> Option<Operands> {
     Some(match code {
         0x40..=0x7f | 0xc0..=0xff => Operands::None,
         0x80..=0xbf => Operands::Leb,
@@ -52,21 +53,60 @@ fn operands(code: u8) -> Option<Operands> {
     })
 }
 
-/// Moves past operands that aren't an encoded address.
-fn skip(cursor: &mut Cursor<'_>, operands: Operands) -> Result<(), ReadError> {
+/// Moves past operands, of which an address is written as in `.debug_frame`. Gives the length of a block.
+pub(crate) fn skip(cursor: &mut Cursor<'_>, operands: Operands, target: Target) -> Result<Option<usize>, ReadError> {
     match operands {
-        Operands::None | Operands::Address => Ok(()),
-        Operands::Bytes(count) => cursor.take(count).map(|_| ()),
-        Operands::Leb => cursor.skip_leb(),
-        Operands::TwoLebs => cursor.skip_leb().and_then(|()| cursor.skip_leb()),
-        Operands::Block => block(cursor),
-        Operands::LebAndBlock => cursor.skip_leb().and_then(|()| block(cursor)),
+        Operands::None => {}
+        Operands::Address => cursor.take(u64::from(target.address_size.bytes())).map(|_| ())?,
+        Operands::Bytes(count) => cursor.take(count).map(|_| ())?,
+        Operands::Leb => cursor.skip_leb()?,
+        Operands::TwoLebs => cursor.skip_leb().and_then(|()| cursor.skip_leb())?,
+        Operands::Block => return block(cursor).map(Some),
+        Operands::LebAndBlock => return cursor.skip_leb().and_then(|()| block(cursor)).map(Some),
     }
+    Ok(None)
 }
 
-fn block(cursor: &mut Cursor<'_>) -> Result<(), ReadError> {
+fn block(cursor: &mut Cursor<'_>) -> Result<usize, ReadError> {
     let length = cursor.uleb()?;
-    cursor.take(length).map(|_| ())
+    cursor.take(length).map(<[u8]>::len)
+}
+
+/// The name of an instruction by its code, as DWARF 5 has it in section 7.24, without `DW_CFA_`.
+pub(crate) fn name_of(code: u8) -> Option<&'static str> {
+    Some(match code {
+        0x40..=0x7f => "advance_loc",
+        0x80..=0xbf => "offset",
+        0xc0..=0xff => "restore",
+        0x00 => "nop",
+        SET_LOC => "set_loc",
+        0x02 => "advance_loc1",
+        0x03 => "advance_loc2",
+        0x04 => "advance_loc4",
+        0x05 => "offset_extended",
+        0x06 => "restore_extended",
+        0x07 => "undefined",
+        0x08 => "same_value",
+        0x09 => "register",
+        REMEMBER_STATE => "remember_state",
+        RESTORE_STATE => "restore_state",
+        DEF_CFA => "def_cfa",
+        DEF_CFA_REGISTER => "def_cfa_register",
+        DEF_CFA_OFFSET => "def_cfa_offset",
+        DEF_CFA_EXPRESSION => "def_cfa_expression",
+        0x10 => "expression",
+        0x11 => "offset_extended_sf",
+        DEF_CFA_SF => "def_cfa_sf",
+        DEF_CFA_OFFSET_SF => "def_cfa_offset_sf",
+        0x14 => "val_offset",
+        0x15 => "val_offset_sf",
+        0x16 => "val_expression",
+        0x1d => "MIPS_advance_loc8",
+        0x2d => "GNU_window_save",
+        GNU_ARGS_SIZE => "GNU_args_size",
+        0x2f => "GNU_negative_offset_extended",
+        _ => return None,
+    })
 }
 
 /// Whether the CFA has a rule, now and in the states that are remembered.
@@ -111,8 +151,12 @@ impl Bridge<'_> {
             let start = cursor.at();
             let whole = cursor.clone();
             let code = cursor.byte().unwrap_or(0);
-            let read = operands(code).map(|operands| skip(cursor, operands));
-            if read != Some(Ok(())) {
+            let read = match operands(code) {
+                // It is decoded below.
+                Some(Operands::Address) => Some(Ok(None)),
+                operands => operands.map(|operands| skip(cursor, operands, self.section.target)),
+            };
+            if !matches!(read, Some(Ok(_))) {
                 // dwcheck finds the same fault at the same instruction.
                 self.bytes.extend_from_slice(whole.rest());
                 *cursor = whole;

@@ -5,13 +5,15 @@ use crate::program::{Program, Segment};
 use std::collections::HashMap;
 use std::ffi::OsStr;
 use std::os::unix::ffi::OsStrExt;
-use std::path::PathBuf;
+use std::path::{Path, PathBuf};
 
 /// Where a module's ELF file is.
 #[derive(Clone, Copy, Debug, PartialEq, Eq)]
 pub enum Image<'a> {
     /// A mapped file, by its place in [`Files::all`], and its bytes.
     File(usize, &'a [u8]),
+    /// The program, of a core that doesn't say which files are mapped, and its bytes.
+    Program(&'a [u8]),
     /// The kernel's vDSO, which the core has in memory.
     Vdso(&'a [u8]),
 }
@@ -35,7 +37,7 @@ impl<'a> Image<'a> {
     /// The bytes of the ELF file.
     pub fn bytes(&self) -> &'a [u8] {
         match self {
-            Image::File(_, bytes) | Image::Vdso(bytes) => bytes,
+            Image::File(_, bytes) | Image::Program(bytes) | Image::Vdso(bytes) => bytes,
         }
     }
 }
@@ -66,6 +68,17 @@ impl CoreFile<'_> {
         self.mappings().iter().for_each(|mapping| finder.add(mapping));
         let loaded = finder.found.into_iter().filter(|candidate| candidate.has_code);
         loaded.map(|candidate| candidate.module).chain(self.vdso_module()).collect()
+    }
+
+    /// The program as a module, by where its first instruction is. It is for a core that doesn't say which files are
+    /// mapped, as those of qemu.
+    pub fn program_module<'a>(&self, path: &Path, bytes: &'a [u8]) -> Option<Module<'a>> {
+        let program = Program::read(bytes).ok().filter(|program| program.target() == self.target())?;
+        let bias = self.target().wrap(self.entry?.wrapping_sub(program.entry()));
+        let segments = program.segments();
+        let begin = segments.iter().map(|segment| segment.address).min()?.wrapping_add(bias);
+        let end = segments.iter().map(|segment| segment.address.saturating_add(segment.size)).max()?.wrapping_add(bias);
+        Some(Module { path: path.to_path_buf(), bias, begin, end, image: Image::Program(bytes) })
     }
 
     /// The vDSO, whose ELF file is in memory as a whole.

@@ -7,6 +7,9 @@ use crate::bytes::{Cursor, ReadError};
 use crate::target::{AddressSize, Target};
 use object::elf::{NT_AUXV, NT_FILE, NT_PRSTATUS, NT_SIGINFO};
 
+/// The address of the program's first instruction, in the auxiliary vector.
+const AT_ENTRY: u64 = 9;
+
 /// The address of the vDSO, in the auxiliary vector.
 const AT_SYSINFO_EHDR: u64 = 33;
 
@@ -43,11 +46,12 @@ pub(super) struct Notes<'data> {
     pub signal: Option<Signal>,
     pub mappings: Vec<Mapping<'data>>,
     pub vdso: Option<u64>,
+    pub entry: Option<u64>,
 }
 
 impl<'data> Notes<'data> {
     pub fn new(target: Target, abi: &'static Abi) -> Self {
-        Notes { target, abi, threads: Vec::new(), signal: None, mappings: Vec::new(), vdso: None }
+        Notes { target, abi, threads: Vec::new(), signal: None, mappings: Vec::new(), vdso: None, entry: None }
     }
 
     /// Reads a note. One that isn't needed is left out.
@@ -60,7 +64,8 @@ impl<'data> Notes<'data> {
             NT_SIGINFO => signal(bytes, self.target).map(|signal| self.signal = self.signal.or(Some(signal))),
             NT_FILE => self.files(bytes),
             NT_AUXV => {
-                self.vdso = vdso(bytes, self.target);
+                self.vdso = auxiliary(bytes, self.target, AT_SYSINFO_EHDR);
+                self.entry = auxiliary(bytes, self.target, AT_ENTRY);
                 Ok(())
             }
             _ => Ok(()),
@@ -102,13 +107,13 @@ fn signal(bytes: &[u8], target: Target) -> Result<Signal, ReadError> {
     Ok(Signal { number, code, address })
 }
 
-/// Finds the vDSO's address in the auxiliary vector, pairs of a type and a value.
-fn vdso(bytes: &[u8], target: Target) -> Option<u64> {
+/// Finds a value in the auxiliary vector, pairs of a type and a value.
+fn auxiliary(bytes: &[u8], target: Target, wanted: u64) -> Option<u64> {
     let word = target.address_size.bytes();
     let mut cursor = Cursor::new(bytes, target);
     loop {
         let (kind, value) = (cursor.number(word).ok()?, cursor.number(word).ok()?);
-        if kind == AT_SYSINFO_EHDR {
+        if kind == wanted {
             return Some(value);
         }
     }

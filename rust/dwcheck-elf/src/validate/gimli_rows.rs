@@ -9,13 +9,13 @@ use gimli::{
     RegisterRule, RunTimeEndian, UnwindContext, UnwindContextStorage, UnwindSection, UnwindTable, UnwindTableRow,
 };
 
-type Bytes<'a> = EndianSlice<'a, RunTimeEndian>;
+pub(super) type Bytes<'a> = EndianSlice<'a, RunTimeEndian>;
 type Context<'a> = Box<UnwindContext<Bytes<'a>, Bounded>>;
 type Cie<'a> = CommonInformationEntry<Bytes<'a>>;
 type Fde<'a> = FrameDescriptionEntry<Bytes<'a>>;
 
 /// Room for rules and remembered rows, more than dwcheck takes. gimli's own room for remembered rows has no bound.
-struct Bounded;
+pub(super) struct Bounded;
 
 impl<R: Reader> UnwindContextStorage<R> for Bounded {
     type Rules = [(Register, RegisterRule<R>); 192];
@@ -24,8 +24,8 @@ impl<R: Reader> UnwindContextStorage<R> for Bounded {
 
 /// The rows of one FDE by gimli. Rows that cover no address are left out.
 pub struct GimliRows<'data, 'a, 'ctx> {
-    table: UnwindTable<'a, 'ctx, Bytes<'data>, Bounded>,
-    target: Target,
+    pub(super) table: UnwindTable<'a, 'ctx, Bytes<'data>, Bounded>,
+    pub(super) target: Target,
 }
 
 /// The section as it is.
@@ -50,15 +50,23 @@ pub(super) struct BridgedSection<'a> {
     context: Context<'a>,
 }
 
-impl<'a> Original<'a> {
-    pub fn new(section: &EhFrame<'a>) -> Self {
-        let mut bases = BaseAddresses::default().set_eh_frame(section.address);
-        if let Some(address) = section.text {
+impl EhFrame<'_> {
+    /// What pointers are relative to, as gimli takes it.
+    pub(super) fn bases(&self) -> BaseAddresses {
+        let mut bases = BaseAddresses::default().set_eh_frame(self.address);
+        if let Some(address) = self.text {
             bases = bases.set_text(address);
         }
-        if let Some(address) = section.data {
+        if let Some(address) = self.data {
             bases = bases.set_got(address);
         }
+        bases
+    }
+}
+
+impl<'a> Original<'a> {
+    pub fn new(section: &EhFrame<'a>) -> Self {
+        let bases = section.bases();
         let mut read = gimli::EhFrame::new(section.bytes, section.target.gimli_order());
         read.set_address_size(section.target.address_size.bytes());
         let context = Box::new(UnwindContext::new_in());
@@ -96,7 +104,8 @@ impl<'a> Original<'a> {
         let theirs = counterpart.rows(&other.section, &other.bases, &mut other.context);
         match (ours, theirs) {
             (Ok(ours), Ok(theirs)) => {
-                compare_rows(&mut GimliRows { table: ours, target }, &mut GimliRows { table: theirs, target })
+                let (mut ours, mut theirs) = (GimliRows { table: ours, target }, GimliRows { table: theirs, target });
+                compare_rows(&mut ours, &mut theirs, &mut Default::default())
             }
             (Err(one), Err(other)) if one == other => Ok((0, true)),
             (Err(error), _) => Err(What::Unreadable(error.to_string())),

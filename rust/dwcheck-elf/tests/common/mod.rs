@@ -1,6 +1,8 @@
 //! What the tests share: folders, tools and what they print.
 #![allow(dead_code)]
 
+pub mod run;
+
 use std::path::{Path, PathBuf};
 use std::process::Command;
 

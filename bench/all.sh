@@ -1,0 +1,45 @@
+#!/usr/bin/env bash
+# Runs each comparison briefly: random input with the models, walks of real programs with gdb and perf, of nine targets under
+# qemu, bad input, and the pages' commands. Says of each whether it passed, and how long it took; what failed is in the file
+# that is named. Ten minutes with an idle processor. It needs the packages that pages.py and walk/targets.py name.
+#     bench/all.sh DWCHECK [DWCHECK_ELF]
+# LIBRARY=crates/dw_times/out/libdw_times.a adds walks beside libunwind (`rt lib` in crates/dw_times makes it),
+# TESTS=crates/dw_tests/out/dw_tests_tests each request for memory refused (`rt test` in crates/dw_tests makes it).
+# SEED chooses the random cases, 1 if not given; COUNT is how many there are of each kind, 2000 if not given.
+set -u
+program=$(realpath "$1") elf=${2:+$(realpath "$2")} seed=${SEED:-1} count=${COUNT:-2000}
+here=$(cd "$(dirname "$0")" && pwd)
+work=$(mktemp -d)
+passed=0 failed=0
+
+run() { # a name and a command
+    name=$1
+    shift
+    begun=$SECONDS
+    if "$@" > "$work/$name" 2>&1 < /dev/null; then
+        said=passed passed=$((passed + 1))
+    else
+        said="FAILED, see $work/$name" failed=$((failed + 1))
+    fi
+    printf '%-12s %4d s  %s\n' "$name" $((SECONDS - begun)) "$said"
+}
+
+for kind in expressions lists sections pairs; do
+    run "$kind" "$here/comparisons/compare_$kind.py" "$program" "$count" "$seed"
+done
+run walks "$here/comparisons/walks.py" "$program" "$count" "$seed" --jobs 2
+run modules "$here/comparisons/modules.py" "$program" "$count" "$seed" --jobs 2
+run reference "$here/comparisons/modules.py" "$program" "$count" "$seed" --jobs 2 --reference
+run walk "$here/walk/run.sh" "$program" 20
+run libraries "$here/walk/modules.sh" "$program" 8
+run targets "$here/walk/targets.py" "$program"
+run hostile "$here/stress/hostile.py" "$program"
+run pages "$here/pages.py" "$program" ${elf:+--elf "$elf"}
+if [ -n "${TESTS:-}" ]; then
+    run memory "$here/stress/refused_memory.py" "$(realpath "$TESTS")" "$program"
+fi
+if [ -n "${LIBRARY:-}" ]; then
+    run libunwind env LIBRARY="$(realpath "$LIBRARY")" "$here/beside_libunwind/run.sh"
+fi
+echo "$passed passed, $failed failed"
+if [ "$failed" -eq 0 ]; then rm -r "$work"; else exit 1; fi

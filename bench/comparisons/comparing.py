@@ -1,0 +1,52 @@
+"""What the comparing scripts share: random cases, what the program writes of each against what is wanted, and counts of what came.
+
+A script calls compare(usage, make, case_of): its usage, what makes a maker of random things from a seed, and what gives a maker's
+next case.
+"""
+import collections
+import subprocess
+import sys
+import tempfile
+
+# Files by name; runs of the program on them; and the kinds under which the case is counted.
+Case = collections.namedtuple("Case", "files runs kinds")
+# What to say where the texts differ; the program's words but for flags, in which a file's name means its path; the text wanted.
+Run = collections.namedtuple("Run", "said words wanted")
+
+
+def refusal(text):
+    """The kind of a text that is a refusal."""
+    return " ".join(text.split()[:3:2]) if text.startswith("refused") else None
+
+
+def written(program, words):
+    """What it writes to standard output, and then to standard error."""
+    run = subprocess.run([program, *words], capture_output=True, text=True, check=False)
+    return run.stdout + run.stderr
+
+
+def check(program, maker, case, folder):
+    for name, content in case.files.items():
+        with open(f"{folder}/{name}", "wb") as file:
+            file.write(content)
+    flags = ["--big"] * maker.big + ["--addr4"] * (maker.size == 4)
+    for run in case.runs:
+        command, *words = [f"{folder}/{word}" if word in case.files else word for word in run.words]
+        text = written(program, [command, *flags, *words])
+        if text != run.wanted:
+            raise SystemExit(f"{run.said}\nwanted {run.wanted}\nwritten {text}")
+
+
+def compare(usage, make, case_of):
+    if len(sys.argv) not in (3, 4):
+        raise SystemExit(usage)
+    program, count, seed = sys.argv[1], int(sys.argv[2]), int(sys.argv[3]) if len(sys.argv) == 4 else 0
+    maker, counts = make(seed), collections.Counter()
+    with tempfile.TemporaryDirectory() as folder:
+        for _ in range(count):
+            maker.start()
+            case = case_of(maker)
+            check(program, maker, case, folder)
+            counts.update(case.kinds)
+    for kind in sorted(counts):
+        print(f"{counts[kind]:8} {kind}")

@@ -1,0 +1,192 @@
+#!/usr/bin/env python3
+"""Runs dwcheck-elf on ELF files and core files whose bytes were changed at random.
+
+    bench/elf_damage.py DWCHECK_ELF COUNT SEED [--jobs N] [--kinds elf,core]
+
+COUNT files of each kind are made of a few that gcc and gdb make: bytes are changed in headers, in sections and anywhere,
+and some files are cut. Each run has to end by itself within 60 seconds, with a status of its own, and without a panic;
+a survey has to have a line of JSON for each file. ELF files go through `survey --all --lists` in folders of 250, and some of them
+through `check`, `rows` and `row` too; core files through `stack`. It needs gcc, gdb and binutils.
+"""
+import argparse
+import json
+import os
+import random
+import shutil
+import subprocess
+import sys
+import tempfile
+from collections import Counter
+from concurrent.futures import ThreadPoolExecutor
+
+SOURCE = """
+#include <stdlib.h>
+__attribute__((noinline)) int deep(int n) {
+    volatile char *p = __builtin_alloca(n * 16 + 16);
+    p[0] = n;
+    if (n == 0) abort();
+    return deep(n - 1) + p[0];
+}
+int main(int argc, char **argv) { return deep(argc + 3); }
+"""
+# Without what is refused in location lists.
+PLAIN = "-O2 -g -gdwarf-5 -gno-variable-location-views -fno-var-tracking-assignments -fvar-tracking -fno-var-tracking-uninit"
+IN_A_FOLDER = 250
+ODD = [0, 1, 0x7F, 0x80, 0xFF, 0xFE, 0x10, 0x9B, 0x2E, 0x0D]
+
+
+def run(words, folder, statuses, timeout=60):
+    """Runs the program, and says what is wrong with how it ends, if anything."""
+    try:
+        ran = subprocess.run(words, cwd=folder, capture_output=True, timeout=timeout)
+    except subprocess.TimeoutExpired:
+        return None, "no end"
+    if ran.returncode not in statuses or b"panicked" in ran.stderr:
+        return ran, f"status {ran.returncode}: {ran.stderr[-300:]!r}"
+    return ran, None
+
+
+def made(folder):
+    """The files that others are made of: ELF files with the ranges of their sections, and core files."""
+    with open(os.path.join(folder, "a.c"), "w") as file:
+        file.write(SOURCE)
+    lines = [
+        f"gcc {PLAIN} a.c -o linked",
+        f"gcc {PLAIN} -fno-asynchronous-unwind-tables -gz a.c -o compressed",
+        f"gcc {PLAIN} -c a.c -o object.o",
+        "gcc -O2 -static -Wl,-s a.c -o crash",
+        "gdb --batch -ex 'set startup-with-shell off' -ex run -ex 'gcore core' ./crash < /dev/null",
+    ]
+    for line in lines:
+        subprocess.run(line, shell=True, cwd=folder, check=True, capture_output=True)
+    elf = {}
+    for name in ["linked", "compressed", "object.o"]:
+        with open(os.path.join(folder, name), "rb") as file:
+            elf[name] = file.read()
+    with open(os.path.join(folder, "core"), "rb") as file:
+        core = file.read()
+    return elf, core
+
+
+def sections(bytes_of_file):
+    """Where the bytes of sections are that matter here, and where section headers are."""
+    offset = int.from_bytes(bytes_of_file[40:48], "little")
+    count = int.from_bytes(bytes_of_file[60:62], "little")
+    found = [(0, 64), (offset, offset + 64 * count)]
+    for number in range(count):
+        header = bytes_of_file[offset + 64 * number:][:64]
+        kind, start, size = (int.from_bytes(header[a:b], "little") for a, b in [(4, 8), (24, 32), (32, 40)])
+        if kind != 8 and 0 < size < 20000:
+            found.append((start, start + size))
+    return found
+
+
+def changed(numbers, original, ranges):
+    """A copy with some bytes changed in one of the ranges or anywhere, or cut."""
+    copy = bytearray(original)
+    for _ in range(numbers.choice([1, 1, 2, 3, 8])):
+        begin, end = numbers.choice(ranges) if numbers.random() < 0.9 else (0, len(copy))
+        place = numbers.randrange(begin, min(end, len(copy)))
+        kind = numbers.randrange(4)
+        if kind == 0:
+            copy[place] ^= 1 << numbers.randrange(8)
+        elif kind == 1:
+            copy[place] = numbers.choice(ODD)
+        elif kind == 2:
+            copy[place] = numbers.randrange(256)
+        else:
+            number = numbers.choice([0, 1, 0xFFFFFFFF, 1 << 32, (1 << 64) - 1, 0xFFFFFFF0, len(copy), len(copy) - 1])
+            copy[place:place + 8] = number.to_bytes(8, "little")
+    if numbers.random() < 0.05:
+        del copy[numbers.randrange(len(copy)):]
+    return bytes(copy)
+
+
+def elf_files(program, made_elf, work, seed, count):
+    """A folder of changed ELF files. Gives what came of them, and what was wrong."""
+    numbers = random.Random(seed)
+    folder = tempfile.mkdtemp(dir=work)
+    all_ranges = {name: sections(original) for name, original in made_elf.items()}
+    expected = set()
+    for number in range(count):
+        name = numbers.choice(sorted(made_elf))
+        changed_bytes = changed(numbers, made_elf[name], all_ranges[name])
+        with open(os.path.join(folder, f"{number:04}"), "wb") as file:
+            file.write(changed_bytes)
+        if changed_bytes[:4] == b"\x7fELF":
+            expected.add(changed_bytes)
+    problems, came = [], Counter()
+    ran, wrong = run([program, "survey", "--all", "--lists", "--notes", "--json", "--jobs", "1", "."], folder, (0, 1, 3))
+    lines = [json.loads(line) for line in ran.stdout.splitlines()] if ran else []
+    if wrong or len(lines) != len(expected) + 1:
+        problems.append(f"seed {seed}: survey: {wrong or f'{len(lines)} lines of {len(expected) + 1}'}")
+    for line in lines[:-1]:
+        accepted = [section["accepted"] for section in line.get("sections", [])]
+        came["not judged" if "error" in line else "refused" if False in accepted else "accepted"] += 1
+    for number in range(0, count, 50):
+        name = f"{number:04}"
+        for words in [["check", "--all", "--notes", name], ["rows", name], ["row", name, "main+4"], ["locs", name, "0xc", "0x0", "deep"]]:
+            _, wrong = run([program, *words], folder, (0, 1, 2, 3))
+            if wrong:
+                problems.append(f"seed {seed}: {words}: {wrong}")
+    if not problems:
+        shutil.rmtree(folder)
+    return came, problems
+
+
+def core_files(program, core, work, seed, count):
+    """Changed core files, one after the other."""
+    numbers = random.Random(seed)
+    header = int.from_bytes(core[32:40], "little")
+    table = (header, header + 56 * int.from_bytes(core[56:58], "little"))
+    notes = int.from_bytes(core[header + 8:header + 16], "little")
+    notes = (notes, notes + int.from_bytes(core[header + 32:header + 40], "little"))
+    problems, came = [], Counter()
+    path = os.path.join(work, f"core-{seed}")
+    for number in range(count):
+        with open(path, "wb") as file:
+            file.write(changed(numbers, core, [(0, 64), table, notes, notes, notes]))
+        ran, wrong = run([program, "stack", "--limit", "100", "crash", path], work, (0, 3))
+        if wrong:
+            problems.append(f"seed {seed}: core {number}: {wrong}")
+            shutil.copy(path, f"{path}-{number}")
+        came[f"status {ran.returncode}" if ran else "no end"] += 1
+    os.remove(path)
+    return came, problems
+
+
+def main():
+    words = argparse.ArgumentParser()
+    words.add_argument("program")
+    words.add_argument("count", type=int)
+    words.add_argument("seed", type=int)
+    words.add_argument("--jobs", type=int, default=1)
+    words.add_argument("--kinds", default="elf,core")
+    words = words.parse_args()
+    program = os.path.abspath(words.program)
+    work = tempfile.mkdtemp()
+    elf, core = made(work)
+    problems = []
+    for kind in words.kinds.split(","):
+        task, given = (elf_files, elf) if kind == "elf" else (core_files, core)
+        starts = range(0, words.count, IN_A_FOLDER)
+        with ThreadPoolExecutor(words.jobs) as pool:
+            tasks = [
+                pool.submit(task, program, given, work, words.seed * 1_000_000 + start, min(IN_A_FOLDER, words.count - start))
+                for start in starts
+            ]
+            came = Counter()
+            for one in tasks:
+                counts, wrong = one.result()
+                came.update(counts)
+                problems += wrong
+        print(f"{kind}: {words.count} files: {dict(came)}")
+    print("\n".join(problems[:20]))
+    print(f"{len(problems)} problems" + (f", in {work}" if problems else ""))
+    if not problems:
+        shutil.rmtree(work)
+    return 1 if problems else 0
+
+
+if __name__ == "__main__":
+    sys.exit(main())

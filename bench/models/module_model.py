@@ -1,0 +1,109 @@
+#!/usr/bin/env python3
+"""Walks through a process of several modules: nothing here was taken from the program.
+
+A module is a section and a load address. That of an address is the first of which an FDE covers the address less its load address, modulo
+2^w: the section of FRAME with that of --load, then those of --module in their order. ADDRESS, frames' addresses, CFAs and registers are
+numbers of the process; what an expression pushes by DW_OP_addr is as linked, and so is the text of `row`. Frame 0 is looked up at its
+address, each other one at its address less one, where there is one. All else is by the other models.
+
+As a program of its own the model answers as `dwcheck` has to, so that bench/walk/modules.sh can hold it against gdb, in seconds a walk:
+
+    bench/models/module_model.py backtrace FRAME ADDRESS STATE LIMIT [--load 0xL] [--module 0xL=FILE].. [--big] [--addr4]
+    bench/models/module_model.py unwind FRAME ADDRESS STATE [..]
+    bench/models/module_model.py row FRAME ADDRESS [..]
+"""
+import argparse
+import sys
+
+from expression_model import Fault
+from frame_model import checked, one_text, row_at
+from pair_model import caller_text, refused_text, state_of
+from walk_model import walk, walk_text
+
+
+def as_linked(address, load, size):
+    return (address - load) % (1 << 8 * size)
+
+
+def module_of(modules, address, size):
+    """The number of the first module that has a row there, and the row with its CIE; or None."""
+    for number, (found, load) in enumerate(modules):
+        place = row_at(found, as_linked(address, load, size))
+        if place is not None:
+            return number, place
+    return None
+
+
+def rows_in_modules(modules, size):
+    """What finds a row among modules, each of which is the FDEs that a check found and a load address."""
+    def find(address):
+        hit = module_of(modules, address, size) if address >= 0 else None
+        return hit and hit[1]
+    return find
+
+
+def backtrace_text(modules, address, state, limit, big, size):
+    return walk_text(*walk(rows_in_modules(modules, size), address, state, limit, big, size))
+
+
+def unwind_text(modules, address, state, big, size):
+    return caller_text(rows_in_modules(modules, size)(address), state, big, size)
+
+
+def row_text(module, address, size):
+    found, load = module
+    return one_text(found, as_linked(address, load, size), size)
+
+
+def judged(sections, big, size):
+    """What was found in each, or the fault of the first that is refused."""
+    try:
+        return [checked(section, big, size)[1] for section in sections]
+    except Fault as fault:
+        return fault
+
+
+# The program.
+
+def content_of(path):
+    with open(path, "rb") as file:
+        return file.read()
+
+
+def answer(given, size):
+    loads, paths = [int(given.load, 16)], [given.frame]
+    for word in given.module:
+        load, _, path = word.partition("=")
+        loads.append(int(load, 16))
+        paths.append(path)
+    found = judged([content_of(path) for path in paths], given.big, size)
+    if isinstance(found, Fault):
+        return refused_text(found, "frame")
+    modules, address = list(zip(found, loads)), int(given.address, 16)
+    if given.command == "row":
+        return row_text(modules[0], address, size)
+    state = state_of(content_of(given.state), size)
+    if given.command == "unwind":
+        return unwind_text(modules, address, state, given.big, size)
+    return backtrace_text(modules, address, state, int(given.limit), given.big, size)
+
+
+def main():
+    words = argparse.ArgumentParser(description=__doc__, formatter_class=argparse.RawDescriptionHelpFormatter)
+    commands = words.add_subparsers(dest="command", required=True)
+    for name, positional in [("backtrace", ["state", "limit"]), ("unwind", ["state"]), ("row", [])]:
+        command = commands.add_parser(name)
+        for word in ["frame", "address", *positional]:
+            command.add_argument(word)
+        command.add_argument("--load", default="0x0")
+        command.add_argument("--module", action="append", default=[])
+        command.add_argument("--big", action="store_true")
+        command.add_argument("--addr4", action="store_true")
+    given = words.parse_args()
+    text = answer(given, 4 if given.addr4 else 8)
+    sys.stdout.write(text)
+    raise SystemExit(text.startswith("refused"))
+
+
+if __name__ == "__main__":
+    main()

@@ -1,0 +1,125 @@
+#!/usr/bin/env python3
+"""Refuses each request for memory in turn: of the tests of refused memory, and of the program.
+
+    bench/stress/refused_memory.py TESTS DWCHECK        some minutes
+
+TESTS is the tests' program that `rt test` leaves, crates/dw_tests/out/dw_tests_tests, DWCHECK the program. It needs cc and glibc.
+
+A library that is loaded before the C library's refuses the Nth request. Each test of `refused_memory` then has to pass for every N from 1
+until none is refused: the call answers that memory ran out, or it does without that request and its answer is right. So do the check
+of lists where a short way lacks memory for an expression, and `certify` where its short way lacks memory for the states: the general way
+then does all of it. Each line says how many requests were done without. Each run of the program has to end with its text, or with status 3, the line "out of memory", and a beginning
+of its text; and with nothing written where its text is a refusal's line.
+"""
+import os
+import subprocess
+import sys
+import tempfile
+
+REFUSE = r"""
+#include <stddef.h>
+#include <stdlib.h>
+#include <unistd.h>
+extern void *__libc_malloc(size_t);
+extern void *__libc_realloc(void *, size_t);
+static long left = -1;
+__attribute__((constructor)) static void start(void) { left = atol(getenv("REFUSED")); }
+static int refuses(void) { return left > 0 && --left == 0 && write(atoi(getenv("REFUSED_TO")), "!", 1) == 1; }
+void *malloc(size_t size) { return refuses() ? NULL : __libc_malloc(size); }
+void *realloc(void *old, size_t size) { return refuses() ? NULL : __libc_realloc(old, size); }
+"""
+CIE = "14000000 ffffffff 04 00 08 00 01 78 10 0c0708 9001 00000000 "
+HEAD = "1c000000 00000000 0010000000000000 2000000000000000 "
+FILES = {
+    "frame": CIE + HEAD + "41 0e10 8602 43 0d06",
+    "expressions": CIE + HEAD + "10 06 02 2308 16 07 00",
+    "bad": CIE + HEAD + "61 00000000000000",
+    "lists": "12000000 0500 08 00 00000000 04 00 10 01 50 05 02 309f 00",
+    "sum": "32 33 22",
+    "pieces": "50 9304 9304",
+    "state": "reg 6 0x7f00\nmem 0x7f00 0080000000000000\nmem 0x7f08 3412000000000000\n",
+    "round": "keep 6\nreg 6 0x7f00\nmem 0x7f00 007f000000000000\nmem 0x7f08 1010000000000000\n",
+}
+RUNS = [
+    "rows --hex frame", "rows --hex expressions", "rows --hex bad", "row --hex frame 0x1010", "check --hex frame lists",
+    "check --hex expressions lists", "check --hex bad lists", "locs --hex lists 0xc 0x1000 0x1005", "eval --hex location sum",
+    "eval --hex location pieces --state state", "unwind --hex frame 0x1010 state",
+    "backtrace --hex frame 0x1010 round 20", "rows frame", "check frame lists", "eval foo sum", "rows",
+]
+WANT = "dwcheck: out of memory\n"
+WITHOUT = "done without"
+
+
+def run(library, words, number, folder):
+    """What a run with its Nth request refused writes to standard output and standard error, its status, and whether one was refused."""
+    reading, writing = os.pipe()
+    surroundings = {**os.environ, "LD_PRELOAD": library, "REFUSED": str(number), "REFUSED_TO": str(writing)}
+    ended = subprocess.run(words, cwd=folder, env=surroundings, pass_fds=[writing], capture_output=True, check=False)
+    os.close(writing)
+    with os.fdopen(reading, "rb") as refused:
+        return ended.stdout, ended.stderr, ended.returncode, refused.read() != b""
+
+
+def each(library, words, folder, judge):
+    """Refuses each request of a command in turn, and gives how many there are, and how many of them were done without."""
+    number, without = 1, 0
+    while True:
+        *ended, refused = run(library, words, number, folder)
+        if not refused:
+            return number - 1, without
+        said = judge(*ended)
+        if said not in (None, WITHOUT):
+            raise SystemExit(f"{' '.join(words[1:])}, request {number}: {said}\n{ended}")
+        without += said == WITHOUT
+        number += 1
+
+
+def judge_test(out, err, status):
+    if status != 0 or b"test result: ok" not in out:
+        return "the test fails"
+    return None if b"refused" in out else WITHOUT
+
+
+def judge_program(whole):
+    wanted, text, ample = whole
+
+    def judge(out, err, status):
+        if (out, err, status) == (wanted, text, ample):
+            return WITHOUT
+        if status != 3 or err.decode() != WANT:
+            return "another end"
+        return None if wanted.startswith(out) and (not out or not out.startswith(b"refused")) else "another text"
+
+    return judge
+
+
+def done(without):
+    return f", {without} of them done without" if without else ""
+
+
+def main():
+    if len(sys.argv) != 3:
+        raise SystemExit(__doc__)
+    tests, program = map(os.path.abspath, sys.argv[1:])
+    with tempfile.TemporaryDirectory() as folder:
+        library = f"{folder}/refuse.so"
+        subprocess.run(["cc", "-O2", "-shared", "-fPIC", "-x", "c", "-o", library, "-"], input=REFUSE.encode(), check=True)
+        for name, content in FILES.items():
+            with open(f"{folder}/{name}", "w", encoding="ascii") as file:
+                file.write(content)
+        listed = subprocess.run([tests, "--list"], capture_output=True, text=True, check=True).stdout
+        counts = {}
+        for line in listed.splitlines():
+            if line.startswith("refused_memory::"):
+                name = line.removesuffix(": test")
+                counts[name], without = each(library, [tests, name], folder, judge_test)
+                print(f"{counts[name]:6} {name}{done(without)}")
+        if counts["refused_memory::look_ups_take_no_memory"] != counts["refused_memory::check_of_expressions_lacks_memory"]:
+            raise SystemExit("look-ups take memory")
+        for words in RUNS:
+            *whole, _ = run(library, [program, *words.split()], 0, folder)
+            count, without = each(library, [program, *words.split()], folder, judge_program(whole))
+            print(f"{count:6} {words}{done(without)}")
+
+
+main()

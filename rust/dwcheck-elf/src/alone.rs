@@ -1,0 +1,154 @@
+//! Judges the records of a section one by one, where the section is refused.
+
+use crate::bridge::RecordKind;
+use crate::debug_frame::{records, Kind, Record};
+use crate::frames::Frames;
+use crate::target::Target;
+use dwcheck::{Fault, FaultKind, Section};
+use std::collections::{BTreeMap, HashMap, HashSet};
+
+/// Every fault of a section that is refused: of each CIE alone, of each FDE alone with its CIE, and of those that share
+/// addresses, by their offsets in the bytes that `dwcheck` takes.
+///
+/// An FDE whose CIE is refused isn't judged. `first` is the fault of the whole section.
+pub fn every_fault(frames: &Frames<'_>, first: Fault) -> Vec<Fault> {
+    let records = records(frames.bytes(), frames.target());
+    let judge = Alone { bytes: frames.bytes(), target: frames.target() };
+    let cies = records.iter().filter(|record| matches!(record.kind, Kind::Cie { .. }));
+    let judged: HashMap<u64, (&Record, Option<Fault>)> =
+        cies.map(|record| (record.offset as u64, (record, judge.cie(record)))).collect();
+    let mut faults: Vec<_> = judged.values().filter_map(|(_, fault)| *fault).collect();
+    for record in &records {
+        if let Kind::Fde { cie, .. } = record.kind {
+            match judged.get(&cie) {
+                Some((cie, None)) => faults.extend(judge.fde(cie, record)),
+                Some((_, Some(_))) => {}
+                None => faults.extend(judge.orphan(record)),
+            }
+        }
+    }
+    faults.extend(overlaps(frames));
+    faults.sort_by_key(|fault| (fault.offset, fault.number()));
+    faults.dedup_by_key(|fault| (fault.offset, fault.kind));
+    if !faults.iter().any(|fault| fault.offset == first.offset && fault.kind == first.kind) {
+        faults.insert(0, first);
+    }
+    faults
+}
+
+/// What is left of a section without the records that are refused.
+#[derive(Clone, Debug)]
+pub struct AcceptedPart {
+    /// The bytes, with a CIE that no FDE uses in the place of each of these records.
+    pub bytes: Vec<u8>,
+    /// How many records are left out: those with faults, and FDEs whose CIE has one.
+    pub left_out: usize,
+}
+
+/// A section without the records that are refused, for those who walk: the other FDEs are as good as those of a section
+/// without faults. `first` is the fault of the whole section.
+pub fn accepted_part(frames: &Frames<'_>, first: Fault) -> AcceptedPart {
+    let all = records(frames.bytes(), frames.target());
+    let mut refused: HashSet<usize> = HashSet::new();
+    for fault in every_fault(frames, first) {
+        let offset = fault.offset as usize;
+        let before = all.partition_point(|record| match fault.kind {
+            FaultKind::Overlap => record.offset <= offset,
+            _ => record.offset < offset,
+        });
+        refused.extend(before.checked_sub(1).and_then(|before| all.get(before)).map(|record| record.offset));
+    }
+    let is_left_out = |record: &&Record| match record.kind {
+        Kind::Fde { cie, .. } => refused.contains(&record.offset) || refused.contains(&(cie as usize)),
+        _ => refused.contains(&record.offset),
+    };
+    let mut bytes = frames.bytes().to_vec();
+    bytes.truncate(all.last().map_or(0, |record| record.end));
+    let mut left_out = 0;
+    for record in all.iter().filter(is_left_out) {
+        left_out += 1;
+        // The id, version 1, no augmentation, factors 1, return address register 0; then nops.
+        let id = usize::from(record.offset_size());
+        let body = bytes.get_mut(record.body..record.end).unwrap_or(&mut []);
+        body.iter_mut().enumerate().for_each(|(place, byte)| {
+            *byte = match place {
+                _ if place < id => 0xff,
+                _ if place == id || place == id + 2 || place == id + 3 => 1,
+                _ => 0,
+            };
+        });
+    }
+    AcceptedPart { bytes, left_out }
+}
+
+/// Judges records one by one.
+struct Alone<'a> {
+    bytes: &'a [u8],
+    target: Target,
+}
+
+impl Alone<'_> {
+    fn part(&self, record: &Record) -> &[u8] {
+        self.bytes.get(record.offset..record.end).unwrap_or(&[])
+    }
+
+    fn fault(&self, section: &[u8]) -> Option<Fault> {
+        dwcheck::check(section, &[], self.target.into()).err()?.fault()
+    }
+
+    fn cie(&self, cie: &Record) -> Option<Fault> {
+        self.fault(self.part(cie)).map(|fault| moved(fault, 0, cie.offset))
+    }
+
+    /// The section of a CIE and one FDE.
+    fn fde(&self, cie: &Record, fde: &Record) -> Option<Fault> {
+        let mut section = self.part(cie).to_vec();
+        let start = section.len();
+        section.extend_from_slice(self.part(fde));
+        let pointer = start + fde.body - fde.offset;
+        section.iter_mut().skip(pointer).take(usize::from(fde.offset_size())).for_each(|byte| *byte = 0);
+        self.fault(&section).map(|fault| moved(fault, start, fde.offset))
+    }
+
+    /// An FDE without a CIE.
+    fn orphan(&self, fde: &Record) -> Option<Fault> {
+        self.fault(self.part(fde)).map(|fault| moved(fault, 0, fde.offset))
+    }
+}
+
+/// A fault of a section where a record is at `from`, in one where it is at `to`.
+fn moved(fault: Fault, from: usize, to: usize) -> Fault {
+    Fault { offset: (fault.offset as usize).saturating_sub(from).saturating_add(to) as u32, ..fault }
+}
+
+/// Each FDE that shares an address with one before it.
+fn overlaps(frames: &Frames<'_>) -> Vec<Fault> {
+    let mut taken: BTreeMap<u64, u64> = BTreeMap::new();
+    let mut found = Vec::new();
+    for record in frames.bridged().records() {
+        let (begin, end) = match record.kind {
+            RecordKind::Fde { begin, size, .. } if size > 0 => (begin, begin.saturating_add(size)),
+            _ => continue,
+        };
+        let meets = |(start, stop): (&u64, &u64)| *start < end && begin < *stop;
+        if taken.range(..end).next_back().map_or(false, meets) {
+            let offset = record.bridged as u32;
+            found.push(Fault { kind: FaultKind::Overlap, offset, section: Section::Frame });
+        }
+        insert(&mut taken, begin, end);
+    }
+    found
+}
+
+/// Adds a range to ranges that have no address in common, and makes one of those that meet.
+fn insert(taken: &mut BTreeMap<u64, u64>, mut begin: u64, mut end: u64) {
+    while let Some((start, stop)) = taken.range(..=end).next_back().map(|(start, stop)| (*start, *stop)) {
+        if stop < begin {
+            break;
+        }
+        taken.remove(&start);
+        begin = begin.min(start);
+        end = end.max(stop);
+    }
+    taken.insert(begin, end);
+}

@@ -1,0 +1,141 @@
+//! `check`: judges the sections of programs.
+
+use crate::arguments::CheckWords;
+use crate::end::{Done, Failure};
+use crate::opened::{program, read, write_defect};
+use dwcheck_elf::bridge::{Bridged, Counts};
+use dwcheck_elf::debug_frame::{instructions, records, Kind};
+use dwcheck_elf::expression::Measure;
+use dwcheck_elf::frames::{Frames, Name};
+use dwcheck_elf::inspect::{inspect, source_offset, Inspected, Verdict};
+use dwcheck_elf::loclists::Contents;
+use dwcheck_elf::program::Program;
+use dwcheck_elf::target::Target;
+use dwcheck_elf::text::Offset;
+use dwcheck_elf::validate::Agreement;
+use std::io::{self, Write};
+use std::path::Path;
+
+/// Checks each program in turn.
+pub fn check(words: &CheckWords, out: &mut impl Write) -> Result<Done, Failure> {
+    let mut done = Done::Accepted;
+    for path in &words.programs {
+        match check_one(words, path, out) {
+            Ok(one) => done = done.max(one),
+            Err(failure @ Failure::File(_)) if words.programs.len() > 1 => {
+                out.flush()?;
+                let _ = writeln!(io::stderr(), "dwcheck-elf: {}", failure);
+                done = Done::Unread;
+            }
+            Err(failure) => return Err(failure),
+        }
+    }
+    Ok(done)
+}
+
+fn check_one(words: &CheckWords, path: &Path, out: &mut impl Write) -> Result<Done, Failure> {
+    let data = read(path)?;
+    let program = program(path, &data)?;
+    let check = words.reading.check(words.all);
+    let sections = inspect(&program, check).map_err(|error| Failure::judging(path, &error))?;
+    let mut done = Done::Accepted;
+    if sections.is_empty() {
+        writeln!(out, "{}: no .debug_frame, .eh_frame or .debug_loclists", path.display())?;
+    }
+    for section in &sections {
+        if let Verdict::Refused(defects) = &section.verdict {
+            defects.iter().try_for_each(|defect| write_defect(out, path, defect))?;
+            done = Done::Refused;
+        } else {
+            writeln!(out, "{}: {}: accepted", path.display(), section.name)?;
+            write_accepted(out, &program, section)?;
+        }
+        if let Some(frames) = section.frames.as_ref().filter(|_| words.notes.notes) {
+            write_notes(out, section.name, frames.bridged())?;
+        }
+    }
+    Ok(done)
+}
+
+/// Writes how much a section holds, and a line for each of its expressions.
+fn write_accepted(out: &mut impl Write, program: &Program<'_>, section: &Inspected<'_>) -> io::Result<()> {
+    match (&section.verdict, &section.frames) {
+        (Verdict::Frames(agreement), Some(frames)) => write_frames(out, agreement, frames),
+        (Verdict::Lists(contents), _) => match program.debug_loclists() {
+            Ok(Some(lists)) => write_lists(out, contents, &lists.bytes, program.target()),
+            _ => Ok(()),
+        },
+        _ => Ok(()),
+    }
+}
+
+/// An expression of a frame section.
+struct Located {
+    /// Where it begins in the bytes that `dwcheck` takes.
+    begin: usize,
+    length: usize,
+    is_cfa: bool,
+}
+
+/// The expressions of a frame section, those of CIEs first.
+fn expressions(frames: &Frames<'_>) -> Vec<Located> {
+    let target = frames.target();
+    let mut all = records(frames.bytes(), target);
+    all.sort_by_key(|record| !matches!(record.kind, Kind::Cie { .. }));
+    let programs = all.into_iter().filter_map(|record| record.program);
+    let each = programs.flat_map(|program| instructions(frames.bytes(), program, target));
+    let located = each.filter_map(|instruction| {
+        let (begin, length) = instruction.expression?;
+        Some(Located { begin, length, is_cfa: instruction.code == 0x0f })
+    });
+    located.collect()
+}
+
+fn write_frames(out: &mut impl Write, agreement: &Agreement, frames: &Frames<'_>) -> io::Result<()> {
+    let Agreement { cies, fdes, rows, .. } = agreement;
+    let expressions = expressions(frames);
+    writeln!(out, "cies {} fdes {} rows {} expressions {}", cies, fdes, rows, expressions.len())?;
+    for Located { begin, length, is_cfa } in expressions {
+        let bytes = frames.bytes().get(begin..begin + length).unwrap_or(&[]);
+        let Measure { operations, depth } = Measure::of(bytes, u64::from(!is_cfa), frames.target());
+        let kind = if is_cfa { "cfa" } else { "register" };
+        let offset = Offset(source_offset(frames, begin as u64));
+        writeln!(out, "expr {} {} {} ops {} depth {}", frames.name(), offset, kind, operations, depth)?;
+    }
+    Ok(())
+}
+
+fn write_lists(out: &mut impl Write, contents: &Contents, lists: &[u8], target: Target) -> io::Result<()> {
+    let Contents { tables, lists: count, expressions } = contents;
+    writeln!(out, "tables {} lists {} expressions {}", tables, count, expressions.len())?;
+    for (begin, length) in expressions {
+        let bytes = lists.get(*begin..begin + length).unwrap_or(&[]);
+        let Measure { operations, depth } = Measure::of(bytes, 0, target);
+        let offset = Offset(*begin as u64);
+        writeln!(out, "expr {} {} location ops {} depth {}", Name::DebugLoclists, offset, operations, depth)?;
+    }
+    Ok(())
+}
+
+/// Says what was dropped or changed, a line for each kind of thing.
+pub fn write_notes(out: &mut impl Write, name: Name, bridged: &Bridged) -> io::Result<()> {
+    let Counts { terminators, augmentations, personalities, data_areas, signal_frames, args_sizes, set_locs, .. } =
+        *bridged.counts();
+    let notes = [
+        (augmentations, "augmentations of CIEs dropped"),
+        (personalities, "CIEs had a personality routine"),
+        (data_areas, "CIEs had language-specific data in their FDEs"),
+        (signal_frames, "FDEs are of signal frames, whose caller was interrupted and didn't call"),
+        (args_sizes, "DW_CFA_GNU_args_size dropped"),
+        (set_locs, "DW_CFA_set_loc decoded"),
+        (terminators, "records of length 0 left out"),
+        (
+            bridged.mended().len(),
+            "DW_CFA_def_cfa_register before a rule for the CFA, read as DW_CFA_def_cfa with offset 0",
+        ),
+    ];
+    notes
+        .iter()
+        .filter(|(count, _)| *count > 0)
+        .try_for_each(|(count, what)| writeln!(out, "note {}: {} {}", name, count, what))
+}

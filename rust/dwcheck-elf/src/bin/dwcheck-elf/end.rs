@@ -1,0 +1,69 @@
+//! How a run ends.
+
+use dwcheck_elf::inspect::InspectError;
+use std::fmt;
+use std::io;
+use std::path::Path;
+
+/// A run that came to its end.
+#[derive(Clone, Copy, Debug, PartialEq, Eq, PartialOrd, Ord)]
+pub enum Done {
+    /// All was accepted, or an answer was given.
+    Accepted,
+    /// Something was refused.
+    Refused,
+    /// Something couldn't be read or judged; it was said on standard error.
+    Unread,
+}
+
+/// Why a run ends early.
+#[derive(Debug)]
+pub enum Failure {
+    /// An argument or a line of a state file is wrong.
+    Argument(String),
+    /// A file can't be read, or not judged.
+    File(String),
+    /// The output can't be written.
+    Output,
+}
+
+impl Done {
+    /// The exit status.
+    pub fn status(self) -> u8 {
+        match self {
+            Done::Accepted => 0,
+            Done::Refused => 1,
+            Done::Unread => 3,
+        }
+    }
+}
+
+impl Failure {
+    /// The exit status.
+    pub fn status(&self) -> u8 {
+        match self {
+            Failure::Argument(_) => 2,
+            Failure::File(_) | Failure::Output => 3,
+        }
+    }
+
+    /// A file whose sections can't be judged.
+    pub fn judging(path: &Path, error: &InspectError) -> Self {
+        Failure::File(format!("{}: {}", path.display(), error))
+    }
+}
+
+impl From<io::Error> for Failure {
+    fn from(_: io::Error) -> Self {
+        Failure::Output
+    }
+}
+
+impl fmt::Display for Failure {
+    fn fmt(&self, f: &mut fmt::Formatter<'_>) -> fmt::Result {
+        match self {
+            Failure::Argument(text) | Failure::File(text) => f.write_str(text),
+            Failure::Output => f.write_str("cannot write"),
+        }
+    }
+}

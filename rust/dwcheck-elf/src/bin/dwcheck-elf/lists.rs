@@ -1,0 +1,65 @@
+//! `locs`: looks a location list up.
+
+use crate::arguments::LocsWords;
+use crate::end::{Done, Failure};
+use crate::opened::{address, number_argument, program, read, write_defect};
+use crate::walks::state_file;
+use dwcheck::{evaluate, locations, Error, ExpressionKind, Lookup, Span};
+use dwcheck_elf::expression::Measure;
+use dwcheck_elf::fault::Defect;
+use dwcheck_elf::state_file::StateFile;
+use dwcheck_elf::target::Target;
+use dwcheck_elf::text::{Offset, Outcomes};
+use std::io::Write;
+
+/// Shows each expression that holds, and what it comes to.
+pub fn locs(words: &LocsWords, out: &mut impl Write) -> Result<Done, Failure> {
+    let data = read(&words.program)?;
+    let program = program(&words.program, &data)?;
+    let target = program.target();
+    let functions = program.functions();
+    let list = number_argument(&words.list, target)?;
+    let list =
+        u32::try_from(list).map_err(|_| Failure::Argument("bad argument: the list is past 0xffffffff".to_string()))?;
+    let base = address(&words.base, target, &functions, 0)?;
+    let address = address(&words.address, target, &functions, 0)?;
+    let state = words.state.as_ref().map_or(Ok(StateFile::default()), |path| state_file(path, target))?;
+    let lists =
+        program.debug_loclists().map_err(|error| Failure::File(format!("{}: {}", words.program.display(), error)))?;
+    let bytes = lists.as_ref().map_or(&[][..], |lists| &lists.bytes);
+    let found = match locations(bytes, target.into(), &Lookup { list, base, address }) {
+        Ok(found) => found,
+        Err(Error::Refused(fault)) => {
+            write_defect(out, &words.program, &Defect::of_lists(bytes, fault, target))?;
+            return Ok(Done::Refused);
+        }
+        Err(error) => return Err(Failure::File(format!("{}: .debug_loclists: {}", words.program.display(), error))),
+    };
+    match found.as_deref() {
+        None => writeln!(out, "no list")?,
+        Some([]) => writeln!(out, "none")?,
+        Some(found) => {
+            for span in found {
+                write_outcome(out, bytes, *span, target, &state)?;
+            }
+        }
+    }
+    Ok(Done::Accepted)
+}
+
+fn write_outcome(
+    out: &mut impl Write,
+    lists: &[u8],
+    span: Span,
+    target: Target,
+    file: &StateFile,
+) -> Result<(), Failure> {
+    let expression = span.of(lists).unwrap_or(&[]);
+    let blocks = file.blocks();
+    let evaluation = evaluate(expression, ExpressionKind::Location, target.into(), &file.context, &file.state(&blocks));
+    let evaluation = evaluation.map_err(|error| Failure::File(error.to_string()))?;
+    let depth = Measure::of(expression, 0, target).depth;
+    writeln!(out, "expr {}", Offset(span.offset))?;
+    write!(out, "{}", Outcomes { target, evaluation: &evaluation, depth })?;
+    Ok(())
+}

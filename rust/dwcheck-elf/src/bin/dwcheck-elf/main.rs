@@ -1,0 +1,53 @@
+//! Checks the unwind tables of ELF programs, shows their rows, unwinds by them, and prints the stacks of core files.
+
+mod arguments;
+mod check;
+mod end;
+mod lists;
+mod opened;
+mod rows;
+mod stack;
+mod survey;
+mod walks;
+
+use arguments::{Command, Words};
+use clap::Parser;
+use end::{Done, Failure};
+use std::io::{self, BufWriter, Write};
+use std::process::ExitCode;
+
+fn main() -> ExitCode {
+    let words = match Words::try_parse() {
+        Ok(words) => words,
+        Err(error) => {
+            // Where standard error is closed nobody reads it.
+            let _ = error.print();
+            return ExitCode::from(if error.use_stderr() { 2 } else { 0 });
+        }
+    };
+    let mut out = BufWriter::new(io::stdout().lock());
+    let ended = run(words.command, &mut out).and_then(|done| {
+        out.flush()?;
+        Ok(done)
+    });
+    match ended {
+        Ok(done) => ExitCode::from(done.status()),
+        Err(failure) => {
+            let _ = writeln!(io::stderr(), "dwcheck-elf: {}", failure);
+            ExitCode::from(failure.status())
+        }
+    }
+}
+
+fn run(command: Command, out: &mut impl Write) -> Result<Done, Failure> {
+    match command {
+        Command::Check(words) => check::check(&words, out),
+        Command::Rows(words) => rows::rows(&words, out),
+        Command::Row(words) => rows::row(&words, out),
+        Command::Unwind(words) => walks::unwind(&words, out),
+        Command::Backtrace(words) => walks::backtrace(&words, out),
+        Command::Locs(words) => lists::locs(&words, out),
+        Command::Stack(words) => stack::stack(&words, out),
+        Command::Survey(words) => survey::survey(&words, out),
+    }
+}

@@ -1,0 +1,85 @@
+//! Programs that are read, and what is asked of them.
+
+use crate::end::Failure;
+use dwcheck::{Error, Process};
+use dwcheck_elf::bridge::Options;
+use dwcheck_elf::fault::Defect;
+use dwcheck_elf::frames::Frames;
+use dwcheck_elf::functions::Functions;
+use dwcheck_elf::inspect::{inspect_frame_sections, Check, InspectError, Verdict};
+use dwcheck_elf::names::Spot;
+use dwcheck_elf::program::Program;
+use dwcheck_elf::state_file::address as number;
+use dwcheck_elf::target::Target;
+use std::fs::File;
+use std::io::{self, Read, Write};
+use std::path::Path;
+
+/// Reads a file. Others than regular ones, as pipes, are read to their end.
+pub fn read(path: &Path) -> Result<Vec<u8>, Failure> {
+    let content = || -> io::Result<Vec<u8>> {
+        let mut bytes = Vec::new();
+        File::open(path)?.read_to_end(&mut bytes)?;
+        Ok(bytes)
+    };
+    content().map_err(|error| Failure::File(format!("cannot read {}: {}", path.display(), error)))
+}
+
+/// Reads the headers of an ELF file.
+pub fn program<'data>(path: &Path, data: &'data [u8]) -> Result<Program<'data>, Failure> {
+    Program::read(data).map_err(|error| Failure::File(format!("{}: {}", path.display(), error)))
+}
+
+/// The frame sections of a program that are accepted and whose rows were compared, or the first that is refused.
+pub fn accepted_frames<'data>(
+    path: &Path,
+    program: &Program<'data>,
+    options: Options,
+) -> Result<Result<Vec<Frames<'data>>, Defect>, Failure> {
+    let check = Check { bridge: options, all: false };
+    let sections = inspect_frame_sections(program, check).map_err(|error| Failure::judging(path, &error))?;
+    let mut accepted = Vec::new();
+    for section in sections {
+        if let Verdict::Refused(mut defects) = section.verdict {
+            return Ok(Err(defects.swap_remove(0)));
+        }
+        accepted.extend(section.frames);
+    }
+    Ok(Ok(accepted))
+}
+
+/// Writes what is refused: where it is, and the rule.
+pub fn write_defect(out: &mut impl Write, path: &Path, defect: &Defect) -> io::Result<()> {
+    writeln!(out, "{}: {}", path.display(), defect)?;
+    writeln!(out, "    {}", defect.rule)
+}
+
+/// Adds sections to a process, at one load address.
+pub fn add(process: &mut Process, path: &Path, frames: &[Frames<'_>], load: u64) -> Result<(), Failure> {
+    let failed = |name, error: Error| Failure::judging(path, &InspectError::Dwcheck(name, error));
+    frames.iter().try_for_each(|one| one.add_to(process, load).map_err(|error| failed(one.name(), error)))
+}
+
+/// The name of the function that an address is in, in parentheses after a space, or nothing.
+pub fn named(functions: &Functions<'_>, address: u64) -> String {
+    Spot::at(functions, address).map_or_else(String::new, |spot| format!(" ({})", spot))
+}
+
+/// A number that is an argument.
+pub fn number_argument(text: &str, target: Target) -> Result<u64, Failure> {
+    number(text, target).ok_or_else(|| Failure::Argument(format!("bad argument: {} isn't an address as 0x1130", text)))
+}
+
+/// An address as loaded: a number, or a function of the program and perhaps an offset.
+pub fn address(text: &str, target: Target, functions: &Functions<'_>, load: u64) -> Result<u64, Failure> {
+    if let Some(number) = number(text, target) {
+        return Ok(number);
+    }
+    if text.starts_with("0x") {
+        return number_argument(text, target);
+    }
+    match functions.parse(text) {
+        Ok(address) => Ok(target.wrap(address.wrapping_add(load))),
+        Err(error) => Err(Failure::Argument(format!("bad argument: {}", error))),
+    }
+}

@@ -1,0 +1,112 @@
+//! `rows` and `row`: show unwind rows.
+
+use crate::arguments::{RowWords, RowsWords};
+use crate::check::write_notes;
+use crate::end::{Done, Failure};
+use crate::opened::{accepted_frames, add, address, named, number_argument, program, read, write_defect};
+use dwcheck::Process;
+use dwcheck_elf::debug_frame::{records, Kind, Record};
+use dwcheck_elf::frames::Frames;
+use dwcheck_elf::functions::Functions;
+use dwcheck_elf::inspect::source_offset;
+use dwcheck_elf::row::Row;
+use dwcheck_elf::text::{Address, Offset, RowLine};
+use dwcheck_elf::validate::{DwcheckRows, RowSource};
+use std::collections::HashMap;
+use std::io::Write;
+
+/// Shows all FDEs and rows of a program.
+pub fn rows(words: &RowsWords, out: &mut impl Write) -> Result<Done, Failure> {
+    let data = read(&words.program)?;
+    let program = program(&words.program, &data)?;
+    let accepted = accepted_frames(&words.program, &program, words.reading.options())?;
+    let accepted = match accepted {
+        Ok(accepted) => accepted,
+        Err(defect) => {
+            write_defect(out, &words.program, &defect)?;
+            return Ok(Done::Refused);
+        }
+    };
+    let functions = program.functions();
+    for frames in &accepted {
+        let mut process = Process::new();
+        add(&mut process, &words.program, std::slice::from_ref(frames), 0)?;
+        writeln!(out, "section {}", frames.name())?;
+        write_section(out, frames, &process, &functions)?;
+        if words.notes.notes {
+            write_notes(out, frames.name(), frames.bridged())?;
+        }
+    }
+    Ok(Done::Accepted)
+}
+
+fn write_section(
+    out: &mut impl Write,
+    frames: &Frames<'_>,
+    process: &Process,
+    functions: &Functions<'_>,
+) -> Result<(), Failure> {
+    let records = records(frames.bytes(), frames.target());
+    let returns: HashMap<u64, u64> = records
+        .iter()
+        .filter_map(|record| match record.kind {
+            Kind::Cie { return_register } => Some((record.offset as u64, return_register?)),
+            _ => None,
+        })
+        .collect();
+    for record in &records {
+        if let Record { kind: Kind::Fde { cie, range: Some((begin, size)) }, .. } = *record {
+            let target = frames.target();
+            let end = begin.saturating_add(size);
+            let offset = Offset(source_offset(frames, record.offset as u64));
+            let cie_offset = Offset(source_offset(frames, cie));
+            let (first, last) = (Address(target, begin), Address(target, end));
+            let register = returns.get(&cie).copied().unwrap_or(0);
+            let name = named(functions, begin);
+            writeln!(out, "fde {} cie {} {}..{} ra r{}{}", offset, cie_offset, first, last, register, name)?;
+            write_rows(out, frames, DwcheckRows::whole(process, frames.bytes(), begin, end))?;
+        }
+    }
+    Ok(())
+}
+
+fn write_rows(out: &mut impl Write, frames: &Frames<'_>, mut rows: DwcheckRows<'_>) -> Result<(), Failure> {
+    let mut row = Row::default();
+    while rows.next_row(&mut row).map_err(Failure::File)? {
+        writeln!(out, "{}", RowLine(frames.target(), &row))?;
+    }
+    Ok(())
+}
+
+/// Shows the row of an address, by the first section that has one.
+pub fn row(words: &RowWords, out: &mut impl Write) -> Result<Done, Failure> {
+    let data = read(&words.program)?;
+    let program = program(&words.program, &data)?;
+    let functions = program.functions();
+    let target = program.target();
+    let load = number_argument(&words.load, target)?;
+    let loaded = address(&words.address, target, &functions, load)?;
+    let linked = target.wrap(loaded.wrapping_sub(load));
+    let accepted = match accepted_frames(&words.program, &program, words.reading.options())? {
+        Ok(accepted) => accepted,
+        Err(defect) => {
+            write_defect(out, &words.program, &defect)?;
+            return Ok(Done::Refused);
+        }
+    };
+    for frames in &accepted {
+        let mut process = Process::new();
+        add(&mut process, &words.program, std::slice::from_ref(frames), 0)?;
+        if process.row(linked).is_some() {
+            let mut row = Row::default();
+            let end = linked.saturating_add(1);
+            let found = DwcheckRows::whole(&process, frames.bytes(), linked, end).next_row(&mut row);
+            found.map_err(Failure::File)?;
+            writeln!(out, "section {}", frames.name())?;
+            writeln!(out, "{}{}", RowLine(target, &row), named(&functions, linked))?;
+            return Ok(Done::Accepted);
+        }
+    }
+    writeln!(out, "none")?;
+    Ok(Done::Accepted)
+}

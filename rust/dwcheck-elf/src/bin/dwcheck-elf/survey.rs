@@ -1,0 +1,144 @@
+//! `survey`: checks all ELF files in folders.
+
+mod files;
+mod json;
+mod totals;
+
+use crate::arguments::SurveyWords;
+use crate::end::{Done, Failure};
+use crate::opened::write_defect;
+use dwcheck_elf::bridge::Counts;
+use dwcheck_elf::fault::Defect;
+use dwcheck_elf::frames::Name;
+use dwcheck_elf::inspect::{inspect, inspect_frame_sections, Check, Inspected, Verdict};
+use dwcheck_elf::program::Program;
+use dwcheck_elf::validate::Agreement;
+use files::{content, Files};
+use indicatif::{ProgressBar, ProgressStyle};
+use rayon::prelude::*;
+use std::io::{self, Write};
+use std::path::PathBuf;
+use totals::Totals;
+
+/// What gimli and dwcheck need of a thread's stack, with room to spare.
+const STACK: usize = 8 << 20;
+
+/// What came of a file.
+pub struct Surveyed {
+    path: PathBuf,
+    /// The machine's number (`e_machine`), if the file's headers can be read.
+    machine: Option<u16>,
+    outcome: Result<Vec<Section>, String>,
+}
+
+/// What came of a section.
+pub struct Section {
+    name: Name,
+    bytes: usize,
+    /// What it holds, where it was accepted.
+    held: Held,
+    /// What is wrong with it, where it was refused.
+    defects: Vec<Defect>,
+    counts: Counts,
+    mended: usize,
+}
+
+/// How much an accepted section holds.
+#[derive(Clone, Copy, Debug)]
+pub enum Held {
+    Frames {
+        cies: usize,
+        fdes: usize,
+        rows: usize,
+    },
+    Lists {
+        lists: usize,
+        expressions: usize,
+    },
+    /// It was refused.
+    Unknown,
+}
+
+/// Checks all files, and writes those that are refused.
+pub fn survey(words: &SurveyWords, out: &mut impl Write) -> Result<Done, Failure> {
+    let pool = rayon::ThreadPoolBuilder::new().num_threads(words.jobs.unwrap_or(0)).stack_size(STACK);
+    let pool = pool.build().map_err(|error| Failure::File(format!("no threads: {}", error)))?;
+    let files = pool.install(|| Files::once_each(&words.paths));
+    let bar = progress(files.paths.len() as u64);
+    let check = words.reading.check(words.all);
+    let surveyed: Vec<_> = pool.install(|| {
+        let each = files.paths.par_iter().with_max_len(1).map(|path| {
+            let surveyed = inspected(path.clone(), check, words.lists);
+            bar.inc(1);
+            surveyed
+        });
+        each.collect()
+    });
+    bar.finish_and_clear();
+    let totals = Totals::of(&files, &surveyed);
+    if words.json {
+        json::write(out, &files, &surveyed, &totals)?;
+    } else {
+        write_refused(out, &files, &surveyed)?;
+        totals.write(out, words.notes.notes)?;
+    }
+    Ok(totals.done())
+}
+
+/// A bar on standard error, if that is a terminal.
+fn progress(count: u64) -> ProgressBar {
+    let bar = ProgressBar::new(count);
+    let style = ProgressStyle::with_template("{wide_bar} {pos}/{len} {eta}");
+    style.map_or(bar.clone(), |style| bar.with_style(style))
+}
+
+fn inspected(path: PathBuf, check: Check, has_lists: bool) -> Surveyed {
+    let data = match content(&path) {
+        Ok(data) => data,
+        Err(error) => return Surveyed { path, machine: None, outcome: Err(format!("cannot read: {}", error)) },
+    };
+    let program = match Program::read(&data) {
+        Ok(program) => program,
+        Err(error) => return Surveyed { path, machine: None, outcome: Err(error.to_string()) },
+    };
+    let sections = if has_lists { inspect(&program, check) } else { inspect_frame_sections(&program, check) };
+    let sections = sections.map_err(|error| error.to_string());
+    let outcome = sections.map(|sections| sections.into_iter().map(Section::of).collect());
+    Surveyed { path, machine: Some(program.machine()), outcome }
+}
+
+impl Section {
+    fn of(inspected: Inspected<'_>) -> Self {
+        let Inspected { name, bytes, frames, verdict } = inspected;
+        let bridged = frames.as_ref().map(|frames| frames.bridged());
+        let counts = bridged.map_or(Counts::default(), |bridged| *bridged.counts());
+        let mended = bridged.map_or(0, |bridged| bridged.mended().len());
+        let (held, defects) = match verdict {
+            Verdict::Frames(Agreement { cies, fdes, rows, .. }) => (Held::Frames { cies, fdes, rows }, Vec::new()),
+            Verdict::Lists(found) => {
+                (Held::Lists { lists: found.lists, expressions: found.expressions.len() }, Vec::new())
+            }
+            Verdict::Refused(defects) => (Held::Unknown, defects),
+        };
+        Section { name, bytes, held, defects, counts, mended }
+    }
+}
+
+/// Writes two lines for each fault, and on standard error a line for each file that can't be read or judged.
+fn write_refused(out: &mut impl Write, files: &Files, surveyed: &[Surveyed]) -> io::Result<()> {
+    for (path, error) in &files.unread {
+        let _ = writeln!(io::stderr(), "dwcheck-elf: cannot read {}: {}", path.display(), error);
+    }
+    for Surveyed { path, outcome, .. } in surveyed {
+        match outcome {
+            Ok(sections) => {
+                let mut defects = sections.iter().flat_map(|section| &section.defects);
+                defects.try_for_each(|defect| write_defect(out, path, defect))?;
+            }
+            Err(error) => {
+                let _ = writeln!(io::stderr(), "dwcheck-elf: {}: {}", path.display(), error);
+            }
+        }
+    }
+    Ok(())
+}

@@ -1,0 +1,157 @@
+//! The ELF files in folders, once each.
+
+use rayon::prelude::*;
+use std::collections::hash_map::RandomState;
+use std::collections::{HashMap, HashSet};
+use std::fs::{File, Metadata};
+use std::hash::{BuildHasher, Hasher};
+use std::io::{self, Read};
+use std::os::unix::fs::MetadataExt;
+use std::path::{Path, PathBuf};
+
+/// A file with more bytes isn't read: the system has files that stand for all of memory.
+const LARGEST: u64 = 4 << 30;
+
+/// What an ELF file begins with.
+const MAGIC: &[u8; 4] = b"\x7fELF";
+
+/// ELF files, each of other bytes.
+#[derive(Debug, Default)]
+pub struct Files {
+    /// Where they are, in order.
+    pub paths: Vec<PathBuf>,
+    /// How many more there are with the bytes of one of these.
+    pub repeated: usize,
+    /// Files and folders that can't be read, and why.
+    pub unread: Vec<(PathBuf, String)>,
+}
+
+/// A regular file.
+struct Candidate {
+    path: PathBuf,
+    size: u64,
+}
+
+/// Goes through folders. Links in them aren't followed, so no folder comes twice.
+#[derive(Default)]
+struct Walk {
+    found: Vec<Candidate>,
+    seen: HashSet<(u64, u64)>,
+    links: usize,
+    unread: Vec<(PathBuf, String)>,
+}
+
+impl Files {
+    /// The ELF files among paths and in folders below them. Of files with the same bytes the first is taken.
+    pub fn once_each(paths: &[PathBuf]) -> Self {
+        let mut walk = Walk::default();
+        paths.iter().for_each(|path| walk.start(path));
+        let Walk { found, links, mut unread, .. } = walk;
+        let checked: Vec<_> = found.into_par_iter().map(|one| (is_elf(&one.path), one)).collect();
+        let mut elf = Vec::new();
+        for (answer, candidate) in checked {
+            match answer {
+                Ok(true) => elf.push(candidate),
+                Ok(false) => {}
+                Err(error) => unread.push((candidate.path, error.to_string())),
+            }
+        }
+        let marks = marks(&elf);
+        let count = elf.len();
+        let mut seen = HashSet::new();
+        let first =
+            elf.into_iter().zip(marks).filter(|(one, mark)| mark.map_or(true, |mark| seen.insert((one.size, mark))));
+        let paths: Vec<_> = first.map(|(one, _)| one.path).collect();
+        Files { repeated: links + count - paths.len(), paths, unread }
+    }
+}
+
+impl Walk {
+    /// Adds a file or a folder that was named. A link is followed.
+    fn start(&mut self, path: &Path) {
+        match path.metadata() {
+            Ok(metadata) => self.add(path.to_path_buf(), &metadata),
+            Err(error) => self.unread.push((path.to_path_buf(), error.to_string())),
+        }
+    }
+
+    fn add(&mut self, path: PathBuf, metadata: &Metadata) {
+        if !metadata.is_dir() && !(metadata.is_file() && metadata.len() > 0) {
+            return;
+        }
+        if !self.seen.insert((metadata.dev(), metadata.ino())) {
+            self.links += usize::from(metadata.is_file() && is_elf(&path).unwrap_or(false));
+        } else if metadata.is_dir() {
+            self.folder(&path);
+        } else {
+            self.found.push(Candidate { path, size: metadata.len() });
+        }
+    }
+
+    /// Goes through a folder and those in it, by name.
+    fn folder(&mut self, path: &Path) {
+        let listed = path.read_dir().and_then(|entries| entries.collect::<io::Result<Vec<_>>>());
+        let mut entries = match listed {
+            Ok(entries) => entries,
+            Err(error) => return self.unread.push((path.to_path_buf(), error.to_string())),
+        };
+        entries.sort_by_key(|entry| entry.file_name());
+        for entry in entries {
+            match entry.metadata() {
+                Ok(metadata) => self.add(entry.path(), &metadata),
+                Err(error) => self.unread.push((entry.path(), error.to_string())),
+            }
+        }
+    }
+}
+
+fn is_elf(path: &Path) -> io::Result<bool> {
+    let mut start = Vec::with_capacity(MAGIC.len());
+    File::open(path)?.take(MAGIC.len() as u64).read_to_end(&mut start)?;
+    Ok(start == MAGIC)
+}
+
+/// A mark of each file's bytes, where another file is as long. Files with other bytes have other marks, but for one
+/// chance in 2^128.
+fn marks(files: &[Candidate]) -> Vec<Option<u128>> {
+    let mut sizes: HashMap<u64, usize> = HashMap::new();
+    files.iter().for_each(|file| *sizes.entry(file.size).or_insert(0) += 1);
+    let keys = (RandomState::new(), RandomState::new());
+    let mark = |file: &Candidate| {
+        let repeats = sizes.get(&file.size).map_or(false, |count| *count > 1);
+        // A file that can't be read is found out later.
+        if repeats {
+            mark(&file.path, &keys).ok()
+        } else {
+            None
+        }
+    };
+    files.par_iter().map(mark).collect()
+}
+
+fn mark(path: &Path, keys: &(RandomState, RandomState)) -> io::Result<u128> {
+    let mut file = File::open(path)?;
+    let (mut one, mut other) = (keys.0.build_hasher(), keys.1.build_hasher());
+    let mut bytes = vec![0; 1 << 16];
+    loop {
+        match file.read(&mut bytes)? {
+            0 => return Ok(u128::from(one.finish()) << 64 | u128::from(other.finish())),
+            count => {
+                one.write(&bytes[..count]);
+                other.write(&bytes[..count]);
+            }
+        }
+    }
+}
+
+/// Reads a file.
+pub fn content(path: &Path) -> io::Result<Vec<u8>> {
+    let file = File::open(path)?;
+    let size = file.metadata()?.len();
+    if size > LARGEST {
+        return Err(io::Error::new(io::ErrorKind::Other, format!("it has {} bytes", size)));
+    }
+    let mut bytes = Vec::with_capacity(size as usize);
+    file.take(LARGEST).read_to_end(&mut bytes)?;
+    Ok(bytes)
+}

@@ -1,0 +1,78 @@
+//! A survey as lines of JSON.
+
+use super::files::Files;
+use super::totals::Totals;
+use super::{Held, Section, Surveyed};
+use dwcheck_elf::fault::{Defect, Within};
+use std::fmt::Write as _;
+use std::io::{self, Write};
+
+/// Writes an object a line: one for each file, and one for the totals.
+pub fn write(out: &mut impl Write, files: &Files, surveyed: &[Surveyed], totals: &Totals) -> io::Result<()> {
+    for (path, error) in &files.unread {
+        writeln!(out, "{{\"file\":{},\"error\":{}}}", text(&path.to_string_lossy()), text(error))?;
+    }
+    for Surveyed { path, machine, outcome } in surveyed {
+        write!(out, "{{\"file\":{}", text(&path.to_string_lossy()))?;
+        if let Some(machine) = machine {
+            write!(out, ",\"machine\":{}", machine)?;
+        }
+        match outcome {
+            Ok(sections) => {
+                let sections: Vec<_> = sections.iter().map(section).collect();
+                writeln!(out, ",\"sections\":[{}]}}", sections.join(","))?;
+            }
+            Err(error) => writeln!(out, ",\"error\":{}}}", text(error))?,
+        }
+    }
+    let counts: Vec<_> = totals.named().iter().map(|(name, count)| format!("\"{}\":{}", name, count)).collect();
+    writeln!(out, "{{\"totals\":{{{}}}}}", counts.join(","))
+}
+
+fn section(section: &Section) -> String {
+    let start = format!("{{\"section\":\"{}\",\"bytes\":{}", section.name, section.bytes);
+    match section.held {
+        Held::Frames { cies, fdes, rows } => {
+            format!("{},\"accepted\":true,\"cies\":{},\"fdes\":{},\"rows\":{}}}", start, cies, fdes, rows)
+        }
+        Held::Lists { lists, expressions } => {
+            format!("{},\"accepted\":true,\"lists\":{},\"expressions\":{}}}", start, lists, expressions)
+        }
+        Held::Unknown => {
+            let faults: Vec<_> = section.defects.iter().map(fault).collect();
+            format!("{},\"accepted\":false,\"faults\":[{}]}}", start, faults.join(","))
+        }
+    }
+}
+
+fn fault(defect: &Defect) -> String {
+    let Defect { offset, fault, what, record, function, rule, .. } = defect;
+    let mut shown = format!("{{\"offset\":{},\"fault\":\"{}\",\"what\":{}", offset, fault, text(what));
+    match record {
+        Some(Within::Fde(range)) => shown.push_str(&format!(",\"begin\":{},\"end\":{}", range.start, range.end)),
+        Some(Within::Cie(offset)) => shown.push_str(&format!(",\"cie\":{}", offset)),
+        Some(Within::Record(offset)) => shown.push_str(&format!(",\"record\":{}", offset)),
+        None => {}
+    }
+    if let Some(function) = function {
+        shown.push_str(&format!(",\"function\":{}", text(function)));
+    }
+    shown.push_str(&format!(",\"rule\":{}}}", text(rule)));
+    shown
+}
+
+/// A string with quotes.
+fn text(plain: &str) -> String {
+    let mut quoted = String::with_capacity(plain.len() + 2);
+    quoted.push('"');
+    for c in plain.chars() {
+        match c {
+            '"' | '\\' => quoted.extend(['\\', c]),
+            // A string takes any text.
+            c if c.is_control() => drop(write!(quoted, "\\u{:04x}", u32::from(c))),
+            c => quoted.push(c),
+        }
+    }
+    quoted.push('"');
+    quoted
+}

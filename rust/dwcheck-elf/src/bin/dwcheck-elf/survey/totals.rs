@@ -1,0 +1,123 @@
+//! What a survey comes to.
+
+use super::files::Files;
+use super::{Held, Section, Surveyed};
+use crate::end::Done;
+use std::io::{self, Write};
+
+/// Counts over all files.
+#[derive(Clone, Copy, Debug, Default)]
+pub struct Totals {
+    /// ELF files, each of other bytes.
+    pub files: usize,
+    /// Further files with the same bytes.
+    pub repeated: usize,
+    /// Files and folders that couldn't be read, and files that couldn't be judged.
+    pub unread: usize,
+    /// Sections that were judged.
+    pub sections: usize,
+    /// Those that were accepted.
+    pub accepted: usize,
+    /// Those that were refused.
+    pub refused: usize,
+    /// Bytes of all judged sections.
+    pub bytes: usize,
+    /// Of accepted frame sections.
+    pub cies: usize,
+    pub fdes: usize,
+    pub rows: usize,
+    /// Of accepted location lists.
+    pub lists: usize,
+    pub expressions: usize,
+    /// What of `.eh_frame` was dropped or changed.
+    pub augmentations: usize,
+    pub signal_frames: usize,
+    pub args_sizes: usize,
+    pub set_locs: usize,
+    pub mended: usize,
+    /// Records of length 0.
+    pub empty_records: usize,
+}
+
+impl Totals {
+    /// Counts all.
+    pub fn of(files: &Files, surveyed: &[Surveyed]) -> Self {
+        let unread = files.unread.len() + surveyed.iter().filter(|one| one.outcome.is_err()).count();
+        let mut totals = Totals { files: surveyed.len(), repeated: files.repeated, unread, ..Totals::default() };
+        let sections = surveyed.iter().filter_map(|one| one.outcome.as_ref().ok()).flatten();
+        sections.for_each(|section| totals.add(section));
+        totals
+    }
+
+    fn add(&mut self, section: &Section) {
+        self.sections += 1;
+        self.bytes += section.bytes;
+        self.accepted += usize::from(section.defects.is_empty());
+        self.refused += usize::from(!section.defects.is_empty());
+        match section.held {
+            Held::Frames { cies, fdes, rows } => {
+                self.cies += cies;
+                self.fdes += fdes;
+                self.rows += rows;
+            }
+            Held::Lists { lists, expressions } => {
+                self.lists += lists;
+                self.expressions += expressions;
+            }
+            Held::Unknown => {}
+        }
+        self.augmentations += section.counts.augmentations;
+        self.signal_frames += section.counts.signal_frames;
+        self.args_sizes += section.counts.args_sizes;
+        self.set_locs += section.counts.set_locs;
+        self.empty_records += section.counts.terminators;
+        self.mended += section.mended;
+    }
+
+    /// How the survey ends.
+    pub fn done(&self) -> Done {
+        match (self.unread, self.refused) {
+            (0, 0) => Done::Accepted,
+            (0, _) => Done::Refused,
+            _ => Done::Unread,
+        }
+    }
+
+    /// Each count by its name.
+    pub fn named(&self) -> [(&'static str, usize); 18] {
+        [
+            ("files", self.files),
+            ("repeated", self.repeated),
+            ("unread", self.unread),
+            ("sections", self.sections),
+            ("accepted", self.accepted),
+            ("refused", self.refused),
+            ("bytes", self.bytes),
+            ("cies", self.cies),
+            ("fdes", self.fdes),
+            ("rows", self.rows),
+            ("lists", self.lists),
+            ("expressions", self.expressions),
+            ("augmentations", self.augmentations),
+            ("signal-frames", self.signal_frames),
+            ("args-sizes", self.args_sizes),
+            ("set-locs", self.set_locs),
+            ("mended", self.mended),
+            ("empty-records", self.empty_records),
+        ]
+    }
+
+    /// Writes the totals, a line for files, one for sections and one for what they hold.
+    pub fn write(&self, out: &mut impl Write, has_notes: bool) -> io::Result<()> {
+        let named = self.named();
+        let (files, rest) = named.split_at(3);
+        let (sections, rest) = rest.split_at(4);
+        let (contents, notes) = rest.split_at(5);
+        let lines = [("", files), ("", sections), ("", contents), ("note ", notes)];
+        for (word, line) in lines.iter().filter(|(word, _)| has_notes || word.is_empty()) {
+            let counts: Vec<_> = line.iter().map(|(name, count)| format!("{} {}", name, count)).collect();
+            writeln!(out, "{}{}", word, counts.join(" "))?;
+        }
+        Ok(())
+    }
+}

@@ -1,0 +1,169 @@
+//! `unwind` and `backtrace`: callers over a state file.
+
+use crate::arguments::{BacktraceWords, UnwindWords};
+use crate::end::{Done, Failure};
+use crate::opened::{accepted_frames, add, address, number_argument, program, read, write_defect};
+use dwcheck::{Answer, Error, Frame, Process};
+use dwcheck_elf::fault::Defect;
+use dwcheck_elf::functions::Functions;
+use dwcheck_elf::names::Spot;
+use dwcheck_elf::program::Program;
+use dwcheck_elf::state_file::{short, StateFile};
+use dwcheck_elf::target::Target;
+use dwcheck_elf::text::{Address, Known};
+use std::ffi::OsStr;
+use std::io::Write;
+use std::os::unix::ffi::OsStrExt;
+use std::path::{Path, PathBuf};
+
+/// A module of the command line: its file and where it is loaded.
+struct Given {
+    path: PathBuf,
+    load: u64,
+    data: Vec<u8>,
+}
+
+/// A program and further modules, in one process.
+struct Loaded<'a> {
+    process: Process,
+    target: Target,
+    /// The functions of each module, and where it is loaded.
+    functions: Vec<(Functions<'a>, u64)>,
+}
+
+impl<'a> Loaded<'a> {
+    /// The name of the function that an address as loaded is in, in parentheses after a space, or nothing. The first
+    /// module that has one gives it.
+    fn named(&self, address: u64, is_after_call: bool) -> String {
+        let find = if is_after_call { Spot::after_call } else { Spot::at };
+        let spot =
+            |(functions, load): &(Functions<'a>, u64)| find(functions, self.target.wrap(address.wrapping_sub(*load)));
+        self.functions.iter().find_map(spot).map_or_else(String::new, |spot| format!(" ({})", spot))
+    }
+}
+
+/// Reads the program and the modules.
+fn given(words: &UnwindWords, target: Target, data: Vec<u8>) -> Result<Vec<Given>, Failure> {
+    let load = number_argument(&words.modules.load, target)?;
+    let mut all = vec![Given { path: words.program.clone(), load, data }];
+    for module in &words.modules.module {
+        let bytes = module.as_bytes();
+        let bad = || Failure::Argument(format!("bad argument: {} isn't LOAD=FILE", module.to_string_lossy()));
+        let equals = bytes.iter().position(|byte| *byte == b'=').ok_or_else(bad)?;
+        let load = std::str::from_utf8(&bytes[..equals]).map_err(|_| bad())?;
+        let load = number_argument(load, target)?;
+        let path = PathBuf::from(OsStr::from_bytes(&bytes[equals + 1..]));
+        if path.as_os_str().is_empty() {
+            return Err(bad());
+        }
+        all.push(Given { data: read(&path)?, path, load });
+    }
+    Ok(all)
+}
+
+/// Checks all modules and puts them into a process. The inner error is what is refused, and in which file.
+fn loaded<'a>(
+    words: &UnwindWords,
+    given: &'a [Given],
+    target: Target,
+) -> Result<Result<Loaded<'a>, (PathBuf, Defect)>, Failure> {
+    let options = words.modules.reading.options();
+    let mut all = Loaded { process: Process::new(), target, functions: Vec::new() };
+    for Given { path, load, data } in given {
+        let program = program(path, data)?;
+        if program.target() != target {
+            return Err(Failure::File(format!("{}: another byte order or address size", path.display())));
+        }
+        match accepted_frames(path, &program, options)? {
+            Ok(frames) => add(&mut all.process, path, &frames, *load)?,
+            Err(defect) => return Ok(Err((path.clone(), defect))),
+        }
+        all.functions.push((program.functions(), *load));
+    }
+    Ok(Ok(all))
+}
+
+/// What both commands do: reads all, and asks of the process.
+fn run<W: Write>(
+    words: &UnwindWords,
+    out: &mut W,
+    ask: impl FnOnce(&Loaded<'_>, u64, &StateFile, &mut W) -> Result<(), Failure>,
+) -> Result<Done, Failure> {
+    let data = read(&words.program)?;
+    let target = Program::read(&data)
+        .map_err(|error| Failure::File(format!("{}: {}", words.program.display(), error)))?
+        .target();
+    let given = given(words, target, data)?;
+    let state = state_file(&words.state, target)?;
+    let loaded = match loaded(words, &given, target)? {
+        Ok(loaded) => loaded,
+        Err((path, defect)) => {
+            write_defect(out, &path, &defect)?;
+            return Ok(Done::Refused);
+        }
+    };
+    let (functions, load) = &loaded.functions[0];
+    let address = address(&words.address, target, functions, *load)?;
+    ask(&loaded, address, &state, out)?;
+    Ok(Done::Accepted)
+}
+
+/// Reads a state file.
+pub fn state_file(path: &Path, target: Target) -> Result<StateFile, Failure> {
+    StateFile::parse(&read(path)?, target).map_err(|line| Failure::Argument(format!("state line {}", line)))
+}
+
+fn no_answer(error: Error) -> Failure {
+    Failure::File(error.to_string())
+}
+
+/// Shows the caller of the frame at an address.
+pub fn unwind(words: &UnwindWords, out: &mut impl Write) -> Result<Done, Failure> {
+    run(words, out, |loaded, address, file, out| {
+        let blocks = file.blocks();
+        let target = loaded.target;
+        match loaded.process.unwind(address, &file.state(&blocks)).map_err(no_answer)? {
+            None => writeln!(out, "none")?,
+            Some(caller) => {
+                writeln!(out, "cfa {}", Known(target, caller.cfa))?;
+                for (register, answer) in &caller.registers {
+                    writeln!(out, "r{} {}", register, Known(target, *answer))?;
+                }
+                let name = match caller.return_address {
+                    Answer::Value(address) => loaded.named(address, true),
+                    _ => String::new(),
+                };
+                writeln!(out, "return {}{}", Known(target, caller.return_address), name)?;
+            }
+        }
+        Ok(())
+    })
+}
+
+/// Shows the frames of a stack.
+pub fn backtrace(words: &BacktraceWords, out: &mut impl Write) -> Result<Done, Failure> {
+    let bad = || Failure::Argument(format!("bad argument: {} isn't a count of frames up to 65535", words.limit));
+    let limit = short(&words.limit).ok_or_else(bad)?;
+    run(&words.frame, out, |loaded, address, file, out| {
+        let blocks = file.blocks();
+        let walk = loaded.process.backtrace(address, &file.state(&blocks), usize::from(limit)).map_err(no_answer)?;
+        for (number, frame) in walk.frames.iter().enumerate() {
+            write_frame(out, loaded, number, frame)?;
+        }
+        writeln!(out, "stop {}", walk.stop)?;
+        Ok(())
+    })
+}
+
+/// Where a frame goes on after a call, its name is that of the call.
+fn write_frame(out: &mut impl Write, loaded: &Loaded<'_>, number: usize, frame: &Frame) -> Result<(), Failure> {
+    let target = loaded.target;
+    let name = loaded.named(frame.address(), number > 0);
+    match frame.cfa() {
+        Some(cfa) => {
+            writeln!(out, "frame {} {} cfa {}{}", number, Address(target, frame.address()), Known(target, cfa), name)?
+        }
+        None => writeln!(out, "frame {} {} none{}", number, Address(target, frame.address()), name)?,
+    }
+    Ok(())
+}

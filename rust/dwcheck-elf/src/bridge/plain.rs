@@ -1,0 +1,92 @@
+//! Copies `.debug_frame`, without the records that have no body.
+
+use super::places::{Pair, Places, Record, RecordKind};
+use super::{Bridged, Counts};
+use crate::debug_frame::{self, Kind};
+use crate::target::Target;
+use std::collections::HashMap;
+
+/// An offset that no section has.
+const NOWHERE: u64 = 0xffff_fffe;
+
+/// Copies a `.debug_frame` section for `dwcheck`, without the records of length 0.
+///
+/// Some linkers leave such records, which DWARF doesn't have. Where there is none, the bytes are the section's. What
+/// follows the last record that can be read is copied as it is.
+///
+/// `None` where the section has 2^32 bytes or more.
+pub fn without_empty_records(section: &[u8], target: Target) -> Option<Bridged> {
+    u32::try_from(section.len()).ok()?;
+    let records = debug_frame::records(section, target);
+    let starts = new_starts(&records);
+    let bytes = Vec::with_capacity(section.len());
+    let mut copy = Copy { section, bytes, counts: Counts::default(), target, is_whole: starts.len() == records.len() };
+    let mut places = Places::default();
+    for record in &records {
+        if record.kind == Kind::Empty {
+            copy.counts.terminators += 1;
+            continue;
+        }
+        let bridged = copy.bytes.len();
+        places.pairs.push(Pair { bridged: bridged as u32, source: record.offset as u32 });
+        let kind = copy.record(record, &starts);
+        places.records.push(Record { bridged: bridged as u64, source: record.offset as u64, kind });
+    }
+    let rest = records.last().map_or(0, |record| record.end);
+    if rest < section.len() {
+        let bridged = copy.bytes.len();
+        places.pairs.push(Pair { bridged: bridged as u32, source: rest as u32 });
+        places.records.push(Record { bridged: bridged as u64, source: rest as u64, kind: RecordKind::Cie });
+        copy.bytes.extend_from_slice(section.get(rest..).unwrap_or(&[]));
+    }
+    Some(Bridged { bytes: copy.bytes, places, counts: copy.counts, mended: Vec::new() })
+}
+
+/// Where each record begins in the copy, by where it begins in the section.
+fn new_starts(records: &[debug_frame::Record]) -> HashMap<u64, u64> {
+    let mut dropped = 0;
+    let mut starts = HashMap::new();
+    for record in records {
+        if record.kind == Kind::Empty {
+            dropped += record.end - record.offset;
+        } else {
+            starts.insert(record.offset as u64, (record.offset - dropped) as u64);
+        }
+    }
+    starts
+}
+
+/// A section that is being copied.
+struct Copy<'a> {
+    section: &'a [u8],
+    bytes: Vec<u8>,
+    counts: Counts,
+    target: Target,
+    /// Whether no record is left out.
+    is_whole: bool,
+}
+
+impl Copy<'_> {
+    /// Copies a record. A CIE pointer follows its CIE; one that leads to no record leads to none in the copy.
+    fn record(&mut self, record: &debug_frame::Record, starts: &HashMap<u64, u64>) -> RecordKind {
+        let part = |from, to| self.section.get(from..to).unwrap_or(&[]);
+        match record.kind {
+            Kind::Fde { cie, range } => {
+                let size = record.offset_size();
+                let nowhere = if self.is_whole { cie } else { NOWHERE };
+                let pointer = starts.get(&cie).copied().unwrap_or(nowhere);
+                self.bytes.extend_from_slice(part(record.offset, record.body));
+                self.target.push(&mut self.bytes, pointer, size);
+                self.bytes.extend_from_slice(part(record.body + usize::from(size), record.end));
+                self.counts.fdes += 1;
+                let (begin, size) = range.unwrap_or((0, 0));
+                RecordKind::Fde { begin, size, signal: false }
+            }
+            _ => {
+                self.bytes.extend_from_slice(part(record.offset, record.end));
+                self.counts.cies += 1;
+                RecordKind::Cie
+            }
+        }
+    }
+}

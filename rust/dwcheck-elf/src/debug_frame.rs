@@ -1,0 +1,166 @@
+//! The records of a `.debug_frame` section.
+//!
+//! `dwcheck` judges them. What is read here is for those who show its answers: where a record, a program or an
+//! instruction begins.
+
+use crate::bridge::instructions::{name_of, operands, skip};
+use crate::bytes::Cursor;
+use crate::target::Target;
+use std::ops::Range;
+
+/// A record, as far as it can be read.
+///
+/// ```
+/// use dwcheck_elf::debug_frame::{records, Kind};
+/// use dwcheck_elf::target::{AddressSize, Order, Target};
+///
+/// let section = [12, 0, 0, 0, 0xff, 0xff, 0xff, 0xff, 1, 0, 1, 0x78, 0x10, 0, 0, 0];
+/// let target = Target { order: Order::Little, address_size: AddressSize::Eight };
+/// let all = records(&section, target);
+/// assert_eq!((all[0].offset, all[0].end, all[0].program.clone()), (0, 16, Some(13..16)));
+/// assert_eq!(all[0].kind, Kind::Cie { return_register: Some(16) });
+/// ```
+#[derive(Clone, Debug, PartialEq, Eq)]
+pub struct Record {
+    /// The offset of its length.
+    pub offset: usize,
+    /// The offset of its body, which begins with its CIE id or CIE pointer.
+    pub body: usize,
+    /// The offset after its last byte.
+    pub end: usize,
+    /// What it is.
+    pub kind: Kind,
+    /// Where its instructions are, if its header can be read.
+    pub program: Option<Range<usize>>,
+}
+
+/// What a record is.
+#[derive(Clone, Copy, Debug, PartialEq, Eq)]
+pub enum Kind {
+    /// A record without a body. Linkers leave some; DWARF has none.
+    Empty,
+    /// A common information entry.
+    Cie {
+        /// The register of the return address, if the header can be read.
+        return_register: Option<u64>,
+    },
+    /// A frame description entry.
+    Fde {
+        /// The offset of its CIE.
+        cie: u64,
+        /// The first address, and how many there are, if the header can be read.
+        range: Option<(u64, u64)>,
+    },
+}
+
+impl Record {
+    /// The size of an offset in the record: 4 or 8 bytes.
+    pub fn offset_size(&self) -> u8 {
+        if self.body - self.offset == 4 {
+            4
+        } else {
+            8
+        }
+    }
+}
+
+/// All records up to the first whose length can't be read, or whose body isn't there. Time in proportion to the section.
+pub fn records(section: &[u8], target: Target) -> Vec<Record> {
+    let mut cursor = Cursor::new(section, target);
+    let mut all = Vec::new();
+    while !cursor.is_at_end() {
+        match record(&mut cursor) {
+            Some(record) => all.push(record),
+            None => break,
+        }
+    }
+    all
+}
+
+fn record(cursor: &mut Cursor<'_>) -> Option<Record> {
+    let offset = cursor.at();
+    let (length, offset_size) = match cursor.number(4).ok()? {
+        0xffff_ffff => (cursor.number(8).ok()?, 8),
+        0xffff_fff0..=0xffff_fffe => return None,
+        length => (length, 4),
+    };
+    let body = cursor.at();
+    let mut record = cursor.split(length).ok()?;
+    let end = cursor.at();
+    let (kind, program) = match record.number(offset_size) {
+        _ if length == 0 => (Kind::Empty, None),
+        Err(_) => (Kind::Cie { return_register: None }, None),
+        Ok(id) if id == if offset_size == 4 { 0xffff_ffff } else { u64::MAX } => {
+            let return_register = return_register(&mut record);
+            (Kind::Cie { return_register }, return_register.map(|_| record.at()..end))
+        }
+        Ok(cie) => {
+            let range = range(&mut record, cursor.target());
+            (Kind::Fde { cie, range }, range.map(|_| record.at()..end))
+        }
+    };
+    Some(Record { offset, body, end, kind, program })
+}
+
+/// Reads a CIE from its version on.
+fn return_register(record: &mut Cursor<'_>) -> Option<u64> {
+    let version = record.byte().ok()?;
+    while record.byte().ok()? != 0 {}
+    if version == 4 {
+        record.take(2).ok()?;
+    }
+    record.skip_leb().ok()?;
+    record.skip_leb().ok()?;
+    if version == 1 {
+        record.byte().ok().map(u64::from)
+    } else {
+        record.uleb().ok()
+    }
+}
+
+/// Reads the range of an FDE.
+fn range(record: &mut Cursor<'_>, target: Target) -> Option<(u64, u64)> {
+    let size = target.address_size.bytes();
+    Some((record.number(size).ok()?, record.number(size).ok()?))
+}
+
+/// An instruction of a program.
+#[derive(Clone, Copy, Debug, PartialEq, Eq)]
+pub struct Instruction {
+    /// The offset in the section of its first byte.
+    pub offset: usize,
+    /// Its code.
+    pub code: u8,
+    /// The expression that it ends with, by its offset and length.
+    pub expression: Option<(usize, usize)>,
+}
+
+impl Instruction {
+    /// Its name, as `def_cfa_register`, or `instruction 0x3f`.
+    pub fn name(&self) -> String {
+        name_of(self.code).map_or_else(|| format!("instruction {:#04x}", self.code), str::to_string)
+    }
+}
+
+/// The instructions of a program, up to the first that can't be read, which is the last.
+pub fn instructions(section: &[u8], program: Range<usize>, target: Target) -> Vec<Instruction> {
+    let mut cursor = Cursor::new(section.get(..program.end).unwrap_or(section), target);
+    let mut all = Vec::new();
+    if cursor.take(program.start as u64).is_err() {
+        return all;
+    }
+    while !cursor.is_at_end() {
+        let offset = cursor.at();
+        let code = cursor.byte().unwrap_or(0);
+        let read = operands(code).map(|operands| skip(&mut cursor, operands, target));
+        let expression = match read {
+            Some(Ok(length)) => length.map(|length| (cursor.at() - length, length)),
+            _ => None,
+        };
+        all.push(Instruction { offset, code, expression });
+        if !matches!(read, Some(Ok(_))) {
+            break;
+        }
+    }
+    all
+}

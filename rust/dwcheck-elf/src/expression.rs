@@ -1,0 +1,212 @@
+//! What expressions hold: operations by name, their count, and the depth of the stack.
+//!
+//! `dwcheck` judges expressions. What is here is for those who show one that it has accepted, or where it refuses one.
+
+use crate::bytes::{Cursor, ReadError};
+use crate::target::Target;
+
+/// The count of operations of an accepted expression, and the greatest height of its stack.
+///
+/// ```
+/// use dwcheck_elf::expression::Measure;
+/// use dwcheck_elf::target::{AddressSize, Order, Target};
+///
+/// // breg7 8, lit1, plus: as a CFA's rule.
+/// let target = Target { order: Order::Little, address_size: AddressSize::Eight };
+/// assert_eq!(Measure::of(&[0x77, 8, 0x31, 0x22], 0, target), Measure { operations: 3, depth: 2 });
+/// ```
+#[derive(Clone, Copy, Debug, Default, PartialEq, Eq)]
+pub struct Measure {
+    /// How many operations it has.
+    pub operations: usize,
+    /// The greatest height of the stack before or after any operation.
+    pub depth: u64,
+}
+
+/// How the height of the stack changes.
+#[derive(Clone, Copy, Debug, PartialEq, Eq)]
+enum Change {
+    By(i64),
+    /// A piece takes all that there is.
+    Empty,
+}
+
+impl Measure {
+    /// Measures an expression that `dwcheck` has accepted, whose run begins with `height` entries.
+    ///
+    /// Branches go forward, and paths that meet agree in height, so one pass is enough.
+    pub fn of(expression: &[u8], height: u64, target: Target) -> Self {
+        let mut measure = Measure { operations: 0, depth: height };
+        let mut cursor = Cursor::new(expression, target);
+        let mut now = height;
+        let mut branches: Vec<(usize, u64)> = Vec::new();
+        while !cursor.is_at_end() {
+            let at = cursor.at();
+            if let Some((_, height)) = branches.iter().find(|(place, _)| *place == at) {
+                now = *height;
+            }
+            branches.retain(|(place, _)| *place > at);
+            let code = cursor.byte().unwrap_or(0);
+            let operand = match skip(&mut cursor, code) {
+                Ok(operand) => operand,
+                Err(_) => break,
+            };
+            now = match change(code) {
+                Change::By(change) if change < 0 => now.saturating_sub(change.unsigned_abs()),
+                Change::By(change) => now.saturating_add(change.unsigned_abs()),
+                Change::Empty => 0,
+            };
+            if code == BRA || code == SKIP {
+                branches.push((cursor.at().saturating_add(operand as usize), now));
+            }
+            measure.operations += 1;
+            measure.depth = measure.depth.max(now);
+        }
+        measure
+    }
+}
+
+/// An operation and where it is.
+#[derive(Clone, Copy, Debug, PartialEq, Eq)]
+pub struct Operation {
+    /// The offset in the expression of its first byte.
+    pub offset: usize,
+    /// Its code.
+    pub code: u8,
+}
+
+/// The operations of an expression, up to the first that can't be read, which is the last.
+pub fn operations(expression: &[u8], target: Target) -> Vec<Operation> {
+    let mut cursor = Cursor::new(expression, target);
+    let mut all = Vec::new();
+    while !cursor.is_at_end() {
+        let offset = cursor.at();
+        let code = cursor.byte().unwrap_or(0);
+        all.push(Operation { offset, code });
+        if skip(&mut cursor, code).is_err() {
+            break;
+        }
+    }
+    all
+}
+
+const BRA: u8 = 0x28;
+const SKIP: u8 = 0x2f;
+
+/// Moves past the operands of an operation. Gives the distance of a branch.
+fn skip(cursor: &mut Cursor<'_>, code: u8) -> Result<u64, ReadError> {
+    let size = cursor.target().address_size.bytes();
+    match code {
+        0x03 => cursor.take(u64::from(size)).map(|_| 0),
+        0x08 | 0x09 | 0x15 | 0x94 => cursor.take(1).map(|_| 0),
+        0x0a | 0x0b => cursor.take(2).map(|_| 0),
+        0x0c | 0x0d => cursor.take(4).map(|_| 0),
+        0x0e | 0x0f => cursor.take(8).map(|_| 0),
+        BRA | SKIP => cursor.signed(2),
+        0x10 | 0x11 | 0x23 | 0x70..=0x8f | 0x90 | 0x91 | 0x93 => cursor.skip_leb().map(|()| 0),
+        0x92 | 0x9d => cursor.skip_leb().and_then(|()| cursor.skip_leb()).map(|()| 0),
+        0x9e => {
+            let length = cursor.uleb()?;
+            cursor.take(length).map(|_| 0)
+        }
+        0x06 | 0x12..=0x14 | 0x16..=0x17 | 0x19..=0x22 | 0x24..=0x27 | 0x29..=0x2e | 0x30..=0x6f => Ok(0),
+        0x96 | 0x97 | 0x9c | 0x9f => Ok(0),
+        _ => Err(ReadError::Truncated),
+    }
+}
+
+/// What an operation does to the height of the stack.
+fn change(code: u8) -> Change {
+    match code {
+        0x93 | 0x9d => Change::Empty,
+        0x03 | 0x08..=0x12 | 0x14 | 0x15 | 0x30..=0x4f | 0x70..=0x8f | 0x91 | 0x92 | 0x97 | 0x9c => Change::By(1),
+        0x13 | 0x1a..=0x1e | 0x21 | 0x22 | 0x24..=0x2e | 0x9f => Change::By(-1),
+        _ => Change::By(0),
+    }
+}
+
+/// The name of an operation by its code, as DWARF 5 has it in section 7.7.1, with `DW_OP_`.
+pub fn name_of(code: u8) -> String {
+    const NAMES: [(u8, &str); 49] = [
+        (0x03, "addr"),
+        (0x06, "deref"),
+        (0x08, "const1u"),
+        (0x09, "const1s"),
+        (0x0a, "const2u"),
+        (0x0b, "const2s"),
+        (0x0c, "const4u"),
+        (0x0d, "const4s"),
+        (0x0e, "const8u"),
+        (0x0f, "const8s"),
+        (0x10, "constu"),
+        (0x11, "consts"),
+        (0x12, "dup"),
+        (0x13, "drop"),
+        (0x14, "over"),
+        (0x15, "pick"),
+        (0x16, "swap"),
+        (0x17, "rot"),
+        (0x18, "xderef"),
+        (0x19, "abs"),
+        (0x1a, "and"),
+        (0x1b, "div"),
+        (0x1c, "minus"),
+        (0x1d, "mod"),
+        (0x1e, "mul"),
+        (0x1f, "neg"),
+        (0x20, "not"),
+        (0x21, "or"),
+        (0x22, "plus"),
+        (0x23, "plus_uconst"),
+        (0x24, "shl"),
+        (0x25, "shr"),
+        (0x26, "shra"),
+        (0x27, "xor"),
+        (0x28, "bra"),
+        (0x29, "eq"),
+        (0x2a, "ge"),
+        (0x2b, "gt"),
+        (0x2c, "le"),
+        (0x2d, "lt"),
+        (0x2e, "ne"),
+        (0x2f, "skip"),
+        (0x90, "regx"),
+        (0x91, "fbreg"),
+        (0x92, "bregx"),
+        (0x93, "piece"),
+        (0x94, "deref_size"),
+        (0x95, "xderef_size"),
+        (0x96, "nop"),
+    ];
+    const LATER: [&str; 19] = [
+        "push_object_address",
+        "call2",
+        "call4",
+        "call_ref",
+        "form_tls_address",
+        "call_frame_cfa",
+        "bit_piece",
+        "implicit_value",
+        "stack_value",
+        "implicit_pointer",
+        "addrx",
+        "constx",
+        "entry_value",
+        "const_type",
+        "regval_type",
+        "deref_type",
+        "xderef_type",
+        "convert",
+        "reinterpret",
+    ];
+    match code {
+        0x30..=0x4f => format!("DW_OP_lit{}", code - 0x30),
+        0x50..=0x6f => format!("DW_OP_reg{}", code - 0x50),
+        0x70..=0x8f => format!("DW_OP_breg{}", code - 0x70),
+        0x97..=0xa9 => format!("DW_OP_{}", LATER[usize::from(code - 0x97)]),
+        _ => match NAMES.iter().find(|(named, _)| *named == code) {
+            Some((_, name)) => format!("DW_OP_{}", name),
+            None => format!("operation {:#04x}", code),
+        },
+    }
+}

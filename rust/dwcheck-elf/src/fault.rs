@@ -1,0 +1,237 @@
+//! Faults in the terms of the file that they are in.
+
+use crate::bridge::{BridgeError, Edge, RecordKind};
+use crate::debug_frame::{self, Instruction, Record};
+use crate::expression;
+use crate::frames::{Frames, Name};
+use crate::functions::Functions;
+use crate::names::Spot;
+use crate::rules::rule;
+use crate::target::Target;
+use dwcheck::{Fault, FaultKind};
+use std::fmt;
+use std::ops::Range;
+
+/// A fault of a section, where it is in the file.
+///
+/// As text it is one line without its end, as
+/// `.eh_frame+0xeb30: CfaNotRegister: def_cfa_register, FDE 0xcb480..0xccad1 (name of the function)`.
+#[derive(Clone, Debug, PartialEq, Eq)]
+pub struct Defect {
+    /// The section.
+    pub section: Name,
+    /// The offset in the section of the file, decompressed.
+    pub offset: u64,
+    /// The fault's name, as `CfaNotRegister`.
+    pub fault: &'static str,
+    /// What is there: an instruction, an operation or a field.
+    pub what: String,
+    /// The record that it is in.
+    pub record: Option<Within>,
+    /// The function that the record is for.
+    pub function: Option<String>,
+    /// The rule that is broken.
+    pub rule: String,
+}
+
+/// Which record a fault is in.
+#[derive(Clone, Debug, PartialEq, Eq)]
+pub enum Within {
+    /// The CIE at an offset of the section.
+    Cie(u64),
+    /// The FDE of a range of addresses.
+    Fde(Range<u64>),
+    /// A record at an offset of the section that can't be read.
+    Record(u64),
+}
+
+/// What faults of a frame section are told by.
+pub struct Terms<'a> {
+    frames: &'a Frames<'a>,
+    functions: &'a Functions<'a>,
+    /// The records of the bytes that `dwcheck` takes.
+    records: Vec<Record>,
+}
+
+impl<'a> Terms<'a> {
+    /// Reads the records of a section.
+    pub fn of(frames: &'a Frames<'a>, functions: &'a Functions<'a>) -> Self {
+        Terms { frames, functions, records: debug_frame::records(frames.bytes(), frames.target()) }
+    }
+
+    /// The records of the bytes that `dwcheck` takes, in order.
+    pub fn records(&self) -> &[Record] {
+        &self.records
+    }
+
+    /// A fault that `dwcheck` found in the bytes that it was given, at an offset of these bytes.
+    pub fn defect(&self, fault: Fault) -> Defect {
+        let offset = fault.offset as usize;
+        let edge = if fault.kind == FaultKind::Overlap { Edge::Begin } else { Edge::End };
+        let place = self.frames.place(u64::from(fault.offset), edge);
+        let after = self.records.partition_point(|record| match edge {
+            Edge::Begin => record.offset <= offset,
+            Edge::End => record.offset < offset,
+        });
+        let record = after.checked_sub(1).and_then(|before| self.records.get(before));
+        let record = record.filter(|record| offset <= record.end);
+        let what = record.map_or_else(|| "a record".to_string(), |record| what(self.frames, &fault, record));
+        let within = place.map(|place| match place.kind {
+            RecordKind::Fde { begin, size, .. } => Within::Fde(begin..begin.saturating_add(size)),
+            RecordKind::Cie if record.is_some() => Within::Cie(place.record),
+            RecordKind::Cie => Within::Record(place.record),
+        });
+        Defect {
+            section: self.frames.name(),
+            offset: place.map_or(u64::from(fault.offset), |place| place.offset),
+            fault: fault.name(),
+            what,
+            function: within.as_ref().and_then(|within| within.function(self.functions)),
+            record: within,
+            rule: rule(fault.kind).to_string(),
+        }
+    }
+}
+
+impl Defect {
+    /// A record of `.eh_frame` that has no counterpart in `.debug_frame`.
+    pub fn of_bridge(error: &BridgeError) -> Self {
+        Defect {
+            section: Name::EhFrame,
+            offset: error.field,
+            fault: error.reason.name(),
+            what: "a field".to_string(),
+            record: Some(Within::Record(error.record)),
+            function: None,
+            rule: error.reason.to_string(),
+        }
+    }
+
+    /// A fault of location lists.
+    pub fn of_lists(lists: &[u8], fault: Fault, target: Target) -> Self {
+        let code = lists.get(fault.offset as usize).copied();
+        let what = match (fault.number(), code) {
+            (30..=39 | 41 | 42, Some(code)) => expression::name_of(code),
+            (40, _) => "the end of an expression".to_string(),
+            (51..=53, Some(code)) => format!("entry {:#04x}", code),
+            (54, _) => "the end of a table".to_string(),
+            (55, _) => "an offset".to_string(),
+            _ => "a field".to_string(),
+        };
+        Defect {
+            section: Name::DebugLoclists,
+            offset: u64::from(fault.offset),
+            fault: fault.name(),
+            what,
+            record: crate::loclists::table_of(lists, target, fault.offset as usize).map(Within::Record),
+            function: None,
+            rule: rule(fault.kind).to_string(),
+        }
+    }
+}
+
+impl Within {
+    /// The function of an FDE's first address.
+    fn function(&self, functions: &Functions<'_>) -> Option<String> {
+        match self {
+            Within::Fde(range) => Spot::at(functions, range.start).map(|spot| spot.to_string()),
+            _ => None,
+        }
+    }
+}
+
+/// What is at a fault: an instruction, an operation, a field or an end.
+fn what(frames: &Frames<'_>, fault: &Fault, record: &Record) -> String {
+    let field = match fault.kind {
+        FaultKind::Version => "version",
+        FaultKind::Augmentation => "augmentation",
+        FaultKind::AddressSize => "address_size",
+        FaultKind::SegmentSize => "segment_selector_size",
+        FaultKind::ReservedLength => "length",
+        FaultKind::NoSuchCie => "CIE_pointer",
+        FaultKind::RangePastTop => "address_range",
+        FaultKind::Unrestored => "the end of the program",
+        FaultKind::Overlap => return overlap(frames, record),
+        _ => return in_program(frames, fault, record),
+    };
+    field.to_string()
+}
+
+/// The instruction or the operation at an offset.
+fn in_program(frames: &Frames<'_>, fault: &Fault, record: &Record) -> String {
+    let offset = fault.offset as usize;
+    // This one is where its expression ends, and the next instruction begins.
+    let is_end = fault.kind == FaultKind::EndsEmpty;
+    let program = match &record.program {
+        Some(program) if offset >= program.start => program.clone(),
+        _ => return "a field".to_string(),
+    };
+    if offset >= program.end && !is_end {
+        return "the end of the program".to_string();
+    }
+    let target = frames.target();
+    let all = debug_frame::instructions(frames.bytes(), program, target);
+    let holds = |instruction: &&Instruction| instruction.offset + usize::from(is_end) <= offset;
+    match all.iter().rev().find(holds) {
+        Some(instruction) => named(frames, instruction, offset),
+        None => "an instruction".to_string(),
+    }
+}
+
+/// The name of an instruction, or of the operation of it that an offset leads to.
+fn named(frames: &Frames<'_>, instruction: &Instruction, offset: usize) -> String {
+    let (begin, length) = match instruction.expression {
+        Some((begin, length)) if offset > instruction.offset => (begin, length),
+        _ => return instruction.name(),
+    };
+    let bytes = frames.bytes().get(begin..begin + length).unwrap_or(&[]);
+    let all = expression::operations(bytes, frames.target());
+    match all.iter().rev().find(|operation| begin + operation.offset <= offset) {
+        Some(operation) if offset < begin + length => {
+            format!("{} of {}", expression::name_of(operation.code), instruction.name())
+        }
+        _ => format!("the end of the expression of {}", instruction.name()),
+    }
+}
+
+/// Which FDE before a record shares an address with it.
+fn overlap(frames: &Frames<'_>, record: &Record) -> String {
+    let range = |kind| match kind {
+        RecordKind::Fde { begin, size, .. } => begin..begin.saturating_add(size),
+        RecordKind::Cie => 0..0,
+    };
+    let records = frames.bridged().records();
+    let later = records.iter().position(|one| one.bridged == record.offset as u64).unwrap_or(0);
+    let own = records.get(later).map_or(0..0, |one| range(one.kind));
+    let shares = |other: &Range<u64>| other.start < own.end && own.start < other.end && other.start < other.end;
+    let earlier = records.iter().take(later).map(|one| (one, range(one.kind))).find(|(_, other)| shares(other));
+    match earlier {
+        Some((one, other)) => {
+            format!("shares addresses with {:#x}..{:#x} of the FDE at {:#x}", other.start, other.end, one.source)
+        }
+        None => "shares addresses with an FDE before it".to_string(),
+    }
+}
+
+impl fmt::Display for Within {
+    fn fmt(&self, f: &mut fmt::Formatter<'_>) -> fmt::Result {
+        match self {
+            Within::Cie(offset) => write!(f, "CIE {:#x}", offset),
+            Within::Fde(range) => write!(f, "FDE {:#x}..{:#x}", range.start, range.end),
+            Within::Record(offset) => write!(f, "record {:#x}", offset),
+        }
+    }
+}
+
+impl fmt::Display for Defect {
+    fn fmt(&self, f: &mut fmt::Formatter<'_>) -> fmt::Result {
+        write!(f, "{}+{:#x}: {}: {}", self.section, self.offset, self.fault, self.what)?;
+        if let Some(record) = &self.record {
+            write!(f, ", {}", record)?;
+        }
+        match &self.function {
+            Some(function) => write!(f, " ({})", function),
+            None => Ok(()),
+        }
+    }
+}

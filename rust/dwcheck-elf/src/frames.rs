@@ -1,0 +1,179 @@
+//! The frame sections of a program, as `dwcheck` takes them.
+
+use crate::bridge::{bridge, without_empty_records, BridgeError, Bridged, Edge, EhFrame, Options, Place};
+use crate::program::{Program, ProgramError, Section};
+use crate::target::Target;
+use dwcheck::{Error, Process};
+use std::fmt;
+
+/// The rows of a section may take this many times its bytes. Those of compilers take some 1.5 times.
+const ROOM_TIMES: usize = 64;
+
+/// The rows of a short section may take this many bytes.
+const LEAST_ROOM: usize = 64 << 20;
+
+/// Which section it is.
+#[derive(Clone, Copy, Debug, PartialEq, Eq, PartialOrd, Ord)]
+pub enum Name {
+    /// `.debug_frame`, which `dwcheck` takes as it is, but for records without a body.
+    DebugFrame,
+    /// `.eh_frame`, which is rewritten as `.debug_frame`.
+    EhFrame,
+    /// `.debug_loclists`.
+    DebugLoclists,
+}
+
+/// A frame section of a program: its bytes in the file, and those that `dwcheck` takes.
+///
+/// ```no_run
+/// use dwcheck_elf::frames::Frames;
+/// use dwcheck_elf::program::Program;
+///
+/// let data = std::fs::read("/bin/bash")?;
+/// let program = Program::read(&data)?;
+/// for frames in Frames::all(&program, Default::default()) {
+///     let frames = frames?;
+///     let process = frames.process(0)?; // checked, and all rows compiled
+///     println!("{}: {:?}", frames.name(), process.row(0x30000));
+/// }
+/// # Ok::<(), Box<dyn std::error::Error>>(())
+/// ```
+#[derive(Clone, Debug)]
+pub struct Frames<'data> {
+    name: Name,
+    target: Target,
+    source: Section<'data>,
+    text: Option<u64>,
+    data: Option<u64>,
+    bridged: Bridged,
+}
+
+/// Why a frame section can't be handed to `dwcheck`.
+#[derive(Clone, Debug, PartialEq, Eq)]
+pub enum FramesError {
+    /// The section can't be read from the file.
+    Program(Name, ProgramError),
+    /// A record of `.eh_frame` has no counterpart in `.debug_frame`.
+    Bridge(BridgeError),
+    /// The section has 2^32 bytes or more.
+    TooLong(Name),
+}
+
+impl<'data> Frames<'data> {
+    /// The frame sections of a program that have bytes, `.debug_frame` first. Each is read when it comes.
+    pub fn all<'a>(
+        program: &'a Program<'data>,
+        options: Options,
+    ) -> impl Iterator<Item = Result<Frames<'data>, FramesError>> + 'a {
+        [Name::DebugFrame, Name::EhFrame]
+            .into_iter()
+            .filter_map(move |name| Frames::read(program, name, options).transpose())
+    }
+
+    /// Reads one section, and rewrites it as `dwcheck` needs it.
+    fn read(program: &Program<'data>, name: Name, options: Options) -> Result<Option<Self>, FramesError> {
+        let target = program.target();
+        let read = if name == Name::EhFrame { program.eh_frame() } else { program.debug_frame() };
+        let source = match read.map_err(|error| FramesError::Program(name, error))? {
+            Some(source) => source,
+            None => return Ok(None),
+        };
+        let section = program.eh_frame_of(&source);
+        let (text, data) = (section.text, section.data);
+        let bridged = match name {
+            Name::EhFrame => bridge(&section, options).map_err(FramesError::Bridge)?,
+            _ => without_empty_records(&source.bytes, target).ok_or(FramesError::TooLong(name))?,
+        };
+        Ok(Some(Frames { name, target, source, text, data, bridged }))
+    }
+
+    /// Which section it is.
+    pub fn name(&self) -> Name {
+        self.name
+    }
+
+    /// The byte order and the address size.
+    pub fn target(&self) -> Target {
+        self.target
+    }
+
+    /// The section's bytes in the file, decompressed and with relocations applied.
+    pub fn source(&self) -> &Section<'data> {
+        &self.source
+    }
+
+    /// The section as [`bridge`] takes it.
+    pub fn eh_frame(&self) -> EhFrame<'_> {
+        EhFrame {
+            bytes: &self.source.bytes,
+            address: self.source.address,
+            target: self.target,
+            text: self.text,
+            data: self.data,
+            unresolved: &self.source.unresolved,
+        }
+    }
+
+    /// What was dropped and changed, and the records.
+    pub fn bridged(&self) -> &Bridged {
+        &self.bridged
+    }
+
+    /// The bytes that `dwcheck` takes.
+    pub fn bytes(&self) -> &[u8] {
+        self.bridged.bytes()
+    }
+
+    /// Whether the bytes that `dwcheck` takes are others than the file's.
+    pub fn is_rewritten(&self) -> bool {
+        self.name == Name::EhFrame || self.bridged.counts().terminators > 0
+    }
+
+    /// The place in the file's section of an offset of the bytes that `dwcheck` takes.
+    pub fn place(&self, offset: u64, edge: Edge) -> Option<Place> {
+        self.bridged.place(offset, edge)
+    }
+
+    /// The section as the only module of a process, checked and with all rows compiled.
+    ///
+    /// # Errors
+    ///
+    /// The first fault; or [`Error::NoRoom`] where its rows may take 64 times its bytes and more than 64 MiB.
+    pub fn process(&self, load: u64) -> Result<Process, Error> {
+        let mut process = Process::new();
+        self.add_to(&mut process, load)?;
+        Ok(process)
+    }
+
+    /// Adds the section to a process, as a module that is loaded at an address.
+    ///
+    /// # Errors
+    ///
+    /// As for [`process`](Self::process).
+    pub fn add_to(&self, process: &mut Process, load: u64) -> Result<(), Error> {
+        let room = self.bytes().len().saturating_mul(ROOM_TIMES).max(LEAST_ROOM);
+        process.add(self.bytes(), self.target.into(), load, room)
+    }
+}
+
+impl fmt::Display for Name {
+    fn fmt(&self, f: &mut fmt::Formatter<'_>) -> fmt::Result {
+        f.pad(match self {
+            Name::DebugFrame => ".debug_frame",
+            Name::EhFrame => ".eh_frame",
+            Name::DebugLoclists => ".debug_loclists",
+        })
+    }
+}
+
+impl fmt::Display for FramesError {
+    fn fmt(&self, f: &mut fmt::Formatter<'_>) -> fmt::Result {
+        match self {
+            FramesError::Program(_, error) => error.fmt(f),
+            FramesError::Bridge(error) => error.fmt(f),
+            FramesError::TooLong(name) => write!(f, "{} has 2^32 bytes or more", name),
+        }
+    }
+}
+
+impl std::error::Error for FramesError {}

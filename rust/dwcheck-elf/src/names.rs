@@ -1,0 +1,92 @@
+//! Names of functions as people write them.
+
+use crate::functions::Functions;
+use cpp_demangle::{DemangleOptions, ParseOptions, Symbol};
+use std::borrow::Cow;
+use std::fmt::{self, Write};
+
+/// A longer name isn't demangled, and nothing longer is made of one: a short mangled name can stand for a huge one.
+const LONGEST: usize = 4096;
+
+/// How deep the parts of a C++ name may be nested.
+const NESTED: u32 = 64;
+
+/// A name of Rust or C++ as its source has it; any other as it is.
+///
+/// ```
+/// use dwcheck_elf::names::demangled;
+///
+/// assert_eq!(demangled("_ZNSt6vectorIiSaIiEE9push_backERKi"), "std::vector<int, std::allocator<int> >::push_back(int const&)");
+/// assert_eq!(demangled("_ZN4core3fmt5write17h0123456789abcdefE"), "core::fmt::write");
+/// assert_eq!(demangled("main"), "main");
+/// ```
+pub fn demangled(name: &str) -> Cow<'_, str> {
+    if name.len() > LONGEST || !(name.starts_with("_Z") || name.starts_with("_R")) {
+        return Cow::Borrowed(name);
+    }
+    let mut text = Bounded(String::new());
+    let written = match rustc_demangle::try_demangle(name) {
+        Ok(name) => write!(text, "{:#}", name).is_ok(),
+        Err(_) => cpp(name, &mut text),
+    };
+    if written {
+        Cow::Owned(text.0)
+    } else {
+        Cow::Borrowed(name)
+    }
+}
+
+fn cpp(name: &str, text: &mut Bounded) -> bool {
+    let parsed = Symbol::new_with_options(name, &ParseOptions::default().recursion_limit(NESTED));
+    let options = DemangleOptions::new().recursion_limit(NESTED);
+    parsed.map_or(false, |symbol| symbol.structured_demangle(text, &options).is_ok())
+}
+
+/// A text that takes no more than [`LONGEST`] bytes.
+struct Bounded(String);
+
+impl Write for Bounded {
+    fn write_str(&mut self, part: &str) -> fmt::Result {
+        if self.0.len() + part.len() > LONGEST {
+            return Err(fmt::Error);
+        }
+        self.0.push_str(part);
+        Ok(())
+    }
+}
+
+/// Where an address is: in a function, some bytes after its beginning.
+///
+/// As text it is `main+0x4`, and `main` at its beginning.
+#[derive(Clone, Copy, Debug, PartialEq, Eq)]
+pub struct Spot<'a> {
+    /// The function's name, as it is in the file.
+    pub name: &'a str,
+    /// How many bytes after its beginning.
+    pub offset: u64,
+}
+
+impl<'a> Spot<'a> {
+    /// Where an address is, if the file has a name for it.
+    pub fn at(functions: &Functions<'a>, address: u64) -> Option<Self> {
+        functions.at(address).map(|(function, offset)| Spot { name: function.name, offset })
+    }
+
+    /// Where an address is that follows a call: the function is that of the call, which may be its last instruction.
+    pub fn after_call(functions: &Functions<'a>, address: u64) -> Option<Self> {
+        let Spot { name, offset } = Spot::at(functions, address.wrapping_sub(1))?;
+        Some(Spot { name, offset: offset.saturating_add(1) })
+    }
+}
+
+impl fmt::Display for Spot<'_> {
+    fn fmt(&self, f: &mut fmt::Formatter<'_>) -> fmt::Result {
+        // A name with a line feed would begin a line of its own.
+        demangled(self.name).chars().filter(|c| !c.is_control()).try_for_each(|c| f.write_char(c))?;
+        if self.offset == 0 {
+            Ok(())
+        } else {
+            write!(f, "+{:#x}", self.offset)
+        }
+    }
+}

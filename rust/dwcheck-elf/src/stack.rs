@@ -1,0 +1,260 @@
+//! The stacks of the threads of a core file.
+
+use crate::alone::{accepted_part, AcceptedPart};
+use crate::bridge::{Options, RecordKind};
+use crate::core_file::{CoreFile, Files, Memory, Module, Thread};
+use crate::frames::Frames;
+use crate::functions::Functions;
+use crate::names::Spot;
+use crate::program::Program;
+use crate::text::Address;
+use dwcheck::{Abi, Answer, Block, Process, Registers, State, Stop};
+use std::fmt;
+use std::ops::Range;
+use std::path::{Path, PathBuf};
+
+/// A longer stack than this goes round, or is no stack.
+pub const MOST_FRAMES: usize = 10_000;
+
+/// A module of a process that died, with its unwind tables and the names of its functions.
+#[derive(Debug)]
+struct Loaded<'a> {
+    module: Module<'a>,
+    functions: Functions<'a>,
+}
+
+/// A process that died: its memory and its modules.
+///
+/// ```no_run
+/// use dwcheck_elf::core_file::{CoreFile, Files};
+/// use dwcheck_elf::stack::{Stacks, MOST_FRAMES};
+///
+/// let bytes = std::fs::read("core")?;
+/// let core = CoreFile::read(&bytes)?;
+/// let files = Files::read(&core, "/".as_ref());
+/// let stacks = Stacks::of(&core, &files);
+/// for thread in core.threads() {
+///     print!("{}", stacks.walk(thread, MOST_FRAMES)?);
+/// }
+/// # Ok::<(), Box<dyn std::error::Error>>(())
+/// ```
+pub struct Stacks<'a> {
+    core: &'a CoreFile<'a>,
+    memory: Memory<'a>,
+    process: Process,
+    loaded: Vec<Loaded<'a>>,
+    /// The addresses of signal frames.
+    signals: Vec<Range<u64>>,
+    missing: Vec<(PathBuf, String)>,
+}
+
+/// A frame of a stack.
+#[derive(Clone, Copy, Debug, PartialEq, Eq)]
+pub struct Frame {
+    /// Where it goes on: the instruction pointer of a thread, or a return address.
+    pub address: u64,
+    /// Whether it goes on after a call. The first frame doesn't, nor does one that a signal interrupted.
+    pub is_after_call: bool,
+}
+
+impl Frame {
+    /// The address that its row is looked up at.
+    fn looked_up(&self) -> u64 {
+        self.address.wrapping_sub(u64::from(self.is_after_call))
+    }
+}
+
+/// The frames of a thread, as text a line each after the thread's own, and a line that says why they end.
+#[derive(Debug)]
+pub struct Stack<'s, 'a> {
+    stacks: &'s Stacks<'a>,
+    /// The thread's number.
+    pub thread: u64,
+    /// Its frames, the innermost first.
+    pub frames: Vec<Frame>,
+    /// Why there are no more.
+    pub stop: Stop,
+}
+
+impl<'a> Stacks<'a> {
+    /// Reads the modules of a core file. Records that are refused are left out, and so are files that can't be read;
+    /// [`missing`](Self::missing) says which and why.
+    pub fn of(core: &'a CoreFile<'a>, files: &'a Files) -> Self {
+        let memory = core.memory(files);
+        let mut stacks = Stacks {
+            core,
+            memory,
+            process: Process::new(),
+            loaded: Vec::new(),
+            signals: Vec::new(),
+            missing: Vec::new(),
+        };
+        core.modules(files).into_iter().for_each(|module| stacks.add(module));
+        let unread = files.all().iter();
+        let unread = unread.filter_map(|file| Some((file.path.clone(), file.bytes.as_ref().err()?.to_string())));
+        stacks.missing.extend(unread);
+        stacks
+    }
+
+    /// Adds the program of a core that doesn't say which files are mapped, as those of qemu. Another core's modules are
+    /// known; then nothing is done.
+    pub fn add_program(&mut self, path: &Path, bytes: &'a [u8]) {
+        if self.core.mappings().is_empty() {
+            if let Some(module) = self.core.program_module(path, bytes) {
+                self.add(module);
+            }
+        }
+    }
+
+    /// Adds the sections of a module, and the names of its functions.
+    fn add(&mut self, module: Module<'a>) {
+        let program = match Program::read(module.image.bytes()) {
+            Ok(program) => program,
+            Err(error) => return self.missing.push((module.path, error.to_string())),
+        };
+        for frames in Frames::all(&program, Options::default()) {
+            let added = match &frames {
+                Ok(frames) => {
+                    self.signals.extend(signal_frames(frames, module.bias));
+                    add_section(&mut self.process, frames, module.bias)
+                }
+                Err(error) => Err(error.to_string()),
+            };
+            self.missing.extend(added.err().map(|problem| (module.path.clone(), problem)));
+        }
+        self.loaded.push(Loaded { functions: program.functions(), module });
+    }
+
+    /// The files whose tables aren't used, or not all of them, and why.
+    pub fn missing(&self) -> &[(PathBuf, String)] {
+        &self.missing
+    }
+
+    /// Whether a file is a module of the process.
+    pub fn has(&self, path: &Path) -> bool {
+        self.loaded.iter().any(|loaded| loaded.module.path == path)
+    }
+
+    /// The frames of a thread, `limit` at most.
+    ///
+    /// A frame is looked up at the byte before its address, where the call is; the first one at its address, and so is the
+    /// caller of a signal frame, which was interrupted.
+    ///
+    /// # Errors
+    ///
+    /// Where the thread has no instruction pointer, or memory ran out.
+    pub fn walk<'s>(&'s self, thread: &Thread, limit: usize) -> Result<Stack<'s, 'a>, StackError> {
+        let abi = self.core.abi();
+        let blocks: Vec<_> = self.memory.blocks().map(|block| Block::new(block.address, block.bytes)).collect();
+        let mut registers: Registers = thread.registers.iter().copied().collect();
+        let address = thread.register(abi.program_counter).ok_or(StackError::NoInstructionPointer)?;
+        let mut next = Frame { address, is_after_call: false };
+        let mut frames = Vec::new();
+        let stop = loop {
+            if frames.len() == limit {
+                break Stop::Limit;
+            }
+            frames.push(next);
+            let abi = Abi::new(abi.kept, Some(abi.stack_pointer));
+            let state = State { registers: &registers, memory: &blocks, abi };
+            let caller = match self.process.unwind(next.looked_up(), &state).map_err(StackError::Dwcheck)? {
+                Some(caller) => caller,
+                None => break Stop::NotCovered,
+            };
+            match caller.return_address {
+                Answer::Value(address) => {
+                    let is_after_call = !self.signals.iter().any(|range| range.contains(&next.looked_up()));
+                    next = Frame { address, is_after_call };
+                }
+                Answer::Undefined => break Stop::ReturnUndefined,
+                Answer::DivisionByZero => break Stop::ReturnDivisionByZero,
+                _ => break Stop::ReturnUnreadable,
+            }
+            registers = caller.known();
+        };
+        Ok(Stack { stacks: self, thread: u64::from(thread.id), frames, stop })
+    }
+
+    /// Writes an address with the function and the file that it is in. Where a frame goes on after a call, these are the
+    /// call's.
+    fn write_place(&self, f: &mut fmt::Formatter<'_>, frame: &Frame) -> fmt::Result {
+        let Frame { address, is_after_call } = *frame;
+        let inside = frame.looked_up();
+        write!(f, "{}", Address(self.core.target(), address))?;
+        let holds = |loaded: &&Loaded<'_>| (loaded.module.begin..loaded.module.end).contains(&inside);
+        let loaded = match self.loaded.iter().find(holds) {
+            Some(loaded) => loaded,
+            None => return Ok(()),
+        };
+        let linked = self.core.target().wrap(address.wrapping_sub(loaded.module.bias));
+        let find = if is_after_call { Spot::after_call } else { Spot::at };
+        if let Some(spot) = find(&loaded.functions, linked) {
+            write!(f, " {}", spot)?;
+        }
+        write!(f, " ({})", loaded.module.path.display())
+    }
+}
+
+/// Adds a section of a module to a process. Where it is refused, its other records are used, and the text says so.
+fn add_section(process: &mut Process, frames: &Frames<'_>, bias: u64) -> Result<(), String> {
+    match frames.add_to(process, bias) {
+        Err(dwcheck::Error::Refused(fault)) => {
+            let AcceptedPart { bytes, left_out } = accepted_part(frames, fault);
+            let added = process.add(&bytes, frames.target().into(), bias, Process::NO_BOUND);
+            let used =
+                if added.is_ok() { format!("{} of its records aren't used", left_out) } else { "not used".to_string() };
+            Err(format!("{}: {}: {}", frames.name(), fault.kind, used))
+        }
+        added => added.map_err(|error| format!("{}: {}", frames.name(), error)),
+    }
+}
+
+/// The addresses as loaded of FDEs that are of signal frames.
+fn signal_frames<'f>(frames: &'f Frames<'_>, bias: u64) -> impl Iterator<Item = Range<u64>> + 'f {
+    let loaded = move |address: u64| frames.target().wrap(address.wrapping_add(bias));
+    frames.bridged().records().iter().filter_map(move |record| match record.kind {
+        RecordKind::Fde { begin, size, signal: true } => Some(loaded(begin)..loaded(begin).saturating_add(size)),
+        _ => None,
+    })
+}
+
+/// Why a thread has no stack.
+#[derive(Clone, Copy, Debug, PartialEq, Eq)]
+pub enum StackError {
+    /// Its registers have no instruction pointer.
+    NoInstructionPointer,
+    /// `dwcheck` gave no answer.
+    Dwcheck(dwcheck::Error),
+}
+
+impl fmt::Display for Stack<'_, '_> {
+    fn fmt(&self, f: &mut fmt::Formatter<'_>) -> fmt::Result {
+        writeln!(f, "thread {}:", self.thread)?;
+        for (number, frame) in self.frames.iter().enumerate() {
+            write!(f, "#{} ", number)?;
+            self.stacks.write_place(f, frame)?;
+            writeln!(f)?;
+        }
+        writeln!(f, "stop: {}", self.stop)
+    }
+}
+
+impl fmt::Debug for Stacks<'_> {
+    fn fmt(&self, f: &mut fmt::Formatter<'_>) -> fmt::Result {
+        f.debug_struct("Stacks")
+            .field("loaded", &self.loaded.len())
+            .field("missing", &self.missing)
+            .finish_non_exhaustive()
+    }
+}
+
+impl fmt::Display for StackError {
+    fn fmt(&self, f: &mut fmt::Formatter<'_>) -> fmt::Result {
+        match self {
+            StackError::NoInstructionPointer => f.write_str("the thread has no instruction pointer"),
+            StackError::Dwcheck(error) => error.fmt(f),
+        }
+    }
+}
+
+impl std::error::Error for StackError {}

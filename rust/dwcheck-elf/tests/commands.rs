@@ -1,0 +1,186 @@
+//! The commands of `dwcheck`, on programs: what is written is what `dwcheck` writes of the sections, but for the names.
+
+mod common;
+
+use common::run::{by_dwcheck, dwcheck_elf};
+use common::{hex, Folder, C};
+
+/// A program with `.debug_frame`, `.debug_loclists`, and a rule that is an expression, linked at fixed addresses.
+fn program(folder: &Folder) {
+    folder.write("a.c", C);
+    folder.write(
+        "aligned.s",
+        ".cfi_sections .debug_frame\n.globl f\n.type f, @function\nf: .cfi_startproc\n pushq %rbp\n .cfi_def_cfa_offset 16\n\
+         .cfi_offset %rbp, -16\n movq %rsp, %rbp\n .cfi_escape 0x0f, 2, 0x76, 16\n .cfi_undefined %rbx\n xorl %eax, %eax\n\
+         leave\n .cfi_def_cfa %rsp, 8\n .cfi_restore %rbp\n ret\n .cfi_endproc\n .size f, . - f\n",
+    );
+    let plain = "-gno-variable-location-views -fno-var-tracking-assignments -fvar-tracking -fno-var-tracking-uninit";
+    let flags = "-g -gdwarf-5 -O2 -no-pie -fno-asynchronous-unwind-tables";
+    folder.run(&format!("gcc {} {} a.c aligned.s -o program", flags, plain));
+    let dump = "--dump-section .debug_frame=frame --dump-section .debug_loclists=lists";
+    folder.run(&format!("objcopy {} program /dev/null", dump));
+    // The objects of the C library have `.eh_frame`.
+    folder.run("objcopy -R .eh_frame program program");
+}
+
+/// The lines without names of functions, which stand in parentheses after a space at the end.
+fn nameless(text: &str) -> String {
+    let cut = |line: &str| match line.rfind(" (") {
+        Some(at) if line.ends_with(')') => line[..at].to_string(),
+        _ => line.to_string(),
+    };
+    text.lines().filter(|line| !line.starts_with("section ")).map(|line| cut(line) + "\n").collect()
+}
+
+fn address(folder: &Folder, name: &str) -> u64 {
+    hex(folder.run(&format!("nm program | grep -w {}$", name)).split(' ').next().unwrap())
+}
+
+#[test]
+fn rows_are_those_of_dwcheck() {
+    let folder = Folder::new("command-rows");
+    program(&folder);
+    let ours = dwcheck_elf(&folder, "rows program");
+    assert_eq!((ours.status, ours.lines()[0]), (0, "section .debug_frame"));
+    assert!(
+        ours.out.contains(" (mixed)\n") && ours.out.contains("=expr(") && ours.out.contains(" r3=u"),
+        "{}",
+        ours.out
+    );
+    if let Some(theirs) = by_dwcheck(&folder, "rows frame") {
+        assert_eq!(nameless(&ours.out), theirs);
+    }
+}
+
+#[test]
+fn a_row_by_number_and_by_symbol() {
+    let folder = Folder::new("command-row");
+    program(&folder);
+    let f = address(&folder, "f");
+    let ours = dwcheck_elf(&folder, "row program f+4");
+    assert_eq!(ours.lines()[0], "section .debug_frame");
+    assert!(ours.lines()[1].ends_with(" (f+0x4)"), "{}", ours.out);
+    assert_eq!(dwcheck_elf(&folder, &format!("row program {:#x}", f + 4)).out, ours.out);
+    let loaded = format!("row --load 0x10000 program {:#x}", f + 4 + 0x10000);
+    assert_eq!(dwcheck_elf(&folder, &loaded).out, ours.out);
+    assert_eq!(dwcheck_elf(&folder, "row program 0x1").out, "none\n");
+    if let Some(theirs) = by_dwcheck(&folder, &format!("row frame {:#x}", f + 4)) {
+        assert_eq!(nameless(&ours.out), theirs);
+    }
+}
+
+#[test]
+fn check_counts_what_dwcheck_counts() {
+    let folder = Folder::new("command-check");
+    program(&folder);
+    let ours = dwcheck_elf(&folder, "check program");
+    assert_eq!((ours.status, ours.lines()[0]), (0, "program: .debug_frame: accepted"));
+    let theirs = match by_dwcheck(&folder, "check frame lists") {
+        Some(theirs) => theirs,
+        None => return,
+    };
+    let renamed = theirs.replace("expr frame", "expr .debug_frame").replace("expr lists", "expr .debug_loclists");
+    let expressions =
+        |text: &str| text.lines().filter(|line| line.starts_with("expr ")).map(String::from).collect::<Vec<_>>();
+    assert!(expressions(&renamed).len() > 5);
+    assert_eq!(expressions(&ours.out), expressions(&renamed));
+    for (line, wanted) in [("cies ", "cies "), ("tables ", "tables ")] {
+        let count = |text: &str| {
+            text.lines()
+                .find(|found| found.starts_with(line))
+                .unwrap()
+                .split(" expressions")
+                .next()
+                .unwrap()
+                .to_string()
+        };
+        assert_eq!(count(&ours.out), count(&theirs), "{}", wanted);
+    }
+}
+
+#[test]
+fn walks_are_those_of_dwcheck() {
+    let folder = Folder::new("command-walks");
+    program(&folder);
+    let f = address(&folder, "f");
+    let main = address(&folder, "main");
+    let stack = format!("reg 6 0x7f00\nreg 7 0x7ef0\nmem 0x7f00 0080000000000000{}\n", le(main + 9));
+    folder.write("state", format!("keep 3\nkeep 6\nsp 7\n{}", stack));
+    let words = format!("{:#x} state", f + 4);
+    let ours = dwcheck_elf(&folder, &format!("unwind program {}", words));
+    assert!(ours.out.ends_with(" (main+0x9)\n"), "{}", ours.out);
+    let walk = dwcheck_elf(&folder, &format!("backtrace program {} 50", words));
+    assert!(walk.lines()[0].ends_with(" (f+0x4)") && walk.lines()[1].ends_with(" (main+0x9)"), "{}", walk.out);
+    assert_eq!(dwcheck_elf(&folder, "backtrace program f+4 state 50").out, walk.out);
+    if let Some(theirs) = by_dwcheck(&folder, &format!("unwind frame {}", words)) {
+        assert_eq!(nameless(&ours.out), theirs);
+        assert_eq!(nameless(&walk.out), by_dwcheck(&folder, &format!("backtrace frame {} 50", words)).unwrap());
+    }
+    folder.write("bad", "reg 1 0x1\n\nreg 2 1\n");
+    let bad = dwcheck_elf(&folder, "unwind program f bad");
+    assert_eq!((bad.status, bad.error.as_str()), (2, "dwcheck-elf: state line 3\n"));
+}
+
+/// A word of a little-endian machine, as a state file has it.
+fn le(value: u64) -> String {
+    value.to_le_bytes().iter().map(|byte| format!("{:02x}", byte)).collect()
+}
+
+#[test]
+fn locations_are_those_of_dwcheck() {
+    let folder = Folder::new("command-locs");
+    program(&folder);
+    let shown = folder.run("readelf --debug-dump=loc program");
+    let mut all: Vec<(u64, u64)> = Vec::new();
+    let mut is_first = true;
+    for line in shown.lines() {
+        let words: Vec<_> = line.split_whitespace().collect();
+        match words.as_slice() {
+            [_, "<End", ..] => is_first = true,
+            [offset, begin, ..] if is_first && begin.len() == 16 => {
+                all.push((hex(offset), hex(begin)));
+                is_first = false;
+            }
+            _ => {}
+        }
+    }
+    assert!(all.len() > 3, "{}", shown);
+    folder.write("state", "reg 0 0x10\nreg 5 0x50\nframe 0x7f00\ncfa 0x7f10\n");
+    for (list, base) in all {
+        for address in [base, base + 4, base + 40] {
+            let words = format!("{:#x} 0x0 {:#x}", list, address);
+            let ours = dwcheck_elf(&folder, &format!("locs --state state program {}", words));
+            assert_eq!(ours.status, 0);
+            if let Some(theirs) = by_dwcheck(&folder, &format!("locs --state state lists {}", words)) {
+                assert_eq!(ours.out, theirs, "{}", words);
+            }
+        }
+    }
+}
+
+#[test]
+fn words_and_files_that_are_wrong() {
+    let folder = Folder::new("command-wrong");
+    program(&folder);
+    folder.write("text", "no ELF file\n");
+    for (words, status, error) in [
+        ("row program nothing", 2, "no function has the name nothing"),
+        ("row program main+x", 2, "no number follows the plus sign"),
+        ("row program 0x", 2, "isn't an address"),
+        ("row program 0x10000000000000000", 2, "isn't an address"),
+        ("row program", 2, "ADDRESS"),
+        ("sort program", 2, "sort"),
+        ("backtrace program main state 65536", 2, "isn't a count of frames"),
+        ("unwind --module 1=x program main state", 2, "isn't an address"),
+        ("unwind --module 0x1 program main state", 2, "isn't LOAD=FILE"),
+        ("locs program 0x100000000 0x0 0x0", 2, "past 0xffffffff"),
+        ("check nowhere", 3, "cannot read nowhere"),
+        ("check text", 3, "not an ELF file"),
+        ("unwind program main nowhere", 3, "cannot read nowhere"),
+        ("stack program program", 3, "not a core file"),
+    ] {
+        let ran = dwcheck_elf(&folder, words);
+        assert_eq!((ran.status, ran.out.as_str()), (status, ""), "{}: {}", words, ran.error);
+        assert!(ran.error.contains(error), "{}: {}", words, ran.error);
+    }
+}

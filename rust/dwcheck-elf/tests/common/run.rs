@@ -1,0 +1,45 @@
+//! Runs the program.
+
+use crate::common::Folder;
+use std::process::Command;
+
+/// What a run of the program came to.
+#[derive(Debug)]
+pub struct Ran {
+    pub status: i32,
+    pub out: String,
+    pub error: String,
+}
+
+impl Ran {
+    /// The lines of standard output.
+    pub fn lines(&self) -> Vec<&str> {
+        self.out.lines().collect()
+    }
+}
+
+/// Runs the program in a folder, with words between single spaces.
+pub fn dwcheck_elf(folder: &Folder, words: &str) -> Ran {
+    let mut command = Command::new(env!("CARGO_BIN_EXE_dwcheck-elf"));
+    let output = command.args(words.split(' ')).current_dir(folder.path()).output().unwrap();
+    let ran = Ran {
+        status: output.status.code().expect("the program isn't ended by a signal"),
+        out: String::from_utf8_lossy(&output.stdout).into_owned(),
+        error: String::from_utf8_lossy(&output.stderr).into_owned(),
+    };
+    assert!(!ran.error.contains("panicked"), "{}", ran.error);
+    ran
+}
+
+/// What the program `dwcheck` of the variable DWCHECK writes, if there is one.
+pub fn by_dwcheck(folder: &Folder, words: &str) -> Option<String> {
+    let program = match std::env::var("DWCHECK") {
+        Ok(program) => program,
+        Err(_) => {
+            eprintln!("skipped: DWCHECK names no dwcheck");
+            return None;
+        }
+    };
+    let output = Command::new(program).args(words.split(' ')).current_dir(folder.path()).output().unwrap();
+    Some(String::from_utf8_lossy(&output.stdout).into_owned())
+}

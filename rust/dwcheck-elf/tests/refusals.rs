@@ -1,0 +1,159 @@
+//! Programs with defects: what is written of each.
+
+mod common;
+
+use common::run::dwcheck_elf;
+use common::{has, Folder, MACHINES};
+
+/// A function with a defect: its name, the directives between its instructions, the fault, and what is there.
+const DEFECTS: [(&str, &str, &str, &str); 13] = [
+    (
+        "after_expression",
+        ".cfi_escape 0x0f, 2, 0x77, 8\n nop\n .cfi_def_cfa_register 6",
+        "CfaNotRegister",
+        "def_cfa_register",
+    ),
+    ("unrestored", ".cfi_remember_state", "Unrestored", "the end of the program"),
+    ("restored", ".cfi_escape 0x0b", "RestoreWithoutRemember", "restore_state"),
+    ("past_end", ".cfi_escape 2, 0x7f", "LocationPastEnd", "advance_loc1"),
+    ("moved", ".cfi_escape 1, 0, 0, 0, 0", "LocationPastEnd", "set_loc"),
+    ("unknown", ".cfi_escape 0x3f", "UnknownInstruction", "instruction 0x3f"),
+    ("window", ".cfi_escape 0x2d", "UnknownInstruction", "GNU_window_save"),
+    ("underflow", ".cfi_escape 0x0f, 1, 0x22", "Underflow", "DW_OP_plus of def_cfa_expression"),
+    ("in_frame", ".cfi_escape 0x10, 3, 2, 0x9c, 0x96", "NotInFrame", "DW_OP_call_frame_cfa of expression"),
+    ("operation", ".cfi_escape 0x16, 3, 1, 0xe0", "UnknownOperation", "operation 0xe0 of val_expression"),
+    ("ends_empty", ".cfi_escape 0x0f, 0", "EndsEmpty", "def_cfa_expression"),
+    (
+        "offset",
+        ".cfi_escape 0x0e, 0x80, 0x80, 0x80, 0x80, 0x80, 0x80, 0x80, 0x80, 0x80, 1",
+        "OffsetRange",
+        "def_cfa_offset",
+    ),
+    ("truncated", ".cfi_escape 0x0f, 0x7f", "Truncated", "def_cfa_expression"),
+];
+
+/// Links a function for each defect, and one without.
+fn all_defects(folder: &Folder) {
+    let function = |name: &str, directives: &str| {
+        format!(
+            ".globl {0}\n.type {0}, @function\n{0}: .cfi_startproc\n nop\n {1}\n nop\n .cfi_endproc\n.size {0}, . - {0}\n",
+            name, directives
+        )
+    };
+    let mut text = function("_start", ".cfi_def_cfa_offset 16");
+    DEFECTS.iter().for_each(|(name, directives, ..)| text.push_str(&function(name, directives)));
+    folder.write("a.s", text);
+    folder.run("as a.s -o a.o && ld --no-ld-generated-unwind-info a.o -o linked 2> ld.log");
+}
+
+/// The ranges are those that readelf shows.
+#[test]
+fn each_defect_is_listed_in_the_terms_of_the_file() {
+    let folder = Folder::new("all-defects");
+    all_defects(&folder);
+    let ran = dwcheck_elf(&folder, "check --all linked");
+    assert_eq!(ran.status, 1, "{}", ran.out);
+    let shown = folder.run("readelf --debug-dump=frames linked 2> /dev/null | grep FDE");
+    let ranges: Vec<_> =
+        shown.lines().map(|line| line.rsplit_once("pc=").unwrap().1.split_once("..").unwrap()).collect();
+    let lines = ran.lines();
+    assert_eq!(lines.len(), 2 * DEFECTS.len(), "{}", ran.out);
+    for ((name, _, fault, what), (number, pair)) in DEFECTS.iter().zip(lines.chunks(2).enumerate()) {
+        let (begin, end) = ranges[number + 1];
+        let range = format!("FDE {:#x}..{:#x}", common::hex(begin), common::hex(end));
+        let (place, rest) = pair[0].split_once(": ").and_then(|(_, rest)| rest.split_once(": ")).unwrap();
+        assert!(place.starts_with(".eh_frame+0x"), "{}", pair[0]);
+        let expected = if *name == "ends_empty" { "the end of the expression of def_cfa_expression" } else { what };
+        assert_eq!(rest, format!("{}: {}, {} ({})", fault, expected, range, name));
+        assert!(pair[1].starts_with("    ") && pair[1].contains("(DWARF 5, "), "{}", pair[1]);
+    }
+    let first = dwcheck_elf(&folder, "check linked");
+    assert_eq!((first.status, first.lines()), (1, lines[..2].to_vec()));
+    let rows = dwcheck_elf(&folder, "rows linked");
+    assert_eq!((rows.status, rows.lines()), (1, lines[..2].to_vec()));
+}
+
+/// An FDE that covers what another one does, as linkers leave for functions that they dropped.
+#[test]
+fn fdes_that_share_addresses() {
+    let folder = Folder::new("overlap");
+    let fde = |begin, size| format!(".long 20\n .long 0\n .quad {}\n .quad {}\n", begin, size);
+    let cie = ".long 12\n .long -1\n .byte 1, 0, 1, 0x78, 16, 0x0c, 7, 8\n";
+    let records = format!("{}{}{}{}", cie, fde("_start", 4), fde("_start + 8", 4), fde("_start + 2", 8));
+    folder.write("a.s", format!(".globl _start\n_start: .skip 16\n.section .debug_frame\n{}", records));
+    folder.run("as a.s -o a.o && ld a.o -o linked");
+    let start = common::hex(folder.run("nm linked | grep -w _start").split(' ').next().unwrap());
+    let ran = dwcheck_elf(&folder, "check --all linked");
+    let first = format!(
+        "linked: .debug_frame+0x40: Overlap: shares addresses with {:#x}..{:#x} of the FDE at 0x10",
+        start,
+        start + 4
+    );
+    assert_eq!(ran.lines()[0], format!("{}, FDE {:#x}..{:#x} (_start+0x2)", first, start + 2, start + 10));
+    assert_eq!((ran.status, ran.lines().len()), (1, 2));
+}
+
+/// Records of length 0, which some linkers leave in `.debug_frame`, are left out, and CIE pointers follow.
+#[test]
+fn empty_records_of_debug_frame_are_left_out() {
+    let folder = Folder::new("empty-records");
+    let fde = |cie, begin| format!(".long 20\n .long {}\n .quad {}\n .quad 4\n", cie, begin);
+    let cie = ".long 12\n .long -1\n .byte 1, 0, 1, 0x78, 16, 0x0c, 7, 8\n";
+    let records = format!("{}{}.long 0\n{}{}", cie, fde("0", "_start"), cie, fde("44", "_start + 4"));
+    folder.write("a.s", format!(".globl _start\n_start: .skip 16\n.section .debug_frame\n{}", records));
+    folder.run("as a.s -o a.o && ld a.o -o linked");
+    let ran = dwcheck_elf(&folder, "check --notes linked");
+    assert_eq!(
+        ran.lines(),
+        [
+            "linked: .debug_frame: accepted",
+            "cies 2 fdes 2 rows 2 expressions 0",
+            "note .debug_frame: 1 records of length 0 left out"
+        ]
+    );
+    let rows = dwcheck_elf(&folder, "rows linked");
+    assert!(rows.lines()[3].starts_with("fde 0x0000003c cie 0x0000002c "), "{}", rows.out);
+}
+
+/// GNU as opens CIEs for these with DW_CFA_def_cfa_register, which has a rule only by a common reading.
+#[test]
+fn strict_refuses_a_register_without_an_offset() {
+    let folder = Folder::new("strict");
+    folder.write("a.s", ".globl f\nf: .cfi_startproc\n nop\n .cfi_endproc\n");
+    for machine in ["riscv64-linux-gnu", "mips-linux-gnu"] {
+        if !has(&format!("{}-as", machine)) {
+            continue;
+        }
+        folder.run(&format!("{}-as a.s -o a.o", machine));
+        let ran = dwcheck_elf(&folder, "check --notes a.o");
+        assert!(ran.out.contains(": 1 DW_CFA_def_cfa_register before a rule for the CFA"), "{}", ran.out);
+        assert_eq!(ran.status, 0);
+        let strict = dwcheck_elf(&folder, "check --strict a.o");
+        assert_eq!(strict.status, 1);
+        assert!(strict.out.contains("CfaNotRegister: def_cfa_register, CIE 0x0\n"), "{}", strict.out);
+    }
+}
+
+/// Unlinked objects of each machine: two sections of code, each at an address of its own.
+#[test]
+fn objects_of_each_machine() {
+    let folder = Folder::new("machines");
+    let function = ".cfi_startproc\n nop\n .cfi_def_cfa_offset 16\n nop\n .cfi_endproc\n";
+    folder.write("a.s", format!(".globl f\nf: {0}.section .text.other,\"ax\"\ng: {0}", function));
+    for machine in MACHINES.iter().map(|machine| format!("{}-", machine)).chain([String::new()]) {
+        if !has(&format!("{}as", machine)) {
+            continue;
+        }
+        folder.run(&format!("{}as a.s -o a.o", machine));
+        let ran = dwcheck_elf(&folder, "check a.o");
+        assert_eq!((ran.status, ran.lines()[0]), (0, "a.o: .eh_frame: accepted"), "{}: {}", machine, ran.out);
+        let shown = folder.run("readelf --debug-dump=frames a.o");
+        let (cies, fdes) = (shown.matches(" CIE").count(), shown.matches(" FDE ").count());
+        assert!(
+            ran.lines()[1].starts_with(&format!("cies {} fdes {} rows 4 ", cies, fdes)),
+            "{}: {}",
+            machine,
+            ran.out
+        );
+    }
+}

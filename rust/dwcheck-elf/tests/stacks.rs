@@ -1,0 +1,129 @@
+//! Stacks of core files, beside those of elfutils.
+
+mod common;
+
+use common::run::dwcheck_elf;
+use common::{has, Folder};
+
+const THREADS: &str = "
+#include <pthread.h>
+#include <stdlib.h>
+#include <unistd.h>
+static volatile int waits;
+static int order(const void *x, const void *y) { waits = 1; for (;;) pause(); return *(const int *)x - *(const int *)y; }
+static void *sorts(void *unused) { int values[] = {3, 1, 2}; qsort(values, 3, sizeof *values, order); return unused; }
+__attribute__((noinline)) static int deep(int levels) {
+    volatile int kept = levels;
+    if (levels == 0) abort();
+    return deep(levels - 1) + kept;
+}
+int main(void) {
+    pthread_t thread;
+    if (pthread_create(&thread, NULL, sorts, NULL) != 0) return 1;
+    while (!waits) usleep(1000);
+    return deep(20);
+}
+";
+
+const SIGNAL: &str = "
+#include <signal.h>
+#include <stdlib.h>
+static void handler(int number) { if (number) abort(); }
+__attribute__((noinline)) static int faulty(volatile int *address) { return *address + 1; }
+int main(void) { signal(SIGSEGV, handler); return faulty((volatile int *)16) + 1; }
+";
+
+/// A destructor ends the program while an exception is in flight.
+const EXCEPTION: &str = "
+#include <cstdlib>
+#include <stdexcept>
+struct Loud { int n; __attribute__((noinline)) ~Loud() { if (n > 2) std::abort(); } };
+__attribute__((noinline)) void thrower(int n) { if (n > 2) throw std::runtime_error(\"thrown\"); }
+__attribute__((noinline)) int middle(int n) { Loud loud{n}; thrower(n); return loud.n; }
+int main(int argc, char **) { try { return middle(argc + 3); } catch (const std::exception &) { return 1; } }
+";
+
+/// Threads and the addresses of their frames, a line each.
+fn addresses(shown: &str) -> Vec<String> {
+    let lines = shown.lines().filter_map(|line| {
+        let words: Vec<_> = line.split_whitespace().collect();
+        match words.as_slice() {
+            [word, id] if ["thread", "tid"].contains(&word.to_lowercase().as_str()) => {
+                Some(format!("thread {}", id.trim_matches(':')))
+            }
+            [number, address, ..] if number.starts_with('#') => Some(address.to_string()),
+            _ => None,
+        }
+    });
+    lines.collect()
+}
+
+/// Compares the stacks of a program that ends by a signal. Gives what is written of them.
+fn compared(name: &str, compiler: &str, source: &str) -> String {
+    let folder = Folder::new(name);
+    if !["gdb", "eu-stack"].iter().all(|tool| has(tool)) {
+        return String::new();
+    }
+    let file = if compiler.starts_with("g++") { "a.cc" } else { "a.c" };
+    folder.write(file, source);
+    folder.run(&format!("{} {} -o program", compiler, file));
+    folder.run("gdb --batch -ex 'set startup-with-shell off' -ex 'handle SIGSEGV nostop' -ex run -ex 'gcore core' ./program < /dev/null > gdb.log 2>&1");
+    let ours = dwcheck_elf(&folder, "stack program core");
+    let is_said = |line: &str| line.ends_with(" of its records aren't used");
+    assert!(ours.status == 0 && ours.error.lines().all(is_said), "{}{}", ours.error, ours.out);
+    let theirs = folder.run("eu-stack --core core -e program 2> /dev/null");
+    assert_eq!(addresses(&ours.out), addresses(&theirs), "{}\n{}", ours.out, theirs);
+    ours.out
+}
+
+#[test]
+fn threads_and_libraries() {
+    for flags in ["-O1 -g", "-O2 -fno-pie -no-pie"] {
+        let shown = compared("stack-threads", &format!("gcc {} -pthread", flags), THREADS);
+        assert!(shown.is_empty() || shown.matches("thread ").count() == 2 && shown.contains(" qsort"), "{}", shown);
+    }
+}
+
+#[test]
+fn a_signal_handler() {
+    let shown = compared("stack-signal", "gcc -O1", SIGNAL);
+    assert!(shown.is_empty() || shown.contains(" faulty") && shown.contains(" main"), "{}", shown);
+}
+
+#[test]
+fn an_exception_in_flight() {
+    let shown = compared("stack-exception", "g++ -O1", EXCEPTION);
+    assert!(shown.is_empty() || shown.contains("Loud::~Loud()") && shown.contains(" middle(int)"), "{}", shown);
+}
+
+/// Six functions of glibc 2.36 for i386 are refused; the others are used.
+#[test]
+fn a_program_of_32_bits() {
+    let folder = Folder::new("stack-m32");
+    folder.write("a.c", "int main(void) { return 0; }");
+    let builds = std::process::Command::new("gcc").args(["-m32", "a.c", "-o", "a"]).current_dir(folder.path()).output();
+    if !builds.map_or(false, |output| output.status.success()) {
+        eprintln!("skipped: gcc -m32 doesn't link");
+        return;
+    }
+    compared("stack-i386", "gcc -m32 -O1", SIGNAL);
+}
+
+/// qemu's core files don't say which files are mapped, so the program is what is named.
+#[test]
+fn a_program_of_another_machine() {
+    let folder = Folder::new("stack-aarch64");
+    if !["aarch64-linux-gnu-gcc", "qemu-aarch64", "eu-stack"].iter().all(|tool| has(tool)) {
+        return;
+    }
+    folder.write("a.c", THREADS.replace("pthread_create(&thread, NULL, sorts, NULL) != 0", "waits++"));
+    folder.run("aarch64-linux-gnu-gcc -O1 -static a.c -o program");
+    folder.run("ulimit -c unlimited; qemu-aarch64 ./program 2> /dev/null || mv qemu_program_*.core core");
+    let ours = dwcheck_elf(&folder, "stack program core");
+    assert_eq!((ours.status, ours.error.as_str()), (0, ""), "{}", ours.out);
+    assert!(ours.out.matches(" deep+").count() == 21 && ours.out.contains(" main+"), "{}", ours.out);
+    // elfutils finds no program for the core, and goes by frame pointers. That gives these frames, and others between.
+    let theirs = addresses(&folder.run("eu-stack --core core -e program 2> /dev/null || true"));
+    let mut left = theirs.iter();
+    assert!(addresses(&ours.out).iter().all(|address| left.any(|other| other == address)), "{}{:?}", ours.out, theirs);
+}

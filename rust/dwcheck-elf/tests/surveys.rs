@@ -1,0 +1,66 @@
+//! Surveys: which files are taken, and what is written of them.
+
+mod common;
+
+use common::run::dwcheck_elf;
+use common::{Folder, C};
+
+/// A folder with good programs, one that is refused, and things that are no ELF files.
+fn folder(name: &str) -> Folder {
+    let folder = Folder::new(name);
+    folder.write("a.c", C);
+    folder.run("mkdir -p all/below all/empty && gcc -O2 a.c -o all/good && gcc -O2 -c a.c -o all/object.o");
+    folder.write(
+        "bad.s",
+        ".globl _start\n.type _start, @function\n_start: .cfi_startproc\n nop\n .cfi_remember_state\n nop\n .cfi_endproc\n\
+         .globl other\n.type other, @function\nother: .cfi_startproc\n nop\n .cfi_escape 0x0b\n nop\n .cfi_endproc\n",
+    );
+    folder.run("as bad.s -o bad.o && ld bad.o -o all/below/bad");
+    folder
+        .run("cp all/good all/below/copy && ln all/good all/link && ln -s .. all/below/loop && ln -s good all/pointer");
+    folder.run("printf 'no ELF file' > all/text && : > all/nothing && ln -s nowhere all/broken && mkfifo all/pipe");
+    folder
+}
+
+#[test]
+fn each_file_is_taken_once() {
+    let folder = folder("survey");
+    let ran = dwcheck_elf(&folder, "survey all");
+    assert_eq!((ran.status, ran.error.as_str()), (1, ""));
+    let lines = ran.lines();
+    assert!(lines[0].starts_with("all/below/bad: .eh_frame+0x"), "{}", ran.out);
+    assert!(lines[0].contains(": Unrestored: the end of the program, FDE 0x") && lines[0].ends_with(" (_start)"));
+    assert_eq!((lines[2], lines.len()), ("files 3 repeated 2 unread 0", 5), "{}", ran.out);
+    assert!(lines[3].starts_with("sections 3 accepted 2 refused 1 "), "{}", ran.out);
+    let all = dwcheck_elf(&folder, "survey --all --jobs 1 all all/good");
+    assert!(all.lines()[2].contains(": RestoreWithoutRemember: restore_state, FDE 0x"), "{}", all.out);
+    assert_eq!(dwcheck_elf(&folder, "survey all/good all/object.o all/text").status, 0);
+}
+
+#[test]
+fn a_line_of_json_each() {
+    let folder = folder("survey-json");
+    let ran = dwcheck_elf(&folder, "survey --json all");
+    let script = "import json, sys\nfor line in sys.stdin: one = json.loads(line); print(sorted(one), \
+                  [s['accepted'] for s in one.get('sections', [])])";
+    folder.write("lines", &ran.out);
+    folder.write("show.py", script);
+    let shown = folder.run("python3 show.py < lines");
+    let file = |accepted: &str| format!("['file', 'machine', 'sections'] [{}]\n", accepted);
+    assert_eq!(shown, file("False") + &file("True") + &file("True") + "['totals'] []\n");
+    assert!(ran.out.contains("\"fault\":\"Unrestored\"") && ran.out.contains("\"function\":\"_start\""), "{}", ran.out);
+}
+
+#[test]
+fn what_cannot_be_read_is_said() {
+    let folder = folder("survey-unread");
+    folder.run("head -c 5000 all/good > all/cut");
+    let ran = dwcheck_elf(&folder, "survey all nowhere");
+    assert_eq!(ran.status, 3);
+    assert!(
+        ran.error.contains("cannot read nowhere: ") && ran.error.contains("all/cut: not an ELF file"),
+        "{}",
+        ran.error
+    );
+    assert!(ran.out.contains(" unread 2\n"), "{}", ran.out);
+}
