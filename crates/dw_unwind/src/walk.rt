@@ -128,22 +128,19 @@ impl<'w, U: Unwinder, M: Memory> Walk<'w, U, M> {
         ensures fits { (bound : ℕ) → U.is_bound unwinder bound
             → IfSome (frame_at result.progress).caller (CallerFits bound) }
     {
-        // The registers are written where they stay, since each copy of them takes 6 KB of stack.
-        let mut walk = Walk {
+        let mut one = FrameRegisters::none();
+        let unwound = unwinder.unwind_into(abi, address, registers, memory, &mut one);
+        Walk {
             unwinder,
             abi,
             memory,
             address,
-            unwound: None,
+            unwound,
             is_given: false,
             is_other: false,
-            one: FrameRegisters::none(),
+            one,
             other: FrameRegisters::none(),
-        };
-        walk.unwound = walk
-            .unwinder
-            .unwind_into(abi, address, registers, memory, &mut walk.one);
-        walk
+        }
     }
 
     /// Moves to the caller of the frame that was given last. This is the caller's address.
