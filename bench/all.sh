@@ -1,6 +1,6 @@
 #!/usr/bin/env bash
 # Runs each comparison briefly: random input with the models, walks of real programs with gdb and perf, of nine targets under
-# qemu, bad input, and the pages' commands. Says of each whether it passed, and how long it took; what failed is in the file
+# qemu, bad input, and the pages' commands; and what dwcheck-elf writes, if it is named, with readelf and of damaged files. Says of each whether it passed, and how long it took; what failed is in the file
 # that is named. Eight minutes on a busy machine. It needs the packages that pages.py and walk/targets.py name.
 #     bench/all.sh DWCHECK [DWCHECK_ELF]
 # LIBRARY=crates/dw_times/out/libdw_times.a adds walks beside libunwind (`rt lib` in crates/dw_times makes it),
@@ -35,6 +35,10 @@ run libraries "$here/walk/modules.sh" "$program" 8
 run targets "$here/walk/targets.py" "$program"
 run hostile "$here/stress/hostile.py" "$program"
 run pages "$here/pages.py" "$program" ${elf:+--elf "$elf"}
+if [ -n "$elf" ]; then
+    run elf-rows "$here/elf_rows.py" "$elf" 300000 /usr/bin
+    run elf-damage "$here/elf_damage.py" "$elf" 1000 "$seed" --jobs 2
+fi
 if [ -n "${TESTS:-}" ]; then
     run memory "$here/stress/refused_memory.py" "$(realpath "$TESTS")" "$program"
 fi
