@@ -1,7 +1,8 @@
 #!/usr/bin/env bash
 # Runs each comparison briefly: random input with the models, walks of real programs with gdb and perf, of nine targets under
-# qemu, bad input, and the pages' commands; and what dwcheck-elf writes, if it is named, with readelf and of damaged files. Says of each whether it passed, and how long it took; what failed is in the file
-# that is named. Eight minutes on a busy machine. It needs the packages that pages.py and walk/targets.py name.
+# qemu, bad input, and the pages' commands; and, where dwcheck-elf is named, its rows with readelf's, and damaged files. Says of
+# each whether it passed, and how long it took; what failed is in the file that is named. Eight minutes on a busy machine. It
+# needs the packages that pages.py and walk/targets.py name.
 #     bench/all.sh DWCHECK [DWCHECK_ELF]
 # LIBRARY=crates/dw_times/out/libdw_times.a adds walks beside libunwind (`rt lib` in crates/dw_times makes it),
 # TESTS=crates/dw_tests/out/dw_tests_tests each request for memory refused (`rt test` in crates/dw_tests makes it).

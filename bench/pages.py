@@ -15,7 +15,7 @@ $REPO naming this repository. Each page that differs is shown, and the exit stat
     <!-- slow -->       to the next heading: run in the repository, and only with --slow, since it proves or builds
     ```c                a block that begins with `#include <dwcheck.h>` is compiled with that header
 
-Addresses of stacks and libraries differ between machines, so they are compared as one word (VARYING). --write puts what
+Addresses of stacks and libraries differ between machines, and so do perf's counts: they are compared as one word (VARYING). --write puts what
 the commands write into the pages, where it differs: read the difference before you commit it.
 
 What is written depends on compilers. The pages have what Debian 12 writes, with: gcc g++ clang lld llvm binutils gdb
@@ -34,8 +34,10 @@ INDENT = "    "
 ELF = "dwcheck-elf"
 # What pages have for the folder of their sessions.
 SHOWN_FOLDER = "/home/user/session"
-# Stacks and libraries of x86-64 programs, stacks of Go's threads, of aarch64 and arm programs under qemu; threads.
-VARYING = re.compile(r"0x(0*7f[0-9a-f]{9,10}|0*c000[0-9a-f]{6}|0*5502[0-9a-f]{6}|3[ef][0-9a-f]{6})\b|(?<=thread )[0-9]+")
+# Stacks and libraries of x86-64 programs, stacks of Go's threads, of aarch64 and arm programs under qemu; threads; what perf
+# counted.
+VARYING = re.compile(r"0x(0*7f[0-9a-f]{9,10}|0*c000[0-9a-f]{6}|0*5502[0-9a-f]{6}|3[ef][0-9a-f]{6})\b"
+                     r"|(?<=thread )[0-9]+|\b[0-9]+(?= (?:samples|frames|of which perf|stop not))")
 
 
 class Command:
