@@ -37,8 +37,8 @@ run targets "$here/walk/targets.py" "$program"
 run hostile "$here/stress/hostile.py" "$program"
 run pages "$here/pages.py" "$program" ${elf:+--elf "$elf"}
 if [ -n "$elf" ]; then
-    run elf-rows "$here/elf_rows.py" "$elf" 300000 /usr/bin
-    run elf-damage "$here/elf_damage.py" "$elf" 1000 "$seed" --jobs 2
+    run elf-rows "$here/elf/rows.py" "$elf" 300000 /usr/bin
+    run elf-damage "$here/elf/damage.py" "$elf" 1000 "$seed" --jobs 2
 fi
 if [ -n "${TESTS:-}" ]; then
     run memory "$here/stress/refused_memory.py" "$(realpath "$TESTS")" "$program"

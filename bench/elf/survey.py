@@ -1,7 +1,7 @@
 #!/usr/bin/env python3
 """Makes the tables of docs/SURVEY.md: what the ELF files of a machine hold, by architecture.
 
-    bench/survey.py DWCHECK_ELF PATH ..          as bench/survey.py build/dwcheck-elf /usr
+    bench/elf/survey.py DWCHECK_ELF PATH ..          as bench/elf/survey.py build/dwcheck-elf /usr
 
 The libraries of other architectures come from Debian's cross packages:
     apt-get install $(apt-cache search --names-only '^(libstdc\\+\\+6|libgfortran5|libc6(\\.1)?)-.*-cross$' | cut -d' ' -f1)

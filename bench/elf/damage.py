@@ -1,7 +1,7 @@
 #!/usr/bin/env python3
 """Runs dwcheck-elf on ELF files and core files whose bytes were changed at random.
 
-    bench/elf_damage.py DWCHECK_ELF COUNT SEED [--jobs N] [--kinds elf,core]
+    bench/elf/damage.py DWCHECK_ELF COUNT SEED [--jobs N] [--kinds elf,core]
 
 COUNT files of each kind are made of a few that gcc and gdb make: bytes are changed in headers, in sections and anywhere,
 and some files are cut. Each run has to end by itself within 60 seconds, with a status of its own, and without a panic;

@@ -1,7 +1,7 @@
 #!/usr/bin/env python3
 """Compares the rows that dwcheck-elf prints of ELF files with readelf's.
 
-    bench/elf_rows.py DWCHECK_ELF ROWS FILE_OR_FOLDER ..
+    bench/elf/rows.py DWCHECK_ELF ROWS FILE_OR_FOLDER ..
 
 Files of x86-64 are compared until there were ROWS rows: for each FDE the range, and for each row the address, the CFA's
 rule and each register's. Each file is compared once, by its contents. readelf shows an expression as `exp` or `vexp`
