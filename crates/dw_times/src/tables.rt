@@ -67,7 +67,7 @@ fn rules_sum(row: &UnwindRow<'_, '_>) -> u64 {
     for (register, rule) in row.rules() {
         sum = sum.wrapping_add(u64::from(register));
         if let RegisterRule::Offset(offset) = rule {
-            sum = sum.wrapping_add(offset as u64);
+            sum = sum.wrapping_add(offset.cast_unsigned());
         }
     }
     sum
