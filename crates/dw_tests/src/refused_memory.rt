@@ -1,6 +1,6 @@
 //! Calls that may run out of memory. If an allocation is refused, the answer is out of memory and nothing else, and the
-//! call gives its worked answer when it is made again. `bench/refused_memory.py` runs each test with its Nth allocation
-//! refused, for every N; with enough memory only the worked answers are compared.
+//! call gives its worked answer when it is made again. `bench/stress/refused_memory.py` runs each test with its Nth
+//! allocation refused, for every N; with enough memory only the worked answers are compared.
 
 ghost use Rattle.std.specs.Prelude.{◌≡◌, ◌≤◌, ◌<◌, ◌^◌, length};
 
