@@ -56,24 +56,84 @@ pub(crate) const ADDR4: &str = "addr4";
 
 pub(crate) const HEX: &str = "hex";
 
-const FRAME_HELP: &str = "A file with the raw bytes of a .debug_frame section";
+const FRAME_HELP: &str =
+    "A file with the raw bytes of a .debug_frame section, as objcopy --dump-section writes it";
 
-const LISTS_HELP: &str = "A file with the raw bytes of a .debug_loclists section";
+const LISTS_HELP: &str =
+    "A file with the raw bytes of a .debug_loclists section, as objcopy --dump-section writes it";
 
-const STATE_HELP: &str = "A file with what registers, memory and the context have";
+const STATE_HELP: &str =
+    "A text file with registers, memory, the ABI and the context of a stopped thread";
 
 const LOAD_HELP: &str = "The address where the module of FRAME is loaded; 0x0 if not given";
 
 const MODULE_HELP: &str =
     "LOAD=FILE: a further module, where it is loaded and its section; may be given again";
 
-const WHERE_IT_STANDS: &str = "The address where the frame stands";
+const WHERE_IT_STANDS: &str = "The address of the frame's next instruction: 0x and hex digits";
 
-/// A command in outline: its name, what it does, its words in order, each with its meaning, and whether
-/// it takes a state file, the load address of its module, and further modules. Every command has the same flags.
+const WHOLE_HELP: &str = "\
+Sections are those of linked programs and libraries, not compressed. A program's .eh_frame and
+other ELF files: dwcheck-elf. Walk-throughs: docs/TUTORIAL.md. What a refusal means, and what to do
+about it: docs/TROUBLESHOOTING.md. Also: man dwcheck.";
+
+const CHECK_EXAMPLE: &str = "\
+Example:
+  objcopy --dump-section .debug_frame=f --dump-section .debug_loclists=l PROGRAM /dev/null
+  dwcheck check f l
+
+An empty file stands for a section that a program doesn't have. The rules: docs/PROFILE.md.";
+
+const ROWS_EXAMPLE: &str = "\
+Example:
+  objcopy --dump-section .debug_frame=f PROGRAM /dev/null
+  dwcheck rows f
+
+How rows are written: docs/OUTPUT.md.";
+
+const ROW_EXAMPLE: &str = "\
+Example:
+  dwcheck row f 0x1139
+  dwcheck row --load 0x555555554000 f 0x555555555139
+
+How a row is written: docs/OUTPUT.md.";
+
+const LOCS_EXAMPLE: &str = "\
+Example:
+  dwcheck locs l 0xc 0x1000 0x1004
+  dwcheck locs --state s l 0xc 0x1000 0x1004
+
+LIST is the offset of a list's first byte, which DW_AT_location of a variable names.
+How state files are written: docs/OUTPUT.md.";
+
+const EVAL_EXAMPLE: &str = "\
+Example:
+  echo 77 08 > e; echo reg 7 0x7ffe0000 > s
+  dwcheck eval --hex --state s register e
+
+How state files are written: docs/OUTPUT.md.";
+
+const UNWIND_EXAMPLE: &str = "\
+Example:
+  dwcheck unwind f 0x1139 s
+  dwcheck unwind --load 0x555555554000 --module 0x7ffff7fc0000=lib.f f 0x555555555139 s
+
+How state files are written: docs/OUTPUT.md. A gdb script writes one: tools/.";
+
+const BACKTRACE_EXAMPLE: &str = "\
+Example:
+  dwcheck backtrace f 0x1139 s 64
+  dwcheck backtrace --load 0x555555554000 --module 0x7ffff7fc0000=lib.f f 0x555555555139 s 64
+
+How state files are written: docs/OUTPUT.md. A gdb script writes one: tools/.";
+
+/// A command in outline: its name, what it does, the end of its help with an example, its words in
+/// order, each with its meaning, and which options it takes: a state file, the load address of its
+/// module, and further modules. Every command has the same flags.
 struct Outline<'a> {
     name: &'a str,
     about: &'a str,
+    example: &'a str,
     words: &'a [(&'a str, &'a str)],
     has_state: bool,
     has_load: bool,
@@ -85,6 +145,7 @@ const COMMANDS: [Outline<'static>; 7] = [
     Outline {
         name: CHECK,
         about: "Check two sections, and report on them",
+        example: CHECK_EXAMPLE,
         words: &[(FRAME, FRAME_HELP), (LISTS, LISTS_HELP)],
         has_state: false,
         has_load: false,
@@ -93,6 +154,7 @@ const COMMANDS: [Outline<'static>; 7] = [
     Outline {
         name: ROWS,
         about: "Show each FDE and its rows",
+        example: ROWS_EXAMPLE,
         words: &[(FRAME, FRAME_HELP)],
         has_state: false,
         has_load: false,
@@ -101,6 +163,7 @@ const COMMANDS: [Outline<'static>; 7] = [
     Outline {
         name: ROW,
         about: "Show the row of an address",
+        example: ROW_EXAMPLE,
         words: &[(FRAME, FRAME_HELP), (ADDRESS, "0x and 1 to 16 hex digits")],
         has_state: false,
         has_load: true,
@@ -109,6 +172,7 @@ const COMMANDS: [Outline<'static>; 7] = [
     Outline {
         name: LOCS,
         about: "Show what a location list says of an address",
+        example: LOCS_EXAMPLE,
         words: &[
             (LISTS, LISTS_HELP),
             (LIST, "The offset of a list in the section"),
@@ -122,6 +186,7 @@ const COMMANDS: [Outline<'static>; 7] = [
     Outline {
         name: EVAL,
         about: "Evaluate an expression",
+        example: EVAL_EXAMPLE,
         words: &[
             (KIND, "cfa, register or location"),
             (EXPR, "A file with the bytes of an expression"),
@@ -133,6 +198,7 @@ const COMMANDS: [Outline<'static>; 7] = [
     Outline {
         name: UNWIND,
         about: "Show the caller of the frame at an address",
+        example: UNWIND_EXAMPLE,
         words: &[
             (FRAME, FRAME_HELP),
             (ADDRESS, WHERE_IT_STANDS),
@@ -145,6 +211,7 @@ const COMMANDS: [Outline<'static>; 7] = [
     Outline {
         name: BACKTRACE,
         about: "Show the frame at an address and those that called",
+        example: BACKTRACE_EXAMPLE,
         words: &[
             (FRAME, FRAME_HELP),
             (ADDRESS, WHERE_IT_STANDS),
@@ -258,7 +325,9 @@ fn clap_command<'a>(alloc: Global, outline: &Outline<'a>) -> Result<Command<'a>,
 {
     let command = with_flags(
         alloc,
-        Command::new(alloc, outline.name).about(outline.about),
+        Command::new(alloc, outline.name)
+            .about(outline.about)
+            .after_help(outline.example),
     )?;
     let command = with_words(alloc, command, outline.words)?;
     with_options(alloc, command, outline)
@@ -301,9 +370,9 @@ pub(crate) fn whole_command<'a>(alloc: Global) -> Result<Command<'a>, AllocError
     ensures app { IfOk result (λ c. app_of c ≡ dwcheck) }
     ensures local { IfOk result (λ c. (fields_of c).has_globals ≡ false) }
 {
-    let command = Command::new(alloc, "dwcheck").about(
-        "Check DWARF 5 unwind tables and location lists, and evaluate expressions",
-    );
+    let command = Command::new(alloc, "dwcheck")
+        .about("Check DWARF 5 unwind tables and location lists, and evaluate expressions")
+        .after_help(WHOLE_HELP);
     let command = with_commands(alloc, command, &COMMANDS)?;
     Ok(command.subcommand_required(true))
 }
