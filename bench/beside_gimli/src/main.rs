@@ -1,6 +1,7 @@
 //! The libraries of dwcheck beside gimli, in one process.
 //!   beside times SECTION ..
 //!   beside differ FRAMES LISTS EXPRESSIONS SEED SECTION ..    how many cases of each, made of these sections
+//!   beside rows SECTION     gimli alone: all rows of a frame section, and nothing else
 //!   beside read SECTION     gimli alone: all rows and rules, or entries, and all expressions
 //! A section is raw and little-endian with addresses of 8 bytes: a `.debug_loclists` where its name ends with `.lists`, else a
 //! `.debug_frame`.
@@ -35,12 +36,13 @@ fn main() {
     let words: Vec<String> = std::env::args().skip(1).collect();
     match words.first().map(String::as_str) {
         Some("times") => times::run(&sections(&words[1..])),
+        Some("rows") if words.len() == 2 => println!("{}", theirs::all_rows(&sections(&words[1..])[0].1)),
         Some("read") if words.len() == 2 => read(&sections(&words[1..])[0]),
         Some("differ") if words.len() > 5 => {
             let number = |place: usize| words[place].parse().expect("a number");
             let same = differ::run(&sections(&words[5..]), number(1), number(2), number(3), number(4));
             std::process::exit(i32::from(!same));
         }
-        _ => panic!("beside times|read|differ .."),
+        _ => panic!("beside times|rows|read|differ .."),
     }
 }

@@ -48,6 +48,13 @@ fn rows(frame: &DebugFrame<Bytes<'_>>) -> u64 {
     sum
 }
 
+/// All rows of a section, for a process that does nothing else.
+pub fn all_rows(bytes: &[u8]) -> u64 {
+    let mut frame = DebugFrame::new(bytes, LittleEndian);
+    frame.set_address_size(8);
+    rows(&frame)
+}
+
 /// What FDEs cover, in order of address: beginning, end and offset. gimli leaves such an index to its user.
 fn index(frame: &DebugFrame<Bytes<'_>>) -> Vec<(u64, u64, usize)> {
     let mut index = Vec::new();

@@ -1,0 +1,80 @@
+#!/usr/bin/env python3
+"""Times `dwcheck check` on the frame sections of a machine's programs and libraries, one process each, beside gimli.
+
+    bench/times/machine.py DWCHECK DEBUG_FRAME BESIDE FOLDER ..        some minutes
+
+DEBUG_FRAME is the example of that name of rust/dwcheck-elf: it rewrites a file's `.eh_frame` section as `.debug_frame`. BESIDE is
+the program that bench/beside_gimli/run.sh builds; `BESIDE rows SECTION` runs all rows by gimli and checks nothing. Every
+ELF file of x86-64 below the FOLDERs is taken once. Both programs read the same rewritten sections, in turn, with their output
+thrown away. What a process takes before it reads anything is measured on an empty section, and subtracted.
+"""
+import os
+import resource
+import subprocess
+import sys
+import tempfile
+
+RUNS = 3
+ELF_64_LITTLE = b"\x7fELF\x02\x01"
+X86_64 = b"\x3e\x00"
+
+
+def programs(folders):
+    """The ELF files of x86-64 below some folders, without links to others."""
+    for folder in folders:
+        for top, _, names in os.walk(folder):
+            for name in sorted(names):
+                path = os.path.join(top, name)
+                if os.path.islink(path) or not os.path.isfile(path):
+                    continue
+                with open(path, "rb") as file:
+                    head = file.read(20)
+                if head.startswith(ELF_64_LITTLE) and head[18:20] == X86_64:
+                    yield path
+
+
+def rewritten(debug_frame, folders, into):
+    """Files with the rewritten section of each program that has one."""
+    for number, path in enumerate(programs(folders)):
+        out = os.path.join(into, f"{number}.frame")
+        made = subprocess.run([debug_frame, path, out], stdout=subprocess.DEVNULL, stderr=subprocess.DEVNULL)
+        if made.returncode == 0:
+            yield out
+
+
+def processor_time(commands):
+    """Seconds that some processes take in their own code, one after the other."""
+    begun = resource.getrusage(resource.RUSAGE_CHILDREN)
+    for command in commands:
+        subprocess.run(command, stdout=subprocess.DEVNULL, stderr=subprocess.DEVNULL)
+    ended = resource.getrusage(resource.RUSAGE_CHILDREN)
+    return ended.ru_utime + ended.ru_stime - begun.ru_utime - begun.ru_stime
+
+
+def main():
+    if len(sys.argv) < 5:
+        sys.exit(__doc__)
+    dwcheck, debug_frame, beside = sys.argv[1:4]
+    with tempfile.TemporaryDirectory() as into:
+        empty = os.path.join(into, "empty")
+        open(empty, "wb").close()
+        sections = list(rewritten(debug_frame, sys.argv[4:], into))
+        size = sum(os.path.getsize(section) for section in sections)
+        print(f"{len(sections)} sections, {size:,} bytes")
+        ways = {
+            "dwcheck": lambda section: [dwcheck, "check", section, empty],
+            "gimli": lambda section: [beside, "rows", section],
+        }
+        least = {}
+        for _ in range(RUNS):
+            for name, command in ways.items():
+                took = processor_time(command(section) for section in sections)
+                start = processor_time(command(empty) for _ in sections)
+                print(f"{name}: {took:.2f} s, of which {start:.2f} s for the start of the processes")
+                least[name] = min(least.get(name, took - start), took - start)
+        print(f"without the start: dwcheck {least['dwcheck']:.2f} s, gimli {least['gimli']:.2f} s, "
+              f"ratio {least['dwcheck'] / least['gimli']:.2f}")
+
+
+if __name__ == "__main__":
+    main()
