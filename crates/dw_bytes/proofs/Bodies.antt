@@ -66,7 +66,7 @@ framed-only r format body after h =
 abbrev body-at : Target → ℕ → List ℕ → ReadPosition
 body-at target at bytes = record { target = target; position = at; rest = bytes }
 
--- the bytes of a body are the section's up to its end
+-- the bytes of a body are those of the section up to the body's end
 body-is : (section bytes rest : List ℕ) (first end : ℕ) → end ≡ first + length bytes → drop first section ≡ bytes ++ rest
     → drop first (take end section) ≡ bytes
 body-is section bytes rest first end long parts =
@@ -113,7 +113,7 @@ err-is A f g e = cc
 pub not-err : {A : Type 0} {x : A} {fault : Fault} → Ok x ≡ Err fault → ⊥
 not-err e = cc
 
--- where a step fails, or what comes after it
+-- a fault of two steps in a row is that of the first step or that of the second
 pub bind-err : {A B : Type 0} (x : Result A Fault) (f : A → Result B Fault) (fault : Fault) → (x >>= f) ≡ Err fault
     → (x ≡ Err fault) ⊎ ((a : A) × (x ≡ Ok a) × (f a ≡ Err fault))
 bind-err (Ok a) f fault is = inr (a, refl, is)

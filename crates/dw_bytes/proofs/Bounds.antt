@@ -21,7 +21,8 @@ abbrev pub Stays : {X : Type 0} → ℕ → ReadPosition → Result (X × ReadPo
 Stays from r (Ok x) = (r.position ≤ x.1.position) × (end-of x.1 ≡ end-of r)
 Stays from r (Err fault) = (from ≤ fault.at) × (fault.at ≤ end-of r)
 
--- a reader that is refused at an offset or after it, wherever it begins after that
+-- a reader that goes forward and reports faults at offset `from` or after it, if it begins at
+-- `from` or after it
 abbrev pub AlwaysStays : {X : Type 0} → ℕ → (ReadPosition → Result (X × ReadPosition) Fault) → Type 0
 AlwaysStays from read = (r : ReadPosition) → from ≤ r.position → Stays from r (read r)
 
@@ -103,7 +104,7 @@ step : {X : Type 0} (read : ReadPosition → Result (X × ReadPosition) Fault) (
 step read On P good bad others behind r (Ok x) is on = let h = good r x.0 x.1 on is in (h.0, behind x.1 h.1)
 step read On P good bad others behind r (Err fault) is on = (bad r fault on is, tt)
 
--- What holds of each thing that is read on the way holds for all of them.
+-- If P holds for each item that is read, then P holds for all items of the list.
 all-along : {X : Type 0} (read : ReadPosition → Result (X × ReadPosition) Fault) (On : ReadPosition → Type 0) (P : Result X Fault → Type 0)
     → ((r : ReadPosition) (x : X) (after : ReadPosition) → On r → read r ≡ Ok (x, after) → P (Ok x) × On after)
     → ((r : ReadPosition) (fault : Fault) → On r → read r ≡ Err fault → P (Err fault))

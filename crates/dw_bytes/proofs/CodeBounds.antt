@@ -1,4 +1,5 @@
--- Codes and operands, and the faults of reading them, are within what is read.
+-- Reading a code and its operands goes forward, and reports faults inside the bytes that are left
+-- or at their end.
 use Rattle.std.proofs.Common.{◌≡◌, ℕ, ◌≤◌, Bool, true, false, cond, List, [], ◌∷◌, Option, Some, None, Result, Ok, Err, refl, arith}
 use Rattle.std.specs.Int.{byte_len, cast_signed}
 use Rattle.dw_bytes.specs.declared.target.Target.{Target}

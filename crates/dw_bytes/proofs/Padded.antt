@@ -1,4 +1,4 @@
--- What a padded hole of a format writes is the hex digits.
+-- A format placeholder that is padded with zeros writes a number's hex digits.
 use Rattle.std.proofs.Common.{◌≡◌, ℕ, zero, suc, ◌+◌, ◌-◌, ◌*◌, ◌/◌, ◌%◌, ◌^◌, ◌<◌, ◌≤◌, List, [], ◌∷◌, ◌++◌, false, length}
 use Rattle.std.proofs.Common.{replicate, ap, ap₂}
 use Rattle.std.proofs.Common.{sym, ◌∙◌, refl, arith, length-append, ◌⊎◌, inl, inr}
@@ -28,7 +28,7 @@ unfolding hex_digits
 length-hex zero n = refl
 length-hex (suc k) n = length-append (hex_digits k (n / 16)) (digit (n % 16) ∷ []) ∙ let e = length-hex k (n / 16) in omega (arith, e)
 
--- the digits after some zeros
+-- the j + 1 hex digits of n are some zeros, and then the digits of n without padding
 abbrev Behind : ℕ → ℕ → ℕ → List ℕ → Type 0
 Behind j k n acc = (p : ℕ) × (hex_digits (suc j) n ++ acc ≡ replicate p 48 ++ digits_onto k 16 false n acc)
 
@@ -92,7 +92,7 @@ sixteens : (k : ℕ) → 0 < 16 ^ k
 sixteens zero = omega arith
 sixteens (suc k) = omega (arith, pow-suc 16 k, sixteens k)
 
--- the last k digits are those of what is left below 16 ^ k
+-- the last k hex digits of n are those of n modulo 16 ^ k
 pub hex_last : (k n m : ℕ) → m ≡ n % 16 ^ k → hex_digits k m ≡ hex_digits k n
 unfolding hex_digits
 hex_last zero n m e = refl

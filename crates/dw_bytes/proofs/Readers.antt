@@ -10,11 +10,11 @@ use Rattle.dw_bytes.specs.Reading.{ReadPosition, Next, IsExact, ◌>>=◌, take_
 use Rattle.dw_bytes.specs.Reading.{initial_length_at, uleb_at, sleb_at}
 use Rattle.dw_bytes.proofs.Fields.{take_exact, fixed_exact, initial_length_exact, uleb_exact, sleb_exact}
 
--- a reader that is exact wherever the target is this one
+-- a reader that is exact at every position with this target
 abbrev pub Exact : {X : Type 0} → Target → (ReadPosition → Result (X × ReadPosition) Fault) → (List ℕ → X → Type 0) → Type 0
 Exact target read IsEncoding = (r : ReadPosition) → r.target ≡ target → IsExact read IsEncoding r
 
--- the same of a reader of what is encoded at an offset
+-- a reader that is exact at every position with this target, where encodings depend on the offset
 abbrev pub ExactAt : {X : Type 0} → Target → (ReadPosition → Result (X × ReadPosition) Fault) → (ℕ → List ℕ → X → Type 0) → Type 0
 ExactAt target read IsEncoding = (r : ReadPosition) → r.target ≡ target → IsExact read (IsEncoding r.position) r
 
@@ -65,7 +65,7 @@ offset-exact target format r same =
 pub length-exact : (target : Target) → Exact target initial_length_at (Length target.order)
 length-exact target r same = subst (λ (t : Target). IsExact initial_length_at (Length t.order) r) same (initial_length_exact r)
 
--- ---- no encoding begins another
+-- ---- no encoding is a proper prefix of another one
 
 at-start : {X : Type 0} (IsEncoding : List ℕ → X → Type 0) (target : Target) (at : ℕ) (bytes a x : List ℕ) (v : X) → bytes ≡ a ++ x
     → IsEncoding a v → Next IsEncoding (reading-of target at bytes) v (reading-of target (at + length a) x)
@@ -96,7 +96,7 @@ suffix section bytes rest at inside parts =
     ∙ (sym (drop-append-add (take at section) (bytes ++ rest) (length bytes))
     ∙ (ap (λ n. drop (n + length bytes) (take at section ++ (bytes ++ rest))) front ∙ ap (drop (at + length bytes)) whole))
 
--- A reader that is exact leaves what the section has from where it ends.
+-- After an exact read from a section, what is left is the section from the new position on.
 pub leaves-suffix : {X : Type 0} (target : Target) (read : ReadPosition → Result (X × ReadPosition) Fault) (IsEncoding : ℕ → List ℕ → X
     → Type 0) → ExactAt target read IsEncoding
     → (section : List ℕ) (at : ℕ) (v : X) (after : ReadPosition) → at ≤ length section

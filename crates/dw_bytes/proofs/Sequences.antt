@@ -11,17 +11,17 @@ use Rattle.dw_bytes.specs.Reading.{ReadPosition, Next, IsExact, ◌>>=◌, offse
 use Rattle.dw_bytes.specs.Sequence.{Sequence, Located, located_read, and_then, at_most_of, sequence_of, Exactly, exactly_of}
 use Rattle.dw_bytes.proofs.Readers.{ExactAt, bind-ok, ok-is, same-reading, offset-exact}
 
--- A reader of one thing: exact wherever the target is this one, and no encoding is empty.
+-- A reader of one thing: it is exact at every position with this target, and no encoding is empty.
 pub record ReadsEach {X : Type 0} (target : Target) (read : ReadPosition → Result (X × ReadPosition) Fault) (IsEncoding : ℕ → List ℕ → X
     → Type 0) : Type 0 where
   pub exact : (r : ReadPosition) → r.target ≡ target → IsExact read (IsEncoding r.position) r
   pub some : (at : ℕ) (bytes : List ℕ) (x : X) → IsEncoding at bytes x → 0 < length bytes
 
--- A reader takes bytes, whatever the target.
+-- Each successful read takes at least one byte.
 abbrev pub Forward : {X : Type 0} → (ReadPosition → Result (X × ReadPosition) Fault) → Type 0
 Forward {X} read = (r : ReadPosition) (x : X) (after : ReadPosition) → read r ≡ Ok (x, after) → length after.rest < length r.rest
 
--- a thing that is exact without its offset is exact with it
+-- an exact reader of things is also exact for pairs of an offset and a thing
 pub located-exact : {X : Type 0} (target : Target) (read : ReadPosition → Result (X × ReadPosition) Fault) (IsEncoding : ℕ → List ℕ → X
     → Type 0) → ExactAt target read IsEncoding → (r : ReadPosition) → r.target ≡ target
     → IsExact (located_read read) (Located IsEncoding r.position) r
@@ -60,7 +60,7 @@ same-then {X} read forward r (Ok found) f g is same =
     ap (λ (items : List (Result X Fault)). Ok found.0 ∷ items) (same found.1 (forward r found.0 found.1 is))
 same-then read forward r (Err fault) f g is same = refl
 
--- any count that is enough gives the same
+-- any two limits that are at least the number of bytes give the same list
 pub enough-same : {X : Type 0} (read : ReadPosition → Result (X × ReadPosition) Fault) → Forward read → (n m : ℕ) (r : ReadPosition)
     → length r.rest ≤ n → length r.rest ≤ m → at_most_of read n r ≡ at_most_of read m r
 enough-same read forward zero m r h k = sym (none read m r (omega arith))
@@ -80,7 +80,7 @@ turn-of {X} read forward n r x after long is =
     ∙ (ap (λ y. and_then y (at_most_of read n)) is ∙ ap (λ (items : List (Result X Fault)). Ok x ∷ items)
     (enough-same read forward n (length after.rest) after (omega (arith, less)) (omega arith))))
 
--- what is read comes first, and then what is after it
+-- the value that is read comes first, and then the things after it
 pub goes-on : {X : Type 0} (read : ReadPosition → Result (X × ReadPosition) Fault) → Forward read
     → (r : ReadPosition) (x : X) (after : ReadPosition) → read r ≡ Ok (x, after) → sequence_of read r ≡ Ok x ∷ sequence_of read after
 goes-on read forward r x after is = let less = forward r x after is in
@@ -92,12 +92,12 @@ unfolding sequence_of
 stops-of read n r fault long is = ap (λ k. at_most_of read k r) long
     ∙ (turn read n r (omega arith) ∙ ap (λ x. and_then x (at_most_of read n)) is)
 
--- a fault comes alone
+-- a fault is the only item
 pub stops : {X : Type 0} (read : ReadPosition → Result (X × ReadPosition) Fault) (r : ReadPosition) (fault : Fault) → 0 < length r.rest
     → read r ≡ Err fault → sequence_of read r ≡ Err fault ∷ []
 stops read r fault some is = stops-of read (length r.rest - 1) r fault (omega arith) is
 
--- no bytes are left
+-- nothing is read if no bytes are left
 pub ends : {X : Type 0} (read : ReadPosition → Result (X × ReadPosition) Fault) (r : ReadPosition) → length r.rest ≡ 0
     → sequence_of read r ≡ []
 unfolding sequence_of
@@ -167,7 +167,7 @@ sequence-exact target read IsEncoding each r xs same = (
   (λ are. all-only target read IsEncoding each (length r.rest) r xs same (omega arith) are),
 )
 
--- a reader that is exact for every target takes bytes
+-- a reader that is exact for every target takes at least one byte for each thing
 pub forward : {X : Type 0} (read : ReadPosition → Result (X × ReadPosition) Fault) (IsEncoding : Target → ℕ → List ℕ → X → Type 0)
     → ((target : Target) → ReadsEach target read (IsEncoding target)) → Forward read
 forward read IsEncoding each r x after is =
@@ -251,7 +251,7 @@ pub offsets-exact : (format : Format) (count : ℕ) (r : ReadPosition)
 offsets-exact format count r = exactly-exact r.target (offset_at format) (λ at. Offset r.target.order format)
     (offset-exact r.target format) count r refl
 
--- one thing more, and one that isn't there
+-- appends one more thing to those that were read, or the fault of the next one
 pub exactly-more : {X : Type 0} (read : ReadPosition → Result (X × ReadPosition) Fault) (n : ℕ) (r mid after : ReadPosition) (xs : List X)
     (x : X)
     → exactly_of read n r ≡ Ok (xs, mid) → read mid ≡ Ok (x, after) → exactly_of read (suc n) r ≡ Ok (xs ++ x ∷ [], after)

@@ -1,9 +1,9 @@
--- The result of a judgement.
+-- How the result of a check relates to the fault that a definition gives.
 use Rattle.std.specs.Prelude.{◌≡◌, ◌⊎◌, List, [], ◌∷◌, Option, Some, None, Result, Ok, Err}
 use Rattle.dw_bytes.specs.declared.fault.Fault.{Fault}
 use Rattle.dw_bytes.specs.declared.fault.FaultKind.TheVariants.{Memory}
 
--- A judgement passes where there is no fault, and names the fault otherwise.
+-- A check passes if there is no fault, and returns the fault otherwise.
 abbrev pub Judges : {X : Type 0} → Option Fault → Result X Fault → Type 0
 Judges fault (Ok _) = fault ≡ None
 Judges fault (Err f) = fault ≡ Some f
@@ -12,12 +12,14 @@ Judges fault (Err f) = fault ≡ Some f
 abbrev pub memory : Fault
 memory = record { kind = Memory; at = 0 }
 
--- The same for a judgement that may run out of memory.
+-- The result of a check that allocates memory: as for Judges, but the check may also run out of
+-- memory.
 abbrev pub Answers : {X : Type 0} → Option Fault → Result X Fault → Type 0
 Answers fault (Ok _) = fault ≡ None
 Answers fault (Err f) = (f ≡ memory) ⊎ (fault ≡ Some f)
 
--- of things that are read one after another: those that were read, and the fault that ended the reading
+-- values_in: of a list of results, the values before the first fault; fault_in: the first fault, if
+-- any
 abbrev pub values_in : {X : Type 0} → List (Result X Fault) → List X
 values_in [] = []
 values_in (Ok x ∷ items) = x ∷ values_in items

@@ -6,18 +6,20 @@ use Rattle.dw_bytes.specs.declared.fault.Fault.{Fault}
 use Rattle.dw_bytes.specs.Encoding.{Length}
 use Rattle.dw_bytes.specs.Reading.{ReadPosition, ◌>>=◌, section_from, take_at, initial_length_at}
 
--- a body of these bytes
+-- a body: these bytes, at the position of r
 abbrev pub body_of : ReadPosition → List ℕ → ReadPosition
 body_of r bytes = record { target = r.target; position = r.position; rest = bytes }
 
--- The length, and a body of that many bytes: what is read in it ends with it.
+-- Reads a length, and the body of that many bytes. No read inside the body goes past the body's
+-- end.
 unfoldable pub framed_at : ReadPosition → Result ((Format × ReadPosition) × ReadPosition) Fault
 framed_at r = do
   size ← initial_length_at r
   body ← take_at size.0.1 size.1
   Ok ((size.0.0, body_of size.1 body.0), body.1)
 
--- A length is encoded at the reading position, then the body that it counts, and this is what comes after.
+-- What is left at r is an encoded length, then the body of that many bytes, then what is left at
+-- `after`.
 pub record IsFramed (r : ReadPosition) (format : Format) (body after : ReadPosition) : Type 0 where
   pub front : List ℕ
   pub length_is : Length r.target.order front (format, length body.rest)
@@ -27,6 +29,6 @@ pub record IsFramed (r : ReadPosition) (format : Format) (body after : ReadPosit
   pub position : after.position ≡ body.position + length body.rest
   pub target : after.target ≡ r.target
 
--- a section from an offset up to another
+-- a section from offset start up to offset end
 abbrev pub window : Target → List ℕ → ℕ → ℕ → ReadPosition
 window target section start end = section_from target (take end section) start

@@ -11,7 +11,7 @@ use Rattle.dw_bytes.specs.declared.target.Order.TheVariants.{Little, Big}
 use Rattle.dw_bytes.specs.declared.target.Format.{Format}
 use Rattle.dw_bytes.specs.declared.target.Format.TheVariants.{Dwarf32, Dwarf64}
 
--- the first n bytes weighted by powers of 256, the least first or last
+-- the number that the first n bytes make: the least significant byte first (Little) or last (Big)
 abbrev pub number : Order → ℕ → List ℕ → ℕ
 number Little n bytes = little_number n bytes
 number Big n bytes = big_number n bytes
@@ -21,7 +21,7 @@ pub record Bytes (n : ℕ) (bytes : List ℕ) (v : List ℕ) : Type 0 where
   pub count : length bytes ≡ n
   pub value : v ≡ bytes
 
--- n bytes encode v
+-- n bytes encode the number v in this byte order
 pub record Fixed (order : Order) (n : ℕ) (bytes : List ℕ) (v : ℕ) : Type 0 where
   pub count : length bytes ≡ n
   pub value : v ≡ number order n bytes
@@ -44,25 +44,25 @@ bytes_of_offset Dwarf64 = 8
 abbrev pub Offset : Order → Format → List ℕ → ℕ → Type 0
 Offset order format bytes v = Fixed order (bytes_of_offset format) bytes v
 
--- the low seven bits of each byte weighted by powers of 128, the least first
+-- the low seven bits of each byte, weighted by powers of 128, the least significant byte first
 abbrev pub groups : List ℕ → ℕ
 groups [] = 0
 groups (b ∷ bs) = b % 128 + 128 * groups bs
 
--- one byte or more, with the high bit on every one but the last
+-- one byte or more, of which all but the last have the high bit set
 abbrev pub IsChain : List ℕ → Type 0
 IsChain [] = ⊥
 IsChain (b ∷ []) = b < 128
 IsChain (b ∷ c ∷ bs) = (128 ≤ b) × IsChain (c ∷ bs)
 
--- LEB128 of at most ten bytes, padded or not: what its groups mean, where that fits
+-- A LEB128 number of at most ten bytes, padded or not: v is what the bytes mean, and it fits.
 pub record Leb {X : Type 0} (meaning : List ℕ → X) (Fits : X → Type 0) (bytes : List ℕ) (v : X) : Type 0 where
   pub chain : IsChain bytes
   pub short : length bytes ≤ 10
   pub value : v ≡ meaning bytes
   pub fits : Fits v
 
--- unsigned, in 64 bits
+-- unsigned LEB128 that fits 64 bits
 abbrev pub Uleb : List ℕ → ℕ → Type 0
 Uleb bytes v = Leb groups (λ n. n < 2 ^ 64) bytes v
 
@@ -70,11 +70,11 @@ Uleb bytes v = Leb groups (λ n. n < 2 ^ 64) bytes v
 abbrev pub is_negative : List ℕ → Bool
 is_negative bytes = nat_le 64 (slice_index bytes (length bytes - 1) % 128)
 
--- the groups as two's complement
+-- the number that the groups make, as two's complement
 abbrev pub signed_groups : List ℕ → ℤ
 signed_groups bytes = if is_negative bytes then pos (groups bytes) -ℤ pos (128 ^ length bytes) else pos (groups bytes)
 
--- signed, in 64 bits
+-- signed LEB128 that fits 64 bits
 abbrev pub Sleb : List ℕ → ℤ → Type 0
 Sleb bytes v = Leb signed_groups (FitsSigned w64) bytes v
 
@@ -83,6 +83,6 @@ abbrev pub Len : Order → List ℕ → Format → ℕ → Type 0
 Len order bytes Dwarf32 v = Fixed order 4 bytes v × (v < 0xfffffff0)
 Len order bytes Dwarf64 v = (mark rest : List ℕ) × (bytes ≡ mark ++ rest) × Fixed order 4 mark 0xffffffff × Fixed order 8 rest v
 
--- the same of the format and the length as one value
+-- the initial length of a record, with the format and the length as one pair
 abbrev pub Length : Order → List ℕ → Format × ℕ → Type 0
 Length order bytes v = Len order bytes v.0 v.1

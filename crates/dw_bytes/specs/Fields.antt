@@ -1,5 +1,5 @@
--- Fields one after the other, as in a header. There is one grammar, and two readings of it: which bytes encode what, and
--- what is read from left to right, with the first fault.
+-- Fields one after another, as in a header. One grammar says two things: which bytes encode the
+-- fields, and how they are read from left to right up to the first fault.
 use Rattle.std.specs.Prelude.{◌≡◌, ◌+◌, ◌==◌, ℕ, Bool, if◌then◌else◌, List, [], ◌++◌, length, Option, Some, None, Result, Ok, Err}
 use Rattle.dw_bytes.specs.declared.target.Target.{Target}
 use Rattle.dw_bytes.specs.declared.fault.Fault.{Fault}
@@ -7,13 +7,15 @@ use Rattle.dw_bytes.specs.declared.fault.FaultKind.{FaultKind}
 use Rattle.dw_bytes.specs.Reading.{ReadPosition, ◌>>=◌}
 use Rattle.dw_bytes.specs.Operands.{OperandKind, fixed, Operand, IsOperand, operand_at}
 
--- Nothing more, and a value; or a field of a kind, what is wrong with its value if anything is, and what comes after it,
--- which may depend on the value.
+-- `made v`: no more fields, and the value v. `field kind fault next`: a field of this kind; then
+-- `fault` says what is wrong with its value, if anything; then come the fields of `next`, which may
+-- depend on the value.
 pub data Fields (B : Type 0) : Type 0 where
   made : B → Fields B
   field : (kind : OperandKind) → (Operand kind → Option FaultKind) → (Operand kind → Fields B) → Fields B
 
--- a field of any value, one that must pass a test, and a byte that can have only one value
+-- `any`: a field that may have any value; `unless`: the fault if a test fails; `byte`: a byte that
+-- must have this one value
 abbrev pub any : {B : Type 0} (kind : OperandKind) → (Operand kind → Fields B) → Fields B
 any kind next = field kind (λ v. None) next
 
@@ -23,14 +25,14 @@ unless test fault = if test then None else Some fault
 abbrev pub byte : {B : Type 0} → FaultKind → ℕ → Fields B → Fields B
 byte fault value next = field (fixed 1) (λ v. unless (v == value) fault) (λ v. next)
 
--- ---- which bytes encode them from an offset on, and as what value
+-- ---- which bytes encode the fields from an offset on, and which value they make
 
 abbrev pub Encodes : {B : Type 0} → Target → Fields B → ℕ → List ℕ → B → Type 0
 Encodes target (made b) at bytes v = (bytes ≡ []) × (v ≡ b)
 Encodes target (field kind fault next) at bytes v = (x : Operand kind) × (first : List ℕ) × (rest : List ℕ) × (bytes ≡ first ++ rest)
     × IsOperand target kind at first x × (fault x ≡ None) × Encodes target (next x) (at + length first) rest v
 
--- ---- reading them: each field is checked as soon as it is read, and refused at its first byte
+-- ---- reading the fields: each is checked as soon as it is read; a fault is at its first byte
 
 abbrev pub ok_unless : {X : Type 0} → Option FaultKind → ℕ → X → Result X Fault
 ok_unless None at x = Ok x

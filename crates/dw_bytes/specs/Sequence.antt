@@ -9,7 +9,8 @@ Sequence IsEncoding at bytes [] = bytes ≡ []
 Sequence IsEncoding at bytes (x ∷ xs) = (first rest : List ℕ) × (bytes ≡ first ++ rest) × IsEncoding at first x
     × Sequence IsEncoding (at + length first) rest xs
 
--- a thing and its offset
+-- which bytes encode an item that is a pair of an offset and a thing: the offset is where the thing
+-- begins
 abbrev pub Located : {X : Type 0} → (ℕ → List ℕ → X → Type 0) → ℕ → List ℕ → ℕ × X → Type 0
 Located IsEncoding at bytes item = (item.0 ≡ at) × IsEncoding at bytes item.1
 
@@ -17,21 +18,23 @@ abbrev pub located_read : {X : Type 0} → (ReadPosition → Result (X × ReadPo
     → Result ((ℕ × X) × ReadPosition) Fault
 located_read read r = read r >>= λ x. Ok ((r.position, x.0), x.1)
 
--- what was read, and then the others; nothing comes after a fault
+-- the value that was read, and then the others; after a fault nothing comes
 abbrev pub and_then : {X : Type 0} → Result (X × ReadPosition) Fault → (ReadPosition → List (Result X Fault)) → List (Result X Fault)
 and_then (Ok found) others = Ok found.0 ∷ others found.1
 and_then (Err fault) others = Err fault ∷ []
 
--- at most count things
+-- reads at most count things
 abbrev pub at_most_of : {X : Type 0} → (ReadPosition → Result (X × ReadPosition) Fault) → ℕ → ReadPosition → List (Result X Fault)
 at_most_of read zero r = []
 at_most_of read (suc count) r = if nat_lt 0 (length r.rest) then and_then (read r) (at_most_of read count) else []
 
--- The things from left to right, up to the end or the first fault. There are no more of them than bytes.
+-- Reads things from left to right, up to the end of the bytes or the first fault, which is then the
+-- last item. At most as many things are read as there are bytes.
 unfoldable pub sequence_of : {X : Type 0} → (ReadPosition → Result (X × ReadPosition) Fault) → ReadPosition → List (Result X Fault)
 sequence_of read r = at_most_of read (length r.rest) r
 
--- A given number of things, as in an array: which bytes encode them, and reading them.
+-- A given number of things, as in an array. `Exactly` says which bytes encode them, and
+-- `exactly_of` reads them.
 abbrev pub Exactly : {X : Type 0} → (ℕ → List ℕ → X → Type 0) → ℕ → ℕ → List ℕ → List X → Type 0
 Exactly IsEncoding count at bytes xs = Sequence IsEncoding at bytes xs × (length xs ≡ count)
 

@@ -5,16 +5,16 @@ use Rattle.dw_bytes.specs.Names.{name_of}
 use Rattle.dw_bytes.specs.declared.fault.Fault.{Fault}
 use Rattle.dw_bytes.specs.declared.fault.FaultKind.{FaultKind}
 
--- the digit for d
+-- the character of the hex digit d
 abbrev pub digit : ℕ → ℕ
 digit d = if nat_lt d 10 then 48 + d else 87 + d
 
--- the last k hex digits of n, the most significant first
+-- the last k hex digits of n, the most significant digit first
 unfoldable pub hex_digits : ℕ → ℕ → List ℕ
 hex_digits zero n = []
 hex_digits (suc k) n = hex_digits k (n / 16) ++ digit (n % 16) ∷ []
 
--- n in k hex digits
+-- 0x and the last k hex digits of n
 abbrev pub hex_number : ℕ → ℕ → List ℕ
 hex_number k n = codes "0x" ++ hex_digits k n
 
@@ -22,10 +22,10 @@ hex_number k n = codes "0x" ++ hex_digits k n
 abbrev pub offset_text : ℕ → List ℕ
 offset_text n = hex_number 8 n
 
--- the number and the name of what is wrong
+-- the number and the name of a kind of fault
 unfoldable pub kind_text : FaultKind → List ℕ
 kind_text kind = decimal (number_of kind) ++ codes " " ++ name_of kind
 
--- a fault: what is wrong, and the offset
+-- a fault: the number and name of its kind, and its offset
 unfoldable pub fault_text : Fault → List ℕ
 fault_text fault = kind_text fault.kind ++ codes " at " ++ offset_text fault.at

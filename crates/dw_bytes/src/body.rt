@@ -8,20 +8,21 @@ use crate::cursor::Cursor;
 use crate::fault::Fault;
 use crate::target::{Format, Target};
 
-/// Where the body of a record or table lies in its section, and the format that its length says
-/// (DWARF 5, section 7.4).
+/// Where the body of a record or table lies in its section, and which format the length before the
+/// body has (DWARF 5, section 7.4).
 #[derive(Clone, Copy, Debug, PartialEq, Eq)]
 pub struct Body {
     pub format: Format,
-    /// The offset of its first byte, after the length.
+    /// The offset of the body's first byte, right after the length.
     pub start: u32,
-    /// The offset after its last byte.
+    /// The offset after the body's last byte.
     pub end: u32,
 }
 
 impl Body {
-    /// The body of the record at an offset of a section. Its length is read first (`Truncated` or `ReservedLength` at the
-    /// offset); then the section must have that many bytes left (`Truncated` at the body's first byte).
+    /// The body of the record or table that begins at offset `at` of the section. A length that
+    /// can't be read is refused at `at` (`Truncated` or `ReservedLength`). If the section has fewer
+    /// bytes left than the length says, `Truncated` is reported at the body's first byte.
     #[tactic(auto, unfolding(crate::specs::Bodies::framed_at))]
     pub fn read(section: &[u8], target: Target, at: u32) -> Result<Self, Fault>
         requires inside { at ≤ length section.now }

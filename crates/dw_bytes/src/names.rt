@@ -64,7 +64,7 @@ impl FaultKind {
     }
 }
 
-/// Its name.
+/// Writes the name of the kind.
 impl fmt::Display for FaultKind {
     ghost use Rattle.std.specs.Prelude.{Some};
     ghost use Rattle.dw_bytes.specs.Names.{name_of};
@@ -78,7 +78,8 @@ impl fmt::Display for FaultKind {
 
 impl Error for FaultKind {}
 
-/// Its number, its name and its offset in eight hex digits: `9 NoSuchCie at 0x00000004`.
+/// Writes a fault as `9 NoSuchCie at 0x00000004`: its number, its name, and its offset in eight hex
+/// digits.
 impl fmt::Display for Fault {
     ghost use Rattle.std.specs.Prelude.{Some};
     ghost use Rattle.dw_bytes.specs.Text.{fault_text};

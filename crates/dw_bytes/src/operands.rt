@@ -1,7 +1,9 @@
-//! Operands that must be in a range. All operands of a code are read before any range is checked: `Truncated` and
-//! `LebRange` are at the operand. If one is out of its range, the fault is at the code before them, whose offset is
-//! passed to each call as `at`: `RegisterNumber` for a register above 65535, `PieceSize` for a size or offset of a piece
-//! above 2^32 - 1, `BadSize` for the size of a read. A refused read leaves the cursor where it was.
+//! Operands that must be in a range. All operands after a code are read before any range is
+//! checked. A field that can't be read is refused with `Truncated` or `LebRange` at its first byte;
+//! the count and the bytes of a block are a field each. An operand out of its range is refused at
+//! the code, whose offset the caller passes as `at`: `RegisterNumber` for a register above 65535,
+//! `PieceSize` for a size or offset of a piece above 2^32 - 1, `BadSize` for the size of a read. A
+//! refused read leaves the cursor where it was.
 
 ghost use Rattle.std.specs.Prelude.{◌≡◌, ◌≤◌, [], ◌∷◌, MatchOption, Ok};
 ghost use Rattle.dw_bytes.specs.Reading.{MovesForward, ReadsBy};
@@ -58,7 +60,8 @@ fn read_size_in_range(size: u8, at: u32, target: Target) -> Result<u8, Fault>
     }
 }
 
-/// A register: unsigned LEB128, at most 65535, else `RegisterNumber` at the code.
+/// A register number: unsigned LEB128, at most 65535. If it is above, `RegisterNumber` is reported
+/// at the code.
 #[inline(always)]
 pub fn register(cursor: &mut Cursor<'_>, at: u32) -> Result<u16, Fault>
     requires { at ≤ cursor.old.position }
@@ -73,7 +76,7 @@ pub fn register(cursor: &mut Cursor<'_>, at: u32) -> Result<u16, Fault>
     Ok(register)
 }
 
-/// Two registers.
+/// Two register numbers.
 pub fn two_registers(cursor: &mut Cursor<'_>, at: u32) -> Result<(u16, u16), Fault>
     requires { at ≤ cursor.old.position }
     ensures exact { ReadsBy two_values
@@ -94,7 +97,7 @@ pub fn two_registers(cursor: &mut Cursor<'_>, at: u32) -> Result<(u16, u16), Fau
     Ok(registers)
 }
 
-/// A register and an unsigned number.
+/// A register number and an unsigned LEB128 number.
 #[inline(always)]
 pub fn register_and_unsigned(cursor: &mut Cursor<'_>, at: u32) -> Result<(u16, u64), Fault>
     requires { at ≤ cursor.old.position }
@@ -111,7 +114,7 @@ pub fn register_and_unsigned(cursor: &mut Cursor<'_>, at: u32) -> Result<(u16, u
     Ok((register, value))
 }
 
-/// A register and a signed number.
+/// A register number and a signed LEB128 number.
 pub fn register_and_signed(cursor: &mut Cursor<'_>, at: u32) -> Result<(u16, i64), Fault>
     requires { at ≤ cursor.old.position }
     ensures exact { ReadsBy two_values
@@ -127,7 +130,7 @@ pub fn register_and_signed(cursor: &mut Cursor<'_>, at: u32) -> Result<(u16, i64
     Ok((register, value))
 }
 
-/// A register and a block.
+/// A register number and a block.
 pub fn register_and_block<'a>(cursor: &mut Cursor<'a>, at: u32) -> Result<(u16, Block<'a>), Fault>
     requires { at ≤ cursor.old.position }
     ensures exact { ReadsBy (λ v. two_values (v.0, block_of v.1))
@@ -143,7 +146,8 @@ pub fn register_and_block<'a>(cursor: &mut Cursor<'a>, at: u32) -> Result<(u16, 
     Ok((register, block))
 }
 
-/// A block, preceded by the count of its bytes as unsigned LEB128. It is always in range, so `at` has no effect.
+/// A block: the count of its bytes as unsigned LEB128, then the bytes. A block has no range to
+/// check, so `at` has no effect.
 pub fn block<'a>(cursor: &mut Cursor<'a>, at: u32) -> Result<Block<'a>, Fault>
     ensures exact { ReadsBy (λ v. one_value (block_of v))
         (operands_in_range_at at (block ∷ [])) cursor.old result cursor.new }
@@ -163,8 +167,8 @@ pub fn block<'a>(cursor: &mut Cursor<'a>, at: u32) -> Result<Block<'a>, Fault>
     })
 }
 
-/// Like `block`, for a block whose count has at most three bytes: `None` if it has more or the block isn't there, and
-/// then the cursor stays. This is a shortcut: on `None`, call `block`.
+/// A shortcut for `block`, for a count of at most three bytes. `None` if the count is longer or the
+/// block can't be read; then the cursor doesn't move, and the caller must call `block`.
 #[inline(always)]
 pub fn short_block<'a>(cursor: &mut Cursor<'a>) -> Option<Block<'a>>
     ensures exact { MatchOption result (cursor.new ≡ cursor.old)
@@ -185,7 +189,8 @@ pub fn short_block<'a>(cursor: &mut Cursor<'a>) -> Option<Block<'a>>
     })
 }
 
-/// The size of a piece: unsigned LEB128, at most 2^32 - 1, else `PieceSize` at the code.
+/// The size of a piece: unsigned LEB128, at most 2^32 - 1. If it is above, `PieceSize` is reported
+/// at the code.
 pub fn piece_size(cursor: &mut Cursor<'_>, at: u32) -> Result<u32, Fault>
     requires { at ≤ cursor.old.position }
     ensures exact { ReadsBy one_value
@@ -200,7 +205,8 @@ pub fn piece_size(cursor: &mut Cursor<'_>, at: u32) -> Result<u32, Fault>
     Ok(size)
 }
 
-/// The size of a piece and an offset.
+/// The size and the offset of a piece: two unsigned LEB128 numbers, each at most 2^32 - 1. If one
+/// is above, `PieceSize` is reported at the code.
 pub fn two_piece_sizes(cursor: &mut Cursor<'_>, at: u32) -> Result<(u32, u32), Fault>
     requires { at ≤ cursor.old.position }
     ensures exact { ReadsBy two_values
@@ -220,7 +226,8 @@ pub fn two_piece_sizes(cursor: &mut Cursor<'_>, at: u32) -> Result<(u32, u32), F
     Ok(sizes)
 }
 
-/// The size of a read in one byte: 1, 2, 4 or 8 and at most the size of an address, else `BadSize` at the code.
+/// The size of a memory read, in one byte: 1, 2, 4 or 8, and at most the address size. If it is
+/// anything else, `BadSize` is reported at the code.
 pub fn read_size(cursor: &mut Cursor<'_>, at: u32) -> Result<u8, Fault>
     requires { at ≤ cursor.old.position }
     ensures exact { ReadsBy one_value

@@ -88,16 +88,16 @@ each_locs lookup target hex files =
     (λ section. OfState (state_facts target (slice_get files 1)) (IsFound lookup target section))
     (λ section. each_of_state (state_facts target (slice_get files 1)) (IsFound lookup target section) (each_found lookup target section))
 
--- given what is known of reports
+-- assumed of reports: there is one on any two checked sections
 abbrev EachReport : Type 0
 EachReport = (frame : FrameSection) (lists : ListSection) → rows.IsChecked frame → IsChecked lists → (t : List ℕ) × IsReport frame lists t
 
--- and of unwindings
+-- assumed of unwindings: there is one at each address, through checked modules
 abbrev pub EachUnwinding : Type 0
 EachUnwinding = (sections : List (Module FrameSection)) (abi : Abi) (memory registers : ℕ → Option ℕ) (address : ℕ)
     → AreChecked sections → (c : Option Caller) × over_sections abi memory sections registers address c
 
--- and of walks
+-- assumed of walks: there is one from each place, through checked modules
 abbrev pub EachWalk : Type 0
 EachWalk = (sections : List (Module FrameSection)) (abi : Abi) (memory : ℕ → Option ℕ) (first : Place) (limit : ℕ)
     → AreChecked sections → (xs : List WalkedFrame) × (stop : Stop) × Walks (over_sections abi memory sections) first limit xs stop

@@ -31,7 +31,7 @@ both : (xs ys : List LocatedExpression) → AllByRecursion Good xs → AllByRecu
 both [] ys h k = k
 both (x ∷ xs) ys h k = (h.0, both xs ys h.1 k)
 
--- that of an entry, if it has one, and those after it
+-- the expressions of the entry, if it has one, and of the entries after it pass the check
 entry_good : (e : Entry) (es : List Entry) (o : Option Block) → expression_in e ≡ o
     → ((b : Block) → expression_in e ≡ Some b → IsGoodExpression Location b.target b.bytes)
     → AllByRecursion Good (expressions_of es) → AllByRecursion Good (expressions_of (e ∷ es))
@@ -67,7 +67,7 @@ module _ (deepest : (kind : Kind) (target : Target) (bytes : List ℕ) → IsGoo
       let rest = lines_some section xs good.1 in
       (expression_line section x depth.0 ++ rest.0, (depth.0, rest.0, depth.1, rest.1, refl))
 
-  -- those of a section of location lists
+  -- there are lines for the expressions of a section of location lists
   pub list_lines_some : ((s : ListSection) (l : Loclist) (e : Entry) (b : Block) → IsChecked s → Contains (lists_in s) l
       → Contains l.entries e → expression_in e ≡ Some b → IsGoodExpression Location b.target b.bytes)
       → (lists : ListSection) → IsChecked lists → (t : List ℕ) × AreLines sections.Lists (located_in lists) t

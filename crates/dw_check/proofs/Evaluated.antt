@@ -28,12 +28,12 @@ pub same_bound : (size : AddressSize) → 2 ^ width_of size ≡ 16 ^ digits_of s
 same_bound Four = refl
 same_bound Eight = refl
 
--- what is good is the expression's checked form
+-- if an expression passes the check, so does its checked form
 pub good_checked : (kind : Kind) (target : Target) (bytes : List ℕ) (c : Checked) → IsOf kind target bytes c
     → IsGoodExpression kind target bytes → IsGoodExpression c.kind c.target c.bytes
 good_checked kind target bytes c same good = rw (same.kind_is, same.target_is, same.bytes_are) good
 
--- what is known is what was given
+-- what an evaluation may read, by a known machine state
 abbrev pub known_world : Target → KnownState → World
 known_world target k = record {
   target = target;
@@ -86,7 +86,7 @@ written_same kind target bytes c gs W same h = (
   h.2,
 )
 
--- a good expression has a text
+-- an expression that passes the check has a text
 pub each_text : (kind : Kind) (target : Target) (bytes : List ℕ) (gs : List StateFact) → length bytes < 2 ^ 32
     → IsGoodExpression kind target bytes → (t : List ℕ) × Evaluates kind target bytes gs t
 each_text kind target bytes gs short good =
@@ -109,7 +109,7 @@ each_text kind target bytes gs short good =
       },
     )
 
--- and only one
+-- an expression has at most one text
 pub same_text : (kind : Kind) (target : Target) (bytes : List ℕ) (gs : List StateFact) (a b : List ℕ) → Evaluates kind target bytes gs a
     → Evaluates kind target bytes gs b → a ≡ b
 same_text kind target bytes gs a b h k =

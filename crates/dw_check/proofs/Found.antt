@@ -28,7 +28,7 @@ use Rattle.dw_check.proofs.Lengths.{short_fault, long_fault}
 abbrev is_at : ℕ → Loclist → Bool
 is_at n l = l.offset == n
 
--- there is none, or this one
+-- either no list begins at offset n and `find` gives none, or `find` gives a list that begins at n
 abbrev Looked : ℕ → List Loclist → Type 0
 Looked n ls = ((find (is_at n) ls ≡ None) × (Contains (starts_of ls) n → ⊥)) ⊎
     ((l : Loclist) × (find (is_at n) ls ≡ Some l) × Contains ls l × (l.offset ≡ n))

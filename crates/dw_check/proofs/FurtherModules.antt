@@ -12,24 +12,24 @@ use Rattle.dw_unwind.specs.declared.modules.Module.{Module}
 use Rattle.dw_check.specs.declared.stop.RunFault.{RunFault}
 use Rattle.dw_check.specs.declared.stop.RunFault.TheVariants.{Refused, BadHex, StateLine, Memory, Output}
 
--- modules that are read already, and others
+-- the modules already read, followed by the others, if these can be read
 abbrev pub joined : List (Module (List ℕ)) → Result (List (Module (List ℕ))) ℕ → Result (List (Module (List ℕ))) ℕ
 joined before (Err n) = Err n
 joined before (Ok others) = Ok (before ++ others)
 
--- one more is read
+-- one more module is read: it moves from the others to the modules already read
 pub one_more_read : (before : List (Module (List ℕ))) (place load : ℕ) (found : Option (List ℕ)) (section : List ℕ)
     (others : Result (List (Module (List ℕ))) ℕ) → found ≡ Some section
     → joined before (module_before place load found others) ≡ joined (before ++ loaded_at load section ∷ []) others
 one_more_read before place load found section (Err n) is = rw is refl
 one_more_read before place load found section (Ok others) is = rw is (ap Ok (sym (append_assoc before (loaded_at load section ∷ []) others)))
 
--- none has a fault so far
+-- one more module is checked and has no fault: the first fault is that of the remaining modules
 pub one_more_judged : (target : Target) (m : Module (List ℕ)) (modules : List (Module (List ℕ))) → frame_refusal target m.rows ≡ None
     → modules_refusal target (m ∷ modules) ≡ modules_refusal target modules
 one_more_judged target m modules none = ap (λ (f : Option Fault). option_or f (modules_refusal target modules)) none
 
--- the section of the next one isn't read
+-- the section of the next module can't be read, so neither can all modules
 pub bad_module : (all : Result (List (Module (List ℕ))) ℕ) (before : List (Module (List ℕ))) (place load count : ℕ)
     (found : Option (List ℕ)) (others : Result (List (Module (List ℕ))) ℕ) (stop : RunFault)
     → all ≡ joined before (module_before place load found others) → IsBadSection found place count stop → AreBadModules all count stop

@@ -1,4 +1,5 @@
--- What a list of an accepted section gives is read under the section's target, is shorter than the section, and is good.
+-- The expressions of a list in an accepted section have the section's target, are shorter than the
+-- section, and pass the check.
 use Rattle.std.proofs.Common.{◌≡◌, ℕ, ◌+◌, ◌^◌, ◌<◌, Bool, true, false, cond, List, [], ◌∷◌, ◌++◌, length, Contains, Option, Some, None}
 use Rattle.std.proofs.Common.{refl, sym, ap, subst, ◌∙◌, arith}
 use Rattle.std.specs.Prelude.{◌==◌, map, filter_map}
@@ -28,7 +29,8 @@ abbrev AllUnder : Target → Option Block → Type 0
 AllUnder target None = Unit {0}
 AllUnder target (Some b) = b.target ≡ target
 
--- what holds of the operands of each line of the table of entries
+-- the expression among the operands of an entry has the target, whatever line of the table of
+-- entries gives them
 Under : Target → Option (Line Entry) → Type 0
 Under target of = (at : ℕ) (bytes : List ℕ) (e : Entry) → AreOperands target of at bytes e → AllUnder target (expression_in e)
 
@@ -86,7 +88,7 @@ both : (target : Target) (xs ys : List LocatedExpression) → AllShowable target
 both target [] ys h k = k
 both target (x ∷ xs) ys h k = (h.0, both target xs ys h.1 k)
 
--- the expression of an entry, placed, if it has one
+-- the expression of an entry with its place in the section, if the entry has one
 abbrev located-of : Option Block → List LocatedExpression
 located-of None = []
 located-of (Some b) = location_of b ∷ []
@@ -137,7 +139,7 @@ behind : (target : Target) (xs ys : List LocatedExpression) → AllShowable targ
 behind target [] ys h = h
 behind target (x ∷ xs) ys h = behind target xs ys h.1
 
--- of an entry before others
+-- if the expressions of entries can be shown, so can those of the first entry and of the others
 split : (target : Target) (e : Entry) (es : List Entry) → AllShowable target (expressions_of (e ∷ es))
     → AllShowable target (expressions_of (e ∷ [])) × AllShowable target (expressions_of es)
 split target e es h = let all = subst (AllShowable target) (entries-front e es) h in (

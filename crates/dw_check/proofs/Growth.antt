@@ -22,24 +22,24 @@ keeps_more (Some xs) None c x h k = absurd h
 keeps_more (Some xs) (Some ys) None x h k = absurd k
 keeps_more (Some xs) (Some ys) (Some zs) x h k = k ∙ h
 
--- all of one text and then a beginning of the next
+-- all of x and then a beginning of y make a beginning of x followed by y
 pub front_more : (a b c : Option (List ℕ)) (x y : List ℕ) → Appends a b x → AppendsFront b c y → AppendsFront a c (x ++ y)
 front_more a b c x y h k = (x ++ k.0, k.1, append_assoc x k.0 k.1 ∙ ap (λ (l : List ℕ). x ++ l) k.2, appends_more a b c x k.0 h k.3)
 
--- a beginning of a text is one of the text followed by more
+-- a beginning of x is a beginning of x followed by y
 pub front_wider : (a b : Option (List ℕ)) (x y : List ℕ) → AppendsFront a b x → AppendsFront a b (x ++ y)
 front_wider a b x y k = (k.0, k.1 ++ y, sym (append_assoc k.0 k.1 y) ∙ ap (λ (l : List ℕ). l ++ y) k.2, k.3)
 
--- what is left of a list from i on, as a slice
+-- the slice of a list from index i to its end is what is left after i elements
 pub rest_of_slice : (xs : List ℕ) (i : ℕ) → take (length xs - i) (drop i xs) ≡ drop i xs
 rest_of_slice xs i = take_all (length xs - i) (drop i xs) (omega (arith, length-drop i xs))
 
--- the first i, and then n of the rest
+-- the first i bytes and then n more are the first i + n bytes
 pub piece_more : (a b c : Option (List ℕ)) (xs : List ℕ) (i n : ℕ) → Appends a b (take i xs)
     → Appends b c (take n (take (length xs - i) (drop i xs))) → Appends a c (take (i + n) xs)
 piece_more a b c xs i n h k =
     rw take-add (appends_more a b c (take i xs) (take n (drop i xs)) h (rw (rest_of_slice xs i) at k))
 
--- the first i are a beginning
+-- the first i bytes are a beginning
 pub front_of_take : (a b : Option (List ℕ)) (xs : List ℕ) (i : ℕ) → Appends a b (take i xs) → AppendsFront a b xs
 front_of_take a b xs i h = (take i xs, drop i xs, take-append-drop i xs, h)

@@ -19,7 +19,7 @@ or_true false = refl
 
 -- ---- a number that occurs a second time
 
--- in one list, or in another after it
+-- the first repetition in xs ++ ys is in xs, or else in ys
 second_of_both : (before xs ys : List ℕ)
     → place_of_second before (xs ++ ys) ≡ option_or (place_of_second before xs) (place_of_second (before ++ xs) ys)
 second_of_both before [] ys = rw (append-nil before) refl
@@ -33,7 +33,7 @@ second_of_both before (x ∷ xs) ys =
       | false ↦ later
     ]
 
--- in numbers, or as one more
+-- the first repetition in kept ++ n is in kept, or else n
 second_behind : (kept : List ℕ) (n : ℕ) (t : Bool) → is_among n kept ≡ t
     → place_of_second [] (kept ++ n ∷ []) ≡ option_or (place_of_second [] kept) (if t then Some (length kept) else None)
 second_behind kept n t is = rw (second_of_both [] kept (n ∷ []), is) refl
@@ -72,7 +72,7 @@ long kept n h = let more = length-append kept (n ∷ []) in grind (arith, nat_te
 
 -- ---- numbers without a fault, and one more
 
--- one more is added if there is room, unless it is there or is the stack pointer
+-- a number can be added if there is room, and it is neither among the others nor the stack pointer
 pub one_more_fits : (kept : List ℕ) (sp : Option ℕ) (n : ℕ) → abi_fault kept sp ≡ None → is_among n kept ≡ false
     → is_among n (option_to_list sp) ≡ false → length kept < MAX_KEPT → abi_fault (kept ++ n ∷ []) sp ≡ None
 one_more_fits kept None n fit new other small =
@@ -103,7 +103,7 @@ pub is_stack_pointer : (sp : Option ℕ) (n : ℕ) → is_among n (option_to_lis
 is_stack_pointer None n = refl
 is_stack_pointer (Some m) n = or_false (m == n)
 
--- the stack pointer is none of the callee-saved registers
+-- a stack pointer can be set if it is none of the callee-saved registers
 pub stack_pointer_fits : (kept : List ℕ) (n : ℕ) → abi_fault kept None ≡ None → is_among n kept ≡ false
     → abi_fault kept (Some n) ≡ None
 stack_pointer_fits kept n fit new =

@@ -134,7 +134,7 @@ one_more : {X : Type 0} → (pick : StateFact → Option X) (gs : List StateFact
     → new ≡ option_or old (pick g) → old ≡ first_that pick gs → new ≡ first_that pick (gs ++ g ∷ [])
 one_more pick gs g old new h is = h ∙ ap (λ o. option_or o (pick g)) is ∙ sym (first_more pick gs g)
 
--- and for the callee-saved registers
+-- the callee-saved registers of facts, and of one more fact
 kept_more : (gs : List StateFact) (g : StateFact) → kept_in (gs ++ g ∷ []) ≡ kept_with (kept_in gs) g
 kept_more gs g = fold-append kept_with [] gs (g ∷ [])
 
@@ -156,7 +156,7 @@ pub together_more : (old : KnownState) (gs : List StateFact) (g : StateFact) →
 together_more old gs g is =
     rw (kept_more gs g, first_more stack_pointer_in gs g, is.kept, is.stack_pointer) refl
 
--- one that names no register of the ABI does
+-- a fact that names no register of the ABI fits with what is known
 pub plain_goes : (old : KnownState) (g : StateFact) → kept_with old.kept g ≡ old.kept → stack_pointer_in g ≡ None
     → abi_fault old.kept old.stack_pointer ≡ None → (gs : List StateFact) → IsGivenBy old gs → true ≡ go_together (gs ++ g ∷ [])
 plain_goes old g keeps none fit gs is = rw (together_more old gs g is, keeps, none, or_none old.stack_pointer, fit) refl

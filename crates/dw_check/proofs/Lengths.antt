@@ -16,15 +16,15 @@ long_length bytes h =
     let chosen : Bool → Option Fault = λ b. if b then None else Some too_long in
     ap chosen e
 
--- for a short one that of its bytes
+-- the first fault of a short section is the fault of its contents
 pub short_fault : (bytes : List ℕ) (own : Option Fault) → length bytes < 2 ^ 32 → option_or (length_fault bytes) own ≡ own
 short_fault bytes own h = ap (λ (l : Option Fault). option_or l own) (short_length bytes h)
 
--- for a long one that of its length
+-- the first fault of a long section is that it is too long
 pub long_fault : (bytes : List ℕ) (own : Option Fault) → 2 ^ 32 ≤ length bytes → option_or (length_fault bytes) own ≡ Some too_long
 long_fault bytes own h = ap (λ (l : Option Fault). option_or l own) (long_length bytes h)
 
--- if neither refuses, its bytes have no fault
+-- if the first fault is none, the contents have no fault
 pub no_fault : (bytes : List ℕ) (own : Option Fault) → option_or (length_fault bytes) own ≡ None → own ≡ None
 no_fault bytes own = by (length_fault bytes)
   where

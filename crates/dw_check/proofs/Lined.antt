@@ -15,8 +15,8 @@ use Rattle.dw_check.specs.SinkBytes.{AppendsFront}
 use Rattle.dw_check.specs.declared.stop.Section.{Section}
 use Rattle.dw_check.proofs.Growth.{appends_nothing, appends_more, front_more, front_wider}
 
--- Of a text with a line for each expression, the lines of those visited are written, and those of the rest come after
--- them.
+-- The text has a line for each expression. The lines of the expressions visited are written; the
+-- lines of the others come after these.
 pub record Lined (section : Section) (text : List ℕ) (rest : List LocatedExpression) (old new : Option (List ℕ)) : Type 0 where
   pub came : List ℕ
   pub left : List ℕ
@@ -28,7 +28,7 @@ pub lined_none : (section : Section) (text : List ℕ) (all : List LocatedExpres
     → Lined section text all a a
 lined_none section text all a are = record { came = []; left = text; whole = refl; sent = appends_nothing a; ahead = are }
 
--- the line of the next one, and those after it
+-- what is left of the text: the line of the next expression, then the lines of the others
 record Next (section : Section) (rest : List LocatedExpression) (y : ℕ × CheckedExpression) (left : List ℕ) : Type 0 where
   pub behind : List ℕ
   pub ahead : AreLines section rest behind
@@ -43,7 +43,7 @@ next_line section all rest y left e are =
     one_depth it.kind (operations_in it.target it.bytes) (length it.bytes) h.0 it.depth h.2 (checked_stable it y.1.checked).depth in
     record { behind = h.1; ahead = h.3; parts = h.4 ∙ ap (λ d. expression_line section (located_of y) d ++ h.1) depth }
 
--- the next one's too
+-- the line of the next expression is written too
 pub lined_next : (section : Section) (text : List ℕ) (all rest : List LocatedExpression) (y : ℕ × CheckedExpression)
     (a b c : Option (List ℕ))
     → all ≡ located_of y ∷ rest → Lined section text all a b → Appends b c (line_of section y) → Lined section text rest a c
@@ -57,7 +57,7 @@ lined_next section text all rest y a b c e s more =
       ahead = next.ahead;
     }
 
--- a beginning of the next one's
+-- only a beginning of the line of the next expression is written
 pub lined_front : (section : Section) (text : List ℕ) (all rest : List LocatedExpression) (y : ℕ × CheckedExpression)
     (a b c : Option (List ℕ))
     → all ≡ located_of y ∷ rest → Lined section text all a b → AppendsFront b c (line_of section y) → AppendsFront a c text
@@ -67,7 +67,7 @@ lined_front section text all rest y a b c e s part =
     subst (AppendsFront a c) parts
     (front_more a b c s.came (line_of section y ++ next.behind) s.sent (front_wider b c (line_of section y) next.behind part))
 
--- all of them
+-- the lines of all expressions are written
 pub lined_all : (section : Section) (text : List ℕ) (left : List LocatedExpression) (a b : Option (List ℕ)) → left ≡ []
     → Lined section text left a b → Appends a b text
 lined_all section text left a b e s =

@@ -30,7 +30,7 @@ use Rattle.dw_check.specs.declared.stop.Section.TheVariants as sections
 use Rattle.dw_check.specs.declared.whole_check.CheckFault.{CheckFault}
 use Rattle.dw_check.proofs.Lengths.{short_length, long_length, long_fault}
 
--- the same bytes, or both too long
+-- two files have the same bytes, or both are too long
 abbrev Alike : List ℕ → List ℕ → Type 0
 Alike xs ys = (xs ≡ ys) ⊎ ((2 ^ 32 ≤ length xs) × (2 ^ 32 ≤ length ys))
 
@@ -140,7 +140,7 @@ refusal_alike target xs ys (inl same) = ap (frame_refusal target) same
 refusal_alike target xs ys (inr long) =
     long_fault xs (section_fault target xs) long.0 ∙ sym (long_fault ys (section_fault target ys) long.1)
 
--- a section without a fault isn't too long
+-- a section without a fault isn't too long, so a section that is alike has the same bytes
 same_section : (target : Target) (xs ys : List ℕ) → frame_refusal target xs ≡ None → Alike xs ys → xs ≡ ys
 same_section target xs ys none (inl same) = same
 same_section target xs ys none (inr long) =
@@ -185,7 +185,7 @@ modules_alike target modules others Shows are (bad_line n) h = absurd h
 
 -- ---- files
 
--- the bytes of a file, if it is there
+-- the bytes of a file, none if there is no file
 abbrev bytes_or_none : Option (List ℕ) → List ℕ
 bytes_or_none None = []
 bytes_or_none (Some file) = file
@@ -193,7 +193,7 @@ bytes_or_none (Some file) = file
 abbrev bytes_at : List (List ℕ) → ℕ → List ℕ
 bytes_at files place = bytes_or_none (slice_get files place)
 
--- bytes that aren't hex text are a section's
+-- without hex text, the bytes of a file are the bytes of its section
 plain : (file : Option (List ℕ)) → section_bytes false file ≡ Some (bytes_or_none file)
 plain None = refl
 plain (Some file) = refl
@@ -206,7 +206,7 @@ section_moves place None (Some y) A B each r h = each r h
 section_moves place (Some x) None A B each r h = each r h
 section_moves place (Some x) (Some y) A B each r h = each r h
 
--- the further modules, whose files aren't hex text
+-- the further modules, if files aren't hex text
 plain_modules : List (List ℕ) → ℕ → List ℕ → List (Module (List ℕ))
 plain_modules files place [] = []
 plain_modules files place (load ∷ loads) = loaded_at load (bytes_at files place) ∷ plain_modules files (suc place) loads
@@ -219,7 +219,7 @@ further_plain files place (load ∷ loads) =
     ap (λ o. module_before place load o (further_modules false files (suc place) loads)) (plain (slice_get files place))
     ∙ ap (module_before place load (Some (bytes_at files place))) (further_plain files (suc place) loads)
 
--- files that are alike, index by index
+-- the files at each index are alike
 abbrev FilesAlike : List (List ℕ) → List (List ℕ) → Type 0
 FilesAlike files others = (place : ℕ) → Alike (bytes_at files place) (bytes_at others place)
 
@@ -244,12 +244,12 @@ unfolding needed_parts
 whole_hex task place [] = refl
 whole_hex task place (file ∷ files) = ap (λ (more : List (List ℕ)). file ∷ more) (whole_hex task (suc place) files)
 
--- files that give the same state, if the task has one
+-- both lists of files have the same file at index 1, unless the task is `check`
 abbrev SameState : Task → List (List ℕ) → List (List ℕ) → Type 0
 SameState Check files others = Unit {0}
 SameState task files others = slice_get files 1 ≡ slice_get others 1
 
--- all modules of a process, and their reply given the state in its state file
+-- all modules of a process, FRAME's first
 abbrev all_modules : ℕ → List ℕ → List (List ℕ) → List (Module (List ℕ))
 all_modules load loads files = loaded_at load (bytes_at files 0) ∷ plain_modules files 2 loads
 
@@ -299,7 +299,7 @@ module _ (target : Target) (files others : List (List ℕ)) (alike : FilesAlike 
   moves (Unwind address) load loads same = process_alike (ShowsCaller address) load loads same
   moves (Backtrace address limit) load loads same = process_alike (ShowsWalk address limit) load loads same
 
--- what is needed of each file
+-- each file and its needed part are alike
 needed_alike : (task : Task) (from : ℕ) (files : List (List ℕ)) (place : ℕ)
     → Alike (bytes_at files place) (bytes_at (needed_parts task false from files) place)
 unfolding needed_parts
@@ -311,7 +311,7 @@ needed_alike task from (file ∷ files) zero = by (is_state task from)
     by false = alike_part file
 needed_alike task from (file ∷ files) (suc place) = needed_alike task (suc from) files place
 
--- and a state file in full
+-- a state file is needed in full
 second_whole : (task : Task) → needed_length task false 1 ≡ None → (files : List (List ℕ))
     → slice_get files 1 ≡ slice_get (needed_parts task false 0 files) 1
 unfolding needed_parts

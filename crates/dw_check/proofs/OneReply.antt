@@ -93,17 +93,17 @@ one_locs lookup target hex files r s h k =
     (λ section. one_of_state (state_facts target (slice_get files 1)) (IsFound lookup target section) (one_found lookup target section)) r s
     h k
 
--- given what is known of reports
+-- assumed of reports: there is at most one on two sections
 abbrev OneReport : Type 0
 OneReport = (frame : FrameSection) (lists : ListSection) (s t : List ℕ) → IsReport frame lists s → IsReport frame lists t → s ≡ t
 
--- and of callers
+-- assumed of callers: there is at most one at an address, through checked modules
 abbrev pub OneCaller : Type 0
 OneCaller = (sections : List (Module FrameSection)) (abi : Abi) (memory registers : ℕ → Option ℕ) (address : ℕ) (c d : Option Caller)
     → AreChecked sections → over_sections abi memory sections registers address c → over_sections abi memory sections registers address d
     → c ≡ d
 
--- and of walks
+-- assumed of walks: there is at most one from a place, through checked modules
 abbrev pub OneWalk : Type 0
 OneWalk = (sections : List (Module FrameSection)) (abi : Abi) (memory : ℕ → Option ℕ) (first : Place) (limit : ℕ)
     (xs ys : List WalkedFrame) (a b : Stop) → AreChecked sections → Walks (over_sections abi memory sections) first limit xs a

@@ -27,7 +27,7 @@ use Rattle.dw_check.proofs.Replies.{front_none, goes_section, goes_state, goes_r
 
 -- ---- files that can't be read
 
--- what a `?` passes on
+-- an error that `?` passes on has the same properties
 pub err_from : {T : Type 0} (P : RunFault → Type 0) (r : Result T RunFault) (e : RunFault) → IsErr r × IsErrAnd r (λ x. x ≡ e) → P e
     → IfErr r P
 err_from P (Ok _) e h p = let f = h.0 in cc
@@ -58,7 +58,7 @@ unread_modules count modules Is (Refused s f) h = absurd h
 unread_modules count modules Is (StateLine n) h = absurd h
 unread_modules count modules Is Output h = absurd h
 
--- files that come before are read
+-- the first file is read, so a fault is in the files after it
 pub after_section : (count : ℕ) (found : Option (List ℕ)) (bytes : List ℕ) (Is : List ℕ → Reply → Type 0) (stop : RunFault)
     → found ≡ Some bytes → IsBadProcess (Is bytes) count stop → IsBadProcess (OfSection 0 found Is) count stop
 after_section count found bytes Is stop e h = subst (λ o. IsBadProcess (OfSection 0 o Is) count stop) (sym e) h

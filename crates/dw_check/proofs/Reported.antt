@@ -36,7 +36,7 @@ both_mapped f g xs ys e = sym (length-map xs f) ∙ ap length e ∙ length-map y
 
 -- ---- rows
 
--- each row has an address
+-- rows that cover a range are at most as many as its addresses
 cover_count : (from to : ℕ) (rows : List PlacedRow) → Cover from rows to → from + length rows ≤ to
 cover_count from to [] h = omega (arith, h)
 cover_count from to (row ∷ rows) h =
@@ -54,7 +54,7 @@ few_rows frame cie fde rows cover is all short =
     let many : length rows ≡ length (rows_of cie fde) = ap length same ∙ length-map (rows_of cie fde) (given_row frame.expressions) in
     omega (arith, few, many, short)
 
--- The rows of the FDEs visited are counted, and the rest is to come.
+-- The rows of the FDEs visited are counted; the FDEs of `rest` are still to come.
 pub record Counted {X Y : Type 0} (f : X → List Y) (all rest : List X) (n : ℕ) : Type 0 where
   pub came : List X
   pub whole : came ++ rest ≡ all
@@ -83,7 +83,7 @@ counted_all f all left n e s =
     let whole : s.came ≡ all = sym (append-nil s.came) ∙ ap (λ l. s.came ++ l) (sym e) ∙ s.whole in
     s.count ∙ ap (λ l. length (flat_map f l)) whole
 
--- the count has room for the next ones
+-- adding the rows of the next FDE doesn't overflow the count
 pub counted_fits : {X Y : Type 0} (f : X → List Y) (all left rest : List X) (x : X) (n m : ℕ) → left ≡ x ∷ rest → Counted f all left n
     → m < 2 ^ 64 → length all < 2 ^ 64 → n + m < 2 ^ 128
 counted_fits f all left rest x n m e s few short =
@@ -96,7 +96,7 @@ counted_fits f all left rest x n m e s few short =
 
 -- ---- the lines of expressions
 
--- each is the line of an expression with its depth
+-- the lines are those of expressions with their depths
 pub lines_are : (section : Section) (xs : List (ℕ × CheckedExpression))
     → AreLines section (map located_of xs) (flat_map (line_of section) xs)
 lines_are section [] = refl
@@ -108,12 +108,12 @@ lines_are section (x ∷ xs) = (
   refl,
 )
 
--- the next one to come
+-- the elements from index i on are the one at i, then those from i + 1 on
 pub next_here : {X : Type 0} (xs : List X) (i : ℕ) (x : X) → i < length xs → x ≡ get_or xs i x → drop i xs ≡ x ∷ drop (i + 1) xs
 next_here xs i x h e =
     drop-cons xs i x h ∙ ap (λ y. y ∷ drop (suc i) xs) (sym e) ∙ ap (λ n. x ∷ drop n xs) (sym (add-one i))
 
--- the report of the expressions of two sections
+-- the text with the counts and the lines of both sections is a report
 pub reported : (frame : FrameSection) (lists : ListSection) (xs : List (ℕ × CheckedExpression)) (lines : List ℕ)
     → map located_of xs ≡ frame.expressions → AreLines sections.Lists (located_in lists) lines
     → IsReport frame lists (summary_text frame lists ++ (flat_map (line_of sections.Frame) xs ++ lines))

@@ -10,7 +10,7 @@ use Rattle.std.specs.Io.KnownBytes.{Appends}
 use Rattle.dw_check.specs.SinkBytes.{AppendsFront}
 use Rattle.dw_check.proofs.Growth.{appends_nothing, appends_more, front_wider, front_more}
 
--- The texts of those visited are written, and the rest is to come.
+-- The texts of the elements visited are written; the elements of `rest` are still to come.
 pub record Sent {X : Type 0} (f : X → List ℕ) (all rest : List X) (old new : Option (List ℕ)) : Type 0 where
   pub came : List X
   pub whole : came ++ rest ≡ all
@@ -19,7 +19,7 @@ pub record Sent {X : Type 0} (f : X → List ℕ) (all rest : List X) (old new :
 pub sent_none : {X : Type 0} (f : X → List ℕ) (all rest : List X) (a : Option (List ℕ)) → rest ≡ all → Sent f all rest a a
 sent_none f all rest a e = record { came = []; whole = e; text = appends_nothing a }
 
--- the next one too
+-- the text of the next element is written too
 pub sent_next : {X : Type 0} (f : X → List ℕ) (all left rest : List X) (x : X) (a b c : Option (List ℕ)) → left ≡ x ∷ rest
     → Sent f all left a b → Appends b c (f x) → Sent f all rest a c
 sent_next f all left rest x a b c e s more = record {
@@ -28,7 +28,7 @@ sent_next f all left rest x a b c e s more = record {
   text = rw (flat_map-append f s.came (x ∷ [])) (rw (append-nil (f x)) (appends_more a b c (flat_map f s.came) (f x) s.text more));
 }
 
--- a beginning of the next one's
+-- only a beginning of the text of the next element is written
 pub sent_front : {X : Type 0} (f : X → List ℕ) (all left rest : List X) (x : X) (a b c : Option (List ℕ)) → left ≡ x ∷ rest
     → Sent f all left a b → AppendsFront b c (f x) → AppendsFront a c (flat_map f all)
 sent_front f all left rest x a b c e s part =
@@ -39,14 +39,14 @@ sent_front f all left rest x a b c e s part =
     subst (AppendsFront a c) (sym whole)
     (front_wider a c (flat_map f s.came ++ f x) (flat_map f rest) (front_more a b c (flat_map f s.came) (f x) s.text part))
 
--- all of them
+-- the texts of all elements are written
 pub sent_all : {X : Type 0} (f : X → List ℕ) (all left : List X) (a b : Option (List ℕ)) → left ≡ [] → Sent f all left a b
     → Appends a b (flat_map f all)
 sent_all f all left a b e s =
     let whole : s.came ≡ all = sym (append-nil s.came) ∙ ap (λ l. s.came ++ l) (sym e) ∙ s.whole in
     subst (λ l. Appends a b (flat_map f l)) whole s.text
 
--- the index of the next one
+-- the next element is among all elements
 pub sent_place : {X : Type 0} (f : X → List ℕ) (all left rest : List X) (x : X) (a b : Option (List ℕ)) → left ≡ x ∷ rest
     → Sent f all left a b → Contains all x
 sent_place f all left rest x a b e s =
@@ -55,24 +55,24 @@ sent_place f all left rest x a b e s =
     (length s.came, omega (arith, length-append s.came (x ∷ rest)), get_or-append_seam s.came x rest x) in
     subst (λ l. Contains l x) cut here
 
--- what holds of each holds of the one at this index
+-- what holds for all elements holds for this element
 pub all_here : {X : Type 0} (P : X → Type 0) (all : List X) (x : X) → All P all → Contains all x → P x
 all_here P all x each at = subst P at.2 (each at.0 x at.1)
 
 -- ---- elements as views of others
 
--- the next one to come
+-- the elements from index i on are the one at i, then those from i + 1 on
 pub next_seen : {X Y : Type 0} (view : X → Y) (xs : List X) (i : ℕ) (x : X) → i < length xs → x ≡ get_or xs i x
     → map view (drop i xs) ≡ view x ∷ map view (drop (i + 1) xs)
 next_seen view xs i x h e =
     let cut : drop i xs ≡ get_or xs i x ∷ drop (suc i) xs = drop-cons xs i x h in
     ap (map view) cut ∙ ap (λ y. view y ∷ map view (drop (suc i) xs)) (sym e) ∙ ap (λ n. view x ∷ map view (drop n xs)) (sym (add-one i))
 
--- none is to come
+-- no elements are left
 pub none_seen : {X Y : Type 0} (view : X → Y) (xs : List X) (i : ℕ) → length xs ≤ i → map view (drop i xs) ≡ []
 none_seen view xs i h = ap (map view) (drop_all i xs h)
 
--- the same for an element with its number
+-- the elements from index i on, each with its number, are the one at i, then those from i + 1 on
 pub next_numbered : {X Y : Type 0} (view : X → Y) (xs : List X) (i : ℕ) (x : X) → i < length xs → x ≡ get_or xs i x
     → enumerate_from i (map view (drop i xs)) ≡ (i, view x) ∷ enumerate_from (i + 1) (map view (drop (i + 1) xs))
 next_numbered view xs i x h e = ap (enumerate_from i) (next_seen view xs i x h e)

@@ -20,7 +20,7 @@ answered faults matches (Err BadArgument) none ok (inl e) = cc
 answered faults matches (Err BadArgument) none ok (inr e) = (none, e.1)
 answered faults matches (Err Memory) none ok err = tt
 
--- the answer if it found a fault
+-- the answer if clap found a fault
 pub refused : (faults : Kinds) (matches : Option (Text × List Row)) (e : Error) (u : Usage) → HasKind faults e → IsUsageOf (kind_of e) u
     → AsksBy faults matches (Err u)
 refused faults matches e (Line text) (inl h) k = absurd (k h)

@@ -11,17 +11,17 @@ use Rattle.dw_eval.specs.Results.{Outcome, IsEvaluation}
 use Rattle.dw_unwind.specs.Caller.{under}
 use Rattle.dw_check.specs.Headline.{IsSafe}
 
--- what is given without a fault
+-- the values of items without a fault are all items
 values_given : {X : Type 0} (xs : List X) → values_in {X = X} (map Ok xs) ≡ xs
 values_given [] = refl
 values_given (x ∷ xs) = ap (λ l. x ∷ l) (values_given xs)
 
--- what is made of the values of items without a fault
+-- what is made of the values of items without a fault is made of all items
 pub made_of : {X Y : Type 0} (make : List X → Y) (items : List (Result X Fault)) (xs : List X) → items ≡ map Ok xs
     → make (values_in items) ≡ make xs
 made_of make items xs are = ap (λ its. make (values_in its)) are ∙ ap make (values_given xs)
 
--- a good expression is safe
+-- an expression that passes the check is safe
 pub safe : ((kind : Kind) (target : Target) (bytes : List ℕ) → IsGoodExpression kind target bytes → (d : ℕ) × IsDepthOf kind target bytes d)
     → ((kind : Kind) (target : Target) (bytes : List ℕ) (depth : ℕ) → IsGoodExpression kind target bytes
     → IsDepthOf kind target bytes depth → RunsWellWithin kind target bytes depth)

@@ -25,23 +25,24 @@ parts_step : (s b : ℕ) (bytes : List ℕ) (t : Bool) → (b == s) ≡ t → le
 parts_step s b bytes true e h = rw e (omega (arith, h))
 parts_step s b bytes false e h = rw e (omega (arith, joined_long b (parts_of s bytes) (length bytes) h))
 
--- there is at most one more part than separators
+-- there is at most one more part than there are bytes
 pub few_parts : (s : ℕ) (bytes : List ℕ) → length (parts_of s bytes) ≤ length bytes + 1
 few_parts s [] = omega arith
 few_parts s (b ∷ bytes) = parts_step s b bytes (b == s) refl (few_parts s bytes)
 
--- whether the first n lines of a file are not good together
+-- whether one of the first n lines is malformed or contradicts earlier lines
 abbrev pub is_bad : Target → List ℕ → ℕ → Bool
 is_bad target text n = not (are_good target (take n (parts_of 10 text)))
 
--- of the file's lines, the first n are good, and these are to come
+-- the first n lines of the file are well formed and don't contradict each other; `lines` are still
+-- to come
 pub record Reading (target : Target) (text : List ℕ) (before : List (List ℕ)) (n : ℕ) (lines : List (List ℕ)) : Type 0 where
   pub is : parts_of 10 text ≡ before ++ lines
   pub count : length before ≡ n
   pub each : list_all (is_line target) before ≡ true
   pub first : first_bad_line target (parts_of 10 text) ≡ find (is_bad target text) (range_with_len (n + 1) (length lines))
 
--- whether a line can follow the good ones
+-- whether a line is well formed and doesn't contradict the lines before it
 abbrev pub goes_behind : Target → List (List ℕ) → List ℕ → Bool
 goes_behind target before line = is_line target line && go_together (facts_of_lines target before ++ facts_of_lines target (line ∷ []))
 

@@ -22,11 +22,11 @@ below : (size : AddressSize) (n : ℕ) → n ≤ 2 ^ (8 * bytes_of_address size)
 below Four n h = omega arith
 below Eight n h = omega arith
 
--- an address of a target has this many digits
+-- an address of a target fits in the digits of the target's address size
 pub below_top : (target : Target) (size : AddressSize) (n : ℕ) → size ≡ target.address_size → n ≤ top_of target → n < 16 ^ digits_of size
 below_top target size n e h = subst (λ s. n < 16 ^ digits_of s) (sym e) (below target.address_size n h)
 
--- rows up to an address begin and end at addresses
+-- rows that cover a range whose end fits in the digits have addresses that fit, too
 cover_fits : (size : AddressSize) (from to : ℕ) (rows : List Row) → Cover from rows to → to < 16 ^ digits_of size
     → (from < 16 ^ digits_of size) × All (λ row. Fits size row) rows
 cover_fits size from to [] h k = (subst (λ n. n < 16 ^ digits_of size) (sym h) k, All-nil (λ row. Fits size row))
@@ -35,7 +35,7 @@ cover_fits size from to (row ∷ rows) h k =
     let start : row.start < 16 ^ digits_of size = omega (arith, h.1, later.0) in
     (subst (λ n. n < 16 ^ digits_of size) h.0 start, All-cons (λ r. Fits size r) row rows (record { start = start; end = later.0 }) later.1)
 
--- the rows of an FDE whose program is good
+-- the addresses of the rows of an FDE without a fault fit in the digits
 pub good_rows_fit : (target : Target) (size : AddressSize) (cie : Cie) (fde : Fde) → size ≡ target.address_size → fde_fault cie fde ≡ None
     → fde.initial_location + fde.address_range ≤ top_of target → (es : List LocatedExpression)
     → All (λ row. Fits size row) (map (given_row es) (rows_of cie fde))

@@ -17,18 +17,18 @@ use Rattle.dw_check.specs.declared.stop.ReportFault.{ReportFault}
 use Rattle.dw_check.specs.declared.stop.ReportFault.TheVariants.{Memory, Write}
 use Rattle.dw_check.proofs.Growth.{appends_more, front_more, front_wider}
 
--- all of one, and then what the second call wrote
+-- after all of x, a call for y wrote y or a beginning of y
 pub writes_then : (a b c : Option (List ℕ)) (r : Result (Unit {0}) ReportFault) (x y : List ℕ) → Appends a b x → Writes b c r y
     → Writes a c r (x ++ y)
 writes_then a b c (Ok _) x y h k = appends_more a b c x y h k
 writes_then a b c (Err _) x y h k = front_more a b c x y h k
 
--- a call that failed wrote a beginning
+-- a call that failed wrote a beginning of the text
 pub writes_front : (a b : Option (List ℕ)) (r : Result (Unit {0}) ReportFault) (x : List ℕ) → IsErr r → AppendsFront a b x → Writes a b r x
 writes_front a b (Ok _) x failed h = cc
 writes_front a b (Err _) x failed h = h
 
--- a text that is sent whole: writing none of it is a beginning too
+-- a text that is sent only when it is complete: nothing is a beginning of the text too
 pub writes_whole : (a b : Option (List ℕ)) (r : Result (Unit {0}) ReportFault) (x : List ℕ) → WritesWhole a b r x → Writes a b r x
 writes_whole a b (Ok _) x h = h
 writes_whole a b (Err Memory) x h = ([], x, refl, h)
@@ -49,7 +49,7 @@ fde_then frame size cie fde rows a b c r z e d h k =
     (subst (λ o. Writes a c r (lines_of size o fde (rows_in frame fde))) (sym e)
     (subst (λ l. Writes a c r (lines_of size (Some cie) fde l)) its both))
 
--- a beginning of the line of an FDE
+-- the call failed after a beginning of the line of an FDE
 pub fde_front : (frame : FrameSection) (size : AddressSize) (cie : Cie) (fde : Fde) (a b : Option (List ℕ))
     (r : Result (Unit {0}) ReportFault)
     → size ≡ frame.target.address_size → cie_in frame fde ≡ Some cie → IsErr r → AppendsFront a b (fde_line size cie fde)
@@ -64,7 +64,7 @@ fde_front frame size cie fde a b r z e failed h =
 
 -- ---- the row of an address
 
--- its line, if there is a row
+-- the address has a row, and its line is written
 pub row_written : (frame : FrameSection) (address : ℕ) (size : AddressSize) (row : Row) (a b : Option (List ℕ))
     (r : Result (Unit {0}) ReportFault)
     → size ≡ frame.target.address_size → Some row ≡ row_of frame address → Writes a b r (row_line size row)
@@ -73,7 +73,7 @@ unfolding lookup_text
 row_written frame address size row a b r z e h =
     subst (λ s. Writes a b r (found_text s (row_of frame address))) z (subst (λ o. Writes a b r (found_text size o)) e h)
 
--- that there is none
+-- the address has no row, and `none` is written
 pub none_text : (frame : FrameSection) (address : ℕ) (bytes : List ℕ) → None ≡ row_of frame address → bytes ≡ codes "none\n"
     → bytes ≡ lookup_text frame address
 unfolding lookup_text

@@ -38,7 +38,7 @@ one_more_line size frames n f count =
 
 -- ---- what is written
 
--- These frames were given and their lines written.
+-- n frames were given, and their lines are written.
 pub record Shown (u : CallerRelation) (size : AddressSize) (begin : WalkedFrame) (now : Progress) (n : ℕ) (old new : Option (List ℕ)) : Type 0 where
   pub frames : List WalkedFrame
   pub given : GivesFrames u (about_to_give begin) frames
@@ -50,12 +50,13 @@ module _ (u : CallerRelation) (size : AddressSize) (begin : WalkedFrame) where
   pub shown_none : (p : Progress) (old : Option (List ℕ)) → p ≡ about_to_give begin → Shown u size begin p 0 old old
   shown_none p old is = record { frames = []; given = tt; comes = sym is; count = refl; text = appends_nothing old }
 
-  -- a walk, and what a call with this result has written of it
+  -- there is a walk, and a call with result r wrote its text, or a beginning if the call failed
   abbrev pub WritesWalk : Place → ℕ → Option (List ℕ) → Option (List ℕ) → Result (Unit {0}) ReportFault → Type 0
   WritesWalk first limit old new r = (frames : List WalkedFrame) × (stop : Stop) × Walks u first limit frames stop
       × Writes old new r (walk_text size frames stop)
 
-  -- What is known of given frames: after some comes the next one; and they are a walk with a limit, or its beginning.
+  -- Assumed: given frames and the frame that is given next are given frames. (The lemmas assume
+  -- more: given frames are a walk with a limit, or the beginning of one.)
   module _
       (more : (p : Progress) (xs : List WalkedFrame) (f : WalkedFrame) → GivesFrames u p xs → GivesFrame u (after p xs) f
       → GivesFrames u p (xs ++ f ∷ []) × (after p (xs ++ f ∷ []) ≡ has_given f)) where
@@ -78,7 +79,7 @@ module _ (u : CallerRelation) (size : AddressSize) (begin : WalkedFrame) where
         }
 
     module _ (first : Place) (limit : ℕ) where
-      -- a beginning of the line of a frame
+      -- the call failed after a beginning of the line of a frame
       pub front_written : ((xs : List WalkedFrame) → GivesFrames u (about_to_give begin) xs → length xs ≤ limit
           → (others : List WalkedFrame) × (stop : Stop) × Walks u first limit (xs ++ others) stop)
           → (p : Progress) (n : ℕ) (f : WalkedFrame) (old mid new : Option (List ℕ))
@@ -110,7 +111,7 @@ module _ (u : CallerRelation) (size : AddressSize) (begin : WalkedFrame) where
     last_written p n stop old mid new r s walks line =
         (s.frames, stop, walks, writes_then old mid new r (frames_text size 0 s.frames) (last_line stop) s.text line)
 
-    -- the last line, if no frame is given
+    -- the last line is written, since no frame is given
     pub ended_written : ((xs : List WalkedFrame) (stop : Stop) → GivesFrames u (about_to_give begin) xs
         → stop_of (after (about_to_give begin) xs) ≡ Some stop → length xs < limit → Walks u first limit xs stop)
         → (p : Progress) (n : ℕ) (stop : Stop) (old mid new : Option (List ℕ)) (r : Result (Unit {0}) ReportFault)
@@ -120,7 +121,7 @@ module _ (u : CallerRelation) (size : AddressSize) (begin : WalkedFrame) where
         last_written p n stop old mid new r s
         (ends s.frames stop s.given (ap stop_of s.comes ∙ ended) (omega (arith, few, s.count))) line
 
-    -- and the limit was reached
+    -- the last line is written, since the limit is reached
     pub filled_written : ((xs : List WalkedFrame) → GivesFrames u (about_to_give begin) xs → length xs ≡ limit → Walks u first limit xs Limit)
         → (p : Progress) (n : ℕ) (old mid new : Option (List ℕ)) (r : Result (Unit {0}) ReportFault)
         → Shown u size begin p n old mid → n ≡ limit → Writes mid new r (last_line Limit) → WritesWalk first limit old new r

@@ -12,11 +12,12 @@ use Rattle.dw_stack.specs.declared.state.Kind.TheVariants.{FrameCfa, FrameRegist
 use Rattle.dw_check.specs.Addresses.{address_of, offset_of, short_number}
 use Rattle.dw_check.specs.NamedModules.{NamedModule, module_of, modules_of}
 
--- a flag was given
+-- whether a flag was given
 abbrev pub flag_of : Text → List Row → Bool
 flag_of name rows = option_map_or (λ text. bytes_eq text (codes "true")) (first_of name rows) false
 
--- little-endian with addresses of eight bytes, unless flags change that
+-- the target by the flags: little-endian with 8-byte addresses, unless `--big` or `--addr4` is
+-- given
 abbrev pub target_by_flags : List Row → Target
 target_by_flags rows = record {
   order = (if flag_of (codes "big") rows then Big else Little);
@@ -31,8 +32,9 @@ kind_of name =
     else (if bytes_eq name (codes "location") then Some Location
     else None))
 
--- What a word or the value of an option is: the name of a file; an address of the target; an offset in a section; a kind
--- of expressions; the limit of frames shown; or a further module, of which there may be several.
+-- What a word or the value of an option means: the name of a file; an address of the target; an
+-- offset in a section; a kind of expression; the greatest number of frames shown; or a further
+-- module, which may be given several times.
 pub data Word : Type 0 where
   file : Word
   address : Word
@@ -41,7 +43,8 @@ pub data Word : Type 0 where
   limit : Word
   named_module : Word
 
--- the file, the address, the offset, the kind and the limit at the word of this name
+-- what the word called `name` gives; a definition each for a file, an address, an offset, a kind
+-- and a limit
 abbrev pub file_at : List Row → Text × Word → Option Text
 file_at rows (name, file) = first_of name rows
 file_at rows (name, _) = None
@@ -58,7 +61,7 @@ kind_at name rows = option_and_then kind_of (first_of name rows)
 abbrev pub limit_at : Text → List Row → Option ℕ
 limit_at name rows = option_and_then short_number (first_of name rows)
 
--- where the module of FRAME is loaded: at 0 unless `--load` gives another address
+-- the load address of FRAME's module: 0 unless `--load` gives another
 abbrev pub load_in : List Row → Option ℕ
 load_in rows = option_map_or (address_of (target_by_flags rows)) (first_of (codes "load") rows) (Some 0)
 
@@ -66,11 +69,11 @@ load_in rows = option_map_or (address_of (target_by_flags rows)) (first_of (code
 abbrev pub values_of : Text → List Row → List Text
 values_of name rows = unwrap_or (all_of name rows) []
 
--- the further modules, in order
+-- the further modules that `--module` gives, in order
 abbrev pub modules_in : List Row → Option (List NamedModule)
 modules_in rows = modules_of (target_by_flags rows) (values_of (codes "module") rows)
 
--- a word is there, and is malformed
+-- the word or the option of this name is given, and is malformed
 abbrev pub IsBad : List Row → Text × Word → Type 0
 IsBad rows (name, file) = ⊥
 IsBad rows (name, address) = IsSomeAnd (first_of name rows) (λ text. address_of (target_by_flags rows) text ≡ None)

@@ -6,22 +6,22 @@ use Rattle.dw_bytes.specs.declared.target.AddressSize.{AddressSize}
 use Rattle.dw_unwind.specs.Caller.{Answer, value, undefined, unreadable, division_by_zero, Caller}
 use Rattle.dw_check.specs.Text.{address_text}
 
--- what is known of a number; a value is shown as an address is
+-- an answer: its value, shown like an address, or why there is none
 abbrev pub answer_text : AddressSize → Answer → List ℕ
 answer_text size (value v) = codes "value " ++ address_text size v
 answer_text size undefined = codes "undefined"
 answer_text size unreadable = codes "unreadable"
 answer_text size division_by_zero = codes "division by zero"
 
--- its name, and what is known of it
+-- a line with the name of a number and its answer
 unfoldable pub answer_line : AddressSize → List ℕ → Answer → List ℕ
 answer_line size what answer = what ++ codes " " ++ answer_text size answer ++ codes "\n"
 
--- a register by its number
+-- the line of a register: its number and its answer
 unfoldable pub found_line : AddressSize → ℕ × Answer → List ℕ
 found_line size found = codes "r" ++ decimal found.0 ++ codes " " ++ answer_text size found.1 ++ codes "\n"
 
--- the registers are in the caller's order, which is ascending
+-- the lines of a caller, its registers in ascending order; or `none` if there is no caller
 unfoldable pub caller_text : AddressSize → Option Caller → List ℕ
 caller_text size (Some caller) = answer_line size (codes "cfa") caller.cfa ++ flat_map (found_line size) caller.registers
     ++ answer_line size (codes "return") caller.return_address

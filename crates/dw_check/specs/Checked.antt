@@ -1,4 +1,5 @@
--- Two well-formed sections, and the first fault of two (DWARF 5, sections 6.4.1 and 7.29).
+-- When two sections are well formed, and the first fault of two sections (DWARF 5, sections 6.4.1
+-- and 7.29).
 use Rattle.std.specs.Prelude.{◌≡◌, ◌⊎◌, ℕ, ◌<◌, ◌^◌, nat_lt, if◌then◌else◌, List, [], length, Option, Some, None, Result, Ok, Err}
 use Rattle.std.specs.Option.{option_or}
 use Rattle.dw_bytes.specs.declared.target.Target.{Target}
@@ -13,8 +14,10 @@ use Rattle.dw_check.specs.declared.whole_check.CheckFault.{CheckFault}
 use Rattle.dw_check.specs.declared.stop.Section.{Section}
 use Rattle.dw_check.specs.declared.stop.Section.TheVariants.{Frame, Lists, Expression}
 
--- Both are shorter than 2^32 bytes (own), and each is well formed by itself: one is records with good programs, no two of
--- which cover the same address, and the other is tables of lists with good expressions.
+-- Both sections are shorter than 2^32 bytes (a rule of dwcheck, not of DWARF), and each is well
+-- formed by itself. The frame section is CIEs and FDEs whose programs pass the check, and no two
+-- FDEs cover the same address. The other section is tables of location lists whose expressions pass
+-- the check.
 pub record AreWellFormed (target : Target) (frame_bytes list_bytes : List ℕ) : Type 0 where
   pub frame_is_short : length frame_bytes < 2 ^ 32
   pub lists_are_short : length list_bytes < 2 ^ 32
@@ -23,19 +26,20 @@ pub record AreWellFormed (target : Target) (frame_bytes list_bytes : List ℕ) :
 
 -- ---- the first fault
 
--- a fault, and the section that it is in
+-- a fault together with its section
 abbrev pub fault_within : Section → Option Fault → Option CheckFault
 fault_within section None = None
 fault_within section (Some fault) = Some (record { section = section; fault = fault })
 
--- 2^32 bytes or more are too many, in a section and in an expression
+-- the fault of a section or an expression of 2^32 bytes or more
 abbrev pub too_long : Fault
 too_long = record { kind = SectionTooLong; at = 0 }
 
 abbrev pub length_fault : List ℕ → Option Fault
 length_fault bytes = if nat_lt (length bytes) (2 ^ 32) then None else Some too_long
 
--- the lengths, and then the contents of each section
+-- the first fault of both sections: their lengths are checked first, then their contents, each time
+-- the frame section first
 unfoldable pub check_fault : Target → List ℕ → List ℕ → Option CheckFault
 check_fault target frame_bytes list_bytes =
     option_or (fault_within Frame (length_fault frame_bytes))
@@ -48,7 +52,7 @@ abbrev pub Checks : {X : Type 0} → Option CheckFault → Result X CheckFault �
 Checks first (Ok _) = first ≡ None
 Checks first (Err found) = (found.fault ≡ memory) ⊎ (first ≡ Some found)
 
--- the bytes that a fault's offset counts in
+-- the bytes that a fault's offset refers to
 abbrev pub bytes_within : Section → List ℕ → List ℕ → List ℕ
 bytes_within Frame frame_bytes list_bytes = frame_bytes
 bytes_within Lists frame_bytes list_bytes = list_bytes

@@ -1,4 +1,5 @@
--- The table of the command line as in Commands. clap doesn't know what a word names, nor what a command does.
+-- The code's table of commands, in the form of `Commands`. Two things that clap doesn't know are
+-- left out: what a word means, and what a command does.
 use Rattle.std.specs.Prelude.{ℕ, List, map, None}
 use Rattle.std.specs.Borrow.{Bor}
 use Rattle.clap.specs.Words.{Text}
@@ -6,11 +7,11 @@ use Rattle.dw_check.specs.Arguments.{Word, file}
 use Rattle.dw_check.specs.Commands.{Command}
 use Rattle.dw_check.specs.declared.command_line.Outline.{Outline}
 
--- words by their names
+-- words by their names; what they mean is left out
 abbrev pub file_words : List (Bor (List ℕ) × Bor (List ℕ)) → List (Text × Word)
 file_words words = map (λ word. (word.0.now, file)) words
 
--- a command by its outline
+-- a command by its outline; what it does is left out
 abbrev pub command_in : Outline → Command
 command_in outline = record {
   name = outline.name.now;

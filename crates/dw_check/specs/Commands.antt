@@ -1,4 +1,4 @@
--- The command line: a table of commands, and the app it makes for clap.
+-- The command line: a table of commands, and the app for clap that is made from the table.
 use Rattle.std.specs.Prelude.{ℕ, Bool, true, false, if◌then◌else◌, List, [], ◌∷◌, ◌++◌, Option, Some, None, option_map, option_and_then}
 use Rattle.std.specs.Prelude.{codes}
 use Rattle.clap.specs.declared.builder.ArgAction.TheVariants.{Append, Set, SetTrue}
@@ -9,8 +9,8 @@ use Rattle.dw_check.specs.declared.requests.ListLookup.{ListLookup}
 use Rattle.dw_check.specs.declared.requests.Task.{Task}
 use Rattle.dw_check.specs.declared.requests.Task.TheVariants as tasks
 
--- A command by its name: its words in order, each with a name of its own; whether it takes a state file, the load address
--- of its module, and further modules, as options; and what it does.
+-- A command: its name; its words in order, each with its name and what it means; whether it takes
+-- the options `--state`, `--load` and `--module`; and its task.
 pub record Command : Type 0 where
   pub name : Text
   pub words : List (Text × Word)
@@ -49,7 +49,7 @@ row_command = record {
   task = λ rows. option_map tasks.Row (address_at (codes "ADDRESS") rows);
 }
 
--- what `locs` looks up: the list at an offset, by the base of a unit, at an address
+-- what `locs` looks up: the offset of a list, the base address of a unit, and an address
 abbrev pub lookup_of : Option ℕ → Option ℕ → Option ℕ → Option ListLookup
 lookup_of (Some l) (Some b) (Some a) = Some (record { list = l; base = b; address = a })
 lookup_of _ _ _ = None
@@ -87,7 +87,7 @@ unwind_command = record {
   task = λ rows. option_map tasks.Unwind (address_at (codes "ADDRESS") rows);
 }
 
--- what `backtrace` does: it walks up from an address, up to a number of frames
+-- the task of `backtrace`: a walk from an address, with the greatest number of frames
 abbrev pub backtrace_in : List Row → Option Task
 backtrace_in rows = option_and_then (λ a. option_map (tasks.Backtrace a) (limit_at (codes "LIMIT") rows))
     (address_at (codes "ADDRESS") rows)
@@ -102,7 +102,8 @@ backtrace_command = record {
   task = backtrace_in;
 }
 
--- the words of a command, and its options whose values aren't just the names of files
+-- the words of a command, and its options other than `--state`, whose value is just the name of a
+-- file
 abbrev pub arguments_of : Command → List (Text × Word)
 arguments_of c = c.words ++ ((if c.has_load then (codes "load", address) ∷ [] else [])
     ++ (if c.has_modules then (codes "module", named_module) ∷ [] else []))
@@ -128,7 +129,7 @@ list_rule name = record (new_rule name) { long = Some name; action = Some Append
 abbrev pub word_rule : Text → Rule
 word_rule name = record (new_rule name) { required = true }
 
--- the flags that every command has
+-- the app with the flags that every command takes
 abbrev pub with_flags : App → App
 with_flags app = with_rule (with_rule (with_rule app (flag_rule (codes "big"))) (flag_rule (codes "addr4"))) (flag_rule (codes "hex"))
 
@@ -136,12 +137,12 @@ abbrev pub with_words : App → List (Text × Word) → App
 with_words app [] = app
 with_words app (word ∷ words) = with_words (with_rule app (word_rule word.0)) words
 
--- with an option, if it is taken
+-- the app with an option added, if the command takes the option
 abbrev pub with_option : App → Rule → Bool → App
 with_option app rule false = app
 with_option app rule true = with_rule app rule
 
--- with the options that this command takes
+-- the app with the options that the command takes
 abbrev pub with_options : App → Command → App
 with_options app c = with_option (with_option (with_option app (option_rule (codes "state")) c.has_state)
     (option_rule (codes "load")) c.has_load) (list_rule (codes "module")) c.has_modules

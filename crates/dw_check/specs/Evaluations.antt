@@ -1,4 +1,4 @@
--- The outcome of an expression on a partly known machine.
+-- The outcome of an expression, given the registers, memory and context in a state file.
 use Rattle.std.specs.Prelude.{◌≡◌, ℕ, ◌<◌, ◌^◌, List, length}
 use Rattle.dw_bytes.specs.declared.target.Target.{Target}
 use Rattle.dw_stack.specs.declared.state.Kind.{Kind}
@@ -8,7 +8,7 @@ use Rattle.dw_eval.specs.Results.{Outcome, IsRun}
 use Rattle.dw_check.specs.StateFile.{StateFact, first_that, content_in, byte_in, cfa_in, frame_base_in, object_in}
 use Rattle.dw_check.specs.Outcomes.{evaluation_text}
 
--- a machine with this given state, under a target
+-- what an evaluation may read: the target, and what the facts of a state file give
 abbrev pub world_of : Target → List StateFact → World
 world_of target facts = record {
   target = target;
@@ -19,7 +19,8 @@ world_of target facts = record {
   object = first_that object_in facts;
 }
 
--- The expression is good, its run on what was given has this outcome after this many steps, and this is its depth.
+-- The expression passes the check. Run on what the facts give, it has `outcome` after `steps`
+-- operations; `depth` is its greatest stack depth.
 pub record ComesTo (kind : Kind) (target : Target) (bytes : List ℕ) (facts : List StateFact) (outcome : Outcome)
     (steps depth : ℕ) : Type 0 where
   pub short : length bytes < 2 ^ 32
@@ -27,7 +28,7 @@ pub record ComesTo (kind : Kind) (target : Target) (bytes : List ℕ) (facts : L
   pub run : IsRun (world_of target facts) kind (operations_in target bytes) (length bytes) outcome steps
   pub deepest : IsDepthOf kind target bytes depth
 
--- The text shows its outcome.
+-- The text shows the outcome of an expression.
 pub record Evaluates (kind : Kind) (target : Target) (bytes : List ℕ) (facts : List StateFact) (written : List ℕ) : Type 0 where
   pub outcome : Outcome
   pub steps : ℕ

@@ -1,4 +1,4 @@
--- What the sections of files mean.
+-- The sections in files, as lists of bytes.
 use Rattle.std.specs.Prelude.{ℕ, List, map}
 use Rattle.std.specs.declared.borrow.CowSlice.{CowSlice}
 use Rattle.std.specs.Cow.{cow_slice_items}

@@ -11,41 +11,42 @@ use Rattle.dw_unwind.specs.declared.modules.Module.{Module}
 abbrev pub is_blank : ℕ → Bool
 is_blank b = b == 9 || b == 10 || b == 13 || b == 32
 
--- the text without them
+-- the text without its tabs, LFs, CRs and spaces
 abbrev pub without_blanks : List ℕ → List ℕ
 without_blanks text = filter (λ b. not (is_blank b)) text
 
--- The bytes of a section or of an expression: decoded if they must be hex text, or none if they aren't; else as they
--- are. Without a file they are empty.
+-- The bytes of a section or an expression. If files are hex text, the decoded bytes, or none if the
+-- file isn't hex text; else the file's bytes. Empty if there is no file.
 abbrev pub section_bytes : Bool → Option (List ℕ) → Option (List ℕ)
 section_bytes hex None = Some []
 section_bytes hex (Some file) = if hex then result_ok (decode_of (without_blanks file)) else Some file
 
--- what a state file gives, or its first bad line; without a file it is empty
+-- what a state file gives, or the number of its first bad line; nothing if there is no file
 abbrev pub state_facts : Target → Option (List ℕ) → Result (List StateFact) ℕ
 state_facts target None = Ok []
 state_facts target (Some text) = facts_of_file target text
 
 -- ---- the modules of a process
 
--- a module that is loaded at an address, with the bytes of its section
+-- a module: its load address, and the bytes of its section
 abbrev pub loaded_at : ℕ → List ℕ → Module (List ℕ)
 loaded_at load section = record { rows = section; load_address = load }
 
--- one whose file is at an index, before others; or that index, if the bytes of the section aren't available
+-- a module put before others; or `place`, the index of its file, if the file must be hex text and
+-- isn't
 abbrev pub module_before : ℕ → ℕ → Option (List ℕ) → Result (List (Module (List ℕ))) ℕ → Result (List (Module (List ℕ))) ℕ
 module_before place load None others = Err place
 module_before place load (Some section) (Err n) = Err n
 module_before place load (Some section) (Ok others) = Ok (loaded_at load section ∷ others)
 
--- Further modules with these load addresses, the file of the first at an index; or the index of the first file that must
--- be hex text and isn't.
+-- The further modules with load addresses `loads`; the file of the first one has index `place`. Or
+-- the index of the first file that must be hex text and isn't.
 abbrev pub further_modules : Bool → List (List ℕ) → ℕ → List ℕ → Result (List (Module (List ℕ))) ℕ
 further_modules hex files place [] = Ok []
 further_modules hex files place (load ∷ loads) =
     module_before place load (section_bytes hex (slice_get files place)) (further_modules hex files (suc place) loads)
 
--- The files of a process give its modules, FRAME's first, and the state in the state file.
+-- The files of a process give `modules`, FRAME's first, and `facts`, those of the state file.
 pub record GivesProcess (target : Target) (load : ℕ) (loads : List ℕ) (hex : Bool) (files : List (List ℕ))
     (modules : List (Module (List ℕ))) (facts : List StateFact) : Type 0 where
   pub section : List ℕ

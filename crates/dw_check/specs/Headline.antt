@@ -1,4 +1,4 @@
--- What holds of two sections that a check accepts.
+-- What holds for two sections that a check accepts.
 use Rattle.std.specs.Prelude.{◌≡◌, ℕ, ◌≤◌, List, length, Some, None, Contains}
 use Rattle.dw_bytes.specs.declared.target.Target.{Target}
 use Rattle.dw_bytes.specs.Operands.{Block}
@@ -17,7 +17,8 @@ use Rattle.dw_eval.specs.World.{World}
 use Rattle.dw_eval.specs.Results.{Outcome, IsRun}
 use Rattle.dw_unwind.specs.Caller.{under}
 
--- With these registers, memory and context, the expression has one outcome, within its number of operations.
+-- With the registers, memory and context of e, the expression has exactly one outcome, after at
+-- most as many steps as it has operations.
 pub record ComesToOne (kind : Kind) (target : Target) (bytes : List ℕ) (e : World) : Type 0 where
   pub outcome : Outcome
   pub steps : ℕ
@@ -26,7 +27,8 @@ pub record ComesToOne (kind : Kind) (target : Target) (bytes : List ℕ) (e : Wo
   pub only : (other : Outcome) (n : ℕ) → IsRun e kind (operations_in target bytes) (length bytes) other n
       → (outcome ≡ other) × (steps ≡ n)
 
--- The expression is good; each run follows a path, is never stuck, and never has more entries than the depth; and each ends.
+-- The expression passes the check. Each run follows a path, is never stuck, and never has more
+-- stack entries than `depth`. Each run ends.
 pub record IsSafe (kind : Kind) (target : Target) (bytes : List ℕ) : Type 0 where
   pub good : IsGoodExpression kind target bytes
   pub depth : ℕ
@@ -34,13 +36,14 @@ pub record IsSafe (kind : Kind) (target : Target) (bytes : List ℕ) : Type 0 wh
   pub runs : RunsWellWithin kind target bytes depth
   pub ends : (e : World) → ComesToOne kind target bytes (under target e)
 
--- the lists' section
+-- a section of location lists, by its target and bytes
 abbrev pub list_section : Target → List ℕ → ListSection
 list_section target bytes = record { target = target; section = bytes }
 
--- What is read of both sections is what their bytes encode: records, and tables. Each address that an FDE covers has exactly one row,
--- the standard's, with remember and restore balanced and locations never going back; any other address has none. Each expression
--- of a rule and each of a list is of that target, and safe.
+-- The records and tables read from the sections are what their bytes encode. Each address that an
+-- FDE covers has exactly one row, the standard's, and in the FDE's program each remember_state is
+-- restored and locations never go back; any other address has no row. Each expression of a rule or
+-- of a list has the sections' target and is safe.
 pub record AreSound (target : Target) (frame_bytes list_bytes : List ℕ) : Type 0 where
   pub records : List Record
   pub encoded : AreRecords target 0 frame_bytes records

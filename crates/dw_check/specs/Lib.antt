@@ -1,10 +1,10 @@
--- ---- To be believed: the standard's words. Read these to check the headline against DWARF 5.
--- two well-formed sections, and their first fault
+-- ---- Trusted: what DWARF 5 says. To check the headline against the standard, read these.
+-- when two sections are well formed, and their first fault
 pub mod Checked
--- what holds of sections that are accepted
+-- what holds for sections that a check accepts
 pub mod Headline
--- ---- To be believed: what docs/PROFILE.md states of texts, command lines, files and statuses. The headline needs none
--- of these.
+-- ---- Trusted: what docs/PROFILE.md says about texts, command lines, files and statuses. The
+-- headline needs none of these.
 -- the text of a report
 pub mod Report
 -- the lines of sections and rows
@@ -29,7 +29,7 @@ pub mod Commands
 pub mod Requests
 -- what the files of a request contain
 pub mod Files
--- how much of a long file decides
+-- how much of a long file determines the reply
 pub mod LongFiles
 -- what a state file gives
 pub mod StateFile
@@ -41,20 +41,20 @@ pub mod Lookups
 pub mod Statuses
 -- what a run writes, and how it ends
 pub mod Runs
--- ---- What the code's own values mean, and what its calls answer.
+-- ---- What the code's values mean, and what its calls return.
 -- the code's table of commands
 pub mod CommandViews
--- the report's line of an expression of the code
+-- the report's line on an expression, as the code has the expression
 pub mod ReportViews
 -- the sections of files
 pub mod FileViews
 -- why a run stops
 pub mod Stops
--- what a sink has accepted
+-- the bytes that a sink has accepted
 pub mod SinkBytes
--- what a source has left
+-- the bytes that a source has left
 pub mod SourceBytes
--- what a call that writes has written
+-- what a call has written, by its result
 pub mod WriteResults
--- state lines and states of the code
+-- the code's state lines and machine states
 pub mod StateViews

@@ -1,4 +1,5 @@
--- What a location list gives at an address (DWARF 5, section 2.6.2), on a partly known machine.
+-- The expressions of a location list that apply at an address (DWARF 5, section 2.6.2), and their
+-- outcomes, given the facts of a state file.
 use Rattle.std.specs.Prelude.{◌≡◌, ℕ, ◌<◌, ◌^◌, ◌==◌, List, [], ◌∷◌, ◌++◌, length, Option, Some, None, codes}
 use Rattle.std.specs.List.{find}
 use Rattle.dw_bytes.specs.declared.target.AddressSize.{AddressSize}
@@ -21,17 +22,19 @@ AreEvaluated facts [] written = written ≡ []
 AreEvaluated facts (x ∷ xs) written = (own rest : List ℕ) × (written ≡ (expression_offset_line x.offset ++ own) ++ rest)
     × Evaluates x.kind x.target x.bytes facts own × AreEvaluated facts xs rest
 
--- it shows those that hold, or that none does
+-- the text shows the expressions that apply, or that there are none
 abbrev pub ShowsLocations : List StateFact → List LocatedExpression → List ℕ → Type 0
 ShowsLocations facts [] written = written ≡ codes "none\n"
 ShowsLocations facts (x ∷ xs) written = AreEvaluated facts (x ∷ xs) written
 
--- it shows what a list gives at an address, where the base is the unit's, or that there is no list
+-- the text shows what a list gives at an address, or that there is no list; `base` is the base
+-- address of the unit
 abbrev pub ShowsList : List StateFact → Option Loclist → ℕ → ℕ → List ℕ → Type 0
 ShowsList facts None base address written = written ≡ codes "no list\n"
 ShowsList facts (Some l) base address written = ShowsLocations facts (locations_of l base address) written
 
--- An expression that can be shown with addresses of this size: it was found good.
+-- The expression can be shown with addresses of `size`: it passes the check, and its target's
+-- addresses have that size.
 pub record IsShowable (size : AddressSize) (x : LocatedExpression) : Type 0 where
   pub short : length x.bytes < 2 ^ 32
   pub good : IsGoodExpression x.kind x.target x.bytes

@@ -4,25 +4,26 @@ use Rattle.std.specs.List.{before_first, after_first}
 use Rattle.dw_bytes.specs.declared.target.Target.{Target}
 use Rattle.dw_check.specs.Addresses.{address_of}
 
--- Where a module is loaded, and the name of the file with its frame section.
+-- A module's load address, and the name of the file that has its frame section.
 pub record NamedModule : Type 0 where
   pub load : ℕ
   pub file : List ℕ
 
--- = is 61
+-- the byte is `=`
 abbrev pub is_equals_sign : ℕ → Bool
 is_equals_sign byte = byte == 61
 
--- the address and the name, if there is a name
+-- the module with a load address and a name; none without an address or a name
 abbrev pub module_with : Option ℕ → List ℕ → Option NamedModule
 module_with load [] = None
 module_with load (byte ∷ name) = option_map (λ a. record { load = a; file = byte ∷ name }) load
 
--- the module that an address, = and the name of a file give; a text without = has no name
+-- the module that a text gives: its load address, `=`, and the name of its file; a text without `=`
+-- has no name
 abbrev pub module_of : Target → List ℕ → Option NamedModule
 module_of target text = module_with (address_of target (before_first is_equals_sign text)) (after_first is_equals_sign text)
 
--- the modules that these texts give, if each is well formed
+-- the modules that texts give, in order, if each text is well formed
 abbrev pub modules_of : Target → List (List ℕ) → Option (List NamedModule)
 modules_of target [] = Some []
 modules_of target (text ∷ texts) =

@@ -24,7 +24,7 @@ size_text (machine.bits n offset) = codes " bits " ++ decimal n ++ codes " offse
 unfoldable pub piece_line : AddressSize → Piece → List ℕ
 piece_line size piece = codes "piece " ++ location_text size piece.location ++ size_text piece.size ++ codes "\n"
 
--- what happened at an operation
+-- the line of an outcome without an answer: what happened, and the offset of the operation
 unfoldable pub stop_line : List ℕ → ℕ → List ℕ
 stop_line what at = what ++ codes " at " ++ offset_text at ++ codes "\n"
 

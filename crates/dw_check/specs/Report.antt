@@ -14,7 +14,7 @@ use Rattle.dw_check.specs.declared.stop.Section.TheVariants as sections
 
 -- ---- the counts
 
--- the number of rows of all FDEs together
+-- the number of rows of all FDEs, added up
 abbrev pub row_count : FrameSection → ℕ
 row_count frame = length (flat_map (rows_in frame) frame.fdes)
 
@@ -22,7 +22,7 @@ row_count frame = length (flat_map (rows_in frame) frame.fdes)
 unfoldable pub count_text : List ℕ → ℕ → List ℕ
 count_text name number = name ++ decimal number
 
--- the same at the end of a line
+-- a number after the name of what it counts, at the end of a line
 unfoldable pub last_count_text : List ℕ → ℕ → List ℕ
 last_count_text name number = name ++ decimal number ++ codes "\n"
 
@@ -40,8 +40,8 @@ lists_counts_line tables lists expressions = count_text (codes "tables ") tables
 abbrev pub frame_line : FrameSection → List ℕ
 frame_line frame = frame_counts_line (length frame.cies) (length frame.fdes) (row_count frame)
 
--- the counts of tables, lists and expressions; each expression counted, of the frame section or of
--- lists, has a line in the report
+-- the numbers of tables, lists and expressions; the expressions are those of both sections, and
+-- each has a line in the report
 abbrev pub lists_line : FrameSection → ListSection → List ℕ
 lists_line frame lists = lists_counts_line (length (tables_in lists)) (length (lists_in lists))
     (length frame.expressions + length (located_in lists))
@@ -56,13 +56,14 @@ expression_kind_text FrameCfa = codes "cfa"
 expression_kind_text FrameRegister = codes "register"
 expression_kind_text Location = codes "location"
 
--- the section and the offset of its first byte, its kind, its number of operations, and its depth
+-- the line of an expression: its section, the offset of its first byte, its kind, its number of
+-- operations, and its depth
 unfoldable pub expression_line : Section → LocatedExpression → ℕ → List ℕ
 expression_line section x depth = codes "expr " ++ section_text section ++ codes " " ++ offset_text x.offset ++ codes " "
     ++ expression_kind_text x.kind ++ codes " ops " ++ decimal (length (operations_in x.target x.bytes))
     ++ codes " depth " ++ decimal depth ++ codes "\n"
 
--- a line for each of these, with its depth
+-- the text has a line for each of the expressions, in order
 abbrev pub AreLines : Section → List LocatedExpression → List ℕ → Type 0
 AreLines section [] text = text ≡ []
 AreLines section (x ∷ xs) text = (depth : ℕ) × (rest : List ℕ) × IsDepthOf x.kind x.target x.bytes depth

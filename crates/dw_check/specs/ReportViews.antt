@@ -1,4 +1,4 @@
--- The lines of expressions of the code.
+-- The report's lines on expressions, as the code has the expressions.
 use Rattle.std.specs.Prelude.{ℕ, List}
 use Rattle.dw_stack.specs.declared.checked.CheckedExpression.{CheckedExpression}
 use Rattle.dw_stack.specs.Certificates.{checked_of}
@@ -6,6 +6,6 @@ use Rattle.dw_stack.specs.Located.{located_of}
 use Rattle.dw_check.specs.Report.{expression_line}
 use Rattle.dw_check.specs.declared.stop.Section.{Section}
 
--- the line of an expression of a section, with its offset
+-- the report's line on an expression, which is given with its offset in the section
 abbrev pub line_of : Section → ℕ × CheckedExpression → List ℕ
 line_of section x = expression_line section (located_of x) (checked_of x.1).depth

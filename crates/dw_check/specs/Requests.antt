@@ -15,8 +15,9 @@ use Rattle.dw_check.specs.declared.requests.Task.{Task}
 use Rattle.dw_check.specs.declared.requests.Usage.{Usage}
 use Rattle.dw_check.specs.declared.requests.Usage.TheVariants.{Line, BadArgument, Memory}
 
--- A task, the target of its numbers, where the module of a frame section is loaded and where each further module is,
--- whether sections and expressions are hex text, and the names of the files, those of the further modules last.
+-- A request: the task, the target of the files, the load address of the frame section's module, the
+-- load addresses of the further modules, whether sections and expressions are hex text, and the
+-- names of the files, those of the further modules last.
 pub record Asked : Type 0 where
   pub task : Task
   pub target : Target
@@ -34,17 +35,17 @@ state_at true rows = first_of (codes "state") rows
 abbrev pub files_of : Command → List Row → List Text
 files_of c rows = filter_map (file_at rows) c.words ++ option_to_list (state_at c.has_state rows)
 
--- where a command's own module is loaded: at 0 unless the option gives another address
+-- the load address of FRAME's module: 0 unless the command takes `--load` and it is given
 abbrev pub load_at : Bool → List Row → Option ℕ
 load_at false rows = Some 0
 load_at true rows = load_in rows
 
--- the further modules of a command
+-- the further modules, if the command takes `--module`
 abbrev pub modules_at : Bool → List Row → Option (List NamedModule)
 modules_at false rows = Some []
 modules_at true rows = modules_in rows
 
--- the request for a task with these files and these load addresses
+-- the request for a task, with files, a load address and further modules
 abbrev pub asked_with : List Row → List Text → Option Task → Option ℕ → Option (List NamedModule) → Option Asked
 asked_with rows files (Some task) (Some load) (Some modules) = Some (record {
   task = task;
@@ -56,40 +57,41 @@ asked_with rows files (Some task) (Some load) (Some modules) = Some (record {
 })
 asked_with rows files _ _ _ = None
 
--- the request of a command with these arguments
+-- the request of a command, given what clap matched
 abbrev pub asked_of : Command → List Row → Option Asked
 asked_of c rows = asked_with rows (files_of c rows) (c.task rows) (load_at c.has_load rows) (modules_at c.has_modules rows)
 
--- the command of a name
+-- the command with a name
 abbrev pub command_of : Text → Option Command
 command_of name = find (λ c. bytes_eq name c.name) commands
 
 abbrev pub asked_by : Text → List Row → Option Asked
 asked_by name rows = option_and_then (λ c. asked_of c rows) (command_of name)
 
--- one of these words is bad
+-- one of the words is given and malformed
 abbrev pub HasBad : List Row → List (Text × Word) → Type 0
 HasBad rows [] = ⊥
 HasBad rows (word ∷ words) = IsBad rows word ⊎ HasBad rows words
 
--- a word or the value of an option of this command is bad
+-- a word or the value of an option of the command with this name is given and malformed
 abbrev pub HasBadWord : Text → List Row → Type 0
 HasBadWord name rows = IsSomeAnd (command_of name) (λ c. HasBad rows (arguments_of c))
 
 -- ---- what an answer must be
 
--- What an answer must be if the words have these faults and these matches.
+-- What the answer to a command line must be, given the faults and the matches that clap finds in
+-- its words.
 abbrev pub AsksBy : Kinds → Option (Text × List Row) → Result Asked Usage → Type 0
 AsksBy faults matches (Ok asked) = (faults ≡ []) × IsSomeAnd matches (λ (name, rows). asked_by name rows ≡ Some asked)
 AsksBy faults matches (Err BadArgument) = (faults ≡ []) × IsSomeAnd matches (λ (name, rows). HasBadWord name rows)
 AsksBy faults matches (Err (Line _)) = ¬ (faults ≡ [])
 AsksBy faults matches (Err Memory) = Unit {0}
 
--- what an answer to these words must be, given what clap promises of them
+-- what the answer to a command line must be, by what clap's contract says of its words
 abbrev pub AsksFor : List Text → Result Asked Usage → Type 0
 AsksFor words r = AsksBy (fault_of dwcheck words) (subcommand_of dwcheck words) r
 
--- out of memory, or the text of an error of another kind
+-- the answer to an error of clap: out of memory, or, if the error is of another kind, a text
 abbrev pub IsUsageOf : ErrorKind → Usage → Type 0
 IsUsageOf kind (Line _) = ¬ (kind ≡ OutOfMemory)
 IsUsageOf kind BadArgument = ⊥

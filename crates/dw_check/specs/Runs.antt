@@ -37,29 +37,32 @@ use Rattle.dw_check.specs.declared.requests.Task.TheVariants.{Check, Rows, Row, 
 use Rattle.dw_check.specs.declared.requests.End.{End}
 use Rattle.dw_check.specs.declared.requests.End.TheVariants.{Done, Refused, BadHex, StateLine, Memory, Output}
 
--- The result of a run: a text; the line of a refusal; or nothing, if the file with this index must be hex text and isn't,
--- or if this line of the state file is malformed or contradicts those before it.
+-- What a run replies: a text; the line of a refusal; `not_hex n`, if the file at index n must be
+-- hex text and isn't; or `bad_line n`, if line n of the state file is malformed or contradicts
+-- earlier lines. Nothing is written for the last two.
 pub data Reply : Type 0 where
   text : List ℕ → Reply
   refusal : Section → Fault → Reply
   not_hex : ℕ → Reply
   bad_line : ℕ → Reply
 
--- all that is written
+-- all that is written for a reply
 abbrev pub text_of : Reply → List ℕ
 text_of (text bytes) = bytes
 text_of (refusal section fault) = refused_line section fault
 text_of (not_hex n) = []
 text_of (bad_line n) = []
 
--- What is written before memory can run out: any beginning of a text, and nothing of a refusal, whose line is sent whole.
+-- The text of which a beginning may be written before memory runs out. Of a refusal nothing is
+-- written then, since its line is sent only when it is complete.
 abbrev pub accepted_text : Reply → List ℕ
 accepted_text (text bytes) = bytes
 accepted_text (refusal section fault) = []
 accepted_text (not_hex n) = []
 accepted_text (bad_line n) = []
 
--- A text or a refusal: a reply that is written. For the others nothing is written, so they can't stop the sink.
+-- The reply is a text or a refusal. Nothing is written for other replies, so they can't stop the
+-- sink.
 abbrev pub IsWritten : Reply → Type 0
 IsWritten (text bytes) = Unit {0}
 IsWritten (refusal section fault) = Unit {0}
@@ -68,19 +71,20 @@ IsWritten (bad_line n) = ⊥
 
 -- ---- files, checked in order
 
--- the reply for the bytes of the section at an index, if they are available
+-- the reply that `Is` gives for the bytes of the section in file `place`; `not_hex` if there are no
+-- bytes
 abbrev pub OfSection : ℕ → Option (List ℕ) → (List ℕ → Reply → Type 0) → Reply → Type 0
 OfSection place None Is reply = reply ≡ not_hex place
 OfSection place (Some bytes) Is reply = Is bytes reply
 
--- the reply for a state, if each of its lines is good
+-- the reply that `Is` gives for a machine state; `bad_line` if the state file has a bad line
 abbrev pub OfState : Result (List StateFact) ℕ → (List StateFact → Reply → Type 0) → Reply → Type 0
 OfState (Err n) Is reply = reply ≡ bad_line n
 OfState (Ok facts) Is reply = Is facts reply
 
 -- ---- frame sections
 
--- the first fault of a frame section: its length, and then its contents
+-- the first fault of a frame section: its length is checked first, then its contents
 abbrev pub frame_refusal : Target → List ℕ → Option Fault
 frame_refusal target section = option_or (length_fault section) (section_fault target section)
 
@@ -88,17 +92,18 @@ abbrev pub text_unless : Option Fault → Section → List ℕ → Reply
 text_unless (Some fault) section bytes = refusal section fault
 text_unless None section bytes = text bytes
 
--- a text of a frame section, unless that has a fault
+-- a text for a frame section, or the refusal if the section has a fault
 unfoldable pub frame_reply : (FrameSection → List ℕ) → Target → List ℕ → Reply
 frame_reply text_for target section = text_unless (frame_refusal target section) sections.Frame (text_for (frame_of target section))
 
 -- ---- expressions
 
--- the first fault of an expression
+-- the first fault of an expression: its length is checked first, then its operations
 abbrev pub expression_refusal : Kind → Target → List ℕ → Option Fault
 expression_refusal kind target bytes = option_or (length_fault bytes) (expression_fault kind target bytes)
 
--- the outcome of an expression, on a machine with this given state
+-- the reply shows the outcome of an expression, given the facts of a state file; or it is the
+-- refusal of the expression
 abbrev pub IsOutcome : Kind → Target → List ℕ → List StateFact → Reply → Type 0
 IsOutcome kind target bytes facts (text written) = Evaluates kind target bytes facts written
 IsOutcome kind target bytes facts (refusal section fault) = (section ≡ sections.Expression)
@@ -107,11 +112,12 @@ IsOutcome kind target bytes facts _ = ⊥
 
 -- ---- sections of location lists
 
--- the first fault of a section of lists
+-- the first fault of a section of location lists: its length is checked first, then its contents
 abbrev pub lists_refusal : Target → List ℕ → Option Fault
 lists_refusal target section = option_or (length_fault section) (lists_fault target section)
 
--- the result of a look-up in a section, on a machine with this given state
+-- the reply shows the result of a look-up in a section, given the facts of a state file; or it is
+-- the refusal of the section
 abbrev pub IsFound : ListLookup → Target → List ℕ → List StateFact → Reply → Type 0
 IsFound lookup target section facts (text written) = (lists_refusal target section ≡ None)
     × ShowsList facts (list_that_begins_at (record { target = target; section = section }) lookup.list) lookup.base lookup.address written
@@ -120,7 +126,7 @@ IsFound lookup target section facts _ = ⊥
 
 -- ---- two sections
 
--- the reply for two sections: a text of both, or their first fault
+-- the reply for two sections: a text for which `Shows` holds, or the refusal with their first fault
 abbrev pub OfChecked : Target → List ℕ → List ℕ → (FrameSection → ListSection → List ℕ → Type 0) → Reply → Type 0
 OfChecked target frame lists Shows (text written) = (check_fault target frame lists ≡ None)
     × Shows (frame_of target frame) (record { target = target; section = lists }) written
@@ -128,24 +134,25 @@ OfChecked target frame lists Shows (refusal section fault) =
     check_fault target frame lists ≡ Some (record { section = section; fault = fault })
 OfChecked target frame lists Shows _ = ⊥
 
--- the registers and memory that were given
+-- the registers and the memory that a state file gives
 abbrev pub registers_given : List StateFact → ℕ → Option ℕ
 registers_given facts n = first_that (content_in n) facts
 
 abbrev pub memory_given : List StateFact → ℕ → Option ℕ
 memory_given facts a = first_that (byte_in a) facts
 
--- the ABI that was given
+-- the ABI that a state file gives
 abbrev pub abi_given : List StateFact → Abi
 abi_given facts = abi_of (kept_in facts) (first_that stack_pointer_in facts)
 
--- the text shows the caller at an address of these modules, or that no FDE covers it, on a machine with this given state
+-- the text shows the caller of the frame at `address`, or that no FDE of the modules covers
+-- `address`, given the facts of a state file
 abbrev pub ShowsCaller : ℕ → AddressSize → List StateFact → List (Module FrameSection) → List ℕ → Type 0
 ShowsCaller address size facts modules written = (caller : Option Caller)
     × over_sections (abi_given facts) (memory_given facts) modules (registers_given facts) address caller
     × (written ≡ caller_text size caller)
 
--- it shows a walk from an address with a limit
+-- the text shows a walk of at most `limit` frames from `address`, given the facts of a state file
 abbrev pub ShowsWalk : ℕ → ℕ → AddressSize → List StateFact → List (Module FrameSection) → List ℕ → Type 0
 ShowsWalk address limit size facts modules written = (frames : List WalkedFrame) × (stop : Stop)
     × Walks (over_sections (abi_given facts) (memory_given facts) modules) (first_place address (registers_given facts)) limit frames stop
@@ -153,7 +160,7 @@ ShowsWalk address limit size facts modules written = (frames : List WalkedFrame)
 
 -- ---- the modules of a process
 
--- the first fault of their frame sections, in the order of the modules
+-- the first fault of the modules' frame sections, in the order of the modules
 abbrev pub modules_refusal : Target → List (Module (List ℕ)) → Option Fault
 modules_refusal target [] = None
 modules_refusal target (m ∷ modules) = option_or (frame_refusal target m.rows) (modules_refusal target modules)
@@ -162,14 +169,15 @@ modules_refusal target (m ∷ modules) = option_or (frame_refusal target m.rows)
 abbrev pub modules_of_sections : Target → List (Module (List ℕ)) → List (Module FrameSection)
 modules_of_sections target modules = map (λ m. record { rows = frame_of target m.rows; load_address = m.load_address }) modules
 
--- the reply for modules: a text of them, or their first fault
+-- the reply for modules: a text for which `Shows` holds, or the refusal with their first fault
 abbrev pub OfModules : Target → List (Module (List ℕ)) → (List (Module FrameSection) → List ℕ → Type 0) → Reply → Type 0
 OfModules target modules Shows (text written) =
     (modules_refusal target modules ≡ None) × Shows (modules_of_sections target modules) written
 OfModules target modules Shows (refusal refused fault) = (refused ≡ sections.Frame) × (modules_refusal target modules ≡ Some fault)
 OfModules target modules Shows _ = ⊥
 
--- the reply for further modules, if the bytes of each are available
+-- the reply that `Is` gives for further modules; `not_hex` for the first module whose file must be
+-- hex text and isn't
 abbrev pub OfFurther : Result (List (Module (List ℕ))) ℕ → (List (Module (List ℕ)) → Reply → Type 0) → Reply → Type 0
 OfFurther (Err n) Is reply = reply ≡ not_hex n
 OfFurther (Ok modules) Is reply = Is modules reply
@@ -182,11 +190,12 @@ OfProcess target load loads hex files Is reply =
     (λ section. OfState (state_facts target (slice_get files 1))
     (λ facts. OfFurther (further_modules hex files 2 loads) (λ others. Is facts (loaded_at load section ∷ others)))) reply
 
--- the reply if one of these files can't be read, and else none
+-- the reply if one of the files isn't hex text or has a bad line; there is none if all can be read
 abbrev pub IsUnreadProcess : Target → ℕ → List ℕ → Bool → List (List ℕ) → Reply → Type 0
 IsUnreadProcess target load loads hex files reply = OfProcess target load loads hex files (λ facts modules r. ⊥) reply
 
--- Why a process isn't read from its files, which are this many: one of them can't be read, or memory ran out.
+-- Why a process isn't read from its `count` files: one isn't hex text or has a bad line, as `Is`
+-- says, or memory ran out.
 abbrev pub IsBadProcess : (Reply → Type 0) → ℕ → RunFault → Type 0
 IsBadProcess Is count (stops.BadHex n) = (n < count) × Is (not_hex n)
 IsBadProcess Is count (stops.StateLine n) = Is (bad_line n)
@@ -200,7 +209,8 @@ abbrev pub OfFrame : (FrameSection → List ℕ) → Target → Bool → List (L
 OfFrame text_for target hex files reply =
     OfSection 0 (section_bytes hex (slice_get files 0)) (λ section r. r ≡ frame_reply text_for target section) reply
 
--- `unwind` and `backtrace`: a text of modules, the first of them FRAME's, and of what a state file gives
+-- `unwind` and `backtrace`: a text made from the modules, FRAME's first, and from what the state
+-- file gives
 abbrev pub OfModulesAndState : (AddressSize → List StateFact → List (Module FrameSection) → List ℕ → Type 0) → ℕ → List ℕ → Target
     → Bool → List (List ℕ) → Reply → Type 0
 OfModulesAndState Shows load loads target hex files reply =
@@ -218,7 +228,7 @@ IsCheckReply target hex files reply =
 abbrev pub IsRowsReply : Target → Bool → List (List ℕ) → Reply → Type 0
 IsRowsReply target hex files reply = OfFrame frame_text target hex files reply
 
--- `row`, of a module loaded at an address: the row is shown as linked
+-- `row`: `load` is the module's load address, and the row is shown with addresses as linked
 abbrev pub IsRowReply : ℕ → ℕ → Target → Bool → List (List ℕ) → Reply → Type 0
 IsRowReply load address target hex files reply =
     OfFrame (λ frame. lookup_text frame (as_linked target load address)) target hex files reply
@@ -244,7 +254,7 @@ abbrev pub IsBacktraceReply : ℕ → ℕ → ℕ → List ℕ → Target → Bo
 IsBacktraceReply address limit load loads target hex files reply =
     OfModulesAndState (ShowsWalk address limit) load loads target hex files reply
 
--- the reply to a task, given the load addresses of FRAME's module and of the further ones
+-- the reply to a task, given the load address of FRAME's module and those of the further modules
 abbrev pub IsReplyTo : Task → ℕ → List ℕ → Target → Bool → List (List ℕ) → Reply → Type 0
 IsReplyTo Check load loads target hex files reply = IsCheckReply target hex files reply
 IsReplyTo Rows load loads target hex files reply = IsRowsReply target hex files reply
@@ -265,9 +275,10 @@ abbrev pub IsPlaceIn : ℕ → End → Type 0
 IsPlaceIn count (BadHex place) = place < count
 IsPlaceIn count other = Unit {0}
 
--- The result of a run, where `Is` holds of its possible replies and there are `count` files: it has written all of a
--- text, or nothing yet of a reply that is no text. If memory ran out it has written a beginning of whatever text is the
--- reply; if the sink stopped, a beginning of the text or the refusal that is the reply.
+-- How far a run went, by its result. `Is` holds for its possible replies, and there are `count`
+-- files. `Ok`: all of a text is written. A refusal, BadHex or StateLine: nothing is written yet.
+-- Memory: a beginning of the text is written, or nothing if the reply is no text. Output: a
+-- beginning of the reply, a text or a refusal, is written.
 abbrev pub Goes : ℕ → (Reply → Type 0) → Option (List ℕ) → Option (List ℕ) → Result (Unit {0}) RunFault → Type 0
 Goes count Is old new (Ok _) = (bytes : List ℕ) × Is (text bytes) × Appends old new bytes
 Goes count Is old new (Err (stops.Refused section fault)) = Is (refusal section fault) × Appends old new []
@@ -276,9 +287,10 @@ Goes count Is old new (Err (stops.StateLine n)) = Is (bad_line n) × Appends old
 Goes count Is old new (Err stops.Memory) = (reply : Reply) → Is reply → AppendsFront old new (accepted_text reply)
 Goes count Is old new (Err stops.Output) = (reply : Reply) × Is reply × IsWritten reply × AppendsFront old new (text_of reply)
 
--- How a run ends, where `Is` holds of its possible replies: it has written all of the reply's text. If memory ran out it
--- has written a beginning of the text, if there is one, and nothing of a refusal; if the sink stopped, and only then, a
--- beginning of the text or the refusal.
+-- How a run ends; `Is` holds for its possible replies. All of the reply is written, with these
+-- exceptions. Memory: a beginning of the text is written, or nothing if the reply is no text.
+-- Output: a beginning of the reply, a text or a refusal, is written. The sink has stopped exactly
+-- if the end is Output.
 abbrev pub Ends : (Reply → Type 0) → Option (List ℕ) → Option (List ℕ) → Bool → End → Type 0
 Ends Is old new stopped Done = (bytes : List ℕ) × Is (text bytes) × Appends old new bytes × (stopped ≡ false)
 Ends Is old new stopped Refused = (section : Section) × (fault : Fault) × Is (refusal section fault)

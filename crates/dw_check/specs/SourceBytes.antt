@@ -8,30 +8,30 @@ use Rattle.dw_check.specs.declared.source.Reading.TheVariants.{Open, Ended, Fail
 use Rattle.dw_check.specs.declared.source.LoadFault.{LoadFault}
 use Rattle.dw_check.specs.declared.source.LoadFault.TheVariants.{Read, Memory}
 
--- these are all of the known bytes
+-- the known bytes that were left are exactly `bytes`, and the source is at its end
 abbrev pub GivesAll : Option (List ℕ) → Option (List ℕ) → List ℕ → Type 0
 GivesAll old new bytes = Consumes old new bytes × IsAtEnd new
 
--- a beginning of the known bytes was consumed
+-- a beginning of the known bytes that were left was consumed
 abbrev pub GivesFront : Option (List ℕ) → Option (List ℕ) → Type 0
 GivesFront old new = (front : List ℕ) × Consumes old new front
 
--- The state in which a read with this result leaves a source: it has failed, or gave nothing and has
--- ended, or is open.
+-- The state of a source after a read, by the read's result: the read failed, or returned 0 bytes
+-- and the source has ended, or the source is still open.
 abbrev pub reading_after : Result ℕ Stopped → Reading
 reading_after (Err _) = Failed
 reading_after (Ok n) = if n == 0 then Ended else Open
 
--- the state in which a load with this result leaves a source
+-- the state of a source after `load`, by its result
 abbrev pub reading_after_load : {A : Type 0} → Result A LoadFault → Reading
 reading_after_load (Ok _) = Ended
 reading_after_load (Err Read) = Failed
 reading_after_load (Err Memory) = Open
 
--- the reader under a source
+-- the reader that a source reads from
 abbrev pub reader_of : {R : Type 0} → Reads R → R
 reader_of r = r.inner
 
--- how far that reader has been read
+-- the state of a source over a reader
 abbrev pub reading_of : {R : Type 0} → Reads R → Reading
 reading_of r = r.reading

@@ -24,14 +24,14 @@ pub data StateFact : Type 0 where
   keep : ℕ → StateFact
   stack_pointer : ℕ → StateFact
 
--- bytes that are given end at the greatest address, or before
+-- bytes of memory end at or before address 2^64 - 1
 abbrev pub FitsAddresses : StateFact → Type 0
 FitsAddresses (bytes a bs) = a + length bs ≤ 2 ^ 64
 FitsAddresses _ = Unit {0}
 
 -- ---- a line
 
--- one byte or more that end at the greatest address, or before
+-- the fact of one or more bytes at address a, none of which is past the target's greatest address
 abbrev pub bytes_fact : Target → ℕ → List ℕ → Option StateFact
 bytes_fact target a bs = if nat_lt 0 (length bs) && nat_le (a + length bs) (suc (top_of target)) then Some (bytes a bs) else None
 
@@ -66,11 +66,11 @@ fact_of_words target (word ∷ value ∷ []) = fact_of_two_words target word val
 fact_of_words target (word ∷ place ∷ value ∷ []) = fact_of_three_words target word place value
 fact_of_words target words = None
 
--- what a line's words give, with single spaces between them
+-- what a line gives; its words are separated by single spaces
 abbrev pub fact_of_line : Target → List ℕ → Option StateFact
 fact_of_line target line = fact_of_words target (parts_of 32 line)
 
--- ---- what counts: if two lines give the same thing, the first
+-- ---- what counts if two lines give the same thing: the first line
 
 abbrev pub first_that : {X : Type 0} → (StateFact → Option X) → List StateFact → Option X
 first_that pick [] = None
@@ -102,12 +102,12 @@ stack_pointer_in _ = None
 
 -- ---- callee-saved registers
 
--- callee-saved registers, and one more if a line gives one that isn't among them
+-- callee-saved registers, and the one that a fact gives, unless it is among them
 abbrev pub kept_with : List ℕ → StateFact → List ℕ
 kept_with ns (keep n) = if is_among n ns then ns else ns ++ n ∷ []
 kept_with ns _ = ns
 
--- those that lines give, in order, each once
+-- the callee-saved registers that facts give, in order, each once
 abbrev pub kept_in : List StateFact → List ℕ
 kept_in facts = fold kept_with [] facts
 
@@ -117,15 +117,15 @@ kept_in facts = fold kept_with [] facts
 abbrev pub facts_of_lines : Target → List (List ℕ) → List StateFact
 facts_of_lines target lines = filter_map (fact_of_line target) lines
 
--- it is empty or well formed
+-- a line is empty or well formed
 abbrev pub is_line : Target → List ℕ → Bool
 is_line target line = length line == 0 || is_some (fact_of_line target line)
 
--- the ABI that they give has no fault
+-- the ABI that facts give has no fault
 abbrev pub go_together : List StateFact → Bool
 go_together facts = is_none (abi_fault (kept_in facts) (first_that stack_pointer_in facts))
 
--- each line is good, and what they give has no contradiction
+-- each line is empty or well formed, and the lines don't contradict each other
 abbrev pub are_good : Target → List (List ℕ) → Bool
 are_good target lines = list_all (is_line target) lines && go_together (facts_of_lines target lines)
 
@@ -137,7 +137,8 @@ abbrev pub unless_bad : List StateFact → Option ℕ → Result (List StateFact
 unless_bad facts None = Ok facts
 unless_bad facts (Some n) = Err n
 
--- What the file's lines give, or the number of the first that is bad. They end at LFs.
+-- What the lines of a file give, or the number of the first line that is malformed or contradicts
+-- earlier lines. LFs separate lines.
 abbrev pub facts_of_file : Target → List ℕ → Result (List StateFact) ℕ
 facts_of_file target text = let lines = parts_of 10 text in unless_bad (facts_of_lines target lines) (first_bad_line target lines)
 
@@ -151,7 +152,7 @@ pub record KnownState : Type 0 where
   pub kept : List ℕ
   pub stack_pointer : Option ℕ
 
--- it is exactly what was given
+-- the known state is exactly what the facts give
 pub record IsGivenBy (k : KnownState) (facts : List StateFact) : Type 0 where
   pub registers : (n : ℕ) → k.registers n ≡ first_that (content_in n) facts
   pub memory : (a : ℕ) → k.memory a ≡ first_that (byte_in a) facts

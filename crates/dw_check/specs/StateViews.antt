@@ -27,6 +27,6 @@ known_state_of m = record {
   stack_pointer = m.abi_registers.stack_pointer;
 }
 
--- the state is what was given
+-- the state file has no bad line, and the machine state is exactly what the file gives
 abbrev pub IsStateOf : Result (List StateFact) ℕ → MachineState → Type 0
 IsStateOf given m = (facts : List StateFact) × (given ≡ Ok facts) × IsGivenBy (known_state_of m) facts

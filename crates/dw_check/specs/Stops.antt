@@ -1,4 +1,4 @@
--- Why a run stops before its whole text is written.
+-- Why a run stops before all of its text is written.
 use Rattle.std.specs.Prelude.{◌≡◌, ℕ, ◌<◌, Bool, true, false, List, Option, Some, None, Result, Ok, Err}
 use Rattle.dw_bytes.specs.declared.fault.Fault.{Fault}
 use Rattle.dw_check.specs.StateFile.{StateFact}
@@ -10,30 +10,30 @@ use Rattle.dw_check.specs.declared.stop.ReportFault.TheVariants as faults
 use Rattle.dw_check.specs.declared.stop.RunFault.{RunFault}
 use Rattle.dw_check.specs.declared.stop.RunFault.TheVariants.{Refused, BadHex, StateLine, Memory, Output}
 
--- the stop of a run when writing fails this way
+-- why a run stops if writing fails with this fault
 abbrev pub stop_of : ReportFault → RunFault
 stop_of faults.Memory = Memory
 stop_of faults.Write = Output
 
--- the result of a run whose text was written with this result
+-- the result of a run, given the result of writing its text
 abbrev pub ended_by : Result (Unit {0}) ReportFault → Result (Unit {0}) RunFault
 ended_by (Ok _) = Ok tt
 ended_by (Err fault) = Err (stop_of fault)
 
--- a run with this result left the sink stopped
+-- whether a run with this result left the sink stopped
 abbrev pub is_output : Result (Unit {0}) RunFault → Bool
 is_output (Ok _) = false
 is_output (Err Output) = true
 is_output (Err _) = false
 
--- Why the bytes of the file at an index, one of this many files, aren't available: it must be hex text and isn't, or
--- memory ran out.
+-- Why there are no bytes of the section in file `place` of `count` files: the file must be hex text
+-- and isn't, or memory ran out.
 abbrev pub IsBadSection : Option (List ℕ) → ℕ → ℕ → RunFault → Type 0
 IsBadSection bytes place count (BadHex n) = (n ≡ place) × (place < count) × (bytes ≡ None)
 IsBadSection bytes place count Memory = Unit {0}
 IsBadSection bytes place count _ = ⊥
 
--- Why there is no state: its first bad line, or memory ran out.
+-- Why there is no machine state: the state file's first bad line, or memory ran out.
 abbrev pub IsBadState : Result (List StateFact) ℕ → RunFault → Type 0
 IsBadState given (StateLine n) = given ≡ Err n
 IsBadState given Memory = Unit {0}
@@ -51,8 +51,8 @@ RefusesBoth first (Refused section fault) = first ≡ Some (record { section = s
 RefusesBoth first Memory = Unit {0}
 RefusesBoth first _ = ⊥
 
--- Why the bytes of further modules aren't available, with this many files: one must be hex text and isn't, or memory ran
--- out.
+-- Why there are no bytes of further modules, given `count` files: a module's file must be hex text
+-- and isn't, or memory ran out.
 abbrev pub AreBadModules : Result (List (Module (List ℕ))) ℕ → ℕ → RunFault → Type 0
 AreBadModules modules count (BadHex n) = (modules ≡ Err n) × (n < count)
 AreBadModules modules count Memory = Unit {0}

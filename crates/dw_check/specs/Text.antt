@@ -29,7 +29,7 @@ address_text size n = hex_number (digits_of size) n
 unfoldable pub range_text : AddressSize → ℕ → ℕ → List ℕ
 range_text size start end = address_text size start ++ codes ".." ++ address_text size end
 
--- a whole number after its sign, which 0 has too
+-- an integer with its sign in front; 0 has a plus sign
 abbrev pub signed_text : ℤ → List ℕ
 signed_text (pos n) = codes "+" ++ decimal n
 signed_text (negsuc n) = codes "-" ++ decimal (suc n)
@@ -41,7 +41,7 @@ section_text sections.Frame = codes "frame"
 section_text sections.Lists = codes "lists"
 section_text sections.Expression = codes "expression"
 
--- the first fault of two sections
+-- a fault of two sections: the section, then the fault
 unfoldable pub check_fault_text : CheckFault → List ℕ
 check_fault_text found = section_text found.section ++ codes ": " ++ fault_text found.fault
 
@@ -51,7 +51,7 @@ refused_line section fault = codes "refused " ++ kind_text fault.kind ++ codes "
 
 -- ---- an FDE and its rows (DWARF 5, section 6.4.1)
 
--- the records of an FDE and of its CIE
+-- the offsets of an FDE and of its CIE
 unfoldable pub records_text : Cie → Fde → List ℕ
 records_text cie fde = codes "fde " ++ offset_text fde.offset ++ codes " cie " ++ offset_text cie.offset
 
@@ -59,17 +59,17 @@ unfoldable pub fde_line : AddressSize → Cie → Fde → List ℕ
 fde_line size cie fde = records_text cie fde ++ codes " " ++ range_text size fde.initial_location (fde.initial_location + fde.address_range)
     ++ codes " ra r" ++ decimal cie.return_address_register ++ codes "\n"
 
--- an expression is shown as its bytes
+-- an expression: its bytes in hex
 unfoldable pub expression_text : List ℕ → List ℕ
 expression_text bytes = codes "expr(" ++ encode_lower bytes ++ codes ")"
 
--- A row that is shown has a rule for the CFA.
+-- The rule for the CFA, which every row of a checked section has.
 abbrev pub cfa_text : Option Cfa → List ℕ
 cfa_text (Some (register_and_offset r n)) = codes "r" ++ decimal r ++ signed_text n
 cfa_text (Some (cfa_expression e)) = expression_text e.bytes
 cfa_text None = []
 
--- the rule of a caller's register; default isn't shown
+-- the rule of a register; `default` isn't shown
 abbrev pub rule_text : Rule → List ℕ
 rule_text default = []
 rule_text undefined = codes "u"
@@ -87,16 +87,16 @@ unfoldable pub row_line : AddressSize → Row → List ℕ
 row_line size row = codes "row " ++ range_text size row.start row.end ++ codes " cfa=" ++ cfa_text row.cfa
     ++ flat_map register_text row.rules ++ codes "\n"
 
--- the addresses of an FDE have this size
+-- the addresses of an FDE, its end too, fit in the digits of `size`
 abbrev pub FitsFde : AddressSize → Fde → Type 0
 FitsFde size fde = fde.initial_location + fde.address_range < 16 ^ digits_of size
 
--- the addresses of a row have this size
+-- the addresses of a row, its end too, fit in the digits of `size`
 pub record Fits (size : AddressSize) (row : Row) : Type 0 where
   pub start : row.start < 16 ^ digits_of size
   pub end : row.end < 16 ^ digits_of size
 
--- the line of an FDE and those of its rows; an FDE of a checked section has a CIE
+-- the line of an FDE and the lines of its rows; every FDE of a checked section has a CIE
 abbrev pub lines_of : AddressSize → Option Cie → Fde → List Row → List ℕ
 lines_of size (Some cie) fde rows = fde_line size cie fde ++ flat_map (row_line size) rows
 lines_of size None fde rows = []
@@ -104,7 +104,7 @@ lines_of size None fde rows = []
 unfoldable pub fde_text : FrameSection → Fde → List ℕ
 fde_text frame fde = lines_of frame.target.address_size (cie_in frame fde) fde (rows_in frame fde)
 
--- the FDEs of a section and their rows, in the order of the section
+-- the lines of each FDE and its rows, in the order of the section
 unfoldable pub frame_text : FrameSection → List ℕ
 frame_text frame = flat_map (fde_text frame) frame.fdes
 

@@ -1,5 +1,5 @@
--- The text of a walk: a line for each frame, counted from 0, and one that gives the reason why there
--- are no more.
+-- The text of a walk: a line for each frame, counted from 0, and a line that says why there are no
+-- more.
 use Rattle.std.specs.Prelude.{ℕ, List, ◌++◌, Option, Some, None, codes, decimal}
 use Rattle.std.specs.List.{flat_map, enumerate_from}
 use Rattle.dw_bytes.specs.declared.target.AddressSize.{AddressSize}
@@ -11,12 +11,12 @@ use Rattle.dw_unwind.specs.WalkViews.{brief_of}
 use Rattle.dw_unwind.specs.declared.frames.Stop.{Stop}
 use Rattle.dw_unwind.specs.declared.frames.Stop.TheVariants.{Limit, NotCovered, ReturnUndefined, ReturnUnreadable, ReturnDivisionByZero}
 
--- a CFA, or that there is no caller
+-- the CFA of a frame, or `none` if no FDE covers the frame
 abbrev pub cfa_text : AddressSize → Option Answer → List ℕ
 cfa_text size (Some cfa) = codes "cfa " ++ answer_text size cfa
 cfa_text size None = codes "none"
 
--- a frame in brief, with its number
+-- the line of a frame: its number, its address and its CFA
 unfoldable pub brief_line : AddressSize → ℕ → ℕ × Option Answer → List ℕ
 brief_line size n (address, cfa) =
     codes "frame " ++ decimal n ++ codes " " ++ address_text size address ++ codes " " ++ cfa_text size cfa ++ codes "\n"
@@ -35,7 +35,7 @@ stop_text ReturnDivisionByZero = codes "return division by zero"
 unfoldable pub last_line : Stop → List ℕ
 last_line stop = codes "stop " ++ stop_text stop ++ codes "\n"
 
--- the lines of frames, the first of this number
+-- the lines of frames; the first frame has number n
 abbrev pub frames_text : AddressSize → ℕ → List WalkedFrame → List ℕ
 frames_text size n frames = flat_map (walked_line size) (enumerate_from n frames)
 

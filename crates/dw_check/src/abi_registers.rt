@@ -19,7 +19,7 @@ pub(crate) struct AbiRegisters {
 }
 
 impl AbiRegisters {
-    /// No register.
+    /// No callee-saved register, and no stack pointer.
     pub fn new() -> Self
         ensures kept { result.kept.items ≡ [] }
         ensures stack_pointer { result.stack_pointer ≡ None }
@@ -30,8 +30,8 @@ impl AbiRegisters {
         }
     }
 
-    /// Adds a callee-saved register, unless it is the stack pointer or there are too many. One that was added before
-    /// stays.
+    /// Adds a callee-saved register, unless it was added before, and returns true. Returns false if
+    /// the register is the stack pointer or there are too many.
     pub fn keep(&mut self, number: u16) -> bool
         ensures taken { result ≡ is_none (abi_fault
             (kept_with self.old.kept.items (keep number)) self.old.stack_pointer) }
@@ -49,7 +49,8 @@ impl AbiRegisters {
         true
     }
 
-    /// Sets the stack pointer, unless it is callee-saved. If one was set before, that stays.
+    /// Sets the stack pointer, unless one was set before, and returns true. Returns false, and sets
+    /// nothing, if none was set before and the register is callee-saved.
     pub fn set_stack_pointer(&mut self, number: u16) -> bool
         ensures taken { result ≡ is_none (abi_fault self.old.kept.items
             (option_or self.old.stack_pointer (Some number))) }

@@ -6,7 +6,7 @@ ghost use Rattle.dw_check.specs.Addresses.{number_of, at_most, short_number, hex
 
 use dw_bytes::Target;
 
-/// The number written in decimal or hex digits, at least one and no more than allowed.
+/// The number written in 1 to `most` digits of base `radix`, which is 10 or 16.
 pub(crate) fn parse_number(digits: &[u8], radix: u32, most: usize) -> Option<u64>
     requires radix { (radix ≡ 10) ⊎ (radix ≡ 16) }
     requires most { most ≤ 16 }
@@ -52,14 +52,14 @@ fn parse_hex(text: &[u8], top: u64) -> Option<u64>
     }
 }
 
-/// The address of the target that a word gives.
+/// The address written as `0x` and hex digits, if it is at most the target's greatest address.
 pub(crate) fn parse_address(text: &[u8], target: Target) -> Option<u64>
     ensures { result ≡ address_of target text.now }
 {
     parse_hex(text, target.address_size.max_address())
 }
 
-/// The offset in a section that a word gives.
+/// The section offset written as `0x` and hex digits, if it is at most 2^32 - 1.
 pub(crate) fn parse_offset(text: &[u8]) -> Option<u32>
     ensures { result ≡ offset_of text.now }
 {

@@ -1,4 +1,4 @@
-//! From the command line to a request.
+//! Turns a command line into a request.
 
 ghost use Rattle.std.specs.Prelude.{◌≡◌, ◌⊎◌, ◌∷◌, ◌++◌, [], IfOk, IfErr, Some, map, option_map, codes};
 ghost use Rattle.std.specs.Option.{IsSomeAnd, option_to_list};
@@ -24,7 +24,8 @@ use clap::error::ErrorKind;
 use clap::{ArgMatches, Error};
 use std::alloc::{AllocError, Global};
 
-/// A request with the flags of a subcommand for these files, its module loaded at 0, without further modules.
+/// A request for `task` and `files`, with the flags that clap found. The frame section's module is
+/// loaded at 0, and there are no further modules.
 fn request_with(alloc: Global, matches: &ArgMatches<'_>, task: Task, files: Vec<String>) -> Request
     ensures task { result.task ≡ task }
     ensures target { result.target ≡ target_by_flags (rows_of (found_of matches.now)) }
@@ -64,7 +65,7 @@ fn request_over(
     Ok(request_with(alloc, matches, task, files))
 }
 
-/// The names of a file and of a second one, if there is one.
+/// The list of `file` and, if it is given, `second`.
 fn one_or_two_files(alloc: Global, file: &str, second: Option<&str>) -> Result<Vec<String>, Usage>
     ensures ok { IfOk result (λ files. map (λ s. string_bytes s) files.items ≡ file.now
         ∷ option_to_list (option_map (λ s. s.now) second.entry)) }
@@ -99,7 +100,7 @@ fn request_over_both(
     Ok(request_with(alloc, matches, task, files))
 }
 
-/// A request for one file, and a state file if there is one.
+/// A request for one file, and for the file of `--state` if it is given.
 fn request_with_state(
     alloc: Global,
     matches: &ArgMatches<'_>,
@@ -121,7 +122,7 @@ fn request_with_state(
     Ok(request_with(alloc, matches, task, files))
 }
 
-/// These files, followed by those of the modules.
+/// `files`, followed by the files of `modules`.
 fn with_module_files(
     alloc: Global,
     files: Vec<String>,
@@ -137,7 +138,7 @@ fn with_module_files(
     Ok(files)
 }
 
-/// A request for a frame section, a state file and the modules that the options name.
+/// A request for a frame section and a state file, with the values of `--load` and `--module`.
 fn request_over_modules(
     alloc: Global,
     matches: &ArgMatches<'_>,
@@ -203,7 +204,7 @@ fn row_request(alloc: Global, matches: &ArgMatches<'_>) -> Result<Request, Usage
     Ok(Request { load, ..request })
 }
 
-/// The look-up of `locs`.
+/// What `locs` looks up.
 fn locs_lookup(matches: &ArgMatches<'_>) -> Result<ListLookup, Usage>
     ensures ok { IfOk result (λ l. lookup_in (rows_of (found_of matches.now)) ≡ Some l) }
     ensures err { IfErr result (λ e. (e ≡ Memory)
@@ -292,8 +293,8 @@ fn backtrace_request(alloc: Global, matches: &ArgMatches<'_>) -> Result<Request,
     request_over_modules(alloc, matches, task, frame, state)
 }
 
-/// The request of a subcommand. The arms that answer `Memory` without an allocation are never reached: clap accepts no
-/// other subcommand, and none without its words.
+/// The request of the subcommand `name`. Code that returns `Memory` though no allocation failed is
+/// never reached: clap accepts no other subcommand, and none whose words are missing.
 fn request_of_command(alloc: Global, name: &str, matches: &ArgMatches<'_>) -> Result<Request, Usage>
     ensures ok { IfOk result (λ r. asked_by name.now (rows_of (found_of matches.now)) ≡ Some r) }
     ensures err { IfErr result (λ e. (e ≡ Memory)
@@ -337,7 +338,7 @@ fn request_of_matches(alloc: Global, matches: &ArgMatches<'_>) -> Result<Request
     }
 }
 
-/// The answer to an error from clap.
+/// Turns an error from clap into a `Usage`.
 fn usage_of_clap_error(alloc: Global, error: Error) -> Usage
     ensures { IsUsageOf (kind_of error) result }
 {
@@ -350,8 +351,9 @@ fn usage_of_clap_error(alloc: Global, error: Error) -> Usage
     }
 }
 
-/// The request of a command line, whose first word is the program's name. Unless memory runs out, the error is `Line`
-/// exactly if clap rejects the words, and `BadArgument` exactly if a word or an option's value is malformed.
+/// Turns a command line, whose first word is the program's name, into a request. Unless memory runs
+/// out, the error is `Line` exactly if clap rejects the words, and `BadArgument` exactly if clap
+/// accepts them and a word or an option's value is malformed.
 pub fn request(alloc: Global, words: Vec<String>) -> Result<Request, Usage>
     ensures { AsksFor (map (λ w. string_bytes w) words.items) result }
 {

@@ -1,4 +1,5 @@
-//! Calling frames, and walks up the stack, with sections that were checked together.
+//! Unwinds one frame or a whole stack, by the frame section of two sections that were checked
+//! together.
 
 ghost use Rattle.std.specs.Prelude.{◌≡◌, ◌<◌, ◌^◌, All, IfErr, IfOk, IfSome, IsOk, option_map};
 ghost use Rattle.dw_bytes.specs.Answers.{memory as want_of_memory};
@@ -31,18 +32,19 @@ pub fn unwind<R: Registers, M: Memory>(
     ensures unwinds { Unwinds (machine checked.now.frame.target (R.contents registers.now)
         (M.bytes memory.now)) no_abi checked.now.frame address (option_map caller_in result) }
 
-    // All its numbers are below 2^w, w being the size of an address in bits.
+    // All numbers in the result are below 2^w, where w is the size of an address in bits.
     ensures fits { IfSome (option_map caller_in result)
         (CallerFits (2 ^ width_of checked.now.frame.target.address_size)) }
 {
     unwind_with(checked, &Abi::none(), address, registers, memory)
 }
 
-/// The caller of the frame at an address, given the frame's registers and memory, or none if no FDE covers the address
-/// (DWARF 5, section 6.4.1). The ABI gives the rule of a register to which no instruction has given one.
+/// The caller of the frame at an address, given the frame's registers and memory, or none if no FDE
+/// covers the address (DWARF 5, section 6.4.1). For a register to which no instruction has given a
+/// rule, `abi` supplies the rule.
 ///
-/// This is `unwind_by` with the section: one binary search finds the FDE and one its CIE, and its program is run once, up
-/// to the row of the address.
+/// This is `unwind_by` with the frame section. One binary search finds the FDE, another its CIE,
+/// and the FDE's program is run once, up to the row of the address.
 pub fn unwind_with<R: Registers, M: Memory>(
     checked: &Checked<'_>,
     abi: &Abi,
@@ -54,15 +56,16 @@ pub fn unwind_with<R: Registers, M: Memory>(
         (M.bytes memory.now)) (roles_of abi.now) checked.now.frame address
         (option_map caller_in result) }
 
-    // All its numbers are below 2^w, w being the size of an address in bits.
+    // All numbers in the result are below 2^w, where w is the size of an address in bits.
     ensures fits { IfSome (option_map caller_in result)
         (CallerFits (2 ^ width_of checked.now.frame.target.address_size)) }
 {
     unwind_by_section(checked.frame(), abi, address, registers, memory)
 }
 
-/// Walks up the stack from a frame, given its address, registers and memory: the frame, its caller, that frame's caller
-/// and so on. Gives at most `limit` frames, and why there are no more (DWARF 5, sections 6.4.1 and 6.4.4).
+/// Walks up the stack from a frame, given its address, registers and memory: the frame, its caller,
+/// that caller's caller and so on. Returns at most `limit` frames, and why there are no more (DWARF
+/// 5, sections 6.4.1 and 6.4.4).
 ///
 /// This is `backtrace_by_section` with the checked frame section.
 pub fn backtrace<R: Registers, M: Memory>(
@@ -81,7 +84,8 @@ pub fn backtrace<R: Registers, M: Memory>(
     ensures lacks { IfErr result (λ fault. fault ≡ want_of_memory) }
     ensures none { limit ≡ 0 → IsOk result }
 
-    // All numbers are below 2^w, w being the size of an address in bits, if the first frame's address is.
+    // All numbers in the result are below 2^w, where w is the size of an address in bits, if the
+    // first frame's address is.
     ensures fits { IfOk result (λ walk.
         address < 2 ^ width_of checked.now.frame.target.address_size
         → All (FrameFits (2 ^ width_of checked.now.frame.target.address_size))

@@ -262,7 +262,7 @@ fn with_flags<'a>(alloc: Global, command: Command<'a>) -> Result<Command<'a>, Al
         .arg(clap_flag(alloc, HEX, "Sections and expressions are hex text"))
 }
 
-/// Adds required words, each with its help, in this order.
+/// Adds `words` as required arguments, in order. Each pair is a name and its help text.
 fn with_words<'a>(
     alloc: Global,
     command: Command<'a>,
@@ -280,7 +280,7 @@ fn with_words<'a>(
     Ok(command)
 }
 
-/// Adds an option, if the command takes it.
+/// Adds `option`, if `is_taken`.
 fn with_option<'a>(
     command: Command<'a>,
     option: Arg<'a>,
@@ -299,7 +299,7 @@ fn with_option<'a>(
     }
 }
 
-/// Adds the options that the command of an outline takes.
+/// Adds the options that the command described by `outline` takes.
 fn with_options<'a>(
     alloc: Global,
     command: Command<'a>,
@@ -318,7 +318,7 @@ fn with_options<'a>(
     with_option(command, module, outline.has_modules)
 }
 
-/// The command of an outline.
+/// Makes the command that `outline` describes.
 fn clap_command<'a>(alloc: Global, outline: &Outline<'a>) -> Result<Command<'a>, AllocError>
     ensures app { IfOk result (λ c. app_of c ≡ app_of_command (command_in outline.now)) }
     ensures local { IfOk result (λ c. (fields_of c).has_globals ≡ false) }
@@ -333,7 +333,7 @@ fn clap_command<'a>(alloc: Global, outline: &Outline<'a>) -> Result<Command<'a>,
     with_options(alloc, command, outline)
 }
 
-/// Adds the command of an outline.
+/// Adds the command that `outline` describes, as a subcommand.
 fn with_command<'a>(
     alloc: Global,
     command: Command<'a>,
@@ -347,7 +347,7 @@ fn with_command<'a>(
     command.subcommand(clap_command(alloc, outline)?)
 }
 
-/// Adds the commands of these outlines.
+/// Adds the commands that `outlines` describe, as subcommands.
 fn with_commands<'a>(
     alloc: Global,
     command: Command<'a>,

@@ -20,7 +20,7 @@ use crate::writer::{Writer, send_line};
 use dw_eval::{Context, Evaluation, evaluate};
 use dw_stack::CheckedExpression;
 
-/// Writes the lines of an evaluation.
+/// Writes the lines of an evaluation; `depth` is the expression's greatest stack depth.
 fn write_evaluation<S: Sink>(
     out: &mut Writer<'_, S>,
     evaluation: &Evaluation<'_>,
@@ -46,7 +46,8 @@ fn write_evaluation<S: Sink>(
     send_line(out)
 }
 
-/// Evaluates a checked expression in a known state, and writes its outcome.
+/// Evaluates a checked expression with the registers, memory and context in `state`, and writes its
+/// outcome.
 pub(crate) fn write_outcome<S: Sink>(
     out: &mut Writer<'_, S>,
     checked: &CheckedExpression<'_>,

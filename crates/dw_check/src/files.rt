@@ -1,4 +1,4 @@
-//! The contents of a request's files, checked in order.
+//! Decodes the contents of a request's files.
 
 ghost use Rattle.std.specs.Prelude.{◌≡◌, not, IfOk, IfErr, Ok, Some, map, length, slice_get};
 ghost use Rattle.std.specs.Cow.{cow_slice_items};
@@ -18,11 +18,11 @@ use std::borrow::CowSlice;
 /// The files of a request.
 #[derive(Clone, Copy)]
 pub(crate) struct Files<'a> {
-    /// The target under which their numbers are read.
+    /// The byte order and address size of what the files contain.
     pub target: Target,
     /// Whether sections and the expression are hex text; a state file never is.
     pub hex: bool,
-    /// The contents of each.
+    /// The contents of each file, in the order of `Request::files`.
     pub contents: &'a [Vec<u8>],
 }
 
@@ -41,8 +41,9 @@ fn drop_blanks(alloc: Global, text: &[u8]) -> Result<Vec<u8>, AllocError>
 }
 
 impl<'a> Files<'a> {
-    /// The bytes of the section or expression in the file with an index, empty if there is no such file. Hex text
-    /// is decoded without its spaces, tabs, CRs and LFs; other bytes are borrowed.
+    /// The bytes of the section or expression in the file at `index`, empty if there is no such
+    /// file. Hex text is decoded, and its spaces, tabs, CRs and LFs are ignored; other bytes are
+    /// borrowed.
     pub fn section(&self, alloc: Global, index: usize) -> Result<CowSlice<'a, u8, Global>, RunFault>
         ensures bytes { IfOk result (λ bytes.
             section_bytes self.now.hex
@@ -66,7 +67,7 @@ impl<'a> Files<'a> {
         }
     }
 
-    /// The state in the state file with an index; empty if there is no such file.
+    /// The state in the state file at `index`, empty if there is no such file.
     pub fn state(&self, alloc: Global, index: usize) -> Result<MachineState, RunFault>
         ensures state { IfOk result (IsStateOf (state_facts self.now.target
             (slice_get (map (λ file. file.items) self.now.contents.now) index))) }
@@ -78,7 +79,8 @@ impl<'a> Files<'a> {
             None => Ok(MachineState::new(alloc)),
         }
     }
-    /// The further modules, loaded at these addresses: their sections are in the third file and those after it.
+    /// The further modules, one for each load address in `loads`. Their sections are in the third
+    /// file and the files after it.
     #[tactic(auto, using(crate::proofs::FurtherModules::one_more_read))]
     pub fn further_modules(
         &self,

@@ -1,4 +1,4 @@
-//! What clap found for the words, the flags and the options of a command.
+//! Reads what clap found for the words, the flags and the options of a command.
 
 ghost use Rattle.std.specs.Prelude.{◌≡◌, ◌⊎◌, IfOk, IfErr, Some, option_map, codes};
 ghost use Rattle.clap.specs.Words.{found_of, rows_of, first_of};
@@ -32,7 +32,7 @@ pub(crate) fn has_flag(matches: &ArgMatches<'_>, name: &str) -> bool
     }
 }
 
-/// The target that the flags name.
+/// The target: little-endian with 8-byte addresses, unless `--big` or `--addr4` is given.
 pub(crate) fn target_by_flags(matches: &ArgMatches<'_>) -> Target
     ensures { result ≡ target_by_flags (rows_of (found_of matches.now)) }
 {
@@ -52,7 +52,7 @@ pub(crate) fn target_by_flags(matches: &ArgMatches<'_>) -> Target
     }
 }
 
-/// The address that a word gives.
+/// The address in the argument `name`.
 pub(crate) fn address_word(matches: &ArgMatches<'_>, name: &str) -> Result<u64, Usage>
     ensures ok { IfOk result (λ a. address_at name.now (rows_of (found_of matches.now)) ≡ Some a) }
     ensures err { IfErr result (λ e. (e ≡ Memory)
@@ -67,7 +67,7 @@ pub(crate) fn address_word(matches: &ArgMatches<'_>, name: &str) -> Result<u64, 
     }
 }
 
-/// The offset in a section that a word gives.
+/// The section offset in the argument `name`.
 pub(crate) fn offset_word(matches: &ArgMatches<'_>, name: &str) -> Result<u32, Usage>
     ensures ok { IfOk result (λ n. offset_at name.now (rows_of (found_of matches.now)) ≡ Some n) }
     ensures err { IfErr result (λ e. (e ≡ Memory)
@@ -82,7 +82,7 @@ pub(crate) fn offset_word(matches: &ArgMatches<'_>, name: &str) -> Result<u32, U
     }
 }
 
-/// The kind of expressions that a word names.
+/// The kind of expression that is called `name`.
 pub(crate) fn kind_word(name: &str) -> Option<Kind>
     ensures { result ≡ kind_of name.now }
 {
@@ -98,7 +98,7 @@ pub(crate) fn kind_word(name: &str) -> Option<Kind>
     None
 }
 
-/// The limit of frames that a word gives.
+/// The greatest number of frames, in the argument `name`.
 pub(crate) fn limit_word(matches: &ArgMatches<'_>, name: &str) -> Result<u32, Usage>
     ensures ok { IfOk result (λ n. limit_at name.now (rows_of (found_of matches.now)) ≡ Some n) }
     ensures err { IfErr result (λ e. (e ≡ Memory)
@@ -113,7 +113,7 @@ pub(crate) fn limit_word(matches: &ArgMatches<'_>, name: &str) -> Result<u32, Us
     }
 }
 
-/// The address where the module of FRAME is loaded.
+/// The load address of FRAME's module: the value of `--load`, or 0 if it isn't given.
 pub(crate) fn load_option(matches: &ArgMatches<'_>) -> Result<u64, Usage>
     ensures ok { IfOk result (λ a. load_in (rows_of (found_of matches.now)) ≡ Some a) }
     ensures err { IfErr result (λ e. (e ≡ BadArgument)
@@ -128,7 +128,7 @@ pub(crate) fn load_option(matches: &ArgMatches<'_>) -> Result<u64, Usage>
     }
 }
 
-/// The further modules, in the order in which they were given.
+/// The modules given by `--module`, in order.
 pub(crate) fn module_options<'a>(
     alloc: Global,
     matches: &ArgMatches<'a>,

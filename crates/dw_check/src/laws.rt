@@ -22,7 +22,7 @@ pub fn one_reply()
     dw_unwind::laws::one_walk_through_modules();
 }
 
-/// And it has one.
+/// A request has a reply, whatever its files contain.
 pub fn each_has_a_reply()
     ensures { (asked : Asked) (files : List (List ℕ)) → (r : Reply) × IsReply asked files r }
 {
@@ -31,7 +31,7 @@ pub fn each_has_a_reply()
     dw_unwind::laws::each_has_a_walk_through_modules();
 }
 
-/// What follows the needed part of a long file doesn't change any reply.
+/// The bytes of a long file after its first `Request::needed_length` don't change any reply.
 pub fn needed_parts_decide()
     ensures { (asked : Asked) (files : List (List ℕ)) (reply : Reply)
         → IsReply asked files reply
@@ -47,10 +47,11 @@ pub fn sections_without_fault_are_well_formed()
     dw_loclists::laws::list_sections_without_fault_are_well_formed();
 }
 
-/// What holds of two sections without a fault, which are those that `check` accepts. What is read of them is what their
-/// bytes encode. Each address that an FDE covers has exactly one row, the standard's, and any other address has none.
-/// Each expression of a rule and each of a list, for all registers and memory, ends within its number of operations, is
-/// never stuck, stays within its depth, and has one outcome.
+/// What holds for two sections without a fault, which are the sections that `check` accepts. The
+/// records and lists read from them are what their bytes encode. Each address that an FDE covers
+/// has exactly one row, the standard's; any other address has none. Each expression of a rule or of
+/// a list, for all registers and memory, ends within its number of operations, is never stuck,
+/// stays within its depth, and has exactly one outcome.
 pub fn accepted_sections_are_sound()
     ensures { (target : Target) (frame lists : List ℕ) → check_fault target frame lists ≡ None
         → AreSound target frame lists }
@@ -73,7 +74,7 @@ pub fn one_report()
     dw_stack::laws::depths_are_unique();
 }
 
-/// And there is one for any two accepted sections.
+/// There is a report on any two accepted sections.
 pub fn each_has_a_report()
     ensures { (frame : FrameSection) (lists : ListSection) → rows.IsChecked frame → IsChecked lists
         → (t : List ℕ) × IsReport frame lists t }

@@ -1,5 +1,5 @@
-//! A frame section and a section of location lists checked together, callers and walks by them, and the output of each
-//! command.
+//! Checks a `.debug_frame` and a `.debug_loclists` section together, unwinds stacks with them, and
+//! produces the output of each `dwcheck` command.
 #![tactic(auto)]
 
 mod abi_registers;

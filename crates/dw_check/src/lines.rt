@@ -1,4 +1,4 @@
-//! Lines of text, in a reused line.
+//! Formats lines of output. Each function appends to `line`, a buffer that is reused.
 
 ghost use Rattle.std.specs.Prelude.{◌≡◌, ◌++◌, ◌+◌, ◌^◌, ◌<◌, Some, OnOk};
 ghost use Rattle.std.specs.List.{flat_map};
@@ -27,7 +27,7 @@ fn push_fault_kind(line: &mut String, kind: FaultKind) -> Result<(), AllocError>
     line.push_str(kind.name())
 }
 
-/// The line of a refusal (an error).
+/// The line that says why an input is refused.
 #[tactic(auto, unfolding(crate::specs::Text::refused_line))]
 pub(crate) fn push_refused(
     line: &mut String,
@@ -46,7 +46,7 @@ pub(crate) fn push_refused(
     line.push_str("\n")
 }
 
-/// The line before an expression's outcome: its offset in the section.
+/// The line before an expression's outcome: the expression's offset in its section.
 #[tactic(auto, unfolding(crate::specs::Text::expression_offset_line))]
 pub(crate) fn push_expression_offset(line: &mut String, offset: u32) -> Result<(), AllocError>
     ensures { OnOk result (string_bytes line.new ≡ string_bytes line.old
@@ -93,7 +93,7 @@ pub(crate) fn push_fde(
     line.push_str("\n")
 }
 
-/// An expression of a rule, as its bytes.
+/// The expression of a CFA or register rule: its bytes in hex.
 #[tactic(auto, unfolding(crate::specs::Text::expression_text))]
 fn push_expression_bytes(
     line: &mut String,

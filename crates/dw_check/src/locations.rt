@@ -1,4 +1,4 @@
-//! Evaluates what location lists give at an address.
+//! Evaluates the expressions of a location list that apply at an address.
 
 ghost use Rattle.std.specs.Prelude.{◌≡◌, ◌++◌, ◌∷◌, ◌<◌, ◌^◌, ℕ, List, false, length, codes};
 ghost use Rattle.std.specs.List.{All};
@@ -22,7 +22,7 @@ use crate::writer::{Writer, send_line};
 use dw_loclists::{CheckedLists, LocationsAt};
 use dw_stack::CheckedExpression;
 
-/// Writes the line of an expression at an offset of its section.
+/// Writes the line that gives an expression's offset in its section.
 fn write_location_offset<S: Sink>(out: &mut Writer<'_, S>, offset: u32) -> Result<(), ReportFault>
     requires runs { S.has_stopped out.old.sink.now ≡ false }
     ensures same { IsSame out.old out.new }
@@ -35,7 +35,7 @@ fn write_location_offset<S: Sink>(out: &mut Writer<'_, S>, offset: u32) -> Resul
     send_line(out)
 }
 
-/// Writes a line which states that there is nothing to show.
+/// Writes `line`, which says that there is nothing to show.
 fn write_no_location<S: Sink>(out: &mut Writer<'_, S>, line: &str) -> Result<(), ReportFault>
     requires runs { S.has_stopped out.old.sink.now ≡ false }
     ensures same { IsSame out.old out.new }
@@ -47,7 +47,7 @@ fn write_no_location<S: Sink>(out: &mut Writer<'_, S>, line: &str) -> Result<(),
     send_line(out)
 }
 
-/// Writes an expression at an offset of its section, and its outcome in a known state.
+/// Writes an expression's offset in its section, and its outcome given `state`.
 fn write_location<S: Sink>(
     out: &mut Writer<'_, S>,
     offset: u32,
@@ -69,7 +69,7 @@ fn write_location<S: Sink>(
     write_outcome(out, checked, state)
 }
 
-/// Writes the remaining expressions, each with its outcome.
+/// Writes the offset and the outcome of each remaining expression.
 fn write_other_locations<'c, 'a, S: Sink>(
     out: &mut Writer<'_, S>,
     locations: LocationsAt<'c, 'a>,
@@ -89,7 +89,8 @@ fn write_other_locations<'c, 'a, S: Sink>(
     Ok(())
 }
 
-/// Writes the expressions that hold, each with its outcome, or that none holds.
+/// Writes the offset and the outcome of each expression in `locations`, or `none` if there are no
+/// expressions.
 fn write_locations<'c, 'a, S: Sink>(
     out: &mut Writer<'_, S>,
     locations: LocationsAt<'c, 'a>,
@@ -113,8 +114,9 @@ fn write_locations<'c, 'a, S: Sink>(
     }
 }
 
-/// Writes what a list gives at an address, or that there is no list. One pass over the list; each expression is
-/// found by binary search.
+/// Writes the expressions of a list that apply at an address, each with its outcome; `none` if none
+/// applies, or `no list` if no list begins at offset `lookup.list`. Takes one pass over the list,
+/// and a binary search for each expression.
 pub(crate) fn write_list_lookup<S: Sink>(
     out: &mut Writer<'_, S>,
     lists: &CheckedLists<'_>,

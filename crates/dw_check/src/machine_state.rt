@@ -34,7 +34,7 @@ pub(crate) struct MachineState {
     abi_registers: AbiRegisters,
 }
 
-/// Gives a key its value, unless it already has one.
+/// Adds `key` with `value`, unless the map already has `key`.
 fn add_first_value<K: Ord + Copy, V: Drop>(
     map: &mut BTreeMap<K, V>,
     key: K,
@@ -49,14 +49,14 @@ fn add_first_value<K: Ord + Copy, V: Drop>(
     Ok(())
 }
 
-/// The old value if there is one, else the new one.
+/// `old` if it has a value, else `value`.
 fn first_value(old: Option<u64>, value: u64) -> Option<u64>
     ensures { result ≡ option_or old (Some value) }
 {
     old.or(Some(value))
 }
 
-/// Adds bytes at an address.
+/// Adds `bytes`, the first at `address`. A byte that is already known stays.
 fn add_memory_bytes(
     memory: &mut BTreeMap<u64, u8>,
     address: u64,
@@ -87,7 +87,7 @@ impl MachineState {
         }
     }
 
-    /// The known part of the ABI.
+    /// The ABI by the callee-saved registers and the stack pointer that are known.
     pub fn abi(&self) -> Abi
         ensures { let known = known_state_of self.now
             in roles_of result ≡ abi_of known.kept known.stack_pointer }
@@ -95,7 +95,8 @@ impl MachineState {
         self.abi_registers.abi()
     }
 
-    /// Adds what a line gives, unless it contradicts what was given before, which stays.
+    /// Adds what a line gives, and returns true. Returns false if the line contradicts earlier
+    /// ones. What earlier lines gave stays.
     fn add(&mut self, line: StateLine) -> Result<bool, AllocError>
         requires { FitsAddresses (fact_of line) }
         ensures taken { IfOk result (λ taken. (facts : List StateFact)
@@ -127,7 +128,8 @@ impl MachineState {
         Ok(true)
     }
 
-    /// Adds what a line gives, unless it is malformed or contradicts what was given before.
+    /// Adds what a line gives, and returns true; an empty line gives nothing. Returns false if the
+    /// line is malformed or contradicts earlier ones.
     fn add_line(&mut self, alloc: Global, target: Target, line: &[u8]) -> Result<bool, AllocError>
         ensures taken { IfOk result (λ taken. (facts : List StateFact)
             → IsGivenBy (known_state_of self.old) facts
@@ -172,8 +174,9 @@ impl Memory for MachineState {
     }
 }
 
-/// The state in a state file, or its first line that is malformed or contradicts an earlier one. Empty lines are skipped.
-/// If two lines give the same thing or the same byte, the first counts. Time n log n in the file's length.
+/// Reads a state file. A line that is malformed or contradicts earlier lines is an error, which
+/// names the first such line. Empty lines are skipped. If two lines give the same register, byte or
+/// other value, the first line counts. Takes O(n log n) for a file of n bytes.
 pub(crate) fn read_state(
     alloc: Global,
     target: Target,

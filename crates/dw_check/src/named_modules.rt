@@ -1,4 +1,4 @@
-//! Modules as the command line names them.
+//! Parses the values of `--module`.
 
 ghost use Rattle.std.specs.Prelude.{◌≡◌, ◌⊎◌, Some, None, map, IfOk, IfErr};
 ghost use Rattle.std.specs.List.{Any};
@@ -11,7 +11,7 @@ use dw_bytes::Target;
 use std::alloc::Global;
 use std::marker::Model;
 
-/// Where a module is loaded, and the name of the file with its frame section.
+/// A module's load address, and the name of the file that has its frame section.
 #[derive(Debug, Drop)]
 pub(crate) struct NamedModule<'a> {
     pub(crate) load: u64,
@@ -26,7 +26,7 @@ impl<'a> Model for NamedModule<'a> {
     ghost view = { λ m. record { load = m.load; file = m.file.now } };
 }
 
-/// The module that an address, `=` and the name of a file give.
+/// Parses a module: its load address, `=`, and the name of its file.
 fn parse_module<'a>(text: &'a str, target: Target) -> Option<NamedModule<'a>>
     ensures { result ≡ module_of target text.entry.now }
 {
@@ -38,7 +38,7 @@ fn parse_module<'a>(text: &'a str, target: Target) -> Option<NamedModule<'a>>
     Some(NamedModule { load, file })
 }
 
-/// The modules that these texts give, in order. A malformed one is a bad argument.
+/// Parses `texts` as modules, in order. The error is `BadArgument` if one is malformed.
 #[tactic(auto, using(crate::proofs::NamedTexts::joined))]
 pub(crate) fn parse_modules<'a>(
     alloc: Global,

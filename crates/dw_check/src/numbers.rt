@@ -1,4 +1,4 @@
-//! Numbers as text, appended to a reused line.
+//! Numbers as text. Each function appends to `line`, a buffer that is reused.
 
 ghost use Rattle.std.specs.Prelude.{◌≡◌, ◌++◌, ◌^◌, ◌<◌, OnOk, codes};
 ghost use Rattle.std.specs.String.{string_bytes};
@@ -29,7 +29,7 @@ fn push_long_address(line: &mut String, address: u64) -> Result<(), AllocError>
     write!(line, "0x{address:016x}")
 }
 
-/// An address. Larger numbers keep their low digits.
+/// An address in hex digits. Of a number that is too large only the low digits are shown.
 pub(crate) fn push_address(
     line: &mut String,
     size: AddressSize,
@@ -62,7 +62,7 @@ pub(crate) fn push_range(
     push_address(line, size, end)
 }
 
-/// A number in decimal digits, preceded by its sign if it is below 0.
+/// A number in decimal digits, with `-` in front if it is negative.
 pub(crate) fn push_decimal<I: Integer>(line: &mut String, number: I) -> Result<(), AllocError>
     ensures { OnOk result (string_bytes line.new ≡ string_bytes line.old ++ I.text number) }
 {
@@ -70,7 +70,7 @@ pub(crate) fn push_decimal<I: Integer>(line: &mut String, number: I) -> Result<(
     line.push_str(buffer.format(number))
 }
 
-/// A number after its sign.
+/// A number in decimal digits, with its sign in front: `-` if it is negative, else `+`.
 pub(crate) fn push_signed(line: &mut String, number: i64) -> Result<(), AllocError>
     ensures { OnOk result (string_bytes line.new ≡ string_bytes line.old ++ signed_text number) }
 {

@@ -1,4 +1,4 @@
-//! The text of an evaluation.
+//! The outcome of an evaluation as text.
 
 ghost use Rattle.std.specs.Prelude.{◌≡◌, ◌++◌, ◌^◌, ℕ, OnOk, map};
 ghost use Rattle.std.specs.List.{All, flat_map};
@@ -125,7 +125,8 @@ fn push_outcome(
     }
 }
 
-/// The lines of an evaluation.
+/// The lines of an evaluation: its outcome, and then the number of steps and the expression's
+/// depth.
 #[tactic(auto, unfolding(crate::specs::Outcomes::counts_line, crate::specs::Outcomes::evaluation_text))]
 pub(crate) fn push_evaluation(
     line: &mut String,

@@ -1,4 +1,4 @@
-//! The texts of refusals and of checked frame sections, written line by line.
+//! Writes refusals, and the FDEs and rows of checked frame sections, line by line.
 
 ghost use Rattle.std.specs.Prelude.{◌≡◌, ◌+◌, ◌≤◌, false, Contains};
 ghost use Rattle.std.specs.List.{All, flat_map};
@@ -15,7 +15,7 @@ use dw_bytes::Fault;
 use dw_frame::{CommonInformationEntry, FrameDescriptionEntry};
 use dw_rows::{CheckedFrame, Rows, UnwindTableRow};
 
-/// Writes the line of a refusal.
+/// Writes the line that says why an input is refused.
 pub(crate) fn write_refused<S: Sink>(
     out: &mut Writer<'_, S>,
     section: Section,
@@ -67,7 +67,7 @@ fn write_row<S: Sink>(
     send_line(out)
 }
 
-/// Writes the lines of the remaining rows, each read into the same buffer.
+/// Writes the lines of the remaining rows. Each row is made in the buffer `row`.
 fn write_rows<'f, 'a, S: Sink>(
     out: &mut Writer<'_, S>,
     rows: &mut Rows<'f, 'a>,
@@ -86,7 +86,7 @@ fn write_rows<'f, 'a, S: Sink>(
     Ok(())
 }
 
-/// Writes the lines of an FDE of a section and of its rows, into reused buffers.
+/// Writes the lines of an FDE and its rows. `rows` and `row` are buffers that are reused.
 fn write_fde_and_rows<'f, 'a, S: Sink>(
     out: &mut Writer<'_, S>,
     frame: &'f CheckedFrame<'a>,
@@ -109,7 +109,7 @@ fn write_fde_and_rows<'f, 'a, S: Sink>(
     write_rows(out, rows, row)
 }
 
-/// Writes the lines of the FDEs of a section and of their rows, in the order of the section.
+/// Writes the lines of each FDE and its rows, in the order of the section.
 pub(crate) fn write_frame_section<S: Sink>(
     out: &mut Writer<'_, S>,
     frame: &CheckedFrame<'_>,
@@ -133,7 +133,7 @@ pub(crate) fn write_frame_section<S: Sink>(
     Ok(())
 }
 
-/// Writes the line of the row of an address, or that there is none.
+/// Writes the line of the row of an address, or `none` if the address has no row.
 pub(crate) fn write_row_lookup<S: Sink>(
     out: &mut Writer<'_, S>,
     frame: &CheckedFrame<'_>,

@@ -1,4 +1,4 @@
-//! Bytes between separators.
+//! Splits bytes at separators.
 
 ghost use Rattle.std.specs.Prelude.{◌≡◌};
 ghost use Rattle.std.specs.Iterator.{YieldsFirstBy, item_count};
@@ -8,12 +8,12 @@ use memchr::memchr;
 use std::iter::FusedIterator;
 use std::marker::Model;
 
-/// The parts of bytes between separators, including empty ones. Its model is the list of what is still
-/// to come.
+/// Iterates over the parts of a byte string between separators, including empty parts. Its model is
+/// the list of the parts still to come.
 #[derive(Drop)]
 pub(crate) struct Parts<'a> {
     separator: u8,
-    /// What follows the last separator found; none once everything was given.
+    /// The bytes after the last separator found; none once all parts were given.
     rest: Option<&'a [u8]>,
 }
 
@@ -27,7 +27,7 @@ impl<'a> Model for Parts<'a> {
 }
 
 impl<'a> Parts<'a> {
-    /// The parts of these bytes.
+    /// The parts of `bytes`.
     pub fn new(bytes: &'a [u8], separator: u8) -> Self
         ensures { result ≡ parts_of separator bytes.entry.now }
     {

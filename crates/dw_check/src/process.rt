@@ -1,4 +1,4 @@
-//! Checks frame sections in files: one, or those of the modules of a process.
+//! Checks the frame sections in files: a single one, or those of the modules of a process.
 
 ghost use Rattle.std.specs.Prelude.{◌≡◌, List, None, IfOk, IfErr, length, map};
 ghost use Rattle.dw_rows.specs.Section.{frame_of};
@@ -21,7 +21,7 @@ use dw_unwind::Module;
 use std::alloc::{AllocError, Global};
 use std::borrow::CowSlice;
 
-/// The frame section of these bytes, if it has no fault.
+/// Checks `section` as a frame section. The error is its first fault, or out of memory.
 pub(crate) fn frame_or_refusal<'a>(
     alloc: Global,
     target: Target,
@@ -44,14 +44,15 @@ pub(crate) fn frame_or_refusal<'a>(
 /// The contents of a process's files.
 #[derive(Drop)]
 pub(crate) struct Process<'a> {
-    /// The frame sections of its modules, each with its load address: FRAME's, and those of the further modules.
+    /// The frame sections of the modules, with their load addresses: first FRAME, then those of the
+    /// further modules.
     pub modules: Vec<Module<CowSlice<'a, u8, Global>>>,
     /// The state in the state file.
     pub state: MachineState,
 }
 
-/// Reads the files of a process: FRAME, whose module is loaded at an address, the state file, and those of further
-/// modules.
+/// Reads the files of a process: FRAME, whose module is loaded at `load`; the state file; and the
+/// files of the further modules, which are loaded at `module_loads`.
 pub(crate) fn read_process<'a>(
     alloc: Global,
     files: &Files<'a>,
@@ -73,7 +74,8 @@ pub(crate) fn read_process<'a>(
     Ok(Process { modules, state })
 }
 
-/// The modules of a process with their sections, if none of these has a fault.
+/// Checks the frame sections of `modules`, in order. The error is the first fault, or out of
+/// memory.
 #[tactic(auto, using(crate::proofs::FurtherModules::one_more_judged))]
 pub(crate) fn modules_or_refusal<'s>(
     alloc: Global,
@@ -95,7 +97,7 @@ pub(crate) fn modules_or_refusal<'s>(
     Ok(checked)
 }
 
-/// The same modules with borrowed sections.
+/// `modules`, with their sections borrowed.
 pub(crate) fn lent_modules<'f, 's>(
     alloc: Global,
     modules: &'f [Module<CheckedFrame<'s>>],

@@ -23,7 +23,7 @@ use dw_rows::{CheckedFrame, Rows, UnwindTableRow};
 use dw_stack::{CheckedExpression, Kind};
 use std::alloc::{AllocError, Global};
 
-/// The number of remaining rows, each made in the same buffer.
+/// The number of remaining rows. Each row is made in the buffer `row`.
 fn count_rows_of<'f, 'a>(rows: &mut Rows<'f, 'a>, row: &mut UnwindTableRow<'f, 'a>) -> u64
     requires { length rows.old < 2 ^ 64 }
     ensures { result ≡ length rows.old }
@@ -35,7 +35,7 @@ fn count_rows_of<'f, 'a>(rows: &mut Rows<'f, 'a>, row: &mut UnwindTableRow<'f, '
     count
 }
 
-/// The number of rows of all FDEs of a section together.
+/// The number of rows of all FDEs in a section, added up.
 fn count_rows(frame: &CheckedFrame<'_>) -> u128
     ensures { result ≡ row_count frame.now }
 {
@@ -79,7 +79,8 @@ fn list_count(lists: &CheckedLists<'_>) -> usize
     lists.lists().len()
 }
 
-/// The number of expressions in both sections. Each takes at least a byte of its section.
+/// The number of expressions in both sections, added up. Each expression takes at least one byte of
+/// its section.
 fn expression_count(checked: &Checked<'_>) -> u128
     ensures { result ≡ length checked.now.frame.expressions
         + length (located_in checked.now.lists) }
@@ -150,7 +151,7 @@ fn push_lists_counts(
     push_expression_count(line, expressions)
 }
 
-/// The line with the number of records and rows of a frame section.
+/// The line with the numbers of CIEs, FDEs and rows in a frame section.
 fn push_frame_line(line: &mut String, frame: &CheckedFrame<'_>) -> Result<(), AllocError>
     ensures { OnOk result (string_bytes line.new ≡ string_bytes line.old ++ frame_line frame.now) }
 {
@@ -158,7 +159,8 @@ fn push_frame_line(line: &mut String, frame: &CheckedFrame<'_>) -> Result<(), Al
     push_frame_counts(line, cie_count(frame), fde_count(frame), rows)
 }
 
-/// The line with the number of tables and lists of a section of location lists, and of expressions in both sections.
+/// The line with the numbers of tables and lists in the section of location lists, and of
+/// expressions in both sections.
 fn push_lists_line(line: &mut String, checked: &Checked<'_>) -> Result<(), AllocError>
     ensures { OnOk result (string_bytes line.new ≡ string_bytes line.old
         ++ lists_line checked.now.frame checked.now.lists) }
@@ -172,7 +174,7 @@ fn push_lists_line(line: &mut String, checked: &Checked<'_>) -> Result<(), Alloc
     )
 }
 
-/// The beginning of a report.
+/// The first lines of a report: `accepted`, and the counts.
 #[tactic(auto, unfolding(crate::specs::Report::summary_text))]
 fn push_summary(line: &mut String, checked: &Checked<'_>) -> Result<(), AllocError>
     ensures { OnOk result (string_bytes line.new ≡ string_bytes line.old
@@ -183,7 +185,7 @@ fn push_summary(line: &mut String, checked: &Checked<'_>) -> Result<(), AllocErr
     push_lists_line(line, checked)
 }
 
-/// The name of a kind.
+/// The word for a kind of expression in a report.
 fn reported_kind(kind: Kind) -> &'static str
     ensures { result.now ≡ expression_kind_text kind }
 {
@@ -194,7 +196,7 @@ fn reported_kind(kind: Kind) -> &'static str
     }
 }
 
-/// The line of an expression of a section.
+/// The report's line on an expression: its section, offset, kind, number of operations and depth.
 #[tactic(auto, unfolding(crate::specs::Report::expression_line))]
 fn push_expression_line(
     line: &mut String,
@@ -219,7 +221,7 @@ fn push_expression_line(
     line.push_str("\n")
 }
 
-/// Writes the line of an expression of a section.
+/// Writes the report's line on an expression.
 fn write_expression_line<S: Sink>(
     out: &mut Writer<'_, S>,
     section: Section,
@@ -237,7 +239,7 @@ fn write_expression_line<S: Sink>(
     send_line(out)
 }
 
-/// Writes the lines of expressions of a frame section, in order.
+/// Writes a line for each expression of the frame section, in order.
 fn write_frame_expressions<S: Sink>(
     out: &mut Writer<'_, S>,
     expressions: &[(u32, CheckedExpression<'_>)],
@@ -254,7 +256,7 @@ fn write_frame_expressions<S: Sink>(
     Ok(())
 }
 
-/// Writes the lines of expressions of location lists, in order.
+/// Writes a line for each expression of the location lists, in order.
 fn write_list_expressions<'c, 'a, S: Sink>(
     out: &mut Writer<'_, S>,
     expressions: Expressions<'c, 'a>,
@@ -271,7 +273,7 @@ fn write_list_expressions<'c, 'a, S: Sink>(
     Ok(())
 }
 
-/// Writes the lines of the expressions of two sections: the frame section's first.
+/// Writes a line for each expression of both sections, those of the frame section first.
 fn write_all_expressions<'c, 'a, S: Sink>(
     out: &mut Writer<'_, S>,
     of_frame: &[(u32, CheckedExpression<'_>)],
@@ -307,9 +309,11 @@ pub(crate) fn write_report<S: Sink>(
     write_all_expressions(out, of_frame, of_lists)
 }
 
-/// Writes the report on two checked sections: that they are accepted, the number of records, rows, tables, lists and
-/// expressions, and a line for each expression, in the order of `check`. It writes line by line, and keeps only one line.
-/// After an error a beginning of the text is written; the sink has stopped exactly if the error is `Write`.
+/// Writes the report on two checked sections: `accepted`; the numbers of CIEs, FDEs, rows, tables,
+/// lists and expressions; and a line for each expression, those of the frame section first. The
+/// first three lines are sent together, the others one by one; only what is sent next is in memory.
+/// After an error only a beginning of the report is written; the sink has stopped exactly if the
+/// error is `Write`.
 pub fn report<S: Sink>(
     alloc: Global,
     checked: &Checked<'_>,

@@ -1,4 +1,4 @@
-//! The request of a command line, and how a run of it ends.
+//! What a command line asks for, and how running it ends.
 
 ghost use Rattle.std.specs.Prelude.{◌≡◌, length, map};
 ghost use Rattle.std.specs.String.{string_bytes};
@@ -21,43 +21,45 @@ pub struct ListLookup {
     pub list: u32,
     /// The base address of the unit.
     pub base: u64,
-    /// The address that is looked up.
+    /// The address to look up.
     pub address: u64,
 }
 
 /// What to do with the files of a request.
 #[derive(Clone, Copy, Debug)]
 pub enum Task {
-    /// The report on a frame section and a section of location lists.
+    /// Check a frame section and a section of location lists, and report on them.
     Check,
-    /// Each FDE of a frame section and its rows.
+    /// Show each FDE of a frame section and its rows.
     Rows,
-    /// The row of an address in a frame section.
+    /// Show the row of an address in a frame section.
     Row { address: u64 },
-    /// The expressions that a location list gives at an address, and their outcomes.
+    /// Show the expressions of a location list that apply at an address, and their outcomes.
     Locs { lookup: ListLookup },
-    /// The outcome of an expression of this kind.
+    /// Evaluate an expression of this kind.
     Eval { kind: Kind },
-    /// The caller of the frame at an address.
+    /// Show the caller of the frame at an address.
     Unwind { address: u64 },
-    /// The frames from the one at an address on, each the caller of the one before it, at most `limit` of them.
+    /// Show the frame at an address, its caller, that caller's caller and so on: at most `limit`
+    /// frames.
     Backtrace { address: u64, limit: u32 },
 }
 
-/// The request of a command line.
+/// What a command line asks for.
 #[derive(Debug, Drop)]
 pub struct Request {
-    /// What is done.
+    /// What to do.
     pub(crate) task: Task,
-    /// The target under which numbers in sections, expressions and state files are read.
+    /// The byte order and address size of the sections, expressions and state files.
     pub(crate) target: Target,
-    /// The address where the module of the frame section is loaded.
+    /// The load address of the frame section's module.
     pub(crate) load: u64,
-    /// The addresses where the further modules are loaded, in their order.
+    /// The load addresses of the further modules (`--module`), in order.
     pub(crate) module_loads: Vec<u64>,
     /// Whether sections and the expression are hex text; a state file never is.
     pub(crate) hex: bool,
-    /// The names of the files: those of the command's words in their order, a state file's, and those of the further modules.
+    /// The names of the files: those given as words, in order; then the file of `--state`, if
+    /// given; then those of the further modules.
     pub(crate) files: Vec<String>,
 }
 
@@ -75,7 +77,7 @@ impl Model for Request {
 }
 
 impl Request {
-    /// The names of the files whose contents `run` needs, in that order.
+    /// The names of the files whose contents `run` needs, in the order in which it takes them.
     pub fn files(&self) -> &[String]
         ensures names { map (λ s. string_bytes s) result.now ≡ self.now.files }
         ensures count { length result.now ≡ length self.now.files }
@@ -83,8 +85,9 @@ impl Request {
         self.files.as_slice()
     }
 
-    /// The number of bytes of the file at this index in `files` that determine the result of `run`, whatever follows. A
-    /// section or an expression of 2^32 bytes is too long. Hex text and a state file count in full, which is `None`.
+    /// How many bytes at the front of the file at index `place` in `files` decide the result of
+    /// `run`, whatever follows them. 2^32 for a section or an expression, which is too long if it
+    /// has that many. `None` for hex text and a state file, which have to be read in full.
     pub fn needed_length(&self, place: usize) -> Option<u64>
         ensures { result ≡ needed_length self.now.task self.now.hex place }
     {
@@ -97,10 +100,10 @@ impl Request {
     }
 }
 
-/// Why a command line gives no request.
+/// Why no request could be made from a command line.
 #[derive(Debug, Drop)]
 pub enum Usage {
-    /// clap rejects the words, or they request help. This is clap's text.
+    /// clap rejects the words, or they ask for help. The string is clap's text.
     Line(String),
     /// An argument is malformed.
     BadArgument,
@@ -159,11 +162,12 @@ impl<T: Drop> From<AllocFailed<T>> for Usage {
 pub enum End {
     /// All of the text was written.
     Done,
-    /// The text is the line of a refusal, and was written.
+    /// An input is refused, and the line that says why was written.
     Refused,
     /// The file at this index in `Request::files` must be hex text and isn't.
     BadHex(usize),
-    /// This line of the state file is malformed, or contradicts those before it; lines are counted from 1.
+    /// The state file's line with this number, counted from 1, is malformed or contradicts earlier
+    /// lines.
     StateLine(u64),
     /// Memory ran out.
     Memory,

@@ -42,7 +42,7 @@ use dw_unwind::laws::{
 use dw_unwind::{Module, Walk, as_linked, unwind_in};
 use std::alloc::Global;
 
-/// The section of location lists of these bytes, if it has no fault.
+/// Checks `section` as location lists. The error is its first fault, or out of memory.
 fn lists_or_refusal<'a>(
     alloc: Global,
     target: Target,
@@ -64,7 +64,7 @@ fn lists_or_refusal<'a>(
     }
 }
 
-/// The expression of these bytes, if it has no fault.
+/// Checks `bytes` as an expression. The error is its first fault, or out of memory.
 fn expression_or_refusal<'a>(
     alloc: Global,
     kind: Kind,
@@ -87,7 +87,7 @@ fn expression_or_refusal<'a>(
     }
 }
 
-/// The two sections of these bytes, if they have no fault.
+/// Checks both sections. The error is their first fault, or out of memory.
 fn sections_or_refusal<'a>(
     alloc: Global,
     target: Target,
@@ -108,7 +108,7 @@ fn sections_or_refusal<'a>(
     }
 }
 
-/// The result of a run whose text was written with this result.
+/// Turns the result of writing the text into the result of the run.
 fn run_result(written: Result<(), ReportFault>) -> Result<(), RunFault>
     ensures { result ≡ ended_by written }
 {
@@ -179,7 +179,8 @@ fn show_row<S: Sink>(
     run_result(write_row_lookup(out, &frame, address))
 }
 
-/// Shows what a location list gives at an address, on a machine with the state in a state file, if there is one.
+/// Shows the expressions of a location list that apply at an address, and their outcomes.
+/// Registers, memory and context are those in the state file, if there is one.
 fn show_locations<S: Sink>(
     alloc: Global,
     lookup: ListLookup,
@@ -201,7 +202,8 @@ fn show_locations<S: Sink>(
     run_result(write_list_lookup(out, &lists, lookup, &state))
 }
 
-/// Shows the outcome of an expression, on a machine with the state in a state file, if there is one.
+/// Shows the outcome of an expression. Registers, memory and context are those in the state file,
+/// if there is one.
 fn show_outcome<S: Sink>(
     alloc: Global,
     kind: Kind,
@@ -223,7 +225,8 @@ fn show_outcome<S: Sink>(
     run_result(write_outcome(out, &checked, &state))
 }
 
-/// Writes the caller of the frame at an address in a known state, or that no FDE covers the address.
+/// Writes the caller of the frame at `address`, given the registers and memory in `state`; or
+/// `none` if no FDE covers `address`.
 fn unwind_and_write<S: Sink>(
     out: &mut Writer<'_, S>,
     modules: &[Module<&CheckedFrame<'_>>],
@@ -242,7 +245,7 @@ fn unwind_and_write<S: Sink>(
     write_caller(out, caller.as_ref())
 }
 
-/// Writes the walk from a frame at an address in a known state.
+/// Writes the walk from the frame at `address`, given the registers and memory in `state`.
 fn walk_and_write<S: Sink>(
     out: &mut Writer<'_, S>,
     modules: &[Module<&CheckedFrame<'_>>],
@@ -259,7 +262,7 @@ fn walk_and_write<S: Sink>(
         × Writes (S.taken out.old.sink.now) (S.taken out.new.sink.now) result text }
     ensures stops { S.has_stopped out.new.sink.now ≡ is_write result }
 {
-    // Proof only: the contract needs the rest of the text where writing fails.
+    // For the proof only: if writing fails, the contract still needs a whole text.
     each_address_has_an_unwinding_through_modules();
     unwindings_through_what_is_found();
     walks_through_what_is_found();
@@ -268,8 +271,8 @@ fn walk_and_write<S: Sink>(
     write_walk(out, &mut walk, limit)
 }
 
-/// Shows the caller of the frame at an address of a process, given its modules' load addresses and the state in a state
-/// file.
+/// Shows the caller of the frame at `address`, given the load addresses of the process's modules
+/// and the state in the state file.
 fn show_caller<S: Sink>(
     alloc: Global,
     address: u64,
@@ -294,8 +297,8 @@ fn show_caller<S: Sink>(
     run_result(unwind_and_write(out, modules.as_slice(), address, &process.state))
 }
 
-/// Shows the walk from the frame at an address of a process, given its modules' load addresses and the state in a state
-/// file.
+/// Shows the walk from the frame at `address`, given the load addresses of the process's modules
+/// and the state in the state file.
 fn show_walk<S: Sink>(
     alloc: Global,
     address: u64,
@@ -321,7 +324,7 @@ fn show_walk<S: Sink>(
     run_result(walk_and_write(out, modules.as_slice(), address, limit, &process.state))
 }
 
-/// Runs a request with these files.
+/// Runs a request, given its files.
 fn show_reply<S: Sink>(
     alloc: Global,
     request: &Request,
@@ -352,13 +355,15 @@ fn show_reply<S: Sink>(
     }
 }
 
-/// Runs a request, given the contents of each of `Request::files`, in their order.
+/// Runs a request, given the contents of the files that `Request::files` names, in the same order.
 ///
-/// The files are checked in that order: BadHex for one that must be hex text and isn't, StateLine for a state file's
-/// first bad line; then their contents: the line of the first fault is written (Refused), or else the whole text (Done).
-/// With BadHex and StateLine nothing is written. If an allocation fails before any of these is found, the end is Memory:
-/// a beginning of the text is written, and nothing of a refusal's line. If the sink stops, the end is Output: a beginning
-/// of the text or of the refusal is written.
+/// First the files are decoded, in that order. If a file must be hex text and isn't, the run ends
+/// with `BadHex`; if a line of a state file is bad, with `StateLine` for the first such line.
+/// Nothing is written in either case. Then sections and expressions are checked. If there is a
+/// fault, the line of the first one is written (`Refused`), else the whole text (`Done`). If an
+/// allocation fails before that, the run ends with `Memory`: a beginning of the text may be
+/// written, but no part of a refusal's line. If the sink stops, the run ends with `Output`: a
+/// beginning of the text or of the refusal's line is written.
 pub fn run<S: Sink>(alloc: Global, request: &Request, files: &[Vec<u8>], sink: &mut S) -> End
     requires files { length files.now ≡ length request.now.files }
     requires runs { S.has_stopped sink.old ≡ false }

@@ -1,4 +1,4 @@
-//! A destination for bytes that can stop.
+//! A destination for bytes, which can stop accepting them.
 
 ghost use Rattle.std.specs.Prelude.{◌≡◌, ℕ, ◌≤◌, Bool, List, Option, true, false, take, length, MatchResult, OnOk, OnErr, IfOk};
 ghost use Rattle.std.specs.Io.KnownBytes.{Appends, Keeps};
@@ -29,15 +29,15 @@ pub trait Sink {
     /// The bytes accepted so far, if they are known.
     ghost taken: { Self → Option (List ℕ) };
 
-    /// Whether it has stopped.
+    /// Whether the sink has stopped.
     ghost has_stopped: { Self → Bool };
 
-    /// Whether it has stopped.
+    /// Whether the sink has stopped.
     fn stopped(&self) -> bool
         ensures { result ≡ has_stopped self.now };
 
-    /// Accepts a beginning of the bytes and gives its length. The sink stops exactly if the call fails,
-    /// accepting nothing, or accepts nothing of a non-empty piece.
+    /// Accepts the first n bytes of `bytes`, and returns n. The sink stops exactly if the call
+    /// fails, and then accepts nothing, or returns 0 for bytes that aren't empty.
     fn write(&mut self, bytes: &[u8]) -> Result<usize, Stopped>
         requires { has_stopped self.old ≡ false }
         ensures bound { IfOk result (λ n. n ≤ length bytes.now) }
@@ -47,8 +47,8 @@ pub trait Sink {
         ensures stops { has_stopped self.new ≡ stops result (length bytes.now) };
 }
 
-/// A sink that writes to one of std's writers. It has stopped once the writer has failed, an
-/// interrupted write included.
+/// A sink that writes to a std `Write`. It stops at the first write error, even `Interrupted`, and
+/// if the writer accepts none of the bytes that it gets.
 #[derive(Drop)]
 pub struct Through<W: Write> {
     inner: W,
@@ -56,7 +56,7 @@ pub struct Through<W: Write> {
 }
 
 impl<W: Write> Through<W> {
-    /// A sink that hasn't stopped.
+    /// A sink that writes to `inner` and hasn't stopped.
     pub fn new(inner: W) -> Self
         ensures inner { writer_of result ≡ inner }
         ensures runs { has_failed result ≡ false }
@@ -102,7 +102,7 @@ impl<W: Write> Sink for Through<W> {
     }
 }
 
-/// Passes the bytes on until all are accepted or the sink has stopped.
+/// Writes `bytes` to the sink, until all are accepted or the sink has stopped.
 pub(crate) fn write_all<S: Sink>(sink: &mut S, bytes: &[u8]) -> Result<(), Stopped>
     requires { S.has_stopped sink.old ≡ false }
     ensures all { OnOk result (Appends (S.taken sink.old) (S.taken sink.new) bytes.now) }

@@ -15,9 +15,9 @@ use thiserror::Error;
 /// How far a source has been read.
 #[derive(Clone, Copy, Debug, PartialEq, Eq)]
 pub enum Reading {
-    /// It may have more bytes.
+    /// The source may have more bytes.
     Open,
-    /// It has given all its bytes.
+    /// The source has given all its bytes.
     Ended,
     /// A read failed.
     Failed,
@@ -30,15 +30,15 @@ pub trait Source {
     /// The bytes that reads will give from here on, if they are known.
     ghost left: { Self → Option (List ℕ) };
 
-    /// How far it has been read.
+    /// How far the source has been read.
     ghost reading: { Self → Reading };
 
-    /// How far it has been read.
+    /// How far the source has been read.
     fn state(&self) -> Reading
         ensures { result ≡ reading self.now };
 
-    /// Puts the next bytes at the beginning of the buffer, and gives their number. The source has ended
-    /// exactly if it gives none, and has failed exactly if the call fails.
+    /// Reads the next bytes into the front of `buf`, and returns their number. The source has ended
+    /// exactly if that number is 0, and has failed exactly if the call fails.
     fn read(&mut self, buf: &mut [u8]) -> Result<usize, Stopped>
         requires open { reading self.old ≡ Reading.Open }
         requires room { 0 < length buf.old }
@@ -47,8 +47,8 @@ pub trait Source {
         ensures reading { reading self.new ≡ reading_after result };
 }
 
-/// A source that reads one of std's readers. It has failed once the reader has failed, an interrupted read
-/// included.
+/// A source that reads from a std `Read`. Any read error makes the source `Failed`, even
+/// `Interrupted`.
 #[derive(Drop)]
 pub struct Reads<Rd: Read> {
     inner: Rd,
@@ -56,7 +56,7 @@ pub struct Reads<Rd: Read> {
 }
 
 impl<Rd: Read> Reads<Rd> {
-    /// An open source.
+    /// A source that reads from `inner`, in state `Open`.
     pub fn new(inner: Rd) -> Self
         ensures inner { reader_of result ≡ inner }
         ensures open { reading_of result ≡ Reading.Open }
@@ -93,7 +93,7 @@ impl<Rd: Read> Source for Reads<Rd> {
     }
 }
 
-/// Why a source isn't loaded.
+/// Why `load` failed.
 #[derive(Clone, Copy, Debug, PartialEq, Eq, Error)]
 pub enum LoadFault {
     /// A read failed.
@@ -120,11 +120,12 @@ impl From<AllocError> for LoadFault {
     }
 }
 
-/// The greatest number of bytes requested by one read.
+/// The number of bytes that one read asks for.
 const PIECE: usize = 65_536;
 
-/// All bytes that an open source gives, in order; it has then ended. It has failed exactly if the answer is
-/// `Read`. It is still open if memory ran out; the bytes read before are lost.
+/// Reads all remaining bytes of an open source, which is then `Ended`. If the error is `Read`, and
+/// only then, the source is `Failed`. If the error is `Memory`, the source is still `Open`, and the
+/// bytes read so far are lost.
 #[tactic(auto, using(crate::proofs::Loading::consumes_more))]
 pub fn load<S: Source>(alloc: Global, source: &mut S) -> Result<Vec<u8>, LoadFault>
     requires open { S.reading source.old ≡ Reading.Open }

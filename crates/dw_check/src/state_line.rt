@@ -23,7 +23,8 @@ pub(crate) enum StateLine {
     StackPointer(u16),
 }
 
-/// The bytes at an address: one or more, none past the greatest address.
+/// The line that gives `bytes`, the first at `address`. None if there are no bytes, or if the last
+/// one is past the target's greatest address.
 fn memory_line(target: Target, address: u64, bytes: Vec<u8>) -> Option<StateLine>
     ensures given { option_map fact_of result ≡ bytes_fact target address bytes.items }
     ensures fits { IfSome result (λ line. FitsAddresses (fact_of line)) }
@@ -35,7 +36,7 @@ fn memory_line(target: Target, address: u64, bytes: Vec<u8>) -> Option<StateLine
     Some(StateLine::Memory { address, bytes })
 }
 
-/// What `reg` gives.
+/// Parses what follows `reg`: a register's number and its content.
 fn parse_register_line(target: Target, place: &[u8], value: &[u8]) -> Option<StateLine>
     ensures given { option_map fact_of result ≡ register_fact target place.now value.now }
     ensures fits { IfSome result (λ line. FitsAddresses (fact_of line)) }
@@ -45,7 +46,7 @@ fn parse_register_line(target: Target, place: &[u8], value: &[u8]) -> Option<Sta
     Some(StateLine::Register { number, content })
 }
 
-/// What `mem` gives.
+/// Parses what follows `mem`: an address, and bytes in hex.
 fn parse_memory_line(
     alloc: Global,
     target: Target,
@@ -66,7 +67,7 @@ fn parse_memory_line(
     }
 }
 
-/// What a line of three words gives.
+/// Parses a line of three words: `reg` or `mem`, and what follows.
 fn parse_three_words(
     alloc: Global,
     target: Target,
@@ -87,7 +88,7 @@ fn parse_three_words(
     Ok(None)
 }
 
-/// What a line of two words gives.
+/// Parses a line of two words: `cfa`, `frame`, `object`, `keep` or `sp`, and what follows.
 fn parse_two_words(target: Target, word: &[u8], value: &[u8]) -> Option<StateLine>
     ensures given { option_map fact_of result ≡ fact_of_two_words target word.now value.now }
     ensures fits { IfSome result (λ line. FitsAddresses (fact_of line)) }
@@ -110,7 +111,7 @@ fn parse_two_words(target: Target, word: &[u8], value: &[u8]) -> Option<StateLin
     None
 }
 
-/// What a line gives; none if it is malformed. Its words are separated by single spaces.
+/// Parses a line, whose words are separated by single spaces. None if the line is malformed.
 pub(crate) fn parse_line(
     alloc: Global,
     target: Target,

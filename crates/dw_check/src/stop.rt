@@ -1,4 +1,4 @@
-//! Why a run stops before its whole text is written.
+//! Why a run stops before all of its text is written.
 
 ghost use Rattle.std.specs.Prelude.{◌≡◌, ◌⊎◌, Option, Some};
 ghost use Rattle.dw_bytes.specs.Answers.{memory};
@@ -13,18 +13,18 @@ use dw_bytes::{Fault, FaultKind};
 use std::alloc::{AllocError, AllocFailed};
 use thiserror::Error;
 
-/// The section or expression that the offset of a refusal is counted in.
+/// Which input a refusal's offset refers to.
 #[derive(Clone, Copy, Debug, PartialEq, Eq)]
 pub enum Section {
     /// A `.debug_frame` section.
     Frame,
     /// A `.debug_loclists` section.
     Lists,
-    /// An expression given alone.
+    /// An expression that is checked by itself, not as part of a section.
     Expression,
 }
 
-/// Why a text isn't written in full.
+/// Why only a part of a text was written.
 #[derive(Clone, Copy, Debug, PartialEq, Eq, Error)]
 pub enum ReportFault {
     /// Memory ran out.
@@ -35,14 +35,15 @@ pub enum ReportFault {
     Write,
 }
 
-/// Why a run ends without its text.
+/// Why a run ends before all of its text is written.
 #[derive(Clone, Copy)]
 pub(crate) enum RunFault {
-    /// What a file contains is refused.
+    /// An input has this fault.
     Refused(Section, Fault),
     /// The file at this index must be hex text and isn't.
     BadHex(usize),
-    /// This line of the state file is malformed, or contradicts those before it; lines are counted from 1.
+    /// The state file's line with this number, counted from 1, is malformed or contradicts earlier
+    /// lines.
     StateLine(u64),
     /// Memory ran out.
     Memory,
@@ -51,7 +52,7 @@ pub(crate) enum RunFault {
 }
 
 impl Section {
-    /// The section's name in the line of a refusal.
+    /// The word for this input in the line of a refusal.
     pub fn text(self) -> &'static str
         ensures { result.now ≡ section_text self }
     {
@@ -107,7 +108,8 @@ impl From<ReportFault> for RunFault {
 }
 
 impl RunFault {
-    /// The stop that a section's fault causes.
+    /// Why a run stops if checking `section` gives `fault`: memory ran out, or the input is
+    /// refused.
     pub fn of_fault(section: Section, fault: Fault) -> RunFault
         ensures { (first : Option FoundFault) → (fault ≡ memory) ⊎ (first ≡ Some fault)
             → IsRefusal section first result }

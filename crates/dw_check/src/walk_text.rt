@@ -21,7 +21,7 @@ use dw_unwind::laws::frames_that_are_given_are_a_walk;
 use dw_unwind::{Answer, BriefFrame, Stop, Unwinder, Walk};
 use std::alloc::AllocError;
 
-/// The CFA of a frame, or that there is no caller.
+/// The CFA of a frame, or `none` if no FDE covers the frame.
 fn push_cfa(line: &mut String, size: AddressSize, cfa: Option<Answer>) -> Result<(), AllocError>
     ensures { OnOk result (string_bytes line.new ≡ string_bytes line.old
         ++ cfa_text size (option_map answer_in cfa)) }
@@ -55,7 +55,7 @@ fn push_walked_frame(
     line.push_str("\n")
 }
 
-/// The name of a stop.
+/// The words for why a walk ends.
 fn stop_name(stop: Stop) -> &'static str
     ensures { result.now ≡ stop_text stop }
 {
@@ -68,7 +68,7 @@ fn stop_name(stop: Stop) -> &'static str
     }
 }
 
-/// The line that gives the reason why there are no more frames.
+/// The line that says why a walk ends.
 #[tactic(auto, unfolding(crate::specs::WalkText::last_line))]
 fn push_stop(line: &mut String, stop: Stop) -> Result<(), AllocError>
     ensures { OnOk result (string_bytes line.new ≡ string_bytes line.old ++ last_line stop) }
@@ -95,7 +95,7 @@ fn write_walked_frame<S: Sink>(
     send_line(out)
 }
 
-/// Writes the line that gives the reason why there are no more frames.
+/// Writes the line that says why a walk ends.
 fn write_stop<S: Sink>(out: &mut Writer<'_, S>, stop: Stop) -> Result<(), ReportFault>
     requires { S.has_stopped out.old.sink.now ≡ false }
     ensures same { IsSame out.old out.new }
@@ -124,8 +124,8 @@ fn next_or_stop<U: Unwinder + Drop, M: Memory>(
     }
 }
 
-/// Writes the lines of a walk from its first frame on, each when its frame is given, so that only one line is kept at
-/// a time.
+/// Writes a line for each frame of a walk, at most `limit` of them, and a line that says why the
+/// walk ends. Each line is sent before the next frame is computed, so only one is in memory.
 pub(crate) fn write_walk<S: Sink, U: Unwinder + Drop, M: Memory>(
     out: &mut Writer<'_, S>,
     walk: &mut Walk<'_, U, M>,

@@ -1,4 +1,4 @@
-//! Two sections checked together.
+//! Checks a frame section and a section of location lists together.
 
 ghost use Rattle.std.specs.Prelude.{◌≡◌, ◌≤◌, ◌<◌, ◌^◌, ◌⊎◌, length, IfOk, IfErr, OnOk};
 ghost use Rattle.dw_bytes.specs.Answers.{memory};
@@ -17,16 +17,17 @@ use std::fmt;
 /// Sections and expressions of this many bytes or more are refused.
 pub(crate) const SECTION_LIMIT: usize = 1 << 32;
 
-/// The fault of one that is too long.
+/// The fault of a section or expression that is too long.
 pub(crate) const TOO_LONG: Fault = Fault {
     kind: FaultKind::SectionTooLong,
     at: 0,
 };
 
-/// The first fault of two sections.
+/// The first fault of two sections that are checked together.
 #[derive(Clone, Copy, Debug, PartialEq, Eq)]
 pub struct CheckFault {
-    /// The section that it is in: never an expression. Has no meaning if memory ran out.
+    /// The section that has the fault, never `Section::Expression`. It has no meaning if memory ran
+    /// out.
     pub section: Section,
     /// The fault, with its offset in the section.
     pub fault: Fault,
@@ -47,7 +48,7 @@ impl fmt::Display for CheckFault {
 
 impl Error for CheckFault {}
 
-/// A `.debug_frame` and a `.debug_loclists` section that were checked, under one target.
+/// A `.debug_frame` and a `.debug_loclists` section that were checked together, for one target.
 ///
 /// ```rust
 /// match check(alloc, frame, lists, target) {
@@ -62,7 +63,7 @@ pub struct Checked<'a> {
     pub ghost one_target: { lists.target ≡ frame.target },
 }
 
-/// A section has fewer than 2^32 bytes.
+/// Checks that a section has fewer than 2^32 bytes.
 fn check_length(section: Section, bytes: &[u8]) -> Result<(), CheckFault>
     ensures answer { Checks (fault_within section (length_fault bytes.now)) result }
     ensures short { IfOk result (λ _. length bytes.now < 2 ^ 32) }
@@ -77,7 +78,8 @@ fn check_length(section: Section, bytes: &[u8]) -> Result<(), CheckFault>
     Ok(())
 }
 
-/// The sections, if they have no fault. Each is checked only if those before it have none.
+/// Checks the lengths of both sections, and then the sections, the frame section first in each
+/// case. Stops at the first fault.
 #[tactic(auto, unfolding(crate::specs::Checked::check_fault))]
 fn check_both<'a>(
     alloc: Global,
@@ -117,8 +119,9 @@ fn check_both<'a>(
     Ok(Checked { frame, lists })
 }
 
-/// Checks two sections under a target: the length of the frame section, that of the lists, then the frame section as
-/// `check_frame` does, then the lists as `check_lists` does. The first fault in that order is the answer.
+/// Checks two sections for a target, in this order: the length of the frame section, the length of
+/// the lists, the frame section (as `check_frame` does), the lists (as `check_lists` does). Returns
+/// the first fault in that order.
 pub fn check<'a>(
     alloc: Global,
     frame: &'a [u8],
@@ -127,7 +130,7 @@ pub fn check<'a>(
 ) -> Result<Checked<'a>, CheckFault>
     ensures answer { Checks (check_fault target frame.entry.now lists.entry.now) result }
 
-    // It accepts exactly the sections that are well formed.
+    // `check` accepts exactly the sections that are well formed.
     ensures accepts { IfOk result (λ _. AreWellFormed target frame.entry.now lists.entry.now) }
     ensures refuses { IfErr result (λ found. (found.fault ≡ memory)
         ⊎ ¬ AreWellFormed target frame.entry.now lists.entry.now) }
@@ -151,7 +154,7 @@ impl<'a> Checked<'a> {
         &self.frame
     }
 
-    /// The location lists. They were read under the target of the frame section.
+    /// The location lists. Their target is that of the frame section.
     pub fn lists(&self) -> &CheckedLists<'a>
         ensures lists { result.now ≡ self.now.lists }
         ensures target { self.now.lists.target ≡ self.now.frame.target }

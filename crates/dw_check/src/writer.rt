@@ -1,4 +1,4 @@
-//! Sends lines to a sink, one by one.
+//! Sends lines to a sink.
 
 ghost use Rattle.std.specs.Prelude.{◌≡◌, false};
 ghost use Rattle.std.specs.String.{string_bytes};
@@ -8,17 +8,17 @@ use crate::sink::{Sink, write_all};
 use crate::stop::ReportFault;
 use dw_bytes::AddressSize;
 
-/// Where the lines of a text go. Keeps only the current line.
+/// Where the lines of a text go. Only what is sent next is kept in memory.
 #[derive(Drop)]
 pub(crate) struct Writer<'a, S: Sink> {
-    /// The line made so far.
+    /// The line or lines to send next, as far as they are made.
     pub line: &'a mut String,
     /// The size in which addresses are shown.
     pub size: AddressSize,
     pub sink: &'a mut S,
 }
 
-/// Sends the line to the sink.
+/// Sends `out.line` to the sink.
 pub(crate) fn send_line<S: Sink>(out: &mut Writer<'_, S>) -> Result<(), ReportFault>
     requires runs { S.has_stopped out.old.sink.now ≡ false }
     ensures same { IsSame out.old out.new }

@@ -1,4 +1,4 @@
--- ---- To be believed: the standard's words. Read these to check the headline against DWARF 5.
+-- ---- Trusted: what DWARF 5 says. To check the headline against the standard, read these.
 -- entries modulo 2^w (2.5.1)
 pub mod Numbers
 -- the inputs of an evaluation
@@ -7,7 +7,7 @@ pub mod World
 pub mod Values
 -- the entries that an operation uses
 pub mod Needs
--- runs over these inputs
+-- what each operation means to a run over these inputs
 pub mod Meaning
 -- the outcomes of runs (2.6)
 pub mod Results
@@ -15,19 +15,19 @@ pub mod Results
 pub mod MemoryBlocks
 -- which numbers are below 2^w
 pub mod Fits
--- ---- What the code's own values mean, and what its calls answer.
+-- ---- What the code's values mean, and what its calls return.
 -- locations, pieces and outcomes of the code
 pub mod Views
--- ---- Below the contracts: no contract of a public call uses these.
--- an operation pushes as many entries as its line states
+-- ---- Internal: no contract of a public call uses these.
+-- an operation pushes as many entries as `effect_of` says
 pub mod Fair
--- what the environment of the code answers
+-- the world that an `Environment` of the code stands for
 pub mod Handed
 -- how an operation changes the stack
 pub mod StackChanges
--- one step of the run of the code
+-- one step of a run as the code makes it
 pub mod Steps
--- what can be run, and a run on its way
+-- which expressions the code can run, and runs that have begun
 pub mod UnderWay
--- operations without operands, by their codes
+-- operations without operands, by their opcodes
 pub mod BareOperations

@@ -12,7 +12,8 @@ use crate::location::{Location, PieceSize};
 use crate::stack::Stack;
 use dw_ops::Operation;
 
-/// The offset of the next operation; a jump that is taken goes forward.
+/// The offset that the operation leads to: the target if it jumps, which is always forward, else
+/// `next`, the offset after the operation.
 #[inline(always)]
 pub fn next_offset<const PLACES: usize>(
     operation: &Operation<'_>,
@@ -36,7 +37,7 @@ pub fn next_offset<const PLACES: usize>(
     }
 }
 
-/// The location that the operation names.
+/// The location that the operation names, if it names one.
 #[inline(always)]
 pub fn location_named<'a, const PLACES: usize>(
     operation: &Operation<'a>,

@@ -25,11 +25,11 @@ pub enum Change {
     Swap,
     /// Rotates the top three: the top becomes the third entry, the second the top and the third the second.
     Rot,
-    /// Replaces the topmost entries, `taken` of them, by a value.
+    /// Replaces the topmost `taken` entries by `value`.
     Put { taken: usize, value: u64 },
 }
 
-/// Replaces the topmost entries, `taken` of them, by a value.
+/// The change that replaces the topmost `taken` entries by `value`.
 #[inline(always)]
 fn change_to(taken: usize, value: u64) -> Result<Change, EvaluationError>
     ensures { result ≡ Ok (Change.Put taken value) }
@@ -37,7 +37,7 @@ fn change_to(taken: usize, value: u64) -> Result<Change, EvaluationError>
     Ok(Change::Put { taken, value })
 }
 
-/// A divisor, unless it is 0.
+/// The divisor `b`, or `DivisionByZero` if it is 0.
 #[inline(always)]
 pub fn divisor(b: u64) -> Result<u64, EvaluationError>
     ensures ok { IfOk result (λ c. (c ≡ b) × (0 < b)) }
@@ -97,8 +97,8 @@ fn pushing_change<R: Registers, M: Memory>(
     }
 }
 
-/// The change of an operation that replaces all entries it needs by one value: a read, arithmetic, or one that needs
-/// none.
+/// The change of an operation that replaces all entries it needs by one value: a memory read,
+/// arithmetic, a comparison, or an operation that needs no entry.
 #[tactic(auto, using(crate::proofs::Entries::entry_below))]
 #[inline(always)]
 fn computing_change<R: Registers, M: Memory, const PLACES: usize>(
@@ -160,7 +160,8 @@ fn computing_change<R: Registers, M: Memory, const PLACES: usize>(
     }
 }
 
-/// The change of an operation. The entries that it needs are on the stack.
+/// The change that an operation makes to the stack, or why the operation has no answer. The stack
+/// has the entries that the operation needs.
 #[inline(always)]
 pub fn change_of<R: Registers, M: Memory, const PLACES: usize>(
     environment: &Environment<'_, R, M>,

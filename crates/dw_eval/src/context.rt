@@ -37,15 +37,17 @@ pub trait Memory {
     /// The byte at an address.
     ghost bytes: { Self → ℕ → Option ℕ };
 
-    /// Reads `size` bytes at an address as a number in this order, if all of them are known. `size` is 1, 2, 4 or 8, and
-    /// the last byte's address is below 2^64.
+    /// Reads the number in the `size` bytes from `address` on, in the byte order `order`. None if
+    /// one of these bytes isn't known. `size` is 1, 2, 4 or 8, and the last byte's address is below
+    /// 2^64.
     fn read(&self, address: u64, size: u8, order: Order) -> Option<u64>
         requires size { IsSize size }
         requires within { address + size ≤ 2 ^ 64 }
         ensures { result ≡ number_at (bytes self.now) order address size };
 }
 
-/// The values that the point in the program supplies to an expression. Each is taken modulo 2^w.
+/// The values that the point in the program supplies to an expression, each if it is known. An
+/// evaluation takes each value modulo 2^w, w being the size of an address in bits.
 #[derive(Clone, Copy, Debug, Default, PartialEq, Eq)]
 pub struct Context {
     /// The canonical frame address (DWARF 5, section 6.4).

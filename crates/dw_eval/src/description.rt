@@ -1,4 +1,4 @@
-//! Running location descriptions.
+//! Runs location expressions.
 
 ghost use Rattle.std.specs.Prelude.{◌≡◌, ◌<◌, ◌∷◌, [], length, None};
 ghost use Rattle.dw_ops.specs.Views.{bytes_of};
@@ -16,7 +16,8 @@ use arrayvec::ArrayVec;
 use dw_ops::Expression;
 use dw_stack::Kind;
 
-/// Continues a location's expression after its first piece, from this offset and this count of steps.
+/// Continues a location expression after its first piece. `from` is the offset to go on at,
+/// `before` the number of steps already taken.
 fn run_location_on<'a, R: Registers, M: Memory, const PLACES: usize>(
     expression: &Expression<'a>,
     environment: &Environment<'_, R, M>,
@@ -63,8 +64,9 @@ fn run_location_on<'a, R: Registers, M: Memory, const PLACES: usize>(
     }
 }
 
-/// Runs a location from its start; `run` is new. The array of pieces is made only when the first piece ends: most
-/// locations have none, and making the array takes longer than their steps.
+/// Runs a location expression from its start; `run` is as `Run::new` makes it. The array of pieces
+/// is made only when the first piece ends: most location expressions have no pieces, and making the
+/// array takes longer than running them.
 pub fn run_location<'a, R: Registers, M: Memory, const PLACES: usize>(
     expression: &Expression<'a>,
     environment: &Environment<'_, R, M>,

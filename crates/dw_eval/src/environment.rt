@@ -12,7 +12,7 @@ use crate::evaluation_error::EvaluationError;
 use crate::width::Width;
 use dw_bytes::Target;
 
-/// The inputs of an evaluation, under the target of its expression.
+/// The inputs of an evaluation, with the target of its expression.
 #[derive(Drop)]
 pub struct Environment<'m, R: Registers, M: Memory> {
     pub target: Target,
@@ -32,7 +32,7 @@ impl<'m, R: Registers, M: Memory> Environment<'m, R, M> {
         }
     }
 
-    /// The size of a word in bytes.
+    /// The size of an address-sized word in bytes.
     #[inline(always)]
     pub fn word(&self) -> u8
         ensures value { result ≡ bytes_of_address self.now.target.address_size }
@@ -41,7 +41,7 @@ impl<'m, R: Registers, M: Memory> Environment<'m, R, M> {
         self.target.address_size.bytes()
     }
 
-    /// A given value plus an offset, modulo 2^w. Unreadable if the value isn't given.
+    /// `value` plus `offset`, modulo 2^w. `Unreadable` if there is no value.
     #[inline(always)]
     pub fn sum(&self, value: Option<u64>, offset: i64) -> Result<u64, EvaluationError>
         ensures { one_of result ≡ if_present value
@@ -53,7 +53,7 @@ impl<'m, R: Registers, M: Memory> Environment<'m, R, M> {
         }
     }
 
-    /// A given value, modulo 2^w. Unreadable if it isn't given.
+    /// `value` modulo 2^w. `Unreadable` if there is no value.
     #[inline(always)]
     pub fn given(&self, value: Option<u64>) -> Result<u64, EvaluationError>
         ensures { one_of result ≡ if_present value
@@ -65,7 +65,8 @@ impl<'m, R: Registers, M: Memory> Environment<'m, R, M> {
         }
     }
 
-    /// Reads `size` bytes at an address. Unreadable if the last lies past 2^w - 1.
+    /// Reads the number in the `size` bytes from `address` on, modulo 2^w. `Unreadable` if one of
+    /// these bytes isn't known or lies past 2^w - 1.
     #[inline(always)]
     pub fn load(&self, address: u64, size: u8) -> Result<u64, EvaluationError>
         requires address { address < 2 ^ width (world_in R.contents M.bytes self.now) }

@@ -3,8 +3,9 @@
 /// Why an operation has no answer.
 #[derive(Clone, Copy)]
 pub enum EvaluationError {
-    /// A register, memory or a value of the context isn't given, or a read goes past the greatest address.
+    /// The operation needs a register, memory or a value of the context that isn't given, or reads
+    /// past the greatest address.
     Unreadable,
-    /// It divides by zero.
+    /// The operation divides by zero.
     DivisionByZero,
 }

@@ -14,9 +14,11 @@ ghost use Rattle.dw_eval.specs.Needs.{UsesTopAlone};
 ghost use Rattle.dw_eval.specs.Fits.{NumbersFit};
 ghost use Rattle.dw_eval.specs.Results.{Outcome, IsOfKind, first_stack, start_configuration, IsEvaluation};
 
-/// An operation uses only the topmost entries, as many as it needs. Whatever lies below them, it pushes the same values,
-/// names the same location and jumps the same way, and leaves the entries below unchanged (a piece then clears the
-/// stack). A piece needs no entry; where it gives an address, that is the only entry.
+/// An operation uses only the topmost stack entries, as many as it needs. Whatever entries lie
+/// below those, the operation pushes the same values, names the same location and jumps the same
+/// way, and leaves the entries below unchanged (a piece clears the stack afterward). A piece
+/// operation needs no entry; if the location of its piece is an address, that address is the only
+/// entry.
 pub fn operations_use_the_top_alone()
     ensures top { (e : World) (op : Operation) (below top : List ℕ)
         → length top ≡ (effect_of op).needs → UsesTopAlone e op below top }
@@ -24,7 +26,8 @@ pub fn operations_use_the_top_alone()
         → location_of s None ≡ AtAddress a → s ≡ a ∷ [] }
 {}
 
-/// The evaluation of a good expression is determined: it has at most one outcome, after one number of steps.
+/// With given registers, memory and context, an expression that passes the check has at most one
+/// outcome, after one number of steps.
 pub fn evaluations_are_determined()
     ensures { (c : Checked) (e : World) (o p : Outcome) (n k : ℕ)
         → IsGoodExpression c.kind c.target c.bytes → IsEvaluation c e o n → IsEvaluation c e p k
@@ -46,7 +49,8 @@ pub fn numbers_of_evaluations_fit()
         → Run (meaning_of e) ops len n (start_configuration s) c → NumbersFit (2 ^ width e) c }
 {}
 
-/// Expressions of a frame evaluate to a value or to no answer, and locations to a location, to pieces or to no answer.
+/// A frame's expression evaluates to a value or to no answer. A location expression evaluates to a
+/// location, to pieces or to no answer.
 pub fn outcomes_are_of_their_kind()
     ensures { (c : Checked) (e : World) (o : Outcome) (n : ℕ) → IsEvaluation c e o n
         → IsOfKind c.kind o }

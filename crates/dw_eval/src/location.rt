@@ -8,19 +8,19 @@ use dw_stack::MAX_PIECES;
 /// Where an object is, or a piece of it (DWARF 5, section 2.6.1).
 #[derive(Clone, Copy, Debug, PartialEq, Eq)]
 pub enum Location<'a> {
-    /// Nowhere: it was optimized away.
+    /// Nowhere: the object was optimized away.
     Empty,
     /// In memory at this address.
     Address(u64),
     /// In this register.
     Register(u16),
-    /// Nowhere, but its value is this number.
+    /// Nowhere, but the object's value is this number.
     Value(u64),
-    /// Nowhere, but its value is these bytes.
+    /// Nowhere, but the object's value is these bytes.
     Bytes(&'a [u8]),
 }
 
-/// Fills the unused slots of a list.
+/// The default value fills the unused slots of a list.
 impl Default for Location<'_> {
     fn default() -> Self
         ensures { result ≡ Location.Empty }
@@ -29,7 +29,7 @@ impl Default for Location<'_> {
     }
 }
 
-/// How much of an object a piece is.
+/// The size of a piece.
 #[derive(Clone, Copy, Debug, PartialEq, Eq)]
 pub enum PieceSize {
     /// A number of bytes.
@@ -45,7 +45,7 @@ pub struct Piece<'a> {
     pub size: PieceSize,
 }
 
-/// Fills the unused slots of a list.
+/// The default value fills the unused slots of a list.
 impl Default for Piece<'_> {
     fn default() -> Self
         ensures { result ≡ record { location = Location.Empty; size = PieceSize.Bytes 0 } }
@@ -69,14 +69,16 @@ pub enum Outcome<'a> {
     Single(Location<'a>),
     /// Where the pieces of an object are.
     Pieces(Pieces<'a>),
-    /// The operation at this offset reads a register, memory or a value of the context that isn't given, or reads memory
-    /// past the greatest address. If the rule of a register lacks its CFA, it is 0, and no operation was reached.
+    /// The operation at the offset `at` reads a register, memory or a value of the context that
+    /// isn't given, or reads memory past the greatest address. If the rule of a register lacks its
+    /// CFA, `at` is 0, and no operation was reached.
     Unreadable { at: u32 },
-    /// The operation at this offset divides by zero.
+    /// The operation at the offset `at` divides by zero.
     DivisionByZero { at: u32 },
 }
 
-/// The outcome of an evaluation, and the number of operations it reached, one without an answer included.
+/// The outcome of an evaluation, and the number of operations that it reached, including one that
+/// has no answer.
 #[derive(Clone, Debug, Drop, PartialEq, Eq)]
 pub struct Evaluation<'a> {
     pub outcome: Outcome<'a>,

@@ -9,8 +9,8 @@ use crate::context::Memory;
 use byteorder::{BigEndian, ByteOrder, LittleEndian};
 use dw_bytes::Order;
 
-/// Memory with one known block, such as the top of a stack. A read that isn't wholly inside it has no
-/// answer.
+/// Memory with one known block, such as the top of a stack. A read that isn't wholly inside the
+/// block has no answer.
 ///
 /// ```rust
 /// let stack = MemoryBlock {
@@ -23,11 +23,11 @@ use dw_bytes::Order;
 pub struct MemoryBlock<'a> {
     /// The address of the first byte.
     pub base: u64,
-    /// The bytes from there on.
+    /// The bytes from `base` on.
     pub bytes: &'a [u8],
 }
 
-/// The `size` bytes at an address, if all are in the block.
+/// The `size` bytes from `address` on, if all of them are in the block.
 #[inline(always)]
 fn window<'a>(base: u64, bytes: &'a [u8], address: u64, size: usize) -> Option<&'a [u8]>
     requires { 1 ≤ size }
@@ -49,7 +49,8 @@ fn window<'a>(base: u64, bytes: &'a [u8], address: u64, size: usize) -> Option<&
     Some(&bytes[at..at + size])
 }
 
-/// The number that the bytes encode. A whole little-endian word, which nearly all reads are, is one load.
+/// The number that the bytes encode. Nearly all reads are of 8 little-endian bytes, and that takes
+/// one load.
 #[inline(always)]
 fn number_of(order: Order, bytes: &[u8]) -> u64
     requires low { 1 ≤ length bytes.now }

@@ -1,4 +1,4 @@
-//! A run of a location, step by step.
+//! The run of a location expression, step by step.
 
 use crate::bare::execute_bare;
 use crate::branch_target::{location_named, piece_size_named};
@@ -10,20 +10,21 @@ use crate::location::{Location, Piece, PieceSize};
 use crate::stack::Stack;
 use dw_ops::{Expression, Operation};
 
-/// The state of a run, without its offset and its pieces.
+/// The state of a location expression's run, except for its offset and its pieces.
 #[derive(Drop)]
 pub struct Run<'a, const PLACES: usize> {
     pub stack: Stack<PLACES>,
-    /// The location that waits for a piece, or for the end.
+    /// The location that was just named, if any: a piece operation, or the end of the expression,
+    /// uses it next.
     pub pending: Option<Location<'a>>,
 }
 
-/// What a step does besides.
+/// What a step does besides changing the `Run`.
 #[derive(Clone, Copy)]
 pub enum Step<'a> {
-    /// It leads to this offset.
+    /// The step leads to this offset.
     To(u32),
-    /// It ends this piece, and leads to this offset.
+    /// The step ends this piece, and leads to this offset.
     Ends(Piece<'a>, u32),
 }
 
@@ -42,7 +43,7 @@ impl<'a, const PLACES: usize> Run<'a, PLACES> {
     ghost use Rattle.dw_eval.specs.Results.{result_of, single};
     ghost use Rattle.dw_eval.specs.Steps.{configuration_of, Applies, CanExecute, CanStepAt, FailsAt, MovesAt};
 
-    /// A run with an empty stack.
+    /// A run at its start: the stack is empty, and no location is pending.
     pub fn new() -> Self
         ensures stack { result.stack ≡ [] }
         ensures pending { result.pending ≡ None }
@@ -53,7 +54,8 @@ impl<'a, const PLACES: usize> Run<'a, PLACES> {
         }
     }
 
-    /// The location before the operation: what was named, the address on the stack, or nothing.
+    /// The location that a piece would have here: the pending one, else the address on the stack,
+    /// else the empty location.
     #[inline(always)]
     fn location(&self) -> Location<'a>
         requires { self.now.pending ≡ None → length self.now.stack ≤ 1 }
@@ -72,7 +74,8 @@ impl<'a, const PLACES: usize> Run<'a, PLACES> {
         }
     }
 
-    /// Ends a piece of this size.
+    /// Ends a piece of size `size` at the current location; clears the stack and the pending
+    /// location.
     #[inline(always)]
     fn end_piece(&mut self, size: PieceSize) -> Piece<'a>
         requires { self.old.pending ≡ None → length self.old.stack ≤ 1 }
@@ -91,7 +94,8 @@ impl<'a, const PLACES: usize> Run<'a, PLACES> {
         Piece { location, size }
     }
 
-    /// What an operation does. The next one is at `next`.
+    /// Applies an operation to the run. Returns the step that it makes, or why it has no answer.
+    /// `next` is the offset after the operation.
     #[inline(always)]
     pub fn apply<R: Registers, M: Memory>(
         &mut self,
@@ -120,8 +124,8 @@ impl<'a, const PLACES: usize> Run<'a, PLACES> {
         }
     }
 
-    /// One step: what the operation at an offset does. One without operands names no location, so that none was named
-    /// before it and nothing is written.
+    /// Applies the operation at the offset `at`. An operation that `execute_bare` handles neither
+    /// uses nor names a location: `pending` is `None` before it and after it, so it isn't written.
     #[inline(always)]
     pub fn step<R: Registers, M: Memory>(
         &mut self,
@@ -147,7 +151,8 @@ impl<'a, const PLACES: usize> Run<'a, PLACES> {
         self.apply(environment, &operation, next)
     }
 
-    /// Where the object is at the end of a location without pieces, with or without operations.
+    /// Where the object is, at the end of a location expression without pieces. `is_empty` says
+    /// that the expression has no operations.
     pub fn result(&self, is_empty: bool) -> Location<'a>
         requires { GivesResult Kind.Location is_empty (configuration_of 0 self.now []) }
         ensures { single (location_description_of result) ≡ result_of Kind.Location is_empty

@@ -2,7 +2,7 @@
 
 use std::marker::Model;
 
-/// The entries of a run, the top last, in a fixed number of slots.
+/// The stack entries of a run, the top last, in a fixed number of slots.
 #[derive(Drop)]
 pub struct Stack<const PLACES: usize> {
     places: [u64; PLACES],
@@ -49,7 +49,7 @@ impl<const PLACES: usize> Stack<PLACES> {
         self.places[self.height - 1 - below]
     }
 
-    /// Replaces the topmost entries, `taken` of them, by a value.
+    /// Replaces the topmost `taken` entries by `value`.
     #[inline(always)]
     pub fn put(&mut self, taken: usize, value: u64)
         requires taken { taken ≤ length self.old }

@@ -8,7 +8,8 @@ ghost use Rattle.dw_eval.specs.Numbers.{width_of, wrap, twos_complement, truth};
 
 use dw_bytes::AddressSize;
 
-/// The number of bits of an entry of the stack, w: those of an address (DWARF 5, section 2.5.1). Results are taken modulo 2^w.
+/// The number of bits of a stack entry, w, which is that of an address (DWARF 5, section 2.5.1).
+/// The results of the methods are taken modulo 2^w.
 ///
 /// ```rust
 /// let width = Width { size: AddressSize::Four };
@@ -29,7 +30,7 @@ impl Width {
         self.size.max_address()
     }
 
-    /// The number modulo 2^w.
+    /// `n` modulo 2^w.
     #[inline(always)]
     pub fn reduce(self, n: u64) -> u64
         ensures { result ≡ wrap (width_of self.size) (pos n) }
@@ -40,7 +41,7 @@ impl Width {
         }
     }
 
-    /// A number of one byte, which is below 2^w.
+    /// A number of one byte as a stack entry. It is below 2^w as it is.
     #[inline(always)]
     pub(crate) fn byte(self, n: u8) -> u64
         ensures { result ≡ wrap (width_of self.size) (pos n) }
@@ -48,7 +49,7 @@ impl Width {
         u64::from(n)
     }
 
-    /// The signed number modulo 2^w.
+    /// The signed number `z` modulo 2^w.
     #[inline(always)]
     pub(crate) fn reduce_signed(self, z: i64) -> u64
         ensures { result ≡ wrap (width_of self.size) z }
@@ -56,7 +57,7 @@ impl Width {
         self.reduce(z.cast_unsigned())
     }
 
-    /// The entry as a signed number.
+    /// The w-bit entry `n`, read as a signed number in two's complement.
     #[inline(always)]
     fn sign(self, n: u64) -> i64
         requires { n < 2 ^ width_of self.size }
@@ -104,7 +105,7 @@ impl Width {
         self.reduce(a.wrapping_mul(b))
     }
 
-    /// The quotient, signed and truncated.
+    /// The quotient of `a` and `b` as signed numbers, truncated toward zero.
     #[inline(always)]
     pub(crate) fn div(self, a: u64, b: u64) -> u64
         requires a { a < 2 ^ width_of self.size }
@@ -117,7 +118,7 @@ impl Width {
         self.reduce_signed(self.sign(a).wrapping_div(self.sign(b)))
     }
 
-    /// The absolute value, signed. The most negative number keeps its value.
+    /// The absolute value of `b` as a signed number. The most negative number is left as it is.
     #[inline(always)]
     pub(crate) fn abs(self, b: u64) -> u64
         requires { b < 2 ^ width_of self.size }
@@ -170,7 +171,7 @@ impl Width {
         a ^ b
     }
 
-    /// The remainder, unsigned.
+    /// The remainder of `a` and `b` as unsigned numbers.
     #[inline(always)]
     pub(crate) fn rem(self, a: u64, b: u64) -> u64
         requires a { a < 2 ^ width_of self.size }
@@ -214,7 +215,7 @@ impl Width {
         self.reduce_signed(self.sign(a) >> b.min(63))
     }
 
-    /// Whether `a` is below `b`, signed.
+    /// Whether `a` is less than `b`, as signed numbers.
     #[inline(always)]
     pub(crate) fn is_below(self, a: u64, b: u64) -> bool
         requires a { a < 2 ^ width_of self.size }
@@ -225,7 +226,7 @@ impl Width {
         self.sign(a) < self.sign(b)
     }
 
-    /// Whether `a` is at most `b`, signed.
+    /// Whether `a` is at most `b`, as signed numbers.
     #[inline(always)]
     pub(crate) fn is_at_most(self, a: u64, b: u64) -> bool
         requires a { a < 2 ^ width_of self.size }

@@ -12,7 +12,8 @@ use Rattle.dw_frame.specs.Codes.{extended_line, line_of, EncodesInstruction}
 use Rattle.dw_frame.specs.Bounds.{EndsWith, EndsWithItsBlock, IsSoundRecord, offset_of}
 use Rattle.dw_frame.proofs.RecordBounds.{sound-record, record-offset}
 
--- what holds of the operands of a line of the table
+-- if the bytes are the operands of a table line, then the instruction ends with its block, if it
+-- has one
 Holds : ℕ → Target → Option (Line Instruction) → Type 0
 Holds start target of = (at : ℕ) (bytes : List ℕ) (i : Instruction) → start < at → AreOperands target of at bytes i
     → EndsWithItsBlock target start (at + length bytes) i

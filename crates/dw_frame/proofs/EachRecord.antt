@@ -93,7 +93,7 @@ record-only r x after next =
     (record { bytes = s.fields; encoded = s.header_is; parts = refl; position = refl; target = refl }) in
     rw (one, two) (ap (λ (y : Record). finish (y, after)) (sym s.record_is))
 
--- a length takes bytes
+-- the encoding of a length isn't empty
 pub some-length : (order : Order) (bytes : List ℕ) (format : Format) (v : ℕ) → Len order bytes format v → 0 < length bytes
 some-length order bytes Dwarf32 v h = omega (arith, h.0.count)
 some-length order bytes Dwarf64 v (mark, rest, parts, first, second) = omega (arith, first.count, ap length parts, length-append mark rest)

@@ -139,7 +139,7 @@ sound-record target size at bytes x s inside =
     (sound-from target size at (at + length s.front) s.format s.header program range (omega (arith, front)) (omega (arith, fields))
     (omega (arith, inside, ap length s.parts, long, longer)) refl)
 
--- on the way through a section
+-- r is a position in a section of this size and target
 pub record IsOn (target : Target) (size : ℕ) (r : ReadPosition) : Type 0 where
   pub same_target : r.target ≡ target
   pub same_end : end-of r ≡ size
@@ -160,7 +160,7 @@ entries-sound target section item h =
     (λ r fault on is. let stands = record-refused r fault is in omega (arith, stands, on.same_end))
     (section_from target section 0) item (record { same_target = refl; same_end = omega (arith, length-drop 0 section) }) h
 
--- the fault of a search is inside the section
+-- the fault of a search for a CIE is inside the section or at its end
 pub cie-inside : (target : Target) (section : List ℕ) (offset : ℕ) (fault : Fault)
     → cie_among offset (entries_of target section) ≡ Err fault → fault.at ≤ length section
 cie-inside target section offset fault is = entries-sound target section (Err fault) (cie-fault offset (entries_of target section) fault is)

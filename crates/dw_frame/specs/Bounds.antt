@@ -9,25 +9,26 @@ use Rattle.dw_frame.specs.Instructions.{Instruction}
 use Rattle.dw_frame.specs.Records.{is_version, Cie, Fde, Record, cie_record, fde_record}
 use Rattle.dw_frame.specs.Sections.{top_of}
 
--- An instruction begins inside its program. A fault may also be at the program's end.
+-- An instruction begins inside its program. A fault is reported inside the program or at its end.
 abbrev pub StandsIn : ReadPosition → Result (ℕ × Instruction) Fault → Type 0
 StandsIn r (Ok item) = (r.position ≤ item.0) × (item.0 < r.position + length r.rest)
 StandsIn r (Err fault) = (r.position ≤ fault.at) × (fault.at ≤ r.position + length r.rest)
 
--- A block of a target that is after an offset, and ends at another.
+-- Block b begins after offset `at`, ends at offset `end`, and has this target.
 pub record EndsWith (target : Target) (at end : ℕ) (b : Block) : Type 0 where
   pub behind : at < b.offset
   pub ends : b.offset + length b.bytes ≡ end
   pub target_is : b.target ≡ target
 
--- The expression of an instruction, if it has one, is its last part, and it is after the instruction's first byte.
+-- The expression of an instruction, if it has one, begins after the instruction's first byte and
+-- ends where the instruction ends.
 abbrev pub EndsWithItsBlock : Target → ℕ → ℕ → Instruction → Type 0
 EndsWithItsBlock target at end (Instruction.def_cfa_expression b) = EndsWith target at end b
 EndsWithItsBlock target at end (Instruction.expression r b) = EndsWith target at end b
 EndsWithItsBlock target at end (Instruction.val_expression r b) = EndsWith target at end b
 EndsWithItsBlock target at end _ = Unit {0}
 
--- What is left of a section after something that begins at an offset.
+-- `after` is what is left of the section from an offset above `at` on.
 pub record IsBehind (target : Target) (section : List ℕ) (at : ℕ) (after : ReadPosition) : Type 0 where
   pub later : at < after.position
   pub inside : after.position ≤ length section
@@ -44,7 +45,8 @@ pub record IsSoundCie (target : Target) (size : ℕ) (c : Cie) : Type 0 where
   pub version : is_version c.version ≡ true
   pub return_address_register : c.return_address_register ≤ 65535
 
--- The CIE_pointer of an FDE is between its offset and its program, and its addresses are addresses of the target.
+-- The CIE_pointer of an FDE lies between the FDE's offset and its program. The end of the FDE's
+-- range is at most the target's highest address.
 pub record IsSoundFde (target : Target) (size : ℕ) (f : Fde) : Type 0 where
   pub program : LiesIn target size f.offset f.program
   pub pointer_behind : f.offset < f.cie_pointer_offset
@@ -63,7 +65,7 @@ abbrev pub offset_of : Record → ℕ
 offset_of (cie_record c) = c.offset
 offset_of (fde_record f) = f.offset
 
--- each is below those after it, by this number
+-- Each item's number is below the numbers of all items after it.
 abbrev pub Ascends : {X : Type 0} → (X → ℕ) → List X → Type 0
 Ascends at [] = Unit {0}
 Ascends at (x ∷ xs) = AllByRecursion (λ y. at x < at y) xs × Ascends at xs

@@ -1,4 +1,4 @@
--- What the headers of the code stand for.
+-- What the code's types of headers stand for.
 use Rattle.dw_frame.specs.declared.header.CieHeader.{CieHeader}
 use Rattle.dw_frame.specs.declared.header.FdeHeader.{FdeHeader}
 use Rattle.dw_frame.specs.declared.header.Header as declared

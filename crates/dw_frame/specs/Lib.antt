@@ -1,16 +1,16 @@
--- ---- To be believed: the standard's words. To check the headline against DWARF 5, read these.
+-- ---- Trusted: what DWARF 5 says. To check the headline against the standard, read these.
 -- CIEs and FDEs (6.4.1)
 pub mod Records
 -- call frame instructions (6.4.2)
 pub mod Instructions
--- which bytes encode which instruction (7.24), and their reading
+-- which bytes encode which instruction (7.24), and how an instruction is read
 pub mod Codes
--- which bytes encode which record (6.4.1, 7.24), and their reading
+-- which bytes encode which record (6.4.1, 7.24), and how a record is read
 pub mod Sections
--- where records and instructions are
+-- where records and instructions lie
 pub mod Bounds
--- ---- What the code's own values stand for, and what its calls return.
--- headers of the code
+-- ---- What the code's values mean, and what its calls return.
+-- what the code's headers stand for
 pub mod Headers
--- records and instructions of the code
+-- what the code's records and instructions stand for
 pub mod Views

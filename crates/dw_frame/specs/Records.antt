@@ -3,7 +3,7 @@ use Rattle.std.specs.Prelude.{◌==◌, ◌||◌, ℕ, ℤ, Bool}
 use Rattle.dw_bytes.specs.declared.target.Format.{Format}
 use Rattle.dw_bytes.specs.Reading.{ReadPosition}
 
--- The versions of a CIE, which have numbers of their own (Appendix G): that of DWARF 2, of DWARF 3, and of DWARF 4 and 5.
+-- The version of a CIE (Appendix G): 1 in DWARF 2, 3 in DWARF 3, and 4 in DWARF 4 and 5.
 abbrev pub is_version : ℕ → Bool
 is_version number = number == 1 || number == 3 || number == 4
 
@@ -17,7 +17,8 @@ pub record Cie : Type 0 where
   pub return_address_register : ℕ
   pub program : ReadPosition
 
--- An FDE, likewise. Its CIE_pointer has an offset of its own.
+-- An FDE: the offset of its record, its header, the offset of its CIE_pointer field, and its
+-- program, which is what its body has left after the header.
 pub record Fde : Type 0 where
   pub offset : ℕ
   pub format : Format

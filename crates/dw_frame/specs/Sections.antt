@@ -18,14 +18,15 @@ use Rattle.dw_frame.specs.Records.{is_version, Cie, Record, cie_record, fde_reco
 
 -- ---- headers
 
--- What is between the length of a CIE and its program, without the parts that can have only one value.
+-- The fields between the length of a CIE and its program, without those that can have only one
+-- value.
 pub record CieHeader : Type 0 where
   pub version : ℕ
   pub code_alignment_factor : ℕ
   pub data_alignment_factor : ℤ
   pub return_address_register : ℕ
 
--- What is between the length of an FDE and its program.
+-- The fields between the length of an FDE and its program.
 pub record FdeHeader : Type 0 where
   pub cie_pointer : ℕ
   pub initial_location : ℕ
@@ -35,7 +36,7 @@ pub data Header : Type 0 where
   cie_header : CieHeader → Header
   fde_header : FdeHeader → Header
 
--- the offset of all ones, which begins the body of a CIE
+-- the id that begins the body of a CIE: an offset whose bits are all ones
 abbrev pub cie_id : Format → ℕ
 cie_id Dwarf32 = 0xffffffff
 cie_id Dwarf64 = 0xffffffffffffffff
@@ -58,7 +59,8 @@ abbrev pub return_column : ℕ → (ℕ → Fields Header) → Fields Header
 return_column version next =
     if version == 1 then field (fixed 1) column_fault next else field unsigned column_fault next
 
--- In every version the header of a CIE ends with the two factors and that column.
+-- In every version the header of a CIE ends with both alignment factors and the return address
+-- column.
 abbrev pub factors : ℕ → Fields Header
 factors version =
     any unsigned (λ code_alignment_factor.
@@ -71,20 +73,23 @@ factors version =
       return_address_register = return_address_register;
     })))))
 
--- Before these, only version 4 has the sizes: of an address, which is the target's, and of a segment selector, 0.
+-- After the augmentation only version 4 has two sizes: the address size, which must be the
+-- target's, and the segment selector size, which must be 0. Then come the factors.
 abbrev pub behind_augmentation : Target → ℕ → Fields Header
 behind_augmentation target version =
     if version == 4
     then byte AddressSize (bytes_of_address target.address_size) (byte SegmentSize 0 (factors version))
     else factors version
 
--- After the id of a CIE: its version, which chooses the fields (6.4.1, Appendix G), and an augmentation that is empty.
+-- After the id of a CIE: its version, which decides what fields follow (6.4.1, Appendix G), and the
+-- augmentation, which must be empty.
 abbrev pub cie_fields : Target → Fields Header
 cie_fields target =
     field (fixed 1) (λ number. unless (is_version number) Version) (λ version.
     byte Augmentation 0 (behind_augmentation target version))
 
--- After the CIE_pointer of an FDE: the first address, and how many there are, which all lie in the address space.
+-- After the CIE_pointer of an FDE: its first address, and the number of its addresses. Their sum
+-- must be at most the highest address.
 abbrev pub fde_fields : Target → ℕ → Fields Header
 fde_fields target cie_pointer =
     any address (λ initial_location.
@@ -105,7 +110,7 @@ header_at target format r = fields_at (header_fields target format) r
 
 -- ---- records
 
--- the record at an offset, its body's offset, its header and its program
+-- a record, made of its offset, its format, its body's offset, its header and its program
 abbrev pub record_from : ℕ → Format → ℕ → Header → ReadPosition → Record
 record_from at format body (cie_header h) program =
     cie_record (record {
@@ -145,22 +150,23 @@ pub record IsRecord (target : Target) (at : ℕ) (bytes : List ℕ) (r : Record)
 abbrev pub AreRecords : Target → ℕ → List ℕ → List Record → Type 0
 AreRecords target = Sequence (IsRecord target)
 
--- the record, its header read within its body
+-- reading a record: its length and body, and then its header within the body
 unfoldable pub record_at : ReadPosition → Result (Record × ReadPosition) Fault
 record_at r = do
   framed ← framed_at r
   header ← header_at r.target framed.0.0 framed.0.1
   Ok (record_from r.position framed.0.0 framed.0.1.position header.0 header.1, framed.1)
 
--- the records of a section from an offset on
+-- reading the records of a section from an offset on
 unfoldable pub entries_from : Target → List ℕ → ℕ → List (Result Record Fault)
 entries_from target section at = sequence_of record_at (section_from target section at)
 
--- The records of a section from left to right, up to its end or the first fault.
+-- Reading the records of a section from left to right, up to the section's end or the first fault.
 abbrev pub entries_of : Target → List ℕ → List (Result Record Fault)
 entries_of target section = entries_from target section 0
 
--- The first CIE at an offset, or the fault that comes before it, or none.
+-- Goes through the records in order. Gives the first CIE at the offset, or the first fault before
+-- that CIE, or None if there is neither.
 abbrev pub cie_among : ℕ → List (Result Record Fault) → Result (Option Cie) Fault
 cie_among offset [] = Ok None
 cie_among offset (Ok (cie_record c) ∷ entries) = if c.offset == offset then Ok (Some c) else cie_among offset entries

@@ -5,31 +5,34 @@ ghost use Rattle.dw_ops.specs.Views.{bytes_of};
 
 use dw_ops::Expression;
 
-/// The expression of an instruction, and where it is.
+/// The expression of an instruction, and the expression's offset in the section.
 #[derive(Clone, Copy, Debug)]
 pub struct UnwindExpression<'a> {
-    /// The offset of its first byte in the section. Offsets inside it count from there.
+    /// The offset of the expression's first byte in the section. Offsets in the expression count
+    /// from that byte.
     pub offset: u32,
-    /// Its bytes and the target of the section.
+    /// The expression's bytes, and the target of the section.
     pub expression: Expression<'a>,
     pub ghost inside: { offset + length (bytes_of expression) < 2 ^ 32 },
 }
 
-/// A call frame instruction with its operands as they are encoded (DWARF 5, sections 6.4.2 and 7.24): a delta is still to
-/// be multiplied by the CIE's code alignment factor, and a factored offset by its data alignment factor. Offsets are in
-/// bytes, and register numbers are those of the rules' columns.
+/// A call frame instruction with its operands as they are encoded (DWARF 5, sections 6.4.2 and
+/// 7.24). A `delta` isn't yet multiplied by the CIE's code alignment factor, nor a
+/// `factored_offset` by its data alignment factor. An `offset` is in bytes. A register number is
+/// that of a column in the table of rules.
 #[derive(Clone, Copy, Debug)]
 pub enum CallFrameInstruction<'a> {
     /// `DW_CFA_advance_loc`: the location moves on by a delta of six bits.
     AdvanceLoc {
         delta: u8,
     },
-    /// `DW_CFA_offset`: a register of six bits is saved at an offset from the CFA.
+    /// `DW_CFA_offset`: a register, whose number has six bits, is saved at an offset from the CFA.
     Offset {
         register: u16,
         factored_offset: u64,
     },
-    /// `DW_CFA_restore`: a register of six bits gets back the rule that the CIE gave it.
+    /// `DW_CFA_restore`: a register, whose number has six bits, gets back the rule that the CIE
+    /// gave it.
     Restore {
         register: u16,
     },
@@ -73,9 +76,9 @@ pub enum CallFrameInstruction<'a> {
         register: u16,
         source: u16,
     },
-    /// `DW_CFA_remember_state`: the rules are remembered.
+    /// `DW_CFA_remember_state`: pushes the rules onto a stack.
     RememberState,
-    /// `DW_CFA_restore_state`: the rules that were remembered last are restored.
+    /// `DW_CFA_restore_state`: pops the rules from the top of that stack.
     RestoreState,
     /// `DW_CFA_def_cfa`: the CFA is a register plus an offset.
     DefCfa {

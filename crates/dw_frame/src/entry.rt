@@ -14,13 +14,13 @@ pub struct CommonInformationEntry<'a> {
     /// The format of the record's length.
     pub format: Format,
     pub(crate) version: u8,
-    /// What the delta of an advance is multiplied by.
+    /// The factor for the delta of an advance instruction.
     pub code_alignment_factor: u64,
-    /// What a factored offset is multiplied by.
+    /// The factor for a factored offset.
     pub data_alignment_factor: i64,
-    /// The column of the rules that represents the return address.
+    /// The register number (column in the table of rules) that stands for the return address.
     pub return_address_register: u16,
-    /// The initial instructions.
+    /// The initial instructions of each FDE that refers to this CIE.
     pub program: Program<'a>,
     pub ghost known: { is_version version ≡ true },
 }
@@ -28,7 +28,7 @@ pub struct CommonInformationEntry<'a> {
 impl<'a> CommonInformationEntry<'a> {
     ghost use Rattle.dw_frame.specs.Views.{cie_of};
 
-    /// The version of its encoding (DWARF 5, section 6.4.1 and Appendix G): 1, 3 or 4.
+    /// The version of the CIE's encoding (DWARF 5, section 6.4.1 and Appendix G): 1, 3 or 4.
     pub fn version(&self) -> u8
         ensures version { result ≡ (cie_of self.now).version }
         ensures known { is_version result ≡ true }
@@ -37,28 +37,29 @@ impl<'a> CommonInformationEntry<'a> {
     }
 }
 
-/// A frame description entry (DWARF 5, section 6.4.1): a range of addresses and its program.
+/// A frame description entry (DWARF 5, section 6.4.1): a range of addresses and the program for
+/// them.
 #[derive(Clone, Copy, Debug)]
 pub struct FrameDescriptionEntry<'a> {
     /// The offset of the record's first byte in the section.
     pub offset: u32,
     /// The format of the record's length.
     pub format: Format,
-    /// The offset in the section where its CIE begins, as the record states it.
+    /// The CIE_pointer field: the offset in the section where the FDE says that its CIE begins.
     pub cie_pointer: u64,
     /// The offset of the CIE_pointer field in the section.
     pub cie_pointer_offset: u32,
-    /// The first address that it covers.
+    /// The first address that the FDE covers.
     pub initial_location: u64,
-    /// The number of addresses that it covers.
+    /// The number of addresses that the FDE covers.
     pub address_range: u64,
-    /// The instructions.
+    /// The FDE's own instructions, which follow those of its CIE.
     pub program: Program<'a>,
     pub ghost in_range: { initial_location + address_range < 2 ^ 64 },
 }
 
 impl<'a> FrameDescriptionEntry<'a> {
-    /// The address after the last one that it covers; `initial_location` if it covers none.
+    /// The address after the last one that the FDE covers; `initial_location` if it covers none.
     #[inline(always)]
     pub fn end_address(&self) -> u64
         ensures { result ≡ self.now.initial_location + self.now.address_range }

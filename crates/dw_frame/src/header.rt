@@ -10,7 +10,8 @@ ghost use Rattle.dw_frame.specs.Records.{is_version};
 
 use dw_bytes::{Cursor, Fault, FaultKind, Format, Target};
 
-/// What is between the length of a CIE and its program.
+/// The fields between the length of a CIE and its program, without those that can have only one
+/// value.
 #[derive(Clone, Copy)]
 pub struct CieHeader {
     pub version: u8,
@@ -20,7 +21,7 @@ pub struct CieHeader {
     ghost known: { is_version version ≡ true },
 }
 
-/// What is between the length of an FDE and its program.
+/// The fields between the length of an FDE and its program.
 #[derive(Clone, Copy)]
 pub struct FdeHeader {
     pub cie_pointer: u64,
@@ -36,7 +37,7 @@ pub enum Header {
     Fde(FdeHeader),
 }
 
-/// The version of a CIE.
+/// Reads the version of a CIE, which must be 1, 3 or 4.
 fn read_version(cursor: &mut Cursor<'_>) -> Result<u8, Fault>
     ensures exact { ParsesBy (λ version. version)
         (field_at (fixed 1) (λ number. unless (is_version number) Version))
@@ -60,7 +61,7 @@ impl CieHeader {
     ghost use Rattle.dw_frame.specs.Sections.{cie_fields, factors};
     ghost use Rattle.dw_frame.specs.Headers.{cie_head};
 
-    /// What comes after the id of a CIE.
+    /// Reads the fields after the id of a CIE.
     fn read(cursor: &mut Cursor<'_>, target: Target) -> Result<Self, Fault>
         ensures exact { ParsesBy cie_head
             (fields_at (cie_fields target)) cursor.old result cursor.new }
@@ -76,7 +77,8 @@ impl CieHeader {
         CieHeader::read_factors(cursor, version)
     }
 
-    /// The fields that end the header of a CIE of this version.
+    /// Reads the last fields of a CIE's header: both alignment factors, and the return address
+    /// register, which is a byte in version 1 and LEB128 in later ones.
     fn read_factors(cursor: &mut Cursor<'_>, version: u8) -> Result<Self, Fault>
         requires { is_version version ≡ true }
         ensures exact { ParsesBy cie_head
@@ -111,7 +113,7 @@ impl FdeHeader {
     ghost use Rattle.dw_frame.specs.Sections.{fde_fields};
     ghost use Rattle.dw_frame.specs.Headers.{fde_head};
 
-    /// What comes after the CIE_pointer of an FDE.
+    /// Reads the fields after the CIE_pointer of an FDE.
     fn read(cursor: &mut Cursor<'_>, target: Target, cie_pointer: u64) -> Result<Self, Fault>
         ensures exact { ParsesBy fde_head
             (fields_at (fde_fields target cie_pointer)) cursor.old result cursor.new }
@@ -140,7 +142,8 @@ impl Header {
     ghost use Rattle.dw_frame.specs.Sections.{header_at};
     ghost use Rattle.dw_frame.specs.Headers.{head_of};
 
-    /// The header of a record of this format, starting at the first byte of the record's body.
+    /// Reads the header of a record in `format`. The cursor must be at the first byte of the
+    /// record's body.
     #[tactic(auto, unfolding(crate::specs::Sections::header_at))]
     pub fn read(cursor: &mut Cursor<'_>, format: Format, target: Target) -> Result<Self, Fault>
         ensures exact { ParsesBy head_of (header_at target format) cursor.old result cursor.new }

@@ -1,4 +1,4 @@
-//! Laws of the records and instructions: functions that do nothing. The contract of each is a law.
+//! Laws about records and instructions. The functions do nothing: the contract of each is a law.
 
 ghost use Rattle.std.specs.Prelude.{◌≡◌, ◌+◌, ◌<◌, ◌≤◌, ◌↔◌, ℕ, List, [], ◌∷◌, ◌++◌, length, map, Contains, Result, Ok, Err, Some, None};
 ghost use Rattle.dw_bytes.specs.declared.target.Target.{Target};
@@ -10,28 +10,29 @@ ghost use Rattle.dw_frame.specs.Codes.{EncodesInstruction, AreInstructions, inst
 ghost use Rattle.dw_frame.specs.Sections.{IsRecord, AreRecords, record_at, entries_from, entries_of, cie_among};
 ghost use Rattle.dw_frame.specs.Bounds.{StandsIn, EndsWithItsBlock, IsBehind, offset_of, Ascends, IsSound, IsSoundRecord};
 
-/// No instruction's bytes are a prefix of another's, and the same bytes encode only one instruction.
+/// No instruction's encoding is a proper prefix of another encoding, and the same bytes encode only
+/// one instruction.
 pub fn instructions_are_unambiguous()
     ensures { (target : Target) (at : ℕ) (a b x y : List ℕ) (i j : Instruction)
         → EncodesInstruction target at a i → EncodesInstruction target at b j → a ++ x ≡ b ++ y
         → (a ≡ b) × (i ≡ j) }
 {}
 
-/// The instruction that is read is the one that is encoded, and one that is encoded is read.
+/// An instruction is read exactly if the next bytes encode it.
 pub fn instructions_are_exact()
     ensures { (r : ReadPosition) → IsExact instruction_at
         (EncodesInstruction r.target r.position) r }
 {}
 
-/// A program is read without a fault exactly if its bytes are the encodings of instructions one after another. Then it
-/// gives these with their offsets.
+/// A program is read without a fault exactly if its bytes are the encodings of instructions, one
+/// after another. Reading then gives these instructions with their offsets.
 pub fn programs_are_instructions()
     ensures { (r : ReadPosition) (items : List (ℕ × Instruction))
         → (instructions_of r ≡ map Ok items) ↔ AreInstructions r.target r.position r.rest items }
 {}
 
-/// What a program gives from an offset on: the instruction there and then what comes after it, or only the fault there,
-/// or nothing at its end.
+/// Reading all instructions gives the first one and then those that follow it. Reading stops at the
+/// program's end, or at the first fault, which is then the last item.
 pub fn instructions_come_in_order()
     ensures instruction { (r : ReadPosition) (i : Instruction) (after : ReadPosition)
         → instruction_at r ≡ Ok (i, after)
@@ -41,32 +42,35 @@ pub fn instructions_come_in_order()
     ensures nothing { (r : ReadPosition) → length r.rest ≡ 0 → instructions_of r ≡ [] }
 {}
 
-/// Each instruction of a program and each fault is inside it; a fault may also be at its end.
+/// Each instruction of a program begins inside the program. A fault is reported inside the program
+/// or at its end.
 pub fn instructions_stand_in_their_program()
     ensures { (r : ReadPosition) (item : Result (ℕ × Instruction) Fault)
         → Contains (instructions_of r) item → StandsIn r item }
 {}
 
-/// The record that is read is the one that is encoded, and one that is encoded is read.
+/// A record is read exactly if the next bytes encode it.
 pub fn records_are_exact()
     ensures { (r : ReadPosition) → IsExact record_at (IsRecord r.target r.position) r }
 {}
 
-/// A section is read without a fault exactly if its bytes are the encodings of records without gaps. Then it gives these.
+/// A section is read without a fault exactly if its bytes are the encodings of records, one after
+/// another. Reading then gives these records.
 pub fn sections_are_records()
     ensures { (target : Target) (section : List ℕ) (records : List Record)
         → (entries_of target section ≡ map Ok records) ↔ AreRecords target 0 section records }
 {}
 
-/// An instruction that has an expression ends with it, and the expression is after the instruction's first byte.
+/// The expression of an instruction comes after the instruction's first byte, and ends where the
+/// instruction ends.
 pub fn instructions_end_with_their_expressions()
     ensures { (target : Target) (at : ℕ) (bytes : List ℕ) (i : Instruction)
         → EncodesInstruction target at bytes i
         → EndsWithItsBlock target at (at + length bytes) i }
 {}
 
-/// What a section gives from an offset on: the record there and then what comes after it, or only the fault there, or
-/// nothing at its end.
+/// Reading a section from an offset on gives the record there and then those that follow it.
+/// Reading stops at the section's end, or at the first fault, which is then the last item.
 pub fn records_come_in_order()
     ensures entry { (target : Target) (section : List ℕ) (at next : ℕ) (x : Record)
         → record_at (section_from target section at) ≡ Ok (x, section_from target section next)
@@ -78,7 +82,8 @@ pub fn records_come_in_order()
         → entries_from target section at ≡ [] }
 {}
 
-/// What is left after a record that is read is the section from a later offset on, its end at most.
+/// After a record is read, what is left is the section from a later offset on, which is at most the
+/// section's length.
 pub fn records_lie_behind_each_other()
     ensures { (target : Target) (section : List ℕ) (at : ℕ) (x : Record) (after : ReadPosition)
         → at ≤ length section → record_at (section_from target section at) ≡ Ok (x, after)
@@ -91,22 +96,25 @@ pub fn records_ascend()
         → AreRecords target at section records → Ascends offset_of records }
 {}
 
-/// A record begins at its first byte, and its program lies after that and inside its bytes.
+/// The offset of a record is that of its first byte. The record's program lies after that byte, and
+/// inside the record's bytes. The fields of the record are in their ranges (see `IsSoundRecord`).
 pub fn programs_lie_in_their_records()
     ensures { (target : Target) (at : ℕ) (bytes : List ℕ) (x : Record)
         → IsRecord target at bytes x
         → (offset_of x ≡ at) × IsSoundRecord target (at + length bytes) x }
 {}
 
-/// Each record that a section gives, and so its program, lies inside it; a CIE has version 1, 3 or 4, an FDE has
-/// addresses of the target, and a fault is inside the section or at its end.
+/// The program of each record that a section gives lies inside the section. A CIE has version 1, 3
+/// or 4, and a return address register of at most 65535. The end of an FDE's range is at most the
+/// target's highest address. A fault is reported inside the section or at its end.
 pub fn records_are_sound()
     ensures { (target : Target) (section : List ℕ) (item : Result Record Fault)
         → Contains (entries_of target section) item → IsSound target (length section) item }
 {}
 
-/// The CIE at an offset is one of the records and begins there. If none is found, no CIE begins there, and a fault is one
-/// of the section's.
+/// If a search for a CIE finds one, that CIE is one of the records and begins at the offset. If it
+/// finds none, none of the records is a CIE that begins there. If it gives a fault, reading the
+/// records gives that fault.
 pub fn the_cie_at_an_offset()
     ensures found { (offset : ℕ) (entries : List (Result Record Fault)) (c : Cie)
         → cie_among offset entries ≡ Ok (Some c) → Contains entries (Ok (cie_record c))

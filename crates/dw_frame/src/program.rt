@@ -5,8 +5,8 @@ ghost use Rattle.std.specs.Prelude.{◌≡◌, ◌≤◌, ◌<◌, ◌+◌, ◌^
 use crate::instructions::Instructions;
 use dw_bytes::{Cursor, Target};
 
-/// A call frame program: the bytes from an offset of its section up to another (DWARF 5, section 6.4.2).
-/// All of its offsets count from the first byte of the section.
+/// A call frame program: the bytes of a section between two offsets (DWARF 5, section 6.4.2). All
+/// offsets in a program count from the first byte of the section.
 #[derive(Clone, Copy, Debug)]
 pub struct Program<'a> {
     /// The section up to the program's end.
@@ -22,7 +22,7 @@ impl<'a> Program<'a> {
     ghost use Rattle.dw_frame.specs.Codes.{instructions_of};
     ghost use Rattle.dw_frame.specs.Views.{start_of, end_of, target_of, reading_of, reading_from};
 
-    /// The bytes of a section from an offset up to another.
+    /// The program from offset `start` up to offset `end` of `section`.
     pub(crate) fn new(section: &'a [u8], start: u32, end: u32, target: Target) -> Self
         requires ordered { start ≤ end }
         requires inside { end ≤ length section.now }
@@ -38,7 +38,7 @@ impl<'a> Program<'a> {
         }
     }
 
-    /// The offset of its first byte.
+    /// The offset in the section of the program's first byte.
     pub fn start(&self) -> u32
         ensures start { result ≡ start_of self.now }
         ensures within { result ≤ end_of self.now }
@@ -46,7 +46,7 @@ impl<'a> Program<'a> {
         self.start
     }
 
-    /// The offset after its last byte.
+    /// The offset in the section after the program's last byte.
     pub fn end(&self) -> u32
         ensures end { result ≡ end_of self.now }
         ensures behind { result ≡ (reading_of self.now).position + length
@@ -55,21 +55,21 @@ impl<'a> Program<'a> {
         self.section.len() as u32
     }
 
-    /// The byte order and address size that its numbers are read with.
+    /// The byte order and address size that the program is read with.
     pub fn target(&self) -> Target
         ensures { result ≡ target_of self.now }
     {
         self.target
     }
 
-    /// Its instructions.
+    /// The instructions of the program, in order.
     pub fn instructions(&self) -> Instructions<'a>
         ensures { result ≡ instructions_of (reading_of self.now) }
     {
         Instructions::new(*self)
     }
 
-    /// The rest of it from one of its offsets on.
+    /// The rest of the program from offset `at` on.
     pub(crate) fn from_offset(&self, at: u32) -> Program<'a>
         requires { at ≤ end_of self.now }
         ensures { reading_of result ≡ reading_from self.now at }
@@ -81,7 +81,7 @@ impl<'a> Program<'a> {
         }
     }
 
-    /// A cursor at one of its offsets, which can read up to its end.
+    /// A cursor at offset `at` of the program, which can read up to the program's end.
     pub(crate) fn cursor(&self, at: u32) -> Cursor<'a>
         requires { at ≤ end_of self.now }
         ensures { result ≡ reading_from self.now at }

@@ -11,8 +11,8 @@ use dw_bytes::{Fault, Target};
 use std::iter::FusedIterator;
 use std::marker::Model;
 
-/// The records of a section in order, up to its end or the first fault. Nothing comes after a fault. Its model is the
-/// list of what is still to come.
+/// The records of a section in order, up to the section's end or the first fault. Nothing comes
+/// after a fault. In contracts, an iterator stands for the list of items that it has still to give.
 ///
 /// ```rust
 /// for entry in entries(section, target) {

@@ -14,8 +14,8 @@ use crate::program::Program;
 use crate::records::Entries;
 use dw_bytes::{Body, Fault, Format, Target};
 
-/// The format and the body of the record at an offset of a section. The body is represented as a program, since its
-/// program is what it has left after its header.
+/// The format and the body of the record at offset `at` of a section. The body is given as a
+/// `Program`, since the record's program is what remains of the body after the header.
 fn record_body<'a>(
     section: &'a [u8],
     target: Target,
@@ -39,7 +39,8 @@ fn record_body<'a>(
     ))
 }
 
-/// A record at an offset, made from its header and its program.
+/// The record at offset `at`, made from its header and its program. `body` is the offset of the
+/// record's body.
 fn entry_from<'a>(
     at: u32,
     format: Format,
@@ -72,7 +73,7 @@ fn entry_from<'a>(
     }
 }
 
-/// The record at an offset of a section, and the offset after it.
+/// The record at offset `at` of a section, and the offset after the record.
 #[tactic(auto, unfolding(crate::specs::Sections::record_at), using(crate::proofs::Framed::leaves_laws))]
 pub fn entry<'a>(section: &'a [u8], target: Target, at: u32) -> Result<(Entry<'a>, u32), Fault>
     requires inside { at ≤ length section.now }
@@ -93,11 +94,16 @@ pub fn entry<'a>(section: &'a [u8], target: Target, at: u32) -> Result<(Entry<'a
 
 /// The records of a section of fewer than 2^32 bytes (DWARF 5, section 6.4.1).
 ///
-/// Each record is checked in this order: its length (1, 3); that its body is there (1, at the body's first byte); then
-/// the fields of its header, one after another within its body. Each field must be there and in range (1, 2, at its first
-/// byte). For a CIE its version (4), its augmentation (5), in version 4 its address size (6) and segment selector size
-/// (7), and its return address register (10) are checked; for an FDE, that its range ends in the address space (11). Each
-/// of these faults is at that field. A record's program isn't read, nor is its CIE looked up. Allocates no memory.
+/// Each record is checked in this order. First comes its length (`Truncated`, `ReservedLength`).
+/// Then its body must be there (`Truncated` at the body's first byte). Then the fields of its
+/// header are read, one after another within the body. Each must be there (`Truncated`), and a
+/// LEB128 number must be in range (`LebRange`). In a CIE these are checked: the version
+/// (`Version`), the augmentation (`Augmentation`), in version 4 the address size (`AddressSize`)
+/// and the segment selector size (`SegmentSize`), and the return address register
+/// (`RegisterNumber`). In an FDE, initial_location plus address_range must be at most the highest
+/// address (`RangePastTop`, at address_range). Each of these faults is reported at the first byte
+/// of its field. The record's program isn't read, and the CIE of an FDE isn't looked up. Allocates
+/// no memory.
 pub fn entries<'a>(section: &'a [u8], target: Target) -> Entries<'a>
     requires { length section.now < 2 ^ 32 }
     ensures { result ≡ entries_of target section.now }
@@ -105,9 +111,9 @@ pub fn entries<'a>(section: &'a [u8], target: Target) -> Entries<'a>
     Entries::new(section, target)
 }
 
-/// The CIE at an offset of a section of fewer than 2^32 bytes, or the first fault before one is found, or none. It looks
-/// at the records in order up to that CIE, so its time grows with the number of records before it, or with the number of
-/// all records if there is none. Allocates no memory.
+/// The CIE at offset `offset` of a section of fewer than 2^32 bytes, or `None` if no CIE begins
+/// there. The first fault in the records is returned instead, if it comes before that CIE. Reads
+/// the records in order up to the CIE: O(n) for n records. Allocates no memory.
 #[tactic(auto, using(crate::proofs::RecordBounds::cie_laws))]
 pub fn cie_at<'a>(
     section: &'a [u8],

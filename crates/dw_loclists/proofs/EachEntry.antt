@@ -1,4 +1,4 @@
--- Entries are read exactly where they are encoded, and checked by their contents.
+-- Entries are read exactly from the bytes that encode them, and then checked.
 use Rattle.std.proofs.Common.{◌≡◌, ℕ, ◌+◌, ◌<◌, ◌≤◌, Bool, true, false, cond, List, [], ◌∷◌, length, Option, Some, None, Result, Ok, Err}
 use Rattle.std.proofs.Common.{refl, sym, ap, subst, ◌∙◌, arith, inl, inr}
 use Rattle.std.specs.Prelude.{◌==◌, ◌&&◌}
@@ -38,7 +38,7 @@ block-within target start at bytes b lt h = record {
   of_target = h.target_is;
 }
 
--- what holds of the operands of each line of the table
+-- for a line of the table of entries: the expression among the operands is within the entry's bytes
 Holds : ℕ → Target → Option (Line Entry) → Type 0
 Holds start target of = (at : ℕ) (bytes : List ℕ) (e : Entry) → start < at → AreOperands target of at bytes e
     → AllWithin target start (at + length bytes) (expression_in e)
@@ -179,7 +179,7 @@ unless-ok : {X : Type 0} (f : Option Fault) (x y : X) → unless_fault f x ≡ f
 unless-ok None x y is = (refl, cc)
 unless-ok (Some f) x y is = absurd (let never : Err f ≡ fine y = is in cc)
 
--- an entry that was read and checked
+-- an entry that was read and checked is encoded in the bytes, and has no fault
 pub checked-found : (has_default : Bool) (r : ReadPosition) (e : Entry) (after : ReadPosition)
     → checked_entry_at has_default r ≡ Ok (e, after) → Next (IsEntry r.target r.position) r e after × IsFine has_default e
 unfolding checked_entry_at
@@ -199,7 +199,7 @@ checked-only has_default r e after next fine_is =
     ap (λ (f : Option Fault). unless_fault f (e, after)) (none-if-fine has_default r.position e fine_is) in
     ap (λ (x : Result (Entry × ReadPosition) Fault). x >>= λ y. unless_fault (entry_fault has_default r.position y.0) y) read ∙ passed
 
--- an entry that was read, and what is wrong with it, if anything
+-- what the check of an entry that was read returns: the entry if it has no fault, else its fault
 pub checked-none : (has_default : Bool) (r : ReadPosition) (e : Entry) (after : ReadPosition) → entry_at r ≡ Ok (e, after)
     → entry_fault has_default r.position e ≡ None → checked_entry_at has_default r ≡ Ok (e, after)
 unfolding checked_entry_at
@@ -219,7 +219,7 @@ unfolding checked_entry_at
 checked-refused has_default r f read =
     ap (λ (x : Result (Entry × ReadPosition) Fault). x >>= λ y. unless_fault (entry_fault has_default r.position y.0) y) read
 
--- an offset in an entry that was read
+-- an offset that is before the end of an entry that was read is within the bytes that were left
 pub before-inside : (r : ReadPosition) (e : Entry) (after : ReadPosition) (n : ℕ) → entry_at r ≡ Ok (e, after) → IsBefore r.position e n
     → n ≤ r.position + length r.rest
 before-inside r e after n is before =

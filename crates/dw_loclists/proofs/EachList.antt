@@ -1,4 +1,4 @@
--- Lists are read exactly where they are encoded.
+-- Lists are read exactly from the bytes that encode them.
 use Rattle.std.proofs.Common.{◌≡◌, ℕ, zero, suc, ◌+◌, ◌-◌, ◌<◌, ◌≤◌, Bool, true, false, cond, ltb, List, [], ◌∷◌, ◌++◌, length, Result, Ok}
 use Rattle.std.proofs.Common.{Err, refl, sym, ap, subst, ◌∙◌, append_assoc, arith, inl, inr}
 use Rattle.std.specs.Prelude.{map, filter_map, ◌&&◌, ◌||◌, ◌⊎◌, count_by}
@@ -23,7 +23,8 @@ use Rattle.dw_loclists.specs.declared.kept.KeptExpression.{KeptExpression}
 use Rattle.dw_loclists.specs.Kept.{KeepsMore}
 use Rattle.dw_loclists.proofs.KeptLists.{nothing, keeps-then}
 
--- entries that are each fine after those before them, and then the end of their list
+-- the bytes encode entries without faults and then an end_of_list; `has_default` tells whether a
+-- default came before them
 abbrev pub AreEntries : Target → Bool → ℕ → List ℕ → List Entry → Type 0
 AreEntries target has_default at bytes [] = IsEntry target at bytes end_of_list
 AreEntries target has_default at bytes (e ∷ es) =
@@ -36,11 +37,12 @@ Found = Result (List Entry × ReadPosition) Fault
 abbrev finish : List Entry → ReadPosition → Found
 finish es r = Ok (es, r)
 
--- one entry put before the others
+-- a result of reading entries, with one more entry in front
 abbrev pub put_before : Entry → Found → Found
 put_before e others = others >>= λ es. finish (e ∷ es.0) es.1
 
--- the rest of the list after an entry
+-- what reading a list returns from an entry on: the entry and the rest of the list, or nothing if
+-- the entry ends the list
 abbrev followed : ℕ → Bool → Entry × ReadPosition → Found
 followed n has_default e = cond (is_end e.0) (finish [] e.1) (put_before e.0 (at_most_entries n (has_default || is_default e.0) e.1))
 
@@ -166,7 +168,7 @@ entries-only target (suc n) has_default r (e ∷ es) after same enough h =
     ∙ (ap (λ b. cond b (finish [] mid) (put_before e (at_most_entries n (has_default || is_default e) mid))) s.5
     ∙ ap (put_before e) others))
 
--- ---- what entries that are fine amount to
+-- ---- entries without faults make a list
 
 abbrev most : Bool → ℕ
 most true = 0
@@ -302,7 +304,7 @@ list-only target r l after same h =
     ap (λ x. x >>= λ (es : List Entry × ReadPosition). done (listed r.position es.0) es.1) read
     ∙ ap (λ at. done (listed at l.entries) after) (sym h.encoded.offset_is)
 
--- ---- entry by entry
+-- ---- reading a list one entry at a time
 
 pub checked-forward : (has_default : Bool) (r : ReadPosition) (e : Entry) (after : ReadPosition)
     → checked_entry_at has_default r ≡ Ok (e, after) → length after.rest < length r.rest
@@ -321,7 +323,7 @@ same-followed n m has_default r (Ok e) is same =
     (same (has_default || is_default e.0) e.1 (checked-forward has_default r e.0 e.1 is))
 same-followed n m has_default r (Err f) is same = refl
 
--- any count that is large enough gives the same
+-- the limit on the number of entries makes no difference if it is at least the number of bytes
 enough-same : (n m : ℕ) (has_default : Bool) (r : ReadPosition) → length r.rest ≤ n → length r.rest ≤ m
     → at_most_entries n has_default r ≡ at_most_entries m has_default r
 enough-same zero m has_default r h k = sym (none m has_default r (omega arith))
@@ -376,7 +378,7 @@ pub entries-refused : (has_default : Bool) (r : ReadPosition) (f : Fault) → 0 
     → entries_at has_default r ≡ Err f
 entries-refused has_default r f some is = refused-of (length r.rest - 1) has_default r f (omega arith) is
 
--- ---- entries put before the others
+-- ---- the entries read so far, in front of the rest
 
 abbrev pub put_all : List Entry → Found → Found
 put_all es others = others >>= λ xs. finish (es ++ xs.0) xs.1
@@ -389,7 +391,7 @@ nothing-more : (es : List Entry) → es ++ [] ≡ es
 nothing-more [] = refl
 nothing-more (e ∷ es) = ap (λ (t : List Entry). e ∷ t) (nothing-more es)
 
--- the whole list, where its last entry was read, and where one was refused
+-- the result of reading a whole list: after its last entry, and at an entry that is refused
 pub list-ends : (r s after : ReadPosition) (has_default : Bool) (es : List Entry)
     → entries_at false r ≡ put_all es (entries_at has_default s) → entries_at has_default s ≡ Ok ([], after)
     → list_at r ≡ Ok (listed r.position es, after)
@@ -408,7 +410,7 @@ pub expressions-more : (es : List Entry) (e : Entry) → expressions_of (es ++ e
 expressions-more es e = ap (map location_of) (filter_map-append expression_in es (e ∷ []))
     ∙ map-append location_of (filter_map expression_in es) (filter_map expression_in (e ∷ []))
 
--- one entry more, and the last one
+-- the entries read so far after one more entry, and after the last one
 pub next-entry : (r s after : ReadPosition) (d next : Bool) (es : List Entry) (e : Entry) → entries_at false r ≡ put_all es (entries_at d s)
     → checked_entry_at d s ≡ Ok (e, after) → is_end e ≡ false → (d || is_default e) ≡ next
     → entries_at false r ≡ put_all (es ++ e ∷ []) (entries_at next after)
@@ -416,7 +418,8 @@ next-entry r s after d next es e so_far is going or =
     so_far ∙ (ap (put_all es) (entries-more d s e after is going)
     ∙ (put-one-more es e (entries_at (d || is_default e) after) ∙ ap (λ b. put_all (es ++ e ∷ []) (entries_at b after)) or))
 
--- the expressions of one entry more, and of the last one, which has none
+-- the expressions stored so far after one more entry, and after the last one, which has no
+-- expression
 pub keeps-entry : (es : List Entry) (e : Entry) (old mid new : List KeptExpression) → KeepsMore (expressions_of es) old mid
     → KeepsMore (expressions_of (e ∷ [])) mid new → KeepsMore (expressions_of (es ++ e ∷ [])) old new
 keeps-entry es e old mid new h k =
@@ -430,7 +433,7 @@ keeps-end es e old mid new is h k =
     (ap (λ (x : Entry). expressions_of es ++ expressions_of (x ∷ [])) (ends-only e is) ∙ nothing (expressions_of es))
     (keeps-then (expressions_of es) (expressions_of (e ∷ [])) old mid new h k)
 
--- the entries of a list, read from its first byte on
+-- reading from a list's first byte returns the list's entries
 pub entries-read : (target : Target) (r : ReadPosition) (l : Loclist) (after : ReadPosition) → r.target ≡ target
     → Next (IsList target r.position) r l after → entries_at false r ≡ Ok (l.entries, after)
 unfolding entries_at

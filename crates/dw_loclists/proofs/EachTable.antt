@@ -1,4 +1,4 @@
--- Tables are read exactly where they are encoded.
+-- Tables are read exactly from the bytes that encode them.
 use Rattle.std.proofs.Common.{◌≡◌, ℕ, zero, suc, ◌+◌, ◌<◌, ◌≤◌, ◌↔◌, Bool, true, false, List, [], ◌∷◌, ◌++◌, ◌-◌, length, map, take, drop}
 use Rattle.std.proofs.Common.{Result, Ok, Err, refl, sym, ap, subst, ◌∙◌, append_assoc, arith, inl, inr}
 use Rattle.std.specs.Prelude.{◌==◌, ◌||◌, ◌⊎◌, Contains}
@@ -25,7 +25,7 @@ use Rattle.dw_loclists.specs.Reading.{list_at, all_of, lists_at, is_among, list_
 use Rattle.dw_loclists.proofs.EachEntry.{entry-some}
 use Rattle.dw_loclists.proofs.EachList.{AreEntries, list-found, list-only, entries-in}
 
--- ---- lists without a gap
+-- ---- lists without gaps
 
 entries-some : (target : Target) (d : Bool) (at : ℕ) (bytes : List ℕ) (es : List Entry) → AreEntries target d at bytes es → 0 < length bytes
 entries-some target d at bytes [] h = entry-some target at bytes end_of_list h
@@ -84,7 +84,7 @@ unfolding lists_at
 lists-only target r ls same are =
     ap (λ (items : Items). all_of items) ((sequence-exact target list_at (IsList target) (each-list target) r ls same).1 are) ∙ all-only ls
 
--- list by list
+-- reading lists one at a time: at the end, after one more list, and at a fault
 pub lists-end : (r : ReadPosition) → length r.rest ≡ 0 → lists_at r ≡ Ok []
 unfolding lists_at
 lists-end r h = ap (λ (items : Items). all_of items) (ends list_at r h)
@@ -98,7 +98,7 @@ pub lists-stop : (r : ReadPosition) (f : Fault) → 0 < length r.rest → list_a
 unfolding lists_at
 lists-stop r f some is = ap (λ (items : Items). all_of items) (stops list_at r f some is)
 
--- lists put before the others
+-- a result of reading lists, with more lists in front
 abbrev pub put_lists : List Loclist → Result (List Loclist) Fault → Result (List Loclist) Fault
 put_lists ls others = others >>= λ xs. whole (ls ++ xs)
 
@@ -177,7 +177,7 @@ list-offset-exact target format array lists r same = record {
       ∙ ap (λ b. ok_unless (unless b BadOffsetEntry) r.position (v, after)) start;
 }
 
--- offsets, without regard to what begins there
+-- the array's offsets, without the condition that a list begins at each
 plain : (target : Target) (format : Format) (array : ℕ) (lists : List ℕ) (at : ℕ) (bytes os : List ℕ)
     → Sequence (IsListOffset target format array lists) at bytes os → Sequence (λ n. Offset target.order format) at bytes os
 plain target format array lists at bytes [] h = h
@@ -372,7 +372,7 @@ unfolding tables_from
 sections-are-tables target section tables =
     sequence-exact target table_at (IsTable target) (each-table target) (section_from target section 0) tables refl
 
--- ---- the section from an offset on
+-- ---- reading a section from an offset on
 
 pub at-end : (target : Target) (section : List ℕ) (at : ℕ) → length section ≤ at → tables_from target section at ≡ []
 unfolding tables_from
@@ -390,7 +390,7 @@ unfolding tables_from
 at-table target section at next t is =
     goes-on table_at tables-forward (section_from target section at) t (section_from target section next) is
 
--- ---- the lists of a table, list by list
+-- ---- reading a table's lists one at a time
 
 pub next-list : (r s after : ReadPosition) (ls : List Loclist) (l : Loclist) → lists_at r ≡ put_lists ls (lists_at s)
     → list_at s ≡ Ok (l, after) → lists_at r ≡ put_lists (ls ++ l ∷ []) (lists_at after)
@@ -406,7 +406,7 @@ bad-list r s ls f so_far some is = so_far ∙ ap (put_lists ls) (lists-stop s f 
 pub list-begins : (r : ReadPosition) (l : Loclist) (after : ReadPosition) → list_at r ≡ Ok (l, after) → l.offset ≡ r.position
 list-begins r l after is = (list-found r.target r l after refl is).encoded.offset_is
 
--- ---- an offset of the array, as it is read again
+-- ---- an offset of the array when it is read the second time
 
 pub offset-refused : (format : Format) (array : ℕ) (starts : List ℕ) (r : ReadPosition) (f : Fault) → offset_at format r ≡ Err f
     → list_offset_at format array starts r ≡ Err f
@@ -430,7 +430,7 @@ offset-bad format array starts r after v at here is never =
     ∙ (ap (λ b. ok_unless (unless b BadOffsetEntry) r.position (v, after)) (not-among starts (array + v) never)
     ∙ ap (λ n. ok_unless (unless false BadOffsetEntry) n (v, after)) here)
 
--- ---- a table, field by field
+-- ---- reading a table field by field
 
 pub table-made : (r after mid end last : ReadPosition) (format : Format) (body : ReadPosition) (count : ℕ) (os ns : List ℕ)
     (ls : List Loclist)
@@ -461,14 +461,14 @@ table-unnamed r after mid end format body count os ls f one two three four five 
     ∙ ap (λ (x : Result (List ℕ × ReadPosition) Fault). x >>= λ named. done (table-of r.position format mid.position named.0 ls) after)
     five)))
 
--- what comes after the header is the section from there on
+-- after the header, the reader is in the same section at a later offset
 pub header-leaves : (target : Target) (section : List ℕ) (start count : ℕ) (mid : ReadPosition) → start ≤ length section
     → fields_at (table_header target) (section_from target section start) ≡ Ok (count, mid) → mid ≡ section_from target section mid.position
 header-leaves target section start count mid inside is =
     leaves-suffix target (fields_at (table_header target)) (Encodes target (table_header target))
     (fields-exact target (table_header target)) section start count mid inside is
 
--- ---- the lists of a table among those that are kept
+-- ---- the lists of a table among all lists that are stored
 
 take-whole : {X : Type 0} (xs : List X) (n : ℕ) → n ≡ length xs → take n xs ≡ xs
 take-whole xs n is = ap (λ k. take k xs) is ∙ take_all (length xs) xs (omega arith)

@@ -1,4 +1,4 @@
--- Expressions are in their section: the section's bytes at their offset are theirs.
+-- That the bytes of an expression are the section's bytes at the expression's offset.
 use Rattle.std.proofs.Common.{◌≡◌, ℕ, ◌+◌, ◌≤◌, Bool, true, false, cond, List, [], ◌∷◌, ◌++◌, length, take, drop, Option, Some, None}
 use Rattle.std.proofs.Common.{refl, sym, ap, subst, ◌∙◌, append_assoc, arith}
 use Rattle.std.specs.Prelude.{◌==◌, map}
@@ -23,7 +23,7 @@ use Rattle.dw_loclists.proofs.Checked.{checked-tables}
 use Rattle.dw_loclists.proofs.KeptLists.{nothing}
 use Rattle.dw_loclists.proofs.Order.{entries-front, located-of}
 
--- it is a location of this target, whose bytes are among these
+-- x is a location of this target, and its bytes are among these, at its offset
 pub record IsIn (target : Target) (at : ℕ) (bytes : List ℕ) (x : LocatedExpression) : Type 0 where
   pub front : List ℕ
   pub rest : List ℕ
@@ -35,7 +35,7 @@ pub record IsIn (target : Target) (at : ℕ) (bytes : List ℕ) (x : LocatedExpr
 abbrev AreIn : Target → ℕ → List ℕ → List LocatedExpression → Type 0
 AreIn target at bytes xs = AllByRecursion (IsIn target at bytes) xs
 
--- among more bytes
+-- an expression in some bytes is also in longer bytes that contain them
 one-within : (target : Target) (at other : ℕ) (before bytes behind whole : List ℕ) (x : LocatedExpression)
     → whole ≡ before ++ (bytes ++ behind) → other ≡ at + length before → IsIn target other bytes x → IsIn target at whole x
 one-within target at other before bytes behind whole x parts at_is h = record {
@@ -63,7 +63,7 @@ both : (target : Target) (at : ℕ) (bytes : List ℕ) (xs ys : List LocatedExpr
 both target at bytes [] ys h k = k
 both target at bytes (x ∷ xs) ys h k = (h.0, both target at bytes xs ys h.1 k)
 
--- the bytes after others, and those before others
+-- bytes of two parts are also bytes of three parts, of which the last is empty
 behind-all : (first rest bytes : List ℕ) → bytes ≡ first ++ rest → bytes ≡ first ++ (rest ++ [])
 behind-all first rest bytes parts = parts ∙ ap (λ (t : List ℕ). first ++ t) (sym (nothing rest))
 
@@ -86,7 +86,7 @@ as-located e = from (expression_in e)
     from None = refl
     from (Some b) = refl
 
--- what holds of the operands of each line of the table
+-- for a line of the table of entries: the expression among the operands is in their bytes
 Holds : Target → Option (Line Entry) → Type 0
 Holds target of = (at : ℕ) (bytes : List ℕ) (e : Entry) → AreOperands target of at bytes e
     → AreIn target at bytes (located-of (expression_in e))
@@ -151,7 +151,7 @@ entry-in target at bytes e (code, front, operands, parts, first, second) =
     (behind-all front operands bytes parts) refl
     (all-lines target code (at + length front) operands e second))
 
--- ---- those of lists and of tables
+-- ---- the expressions of lists and of tables
 
 entries-in : (target : Target) (at : ℕ) (bytes : List ℕ) (es others : List Entry) → Sequence (IsEntry target) at bytes (es ++ others)
     → AreIn target at bytes (expressions_of es)
@@ -194,9 +194,9 @@ tables-in target at bytes (t ∷ ts) (first, rest, parts, here, behind) =
     (within target at (at + length first) first rest [] bytes (expressions_in (lists_of ts)) (behind-all first rest bytes parts) refl
     (tables-in target (at + length first) rest ts behind)))
 
--- ---- what a section lends
+-- ---- expressions that are borrowed from a section
 
--- its bytes are there
+-- all bytes of the expression are inside the section
 inside : (target : Target) (section : List ℕ) (x : LocatedExpression) → IsIn target 0 section x → x.offset + length x.bytes ≤ length section
 inside target section x h =
     omega (arith, h.offset_is, ap length h.parts, length-append h.front (x.bytes ++ h.rest), length-append x.bytes h.rest)
@@ -212,7 +212,7 @@ bytes-there target section x h =
 abbrev located-as : ℕ → stack_kind.Kind → Target → List ℕ → LocatedExpression
 located-as offset kind target bytes = record { offset = offset; kind = kind; target = target; bytes = bytes }
 
--- what is lent is what was kept
+-- borrowing a stored expression from the section gives the expression that was stored
 lent-is : (target : Target) (section : List ℕ) (x : LocatedExpression) (k : KeptExpression) → IsIn target 0 section x → IsKeptOf x k
     → lent_from target section k ≡ x
 lent-is target section x k h kept =
@@ -251,7 +251,7 @@ each-lent target section (x ∷ xs) (k ∷ ks) h kept =
 all-in : (s : ListSection) → IsChecked s → AreIn s.target 0 s.section (located_in s)
 all-in s checked = tables-in s.target 0 s.section (tables_in s) (checked-tables s checked)
 
--- what is kept of the expressions of a section can be lent, and is then these expressions
+-- all stored expressions can be borrowed from the section, and this gives the section's expressions
 pub all-lendable : (s : ListSection) (ks : List KeptExpression) → IsChecked s → AreKeptOf (located_in s) ks
     → AllByRecursion (IsLendable s.target s.section) ks
 all-lendable s ks checked kept = each-lendable s.target s.section (located_in s) ks (all-in s checked) kept

@@ -1,4 +1,4 @@
--- What is kept of lists and tables as they are read.
+-- What is stored of lists and tables as they are read.
 use Rattle.std.proofs.Common.{◌≡◌, ℕ, List, [], ◌∷◌, ◌++◌, map, refl, sym, ap, subst, ◌∙◌, append_assoc}
 use Rattle.std.proofs.lemmas.List.{map-append}
 use Rattle.std.proofs.lemmas.Grind.{flat_map-append}
@@ -14,7 +14,7 @@ nothing {X} (x ∷ xs) = ap (λ (t : List X). x ∷ t) (nothing xs)
 
 -- ---- expressions
 
--- some, and then others
+-- what is stored after some expressions and then others are added
 pub keeps-then : (first second : List LocatedExpression) (old mid new : List KeptExpression) → KeepsMore first old mid
     → KeepsMore second mid new → KeepsMore (first ++ second) old new
 keeps-then first second old mid new h k = λ xs kept.
@@ -47,7 +47,7 @@ expressions-more : (ls : List Loclist) (l : Loclist) → expressions_in (ls ++ l
 expressions-more ls l = flat_map-append (λ (m : Loclist). expressions_of m.entries) ls (l ∷ [])
     ∙ ap (λ (t : List LocatedExpression). expressions_in ls ++ t) (one-expressions l)
 
--- one list more
+-- what is stored after one more list
 pub list-kept : (k old new : Kept) (ls : List Loclist) (l : Loclist) → old ≡ with_lists k ls
     → new ≡ kept-as old.tables (old.lists ++ l.offset ∷ []) → new ≡ with_lists k (ls ++ l ∷ [])
 list-kept k old new ls l so_far more =
@@ -55,14 +55,14 @@ list-kept k old new ls l so_far more =
     ∙ ap (kept-as k.tables)
     (append_assoc k.lists (starts_of ls) (l.offset ∷ []) ∙ ap (λ (t : List ℕ). k.lists ++ t) (sym (starts-more ls l))))
 
--- and its expressions
+-- the expressions that are stored after one more list
 pub keeps-list : (ls : List Loclist) (l : Loclist) (old mid new : List KeptExpression) → KeepsMore (expressions_in ls) old mid
     → KeepsMore (expressions_of l.entries) mid new → KeepsMore (expressions_in (ls ++ l ∷ [])) old new
 keeps-list ls l old mid new h k =
     subst (λ (ys : List LocatedExpression). KeepsMore ys old new) (sym (expressions-more ls l))
     (keeps-then (expressions_in ls) (expressions_of l.entries) old mid new h k)
 
--- one table more
+-- the lists of all tables after one more table
 lists-of-more : (ts : List Table) (t : Table) → lists_of (ts ++ t ∷ []) ≡ lists_of ts ++ t.lists
 lists-of-more ts t = flat_map-append (λ (u : Table). u.lists) ts (t ∷ []) ∙ ap (λ (x : List Loclist). lists_of ts ++ x) (nothing t.lists)
 
@@ -72,7 +72,7 @@ table-kept ts t =
     ∙ ap (kept-as (map (λ (u : Table). u.offset) (ts ++ t ∷ [])))
     (sym (map-append (λ (m : Loclist). m.offset) (lists_of ts) t.lists) ∙ ap starts_of (sym (lists-of-more ts t)))
 
--- and the expressions of its lists
+-- the expressions that are stored after one more table
 pub keeps-table : (ts : List Table) (t : Table) (old new : List KeptExpression) → AreKeptOf (expressions_in (lists_of ts)) old
     → KeepsMore (expressions_in t.lists) old new → AreKeptOf (expressions_in (lists_of (ts ++ t ∷ []))) new
 keeps-table ts t old new kept more =
@@ -80,7 +80,7 @@ keeps-table ts t old new kept more =
     (sym (flat_map-append (λ (l : Loclist). expressions_of l.entries) (lists_of ts) t.lists) ∙ ap expressions_in (sym (lists-of-more ts t)))
     (more (expressions_in (lists_of ts)) kept)
 
--- a table after its lists
+-- what is stored after a table's lists and then the table itself are added
 pub behind-lists : (k new : Kept) (t : Table) (tables : List ℕ) → new ≡ with_lists k t.lists → tables ≡ new.tables ++ t.offset ∷ []
     → kept-as tables new.lists ≡ with_table k t
 behind-lists k new t tables lists table =

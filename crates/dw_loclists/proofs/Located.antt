@@ -1,4 +1,5 @@
--- Where the lists of a checked section are, and that their expressions are the section's.
+-- That the lists of a checked section are at their offsets, and that their expressions are
+-- expressions of the section.
 use Rattle.std.proofs.Common.{◌≡◌, ℕ, zero, suc, ◌+◌, ◌≤◌, Bool, true, false, cond, List, [], ◌∷◌, ◌++◌, length, drop, Contains, Ok, refl}
 use Rattle.std.proofs.Common.{sym, ap, subst, ◌∙◌, append_assoc, arith, inl, inr}
 use Rattle.std.specs.Prelude.{◌⊎◌, map}
@@ -26,7 +27,7 @@ use Rattle.dw_loclists.proofs.Search.{ascends-back, ascending-same, contains-beh
 no-list : {X : Type 0} (x : X) → Contains [] x → ⊥
 no-list x (k, lt, is) = omega arith
 
--- in more bytes
+-- a list in some bytes is also in longer bytes that contain them
 within : (target : Target) (at other : ℕ) (before bytes behind whole : List ℕ) (l : Loclist) → whole ≡ before ++ (bytes ++ behind)
     → other ≡ at + length before → StandsIn target other bytes l → StandsIn target at whole l
 within target at other before bytes behind whole l parts at_is h = record {
@@ -85,7 +86,7 @@ among-tables target at bytes (t ∷ ts) l (first, rest, parts, here, others) amo
           refl (among-tables target (at + length first) rest ts l others behind)
     ]
 
--- a list is read at its offset
+-- reading from a list's offset returns its entries
 pub list-read : (s : ListSection) (l : Loclist) → IsChecked s → Contains (lists_in s) l
     → (after : ReadPosition) × (entries_at false (section_from s.target s.section l.offset) ≡ Ok (l.entries, after))
 list-read s l checked among =
@@ -104,14 +105,14 @@ inside-section s l checked among =
     let h = among-tables s.target 0 s.section (tables_in s) l (checked-tables s checked) among in
     omega (arith, h.offset_is, ap length h.parts, length-append h.front (h.own ++ h.rest))
 
--- one list begins at an offset
+-- at most one list begins at an offset
 pub one-list : (s : ListSection) (l m : Loclist) → IsChecked s → Contains (lists_in s) l → Contains (lists_in s) m → l.offset ≡ m.offset
     → l ≡ m
 one-list s l m checked l_in m_in same =
     ascending-same (λ (x : Loclist). x.offset) (lists_in s) (ascends-back (λ (x : Loclist). x.offset) (lists_in s) (lists-ascend s checked))
     l m l_in m_in same
 
--- ---- the lists of expressions that contain them
+-- ---- expressions of a list are among the section's expressions
 
 held-among : (base address : ℕ) (e : Entry) (x : LocatedExpression) → Contains (held_by base address e) x
     → Contains (expressions_of (e ∷ [])) x
@@ -162,7 +163,7 @@ of-lists (m ∷ ls) l x (zero, lt, is) h =
 of-lists (m ∷ ls) l x (suc k, lt, is) h =
     Contains-append_right (expressions_of m.entries) (expressions_in ls) x (of-lists ls l x (k, omega arith, is) h)
 
--- every expression that a list can give is one of the section
+-- each expression that a list can give at an address is an expression of the section
 pub given-among : (s : ListSection) (l : Loclist) (base address : ℕ) (x : LocatedExpression) → Contains (lists_in s) l
     → Contains (bounded_at base address l.entries ++ defaults_in l.entries) x → Contains (located_in s) x
 given-among s l base address x l_in among =
@@ -172,9 +173,9 @@ given-among s l base address x l_in among =
     from (inl h) = bounded-among base address l.entries x h
     from (inr h) = defaults-among l.entries x h
 
--- ---- what is kept of them
+-- ---- stored expressions
 
--- what was kept of one of them
+-- if what is stored is of these expressions, each of them is among the stored ones
 pub kept-among : (xs : List LocatedExpression) (ks : List KeptExpression) (x : LocatedExpression) → AreKeptOf xs ks → Contains xs x
     → IsAmong ks x
 kept-among [] ks x kept among = absurd (no-list x among)

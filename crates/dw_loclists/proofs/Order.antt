@@ -1,4 +1,4 @@
--- Lists and expressions come in order of their offsets.
+-- Lists and expressions are in order of their offsets.
 use Rattle.std.proofs.Common.{◌≡◌, ℕ, ◌+◌, ◌<◌, ◌≤◌, List, [], ◌∷◌, ◌++◌, length, map, refl, sym, ap, subst, ◌∙◌, arith, Option, Some, None}
 use Rattle.std.proofs.Common.{Bool}
 use Rattle.std.specs.List.{cons_option}
@@ -72,7 +72,8 @@ entry-rises target at bytes e here =
 offsets-append : (xs ys : List LocatedExpression) → offsets-of (xs ++ ys) ≡ offsets-of xs ++ offsets-of ys
 offsets-append xs ys = map-append (λ (x : LocatedExpression). x.offset) xs ys
 
--- those of a first part and of what comes after it
+-- the offsets of expressions rise through two parts if they rise in each and the second is after
+-- the first
 both-rise : (low mid high other : ℕ) (xs ys : List LocatedExpression) → other ≡ high → RiseWithin low mid (offsets-of xs)
     → RiseWithin mid other (offsets-of ys) → RiseWithin low high (offsets-of (xs ++ ys))
 both-rise low mid high other xs ys same h k =
@@ -101,7 +102,7 @@ lists-rise target at bytes (l ∷ ls) (first, rest, parts, here, others) =
     (entries-rise target false at first l.entries (entries-in target at first l here))
     (lists-rise target (at + length first) rest ls others)
 
--- ---- those of tables
+-- ---- expressions of tables
 
 table-end : (target : Target) (at : ℕ) (bytes : List ℕ) (t : Table) (s : IsTable target at bytes t)
     → t.array + length s.offsets + length s.lists ≡ at + length bytes

@@ -1,4 +1,4 @@
--- One more entry of a list, however it was read.
+-- Reading one more entry of a list, by the shortcut or in full.
 use Rattle.std.proofs.Common.{◌≡◌, ℕ, ◌<◌, ◌≤◌, Bool, true, false, List, [], ◌∷◌, ◌++◌, length, Some, None, Ok, Err, refl, sym, ap, subst, ◌∙◌, arith}
 use Rattle.std.specs.Prelude.{◌&&◌, ◌||◌}
 use Rattle.dw_bytes.specs.declared.fault.Fault.{Fault}
@@ -15,7 +15,7 @@ use Rattle.dw_loclists.proofs.EachEntry.{checked-none, location-good, none-if-fi
 use Rattle.dw_loclists.proofs.KeptLists.{nothing}
 use Rattle.dw_loclists.proofs.EachList.{listed, put_all, next-entry, entries-last, entries-refused, list-ends, list-stops, keeps-entry, keeps-end}
 
--- ---- an entry by its parts
+-- ---- what kind of entry is read, by its code and its operands
 
 pub end-read : (r a : ReadPosition) → fixed_at 1 r ≡ Ok (0, a) → entry_at r ≡ Ok (end_of_list, a)
 unfolding entry_at
@@ -91,7 +91,7 @@ length-passes dflt r a b c d begin count x before after code first second third 
   kept = kept;
 }
 
--- no default was read
+-- an entry that isn't a default doesn't change whether a default was read
 pub or-false : (b : Bool) → (b || false) ≡ b
 or-false true = refl
 or-false false = refl
@@ -106,7 +106,7 @@ goes-then a b c first then = record {
 pub goes-nowhere : (a : ReadPosition) → MovesForward a a
 goes-nowhere a = record { forward = omega arith; same_end = refl; same_target = refl }
 
--- ---- a list so far: entries were read and kept, and these are left
+-- ---- a list that is partly read: the entries read so far, their stored expressions, and the rest
 
 abbrev pub SoFar : ReadPosition → List KeptExpression → Bool → ReadPosition → List KeptExpression → Type 0
 SoFar first old has_default here now =

@@ -1,4 +1,4 @@
--- What a binary search finds in things whose numbers ascend.
+-- What a binary search finds in items in ascending order of their numbers.
 use Rattle.std.proofs.Common.{◌≡◌, ◌≢◌, ℕ, zero, suc, ◌+◌, ◌<◌, ◌≤◌, List, [], ◌∷◌, ◌++◌, length, get_or, map, Ok, Err, Contains, refl, sym}
 use Rattle.std.proofs.Common.{ap, subst, ◌∙◌, arith, inl, inr}
 use Rattle.std.specs.List.{AllByRecursion}
@@ -12,7 +12,7 @@ use Rattle.std.specs.Prelude.{◌⊎◌}
 use Rattle.std.proofs.lemmas.List.Elements.{All-from_recursion, Contains-get_or}
 use Rattle.dw_loclists.specs.Bounds.{Ascends, RiseWithin}
 
--- an earlier index has the lower number
+-- of two items, the one with the lower index has the lower number
 ascending-at : {X : Type 0} (at : X → ℕ) (xs : List X) → Ascends at xs → (i j : ℕ) (d : X) → i < j → j < length xs
     → at (get_or xs i d) < at (get_or xs j d)
 ascending-at at [] up i j d lt in_range = absurd (omega arith)
@@ -40,7 +40,7 @@ searched-none {X} key xs up k i in_range parted =
     let above : i ≤ j → k < key (get_or xs j x) = λ le. ranked _ k _ (sym ((parted rises).1 j x le j_in)) in
     elim (cases_lt j i) [ inl lt ↦ let h = below lt in omega (arith, h, at_k) | inr le ↦ let h = above le in omega (arith, h, at_k) ]
 
--- an element, and its image
+-- if a list contains x, its image under f contains f x
 pub contains-map : {X Y : Type 0} (f : X → Y) (xs : List X) (x : X) → Contains xs x → Contains (map f xs) (f x)
 contains-map f [] x (k, lt, is) = absurd (omega arith)
 contains-map f (y ∷ xs) x (zero, lt, is) = (zero, omega arith, ap f is)
@@ -85,7 +85,7 @@ three-ways : (i j : ℕ) → (i < j) ⊎ ((i ≡ j) ⊎ (j < i))
 three-ways i j = elim (cases_lt i j)
     [ inl lt ↦ inl lt | inr le ↦ elim (cases_lt j i) [ inl lt ↦ inr (inr lt) | inr ge ↦ inr (inl (omega arith)) ] ]
 
--- two elements with the same number are the same
+-- two items with the same number are equal
 pub ascending-same : {X : Type 0} (at : X → ℕ) (xs : List X) → Ascends at xs → (x y : X) → Contains xs x → Contains xs y → at x ≡ at y
     → x ≡ y
 ascending-same at xs up x y (i, i_in, i_is) (j, j_in, j_is) same =

@@ -1,4 +1,4 @@
--- What the laws state of well-formed sections and no other file proves.
+-- Laws of well-formed sections that no other file proves.
 use Rattle.std.proofs.Common.{◌≡◌, ℕ, zero, suc, ◌+◌, ◌≤◌, ◌↔◌, cond, List, [], ◌∷◌, ◌++◌, length, Contains, Some, None, refl, sym, ap}
 use Rattle.std.proofs.Common.{subst}
 use Rattle.std.proofs.Common.{Option, ◌∙◌, append_assoc, arith}

@@ -5,8 +5,9 @@ use Rattle.dw_bytes.specs.Operands.{address, unsigned, block, Block, Line, none,
 use Rattle.dw_stack.specs.declared.state.Kind.TheVariants.{Location}
 use Rattle.dw_stack.specs.Expressions.{IsGoodExpression}
 
--- One constructor per line of the table of entries, with the operands in their order. An expression is a block: its
--- offset in the section, what it is read under, and its bytes.
+-- One constructor per line of the table of entries, with the operands in the order of the encoding.
+-- An expression is a block: its offset in the section, the target that it is read with, and its
+-- bytes.
 pub data Entry : Type 0 where
   end_of_list : Entry
   offset_pair : ℕ → ℕ → Block → Entry
@@ -15,7 +16,8 @@ pub data Entry : Type 0 where
   start_end : ℕ → ℕ → Block → Entry
   start_length : ℕ → ℕ → Block → Entry
 
--- The table. Entries that need `.debug_addr` (codes 01 to 03) aren't in it.
+-- The table of entries: which operands follow which code. Entries that need `.debug_addr` (codes 01
+-- to 03) aren't in it.
 abbrev pub entry_line : ℕ → Option (Line Entry)
 entry_line code =
     if code == 0x00 then Some (none end_of_list)
@@ -55,7 +57,7 @@ expression_in (base_address base) = None
 expression_in (start_end begin end e) = Some e
 expression_in (start_length begin count e) = Some e
 
--- its range doesn't end before it begins
+-- the entry's range, if it has one, doesn't end before it begins
 abbrev pub IsRange : Entry → Type 0
 IsRange end_of_list = Unit {0}
 IsRange (offset_pair begin end e) = begin ≤ end
@@ -64,7 +66,7 @@ IsRange (base_address base) = Unit {0}
 IsRange (start_end begin end e) = begin ≤ end
 IsRange (start_length begin count e) = Unit {0}
 
--- an expression that is good as a location, if there is one
+-- the expression, if there is one, passes the check as a location
 abbrev pub IsGoodLocation : Option Block → Type 0
 IsGoodLocation None = Unit {0}
 IsGoodLocation (Some e) = IsGoodExpression Location e.target e.bytes

@@ -1,4 +1,4 @@
--- What is kept of a section. No contract of a public call uses these.
+-- What the code stores of a section. No contract of a public call uses these.
 use Rattle.std.specs.Prelude.{◌≡◌, ◌<◌, ◌≤◌, ◌+◌, ◌^◌, length, take, drop, ℕ, Bool, List, [], ◌∷◌, ◌++◌, map, Contains, Ok}
 use Rattle.std.specs.List.{AllByRecursion, AllZip}
 use Rattle.dw_bytes.specs.declared.target.Target.{Target}
@@ -16,22 +16,24 @@ use Rattle.dw_loclists.specs.Views.{start_of}
 
 -- ---- expressions
 
--- What is kept of a good expression: where it is, and what was learned of it.
+-- k is what the code stores of the expression x: where it is, its depth, and the number of its
+-- operations. x passed the check.
 pub record IsKeptOf (x : LocatedExpression) (k : KeptExpression) : Type 0 where
   pub offset_is : k.offset ≡ x.offset
   pub length_is : k.length ≡ length x.bytes
   pub checked : stack.IsChecked (record { kind = x.kind; target = x.target; bytes = x.bytes; depth = k.depth; count = k.count })
 
--- for each of these, in order
+-- the second list is what the code stores of the expressions in the first, in order
 abbrev pub AreKeptOf : List LocatedExpression → List KeptExpression → Type 0
 AreKeptOf = AllZip IsKeptOf
 
--- for these too, after what was kept
+-- the stored expressions grew from `old` to `new`: what is stored of the expressions in `more` was
+-- added at the end
 abbrev pub KeepsMore : List LocatedExpression → List KeptExpression → List KeptExpression → Type 0
 KeepsMore more old new = (xs : List LocatedExpression) → AreKeptOf xs old → AreKeptOf (xs ++ more) new
 
--- An entry was read and has no fault, and its expression is kept. The flags tell whether its list had a default before
--- it, whether it ends the list, and whether it is a default.
+-- An entry was read and has no fault, and its expression is stored. The flags tell whether its list
+-- already had a default, whether the entry ends the list, and whether it is a default.
 pub record Passes (has_default ended default : Bool) (old new : ReadPosition) (before after : List KeptExpression) : Type 0 where
   pub entry : Entry
   pub read : checked_entry_at has_default old ≡ Ok (entry, new)
@@ -39,18 +41,19 @@ pub record Passes (has_default ended default : Bool) (old new : ReadPosition) (b
   pub default_is : is_default entry ≡ default
   pub kept : KeepsMore (expressions_of (entry ∷ [])) before after
 
--- what was kept of an expression is among these
+-- the expression x is among the stored ones
 abbrev pub IsAmong : List KeptExpression → LocatedExpression → Type 0
 IsAmong kept x = (k : KeptExpression) × Contains kept k × IsKeptOf x k
 
--- an expression with its bytes, which a section lends
+-- a stored expression together with its bytes, which are borrowed from the section
 abbrev pub lent_from : Target → List ℕ → KeptExpression → LocatedExpression
 lent_from target section k = record { offset = k.offset; kind = Location; target = target; bytes = take k.length (drop k.offset section) }
 
 abbrev pub all_lent_from : Target → List ℕ → List KeptExpression → List LocatedExpression
 all_lent_from target section kept = map (lent_from target section) kept
 
--- its bytes are there, and it is kept of these
+-- the section has all bytes of the stored expression k, and k is what is stored of the expression
+-- that they encode
 pub record IsLendable (target : Target) (section : List ℕ) (k : KeptExpression) : Type 0 where
   pub inside : k.offset + k.length ≤ length section
   pub kept : IsKeptOf (lent_from target section k) k
@@ -61,7 +64,7 @@ pub record AreLendable (target : Target) (section : List ℕ) (kept : List KeptE
 
 -- ---- tables and lists
 
--- where they begin
+-- the offsets of the tables and lists that are stored
 pub record Kept : Type 0 where
   pub tables : List ℕ
   pub lists : List ℕ
@@ -72,30 +75,30 @@ kept_of c = record { tables = c.tables.items; lists = map start_of c.lists.items
 abbrev pub nothing_kept : Kept
 nothing_kept = record { tables = []; lists = [] }
 
--- with lists after what was kept, and with a table after it
+-- k with these lists added at the end; below, k with a table and its lists added
 abbrev pub with_lists : Kept → List Loclist → Kept
 with_lists k lists = record { tables = k.tables; lists = k.lists ++ starts_of lists }
 
 abbrev pub with_table : Kept → Table → Kept
 with_table k t = record { tables = k.tables ++ t.offset ∷ []; lists = k.lists ++ starts_of t.lists }
 
--- only these tables
+-- what is stored of a section that has exactly these tables
 abbrev pub kept_from : List Table → Kept
 kept_from tables = record { tables = map (λ (t : Table). t.offset) tables; lists = starts_of (lists_of tables) }
 
--- ---- all of them
+-- ---- tables, lists and expressions together
 
--- lists are kept, and their expressions
+-- these lists and their expressions were added to what is stored
 pub record KeepsLists (lists : List Loclist) (old new : Contents) : Type 0 where
   pub kept : kept_of new ≡ with_lists (kept_of old) lists
   pub expressions : KeepsMore (expressions_in lists) old.expressions.items new.expressions.items
 
--- a table is kept, and the expressions of its lists
+-- this table, its lists and their expressions were added to what is stored
 pub record KeepsTable (t : Table) (old new : Contents) : Type 0 where
   pub kept : kept_of new ≡ with_table (kept_of old) t
   pub expressions : KeepsMore (expressions_in t.lists) old.expressions.items new.expressions.items
 
--- what a checked section keeps: all that its tables have
+-- what is stored of a checked section: all that its tables contain
 pub record IsKept (s : ListSection) (c : Contents) : Type 0 where
   pub checked : IsChecked s
   pub kept : kept_of c ≡ kept_from (tables_in s)

@@ -1,20 +1,20 @@
--- ---- To be believed: the standard's words. Read these to check the headline against DWARF 5.
+-- ---- Trusted: what DWARF 5 says. To check the headline against the standard, read these.
 -- which bytes encode which entry (2.6.2, 7.7.3)
 pub mod Entries
 -- which bytes encode which list and table (7.7.3, 7.29)
 pub mod Lists
 -- what a list gives at an address (2.6.2)
 pub mod Locations
--- where things are, and in what order
+-- where lists and expressions are in a section, and in what order
 pub mod Bounds
--- ---- The first fault, as a function of the bytes. Laws tie it to what is to be believed.
--- from left to right: tables, lists and entries, or the first fault
+-- ---- The first fault, computed from the bytes. Laws tie it to the trusted definitions.
+-- reading a section from left to right: its tables, lists and entries, or the first fault
 pub mod Reading
--- ---- What the code's own values mean, and what its calls answer.
--- entries, lists and kept expressions of the code
+-- ---- What the code's values mean, and what its calls return.
+-- what the code's entries, lists and stored expressions mean
 pub mod Views
--- ---- Below the contracts: no contract of a public call uses these.
--- what is kept of a section
+-- ---- Internal: no contract of a public call uses these.
+-- what the code stores of a section
 pub mod Kept
--- how a list is walked for an address
+-- how the code walks a list for an address
 pub mod Walks

@@ -12,13 +12,14 @@ use Rattle.dw_loclists.specs.Entries.{Entry, end_of_list, IsEntry, is_end, is_de
 
 -- ---- lists
 
--- A list: the offset of its first byte, and its entries without the end_of_list.
+-- A list: the offset of its first byte in the section, and its entries without the end_of_list.
 pub record Loclist : Type 0 where
   pub offset : ℕ
   pub entries : List Entry
 
--- Entries one after the other; the last, and only the last, is an end_of_list. At most one is a default (own), no range
--- ends before it begins (own), and each expression is good as a location.
+-- The bytes encode the list: its entries without gaps, and then an end_of_list, which is the only
+-- one. Each expression passes the check as a location. This checker's own rules: a list has at most
+-- one default, and no range ends before it begins.
 pub record IsList (target : Target) (at : ℕ) (bytes : List ℕ) (l : Loclist) : Type 0 where
   pub offset_is : l.offset ≡ at
   pub encoded : Sequence (IsEntry target) at bytes (l.entries ++ end_of_list ∷ [])
@@ -29,8 +30,8 @@ pub record IsList (target : Target) (at : ℕ) (bytes : List ℕ) (l : Loclist) 
 
 -- ---- tables
 
--- A table: the offset of its first byte, the format of its length, the offset of its array, the offsets in the array,
--- which count from the array's offset, and the lists after it.
+-- A table: the offset of its first byte, the format of its length, the offset of its array, the
+-- array's offsets (which count from the array's first byte), and the lists.
 pub record Table : Type 0 where
   pub offset : ℕ
   pub format : Format
@@ -38,7 +39,8 @@ pub record Table : Type 0 where
   pub offsets : List ℕ
   pub lists : List Loclist
 
--- After the length: version 5, the size of an address of the target, no segment selectors, and the number of offsets.
+-- The header after the length: version 5, the target's address size, a segment selector size of 0,
+-- and the number of offsets in the array.
 abbrev pub table_header : Target → Fields ℕ
 table_header target =
     field (fixed 2) (λ version. unless (version == 5) ListVersion) (λ version.
@@ -47,16 +49,17 @@ table_header target =
     any (fixed 4) (λ count.
     made count))))
 
--- where lists begin
+-- the offsets of the first bytes of lists
 abbrev pub starts_of : List Loclist → List ℕ
 starts_of lists = map (λ (l : Loclist). l.offset) lists
 
--- An offset of the array, counted from the array's first byte: a list begins there (own).
+-- The bytes encode an array offset v, which counts from the array's first byte. A list must begin
+-- there (this checker's own rule).
 abbrev pub IsListOffset : Target → Format → ℕ → List ℕ → ℕ → List ℕ → ℕ → Type 0
 IsListOffset target format array starts at bytes v = Offset target.order format bytes v × Contains starts (array + v)
 
--- A table is a length, and a body of that length: the header, the array with its number of offsets, and lists without a
--- gap.
+-- The bytes encode the table: its length, and then as many bytes, which are the header, the array
+-- with the number of offsets that the header states, and lists without gaps.
 pub record IsTable (target : Target) (at : ℕ) (bytes : List ℕ) (t : Table) : Type 0 where
   pub front : List ℕ
   pub header : List ℕ
@@ -70,7 +73,7 @@ pub record IsTable (target : Target) (at : ℕ) (bytes : List ℕ) (t : Table) :
   pub offsets_are : Sequence (IsListOffset target t.format t.array (starts_of t.lists)) t.array offsets t.offsets
   pub lists_are : Sequence (IsList target) (t.array + length offsets) lists t.lists
 
--- the tables of a section, without a gap
+-- the bytes of a section encode these tables, without gaps
 abbrev pub AreTables : Target → ℕ → List ℕ → List Table → Type 0
 AreTables target = Sequence (IsTable target)
 
@@ -78,6 +81,6 @@ AreTables target = Sequence (IsTable target)
 abbrev pub lists_of : List Table → List Loclist
 lists_of tables = flat_map (λ (t : Table). t.lists) tables
 
--- A well-formed section: its bytes are the encodings of tables, without a gap.
+-- A section is well formed if its bytes are the encodings of tables, without gaps.
 abbrev pub IsWellFormed : Target → List ℕ → Type 0
 IsWellFormed target section = (tables : List Table) × AreTables target 0 section tables

@@ -7,11 +7,11 @@ use Rattle.dw_loclists.specs.Entries.{Entry, end_of_list, offset_pair, default_l
 use Rattle.dw_loclists.specs.Entries.{expression_in, is_default}
 use Rattle.dw_loclists.specs.Lists.{Loclist}
 
--- every expression of a list is a location
+-- a block as an expression of a list, which is always a location
 abbrev pub location_of : Block → LocatedExpression
 location_of e = located_as Location e
 
--- the expressions of entries, of lists and of tables, in order
+-- the expressions of these entries, or of all entries of these lists, in order
 abbrev pub expressions_of : List Entry → List LocatedExpression
 expressions_of entries = map location_of (filter_map expression_in entries)
 
@@ -20,17 +20,19 @@ expressions_in lists = flat_map (λ (l : Loclist). expressions_of l.entries) lis
 
 -- ---- the entries that hold at an address
 
--- the base after entries: that of the last base_address, or else the one before them all
+-- the base address after these entries: the last that a base_address sets, or the base before the
+-- entries if there is none
 abbrev pub base_after : ℕ → List Entry → ℕ
 base_after base [] = base
 base_after base (base_address other ∷ entries) = base_after other entries
 base_after base (_ ∷ entries) = base_after base entries
 
--- from the beginning up to, not including, the end
+-- the address is from begin up to, not including, end
 abbrev pub is_between : ℕ → ℕ → ℕ → Bool
 is_between begin end address = nat_le begin address && nat_lt address end
 
--- A bounded entry holds at the addresses of its range. Only an offset_pair counts from the base, and no sum wraps (own).
+-- Whether an entry has a range that contains the address. Only an offset_pair counts from the base,
+-- and no sum wraps (this checker's own rule).
 abbrev pub holds : ℕ → ℕ → Entry → Bool
 holds base address end_of_list = false
 holds base address (offset_pair begin end e) = is_between (base + begin) (base + end) address
@@ -39,28 +41,30 @@ holds base address (base_address other) = false
 holds base address (start_end begin end e) = is_between begin end address
 holds base address (start_length begin count e) = is_between begin (begin + count) address
 
--- the expression of an entry that holds
+-- the expression of an entry whose range contains the address, else nothing
 abbrev pub held_by : ℕ → ℕ → Entry → List LocatedExpression
 held_by base address entry = if holds base address entry then expressions_of (entry ∷ []) else []
 
--- those of the bounded entries that hold, in order, where this is the base before the first of them
+-- the expressions of all entries whose range contains the address, in order; `base` is the base
+-- address before the first of these entries
 abbrev pub bounded_at : ℕ → ℕ → List Entry → List LocatedExpression
 bounded_at base address [] = []
 bounded_at base address (entry ∷ entries) = held_by base address entry ++ bounded_at (base_after base (entry ∷ [])) address entries
 
--- that of the default, if there is one
+-- the expression of an entry that is a default, else nothing
 abbrev pub default_of : Entry → List LocatedExpression
 default_of entry = if is_default entry then expressions_of (entry ∷ []) else []
 
 abbrev pub defaults_in : List Entry → List LocatedExpression
 defaults_in entries = flat_map default_of entries
 
--- a list, or if it is empty another one
+-- the first list, or the second if the first is empty
 abbrev pub or_else_all : {X : Type 0} → List X → List X → List X
 or_else_all [] others = others
 or_else_all (x ∷ xs) others = x ∷ xs
 
--- The expressions of a list that hold at an address, in order: those of bounded entries, or if none holds the default's.
--- The base is the unit's.
+-- The expressions of a location list that hold at an address, in order: those of all entries whose
+-- range contains the address, or the default's if there are none. `base` is the unit's base
+-- address.
 abbrev pub locations_of : Loclist → ℕ → ℕ → List LocatedExpression
 locations_of l base address = or_else_all (bounded_at base address l.entries) (defaults_in l.entries)

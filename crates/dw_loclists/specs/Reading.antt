@@ -1,5 +1,5 @@
--- Reading a `.debug_loclists` section from left to right, up to the first fault. Each entry is checked as soon as it is
--- read: one default per list, its range, its expression.
+-- Reading a `.debug_loclists` section from left to right, up to the first fault. Each entry is
+-- checked as soon as it is read: at most one default per list, then its range, then its expression.
 use Rattle.std.specs.Prelude.{◌≡◌, ℕ, zero, suc, ◌+◌, ◌==◌, ◌&&◌, ◌||◌, nat_lt, Bool, false, if◌then◌else◌, List, [], ◌∷◌, length, Option}
 use Rattle.std.specs.Prelude.{Some, None, Result, Ok, Err, option_map}
 use Rattle.std.specs.List.{list_any}
@@ -25,7 +25,7 @@ use Rattle.dw_stack.specs.Located.{LocatedExpression, located_fault}
 unfoldable pub entry_at : ReadPosition → Result (Entry × ReadPosition) Fault
 entry_at r = coded_at entry_line UnknownEntry r
 
--- a range that ends before it begins
+-- the entry has a range that ends before it begins
 abbrev pub is_back_range : Entry → Bool
 is_back_range end_of_list = false
 is_back_range (offset_pair begin end e) = nat_lt end begin
@@ -37,15 +37,16 @@ is_back_range (start_length begin count e) = false
 abbrev pub location_fault : Option Block → Option Fault
 location_fault e = located_fault (option_map location_of e)
 
--- The first fault of an entry at an offset: a second default, a range that ends before it begins, and then its
--- expression's. The flag tells whether a default came before.
+-- The first fault of an entry at offset `at`: a second default in its list, a range that ends
+-- before it begins, or the first fault of its expression. `has_default` tells whether the list
+-- already had a default.
 abbrev pub entry_fault : Bool → ℕ → Entry → Option Fault
 entry_fault has_default at entry =
     if has_default && is_default entry then Some (record { kind = SecondDefault; at = at })
     else if is_back_range entry then Some (record { kind = BackRange; at = at })
     else location_fault (expression_in entry)
 
--- the value, unless there is a fault
+-- the value x, or the fault if there is one
 abbrev pub unless_fault : {X : Type 0} → Option Fault → X → Result X Fault
 unless_fault None x = Ok x
 unless_fault (Some fault) x = Err fault
@@ -55,11 +56,12 @@ checked_entry_at has_default r = entry_at r >>= λ entry. unless_fault (entry_fa
 
 -- ---- lists
 
--- a table that ends inside a list
+-- the fault of a table that ends inside a list, at the table's end
 abbrev pub no_end : ReadPosition → Fault
 no_end r = record { kind = NoEnd; at = r.position }
 
--- at most count entries, up to the end of their list
+-- the entries up to the end of their list, if there are no more than `count`; `has_default` tells
+-- whether the list already had a default
 abbrev pub at_most_entries : ℕ → Bool → ReadPosition → Result (List Entry × ReadPosition) Fault
 at_most_entries zero has_default r = Err (no_end r)
 at_most_entries (suc count) has_default r =
@@ -70,27 +72,27 @@ at_most_entries (suc count) has_default r =
     else (at_most_entries count (has_default || is_default entry.0) entry.1 >>= λ others. Ok (entry.0 ∷ others.0, others.1)))
     else Err (no_end r)
 
--- The entries up to the end of their list. The flag tells whether a default came before; there are no more entries than
--- bytes.
+-- The entries up to the end of their list. `has_default` tells whether the list already had a
+-- default. A list has no more entries than bytes, so the number of bytes left is a limit.
 unfoldable pub entries_at : Bool → ReadPosition → Result (List Entry × ReadPosition) Fault
 entries_at has_default r = at_most_entries (length r.rest) has_default r
 
 unfoldable pub list_at : ReadPosition → Result (Loclist × ReadPosition) Fault
 list_at r = entries_at false r >>= λ entries. Ok (record { offset = r.position; entries = entries.0 }, entries.1)
 
--- all of them, or the first fault
+-- all values, or the first fault
 abbrev pub all_of : {X : Type 0} → List (Result X Fault) → Result (List X) Fault
 all_of [] = Ok []
 all_of (Ok x ∷ items) = all_of items >>= λ others. Ok (x ∷ others)
 all_of (Err fault ∷ items) = Err fault
 
--- lists without a gap
+-- lists without gaps, up to the end of the table
 unfoldable pub lists_at : ReadPosition → Result (List Loclist) Fault
 lists_at r = all_of (sequence_of list_at r)
 
 -- ---- tables
 
--- an array offset is checked against the lists of its table
+-- whether a list begins at offset `at`; `starts` has the offsets of the lists
 abbrev pub is_among : ℕ → List ℕ → Bool
 is_among at starts = list_any (λ start. start == at) starts
 
@@ -98,7 +100,8 @@ abbrev pub list_offset_at : Format → ℕ → List ℕ → ReadPosition → Res
 list_offset_at format array starts r = offset_at format r >>= λ offset. ok_unless
     (unless (is_among (array + offset.0) starts) BadOffsetEntry) r.position offset
 
--- A table, read within its body: the header, the array, the lists, and then the array again, now that its lists are known.
+-- A table, read within the bytes that its length covers: the header, the array, the lists, and then
+-- the array a second time, to check it against the lists.
 unfoldable pub table_at : ReadPosition → Result (Table × ReadPosition) Fault
 table_at r = do
   framed ← framed_at r
@@ -108,11 +111,11 @@ table_at r = do
   named ← exactly_of (list_offset_at framed.0.0 header.1.position (starts_of lists)) header.0 header.1
   Ok (record { offset = r.position; format = framed.0.0; array = header.1.position; offsets = named.0; lists = lists }, framed.1)
 
--- the tables of a section from an offset on
+-- the tables of a section from an offset on, up to the section's end or the first fault
 unfoldable pub tables_from : Target → List ℕ → ℕ → List (Result Table Fault)
 tables_from target section at = sequence_of table_at (section_from target section at)
 
--- The tables of a section from left to right, up to its end or the first fault.
+-- All tables of a section from left to right, up to the section's end or the first fault.
 abbrev pub tables_of : Target → List ℕ → List (Result Table Fault)
 tables_of target section = tables_from target section 0
 
@@ -122,16 +125,16 @@ lists_fault target section = fault_in (tables_of target section)
 
 -- ---- checked sections
 
--- A section under a target.
+-- A section with the target that it is read with.
 pub record ListSection : Type 0 where
   pub target : Target
   pub section : List ℕ
 
--- A section that is accepted has no fault.
+-- A section that passed the check: it has no fault.
 abbrev pub IsChecked : ListSection → Type 0
 IsChecked s = lists_fault s.target s.section ≡ None
 
--- its tables, its lists and their expressions, each in order
+-- the tables of a section, its lists, and their expressions, each in order
 abbrev pub tables_in : ListSection → List Table
 tables_in s = values_in (tables_of s.target s.section)
 

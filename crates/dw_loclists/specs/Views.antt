@@ -15,10 +15,10 @@ entry_of (entries.BaseAddress base) = Entry.base_address base
 entry_of (entries.StartEnd begin end e) = Entry.start_end begin end (block_of e)
 entry_of (entries.StartLength begin count e) = Entry.start_length begin count (block_of e)
 
--- where a list begins
+-- the offset of a list's first byte in the section
 abbrev pub start_of : declared_list.LocationList → ℕ
 start_of l = l.offset
 
--- where an expression begins
+-- the offset of a stored expression's first byte in the section
 abbrev pub offset_of : KeptExpression → ℕ
 offset_of k = k.offset

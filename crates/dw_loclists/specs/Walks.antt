@@ -1,4 +1,4 @@
--- How a list is walked for an address. No contract of a public call uses these.
+-- How the code walks a list for an address. No contract of a public call uses these.
 use Rattle.std.specs.Prelude.{◌≡◌, ℕ, Bool, false, Contains, List, [], ◌∷◌, ◌++◌, if◌then◌else◌, is_some, Option, Some, None, Result, Ok}
 use Rattle.std.specs.Prelude.{Err, IsOk}
 use Rattle.dw_bytes.specs.declared.block.Block as declared
@@ -15,12 +15,12 @@ use Rattle.dw_stack.specs.Located.{LocatedExpression}
 use Rattle.dw_loclists.specs.Reading.{entries_at}
 use Rattle.dw_loclists.specs.Views.{offset_of}
 
--- the default that was read, if any
+-- the expression of the default that was read, if there was one
 abbrev pub default_located : Option declared.Block → List LocatedExpression
 default_located None = []
 default_located (Some b) = location_of (block_of b) ∷ []
 
--- the entries that are left; the flag tells whether a default came before
+-- the entries that a read returned, none if it failed; below, the read of the rest of a walk's list
 abbrev pub entries_in : Result (List Entry × ReadPosition) Fault → List Entry
 entries_in (Ok found) = found.0
 entries_in (Err fault) = []
@@ -28,22 +28,25 @@ entries_in (Err fault) = []
 abbrev pub left_of : ListWalk → Result (List Entry × ReadPosition) Fault
 left_of w = entries_at (is_some w.default) w.cursor
 
--- they can be read up to the end of their list
+-- the rest of the list can be read without a fault up to its end
 abbrev pub IsReadable : ListWalk → Type 0
 IsReadable w = IsOk (left_of w)
 
--- what they give at an address, or the default where they give nothing
+-- the expressions in the rest of the list that hold at the address by their ranges; below, the
+-- default, whether read already or still ahead
 abbrev pub held_ahead : ℕ → ListWalk → List LocatedExpression
 held_ahead address w = bounded_at w.base address (entries_in (left_of w))
 
 abbrev pub default_ahead : ListWalk → List LocatedExpression
 default_ahead w = default_located w.default ++ defaults_in (entries_in (left_of w))
 
--- what is still to come; the flag tells whether something held already
+-- the expressions that the walk will still return; `found` tells whether it returned one already,
+-- and then the default doesn't hold
 abbrev pub still_to_come : Bool → ℕ → ListWalk → List LocatedExpression
 still_to_come found address w = if found then held_ahead address w else or_else_all (held_ahead address w) (default_ahead w)
 
--- A walk whose expressions are all kept, in order of their offsets.
+-- A walk over a list that can be read to its end: all expressions that the walk can give are
+-- stored, and the stored expressions are in order of their offsets.
 pub record IsWalk (ended : Bool) (address : ℕ) (w : ListWalk) (kept : List KeptExpression) : Type 0 where
   pub readable : ended ≡ false → IsReadable w
   pub order : Ascends offset_of kept

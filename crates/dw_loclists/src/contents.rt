@@ -1,11 +1,12 @@
-//! What a section contains.
+//! What we store of a section.
 
 ghost use Rattle.std.specs.Prelude.{◌<◌, ◌^◌};
 
 use crate::kept::KeptExpression;
 use std::alloc::Global;
 
-/// A location list of a section (DWARF 5, section 7.7.3), named by the offset where it begins.
+/// A location list (DWARF 5, section 7.7.3), identified by the offset in the section where it
+/// begins.
 #[derive(Clone, Copy, Debug, PartialEq, Eq)]
 pub struct LocationList {
     offset: u32,
@@ -16,14 +17,14 @@ impl LocationList {
     ghost use Rattle.std.specs.Prelude.{◌≡◌};
     ghost use Rattle.dw_loclists.specs.Views.{start_of};
 
-    /// The list that begins at an offset.
+    /// The list that begins at `offset`.
     pub(crate) fn new(offset: u32) -> Self
         ensures { start_of result ≡ offset }
     {
         LocationList { offset }
     }
 
-    /// The offset of its first byte in the section.
+    /// The offset of the list's first byte in the section.
     pub fn offset(&self) -> u32
         ensures { result ≡ start_of self.now }
     {
@@ -31,8 +32,9 @@ impl LocationList {
     }
 }
 
-/// What is kept of the part of a section that was read: the offsets of its tables, its lists, and what was learned of its
-/// expressions, each in order.
+/// What we store of the part of a section that was read so far: the offsets of its tables, its
+/// lists, and its expressions (offsets, lengths, operation counts and depths), each in order of
+/// offset.
 #[derive(Drop)]
 pub struct Contents {
     pub tables: Vec<u32>,
@@ -44,7 +46,7 @@ impl Contents {
     ghost use Rattle.std.specs.Prelude.{◌≡◌, []};
     ghost use Rattle.dw_loclists.specs.Kept.{kept_of, nothing_kept};
 
-    /// Nothing read yet.
+    /// The contents before anything is read.
     pub fn new(alloc: Global) -> Self
         ensures kept { kept_of result ≡ nothing_kept }
         ensures expressions { result.expressions.items ≡ [] }

@@ -1,4 +1,4 @@
-//! The entries of location lists.
+//! Reads the entries of location lists.
 
 ghost use Rattle.std.specs.Prelude.{◌≡◌, ◌<◌, ◌≤◌, ◌+◌, nat_le, IfOk};
 ghost use Rattle.dw_bytes.specs.Reading.{MovesForward};
@@ -13,28 +13,29 @@ use dw_bytes::{Block, Cursor, Fault, FaultKind, operands};
 pub enum Entry<'a> {
     /// `DW_LLE_end_of_list`: the list ends here.
     EndOfList,
-    /// `DW_LLE_offset_pair`: the expression holds from one offset up to, not including, another, both counted
-    /// from the base.
+    /// `DW_LLE_offset_pair`: the expression holds from `begin` up to, not including, `end`, both
+    /// offsets from the base address.
     OffsetPair {
         begin: u64,
         end: u64,
         expression: Block<'a>,
     },
-    /// `DW_LLE_default_location`: the expression holds where no other entry covers the address.
+    /// `DW_LLE_default_location`: the expression holds if no other entry of the list covers the
+    /// address.
     DefaultLocation {
         expression: Block<'a>,
     },
-    /// `DW_LLE_base_address`: the base of the entries after it.
+    /// `DW_LLE_base_address`: sets the base address of the entries after it.
     BaseAddress {
         base: u64,
     },
-    /// `DW_LLE_start_end`: the expression holds from one address up to, not including, another.
+    /// `DW_LLE_start_end`: the expression holds from address `begin` up to, not including, `end`.
     StartEnd {
         begin: u64,
         end: u64,
         expression: Block<'a>,
     },
-    /// `DW_LLE_start_length`: the expression holds from an address on, for a number of bytes.
+    /// `DW_LLE_start_length`: the expression holds for `count` bytes from address `begin` on.
     StartLength {
         begin: u64,
         count: u64,
@@ -43,8 +44,9 @@ pub enum Entry<'a> {
 }
 
 impl<'a> Entry<'a> {
-    /// Reads the next entry. An unknown code (51) is reported at the entry's first byte; a field that isn't
-    /// there (1) or is out of range (2) at the field's first byte.
+    /// Reads the next entry. An unknown code is `UnknownEntry` (51) at the entry's first byte. A
+    /// field that is missing or cut off (1), or a LEB128 number that is too long or too large (2),
+    /// is reported at the field's first byte.
     #[tactic(auto, unfolding(crate::specs::Reading::entry_at))]
     #[inline(always)]
     pub fn read(cursor: &mut Cursor<'a>) -> Result<Self, Fault>
@@ -110,7 +112,7 @@ impl<'a> Entry<'a> {
     ghost use Rattle.dw_loclists.specs.Reading.{is_back_range};
     ghost use Rattle.dw_loclists.specs.Views.{entry_of};
 
-    /// Whether it ends its list.
+    /// Whether the entry is an end_of_list.
     #[inline(always)]
     pub fn is_end(&self) -> bool
         ensures { result ≡ is_end (entry_of self.now) }
@@ -118,7 +120,7 @@ impl<'a> Entry<'a> {
         matches!(self, Entry::EndOfList)
     }
 
-    /// Whether it is a default_location.
+    /// Whether the entry is a default_location.
     #[inline(always)]
     pub fn is_default(&self) -> bool
         ensures { result ≡ is_default (entry_of self.now) }
@@ -126,7 +128,7 @@ impl<'a> Entry<'a> {
         matches!(self, Entry::DefaultLocation { .. })
     }
 
-    /// Whether its range ends before it begins.
+    /// Whether the entry has a range that ends before it begins.
     #[inline(always)]
     pub fn is_back_range(&self) -> bool
         ensures { result ≡ is_back_range (entry_of self.now) }
@@ -138,7 +140,7 @@ impl<'a> Entry<'a> {
         }
     }
 
-    /// Its expression, if it has one.
+    /// The entry's expression, if it has one.
     #[inline(always)]
     pub fn expression(&self) -> Option<Block<'a>>
         ensures { option_map block_of result ≡ expression_in (entry_of self.now) }
@@ -152,7 +154,8 @@ impl<'a> Entry<'a> {
         }
     }
 
-    /// Whether it is bounded and holds at an address. The offsets of an `OffsetPair` count from the base.
+    /// Whether the entry has a range that contains `address`. `base` is the base address, from
+    /// which an `OffsetPair` counts. Sums don't wrap: one above 2^64 - 1 is above every address.
     #[inline(always)]
     pub fn holds(&self, base: u64, address: u64) -> bool
         ensures { result ≡ holds base address (entry_of self.now) }
@@ -170,7 +173,7 @@ impl<'a> Entry<'a> {
     }
 }
 
-/// Whether base + offset, not wrapped, is at most an address.
+/// Whether `base + offset`, without wrapping, is at most `address`.
 #[inline(always)]
 fn sum_is_at_most(base: u64, offset: u64, address: u64) -> bool
     ensures { result ≡ nat_le (base + offset) address }

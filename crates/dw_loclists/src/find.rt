@@ -13,7 +13,7 @@ use crate::kept::KeptExpression;
 use dw_bytes::Block;
 use dw_stack::CheckedExpression;
 
-/// The list that begins at an offset.
+/// The list that begins at `offset`, if there is one.
 pub fn find_list(lists: &[LocationList], offset: u64) -> Option<LocationList>
     requires { Ascends start_of lists.now }
     ensures { MatchOption result
@@ -26,7 +26,7 @@ pub fn find_list(lists: &[LocationList], offset: u64) -> Option<LocationList>
     }
 }
 
-/// The checked expression of a block, looked up in what was kept.
+/// The checked expression of `block`, found among the stored expressions by its offset.
 pub fn find_expression<'a>(
     expressions: &[KeptExpression],
     block: Block<'a>,

@@ -1,4 +1,4 @@
-//! What is kept of an expression.
+//! What we store of each expression.
 
 ghost use Rattle.std.specs.Prelude.{◌≡◌, ◌<◌, ◌≤◌, ◌+◌, ◌^◌, length};
 ghost use Rattle.dw_bytes.specs.Operands.{block_of};
@@ -13,21 +13,23 @@ use dw_bytes::{Block, Target};
 use dw_ops::Expression;
 use dw_stack::{CheckedExpression, Kind};
 
-/// What is kept of an expression that is good as a location: where it is, and what was learned of it. Its bytes stay in
-/// the section, so this takes 16 bytes.
+/// What we store of an expression that passed the check as a location: where it is, how many
+/// operations it has, and its stack depth. The bytes stay in the section, so this takes only 16
+/// bytes.
 #[derive(Clone, Copy, Debug)]
 pub struct KeptExpression {
-    /// The offset of its first byte in the section.
+    /// The offset of the expression's first byte in the section.
     pub offset: u32,
-    /// Its length in bytes.
+    /// The expression's length in bytes.
     pub length: u32,
-    /// The number of its operations.
+    /// The number of operations in the expression.
     pub count: u32,
     pub depth: u8,
 }
 
 impl KeptExpression {
-    /// From a block whose bytes were checked as a location.
+    /// Makes the entry for `block`, whose bytes were checked as a location; `checked` is the result
+    /// of that check.
     #[inline(always)]
     pub fn new(block: Block<'_>, checked: &CheckedExpression<'_>) -> Self
         requires checked { IsChecked (checked_of checked.now) }
@@ -42,7 +44,7 @@ impl KeptExpression {
         }
     }
 
-    /// Its bytes, as they are in a section.
+    /// The bytes of the expression, borrowed from the section that it was stored for.
     pub fn block_in<'a>(&self, section: &'a [u8], target: Target) -> Block<'a>
         requires inside { self.now.offset + self.now.length ≤ length section.now }
         requires short { length section.now < 2 ^ 32 }
@@ -57,7 +59,8 @@ impl KeptExpression {
         }
     }
 
-    /// The expression with its offset, borrowed over its bytes.
+    /// The checked expression, with its offset in the section. `block` has its bytes, which aren't
+    /// checked again.
     pub fn lend<'a>(&self, block: Block<'a>) -> (u32, CheckedExpression<'a>)
         requires { IsKeptOf (location_of (block_of block)) self.now }
         ensures { located_of result ≡ location_of (block_of block.entry) }

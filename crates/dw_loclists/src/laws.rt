@@ -15,36 +15,36 @@ ghost use Rattle.dw_loclists.specs.Reading.{entry_at, list_at, table_at, tables_
 ghost use Rattle.dw_loclists.specs.Reading.{tables_in, lists_in, located_in};
 ghost use Rattle.dw_loclists.specs.Bounds.{AllWithin, Ascends, StandsIn};
 
-/// Entry encodings are prefix-free, and the same bytes encode only one entry.
+/// No entry's encoding is a prefix of another's, and the same bytes encode only one entry.
 pub fn entries_are_unambiguous()
     ensures { (target : Target) (at : ℕ) (a b x y : List ℕ) (d e : Entry) →
         IsEntry target at a d → IsEntry target at b e → a ++ x ≡ b ++ y → (a ≡ b) × (d ≡ e) }
 {}
 
-/// What is read is what is encoded, and what is encoded is read. For lists and tables that includes the further
-/// conditions: one default per list, ranges that don't end before they begin, expressions that are good as locations, and
-/// array offsets that are those of lists.
+/// Entries, lists and tables are read exactly from the bytes that encode them. For lists and tables
+/// this includes the further rules: a list has at most one default, no range ends before it begins,
+/// each expression passes the check as a location, and each array offset is that of a list.
 pub fn list_reads_are_exact()
     ensures entries { (r : ReadPosition) → IsExact entry_at (IsEntry r.target r.position) r }
     ensures lists { (r : ReadPosition) → IsExact list_at (IsList r.target r.position) r }
     ensures tables { (r : ReadPosition) → IsExact table_at (IsTable r.target r.position) r }
 {}
 
-/// A section is read without a fault exactly if its bytes are the encodings of tables without a gap; the result is these
-/// tables.
+/// A section is read without a fault exactly if its bytes are the encodings of tables without gaps;
+/// the tables that are read are then those.
 pub fn sections_are_tables()
     ensures { (target : Target) (section : List ℕ) (tables : List Table) →
         (tables_of target section ≡ map Ok tables) ↔ AreTables target 0 section tables }
 {}
 
-/// A section has no fault exactly if it is well formed.
+/// A section has no fault exactly if it is well formed (`IsWellFormed`).
 pub fn list_sections_without_fault_are_well_formed()
     ensures { (target : Target) (section : List ℕ) →
         (lists_fault target section ≡ None) ↔ IsWellFormed target section }
 {}
 
-/// What a section gives from an offset on: the table there and then what comes after it, or only the fault there, or
-/// nothing at the section's end.
+/// Reading a section from an offset on gives the table there followed by the tables after it; or
+/// only a fault, if the table there has one; or nothing at the section's end.
 pub fn tables_come_in_order()
     ensures table { (target : Target) (section : List ℕ) (at next : ℕ) (t : Table) →
         table_at (section_from target section at) ≡ Ok (t, section_from target section next) →
@@ -56,9 +56,9 @@ pub fn tables_come_in_order()
         length section ≤ at → tables_from target section at ≡ [] }
 {}
 
-/// What an accepted section contains: its tables are what its bytes encode, its lists and expressions come in order of
-/// their offsets, at most one list begins at an offset, and each expression is good as a location and has the section's
-/// target.
+/// What an accepted section contains: its tables are the ones that its bytes encode, its lists and
+/// expressions are in order of their offsets, at most one list begins at an offset, and each
+/// expression passes the check as a location and has the section's target.
 pub fn checked_list_sections()
     ensures tables { (s : ListSection) →
         IsChecked s → AreTables s.target 0 s.section (tables_in s) }
@@ -77,8 +77,9 @@ pub fn checked_list_sections()
         expression_in e ≡ Some b → b.target ≡ s.target }
 {}
 
-/// An entry of a list counts from the base of the last base_address before it, or else from the unit's. A list has at
-/// most one default.
+/// Whether an entry holds at an address is decided with the base address that the last base_address
+/// before the entry in its list sets, or with the unit's if there is none. A list has at most one
+/// default.
 pub fn entries_hold_by_the_base_before_them()
     ensures held { (base address : ℕ) (before : List Entry) (e : Entry) (behind : List Entry) →
         bounded_at base address (before ++ e ∷ behind) ≡ bounded_at base address before
@@ -88,8 +89,9 @@ pub fn entries_hold_by_the_base_before_them()
         IsList target at bytes l → length (defaults_in l.entries) ≤ 1 }
 {}
 
-/// Where things are in a section: an entry's expression is after the entry's first byte and ends no later than its last,
-/// under the section's target; a list of its tables is at the list's offset.
+/// Where entries' expressions and lists are in a section: an expression begins after its entry's
+/// first byte, ends where the entry ends, and has the section's target; the bytes at a list's
+/// offset encode the list.
 pub fn lists_and_expressions_stand_in_their_bytes()
     ensures expressions { (target : Target) (at : ℕ) (bytes : List ℕ) (e : Entry) →
         IsEntry target at bytes e → AllWithin target at (at + length bytes) (expression_in e) }

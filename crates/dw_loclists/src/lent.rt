@@ -1,4 +1,4 @@
-//! Iterates over all expressions of a section, lending each.
+//! Iterates over all expressions of a section.
 
 ghost use Rattle.std.specs.Iterator.{YieldsFirstBy, item_count};
 ghost use Rattle.dw_stack.specs.Located.{located_of};
@@ -9,8 +9,9 @@ use dw_stack::CheckedExpression;
 use std::iter::FusedIterator;
 use std::marker::Model;
 
-/// The expressions of a checked section, each with the offset of its first byte, in order. Their bytes are borrowed from
-/// the section; nothing is allocated. Its model is the list of what is still to come.
+/// The expressions of a checked section, each with the offset of its first byte, in order. Their
+/// bytes are borrowed from the section; nothing is allocated. The model is the list of the
+/// expressions that are still to come.
 #[derive(Debug, Drop)]
 pub struct Expressions<'c, 'a> {
     section: &'a [u8],
@@ -35,7 +36,7 @@ impl<'c, 'a> Expressions<'c, 'a> {
     ghost use Rattle.std.specs.Prelude.{◌≡◌};
     ghost use Rattle.dw_loclists.specs.Kept.{all_lent_from, AreLendable};
 
-    /// Those that were kept of a section.
+    /// An iterator over the stored expressions of a section.
     pub(crate) fn new(section: &'a [u8], target: Target, kept: &'c [KeptExpression]) -> Self
         requires { AreLendable target section.now kept.now }
         ensures { result ≡ all_lent_from target section.now kept.now }

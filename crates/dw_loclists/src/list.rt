@@ -20,7 +20,8 @@ use dw_ops::Expression;
 use dw_stack::{Kind, check_expression, check_register};
 use std::alloc::Global;
 
-/// Checks an expression as a location, and keeps what was learned of it.
+/// Checks the expression of an entry as a location, and stores it in `expressions`. A fault's
+/// offset counts from the section's first byte.
 #[inline(always)]
 fn check_entry_expression(
     alloc: Global,
@@ -47,7 +48,8 @@ fn check_entry_expression(
     }
 }
 
-/// Checks an entry at an offset, and keeps its expression. The flag tells whether its list already had a default.
+/// Checks the entry at offset `at`, and stores its expression. `has_default` tells whether the list
+/// already had a default.
 #[inline(always)]
 fn check_entry(
     alloc: Global,
@@ -79,16 +81,17 @@ fn check_entry(
     }
 }
 
-/// The result of reading an entry that has no fault.
+/// What `check_next` returns for an entry without a fault.
 #[derive(Clone, Copy)]
 struct Passed {
-    /// Whether it ends its list.
+    /// Whether the entry ends its list.
     ended: bool,
-    /// Whether it is a default_location.
+    /// Whether the entry is a default_location.
     default: bool,
 }
 
-/// Reads an entry, checks it, and keeps its expression. The flag tells whether its list already had a default.
+/// Reads the next entry, checks it, and stores its expression. `has_default` tells whether the list
+/// already had a default.
 #[inline(never)]
 fn check_next(
     alloc: Global,
@@ -113,8 +116,9 @@ fn check_next(
     })
 }
 
-/// Keeps an expression if it is a good location and there is room; otherwise nothing changes. It isn't inlined, so that
-/// it costs nothing where an expression is a register.
+/// Checks an expression as a location and stores it. If the check fails or there is no memory,
+/// returns false and changes nothing. Not inlined, so that it costs nothing if an expression is a
+/// register.
 #[inline(never)]
 fn keep_any(alloc: Global, block: Block<'_>, expressions: &mut Vec<KeptExpression>) -> bool
     ensures { MatchBool result
@@ -136,7 +140,8 @@ fn keep_any(alloc: Global, block: Block<'_>, expressions: &mut Vec<KeptExpressio
     true
 }
 
-/// The same as `keep_any`. Handles a register, which nearly all expressions are, inline.
+/// Does what `keep_any` does, but handles an expression that is a single register inline, as nearly
+/// all are.
 #[inline(always)]
 fn keep_location(alloc: Global, block: Block<'_>, expressions: &mut Vec<KeptExpression>) -> bool
     ensures { MatchBool result
@@ -158,9 +163,10 @@ fn keep_location(alloc: Global, block: Block<'_>, expressions: &mut Vec<KeptExpr
     true
 }
 
-/// A shortcut for the common cases of `check_next`: end_of_list, base_address, and offset_pair and start_length with
-/// short numbers. Tells whether the list ends there. For anything else, for a fault, or if there is no room, it gives
-/// none and changes nothing; the caller then calls `check_next`.
+/// A shortcut for the common cases of `check_next`: end_of_list, base_address, and offset_pair and
+/// start_length whose LEB128 numbers have at most three bytes. Returns whether the entry ends the
+/// list. `None`, with nothing changed, for any other entry, for a fault, or if there is no memory:
+/// the caller then calls `check_next`.
 #[inline(always)]
 fn check_common(
     alloc: Global,
@@ -209,8 +215,8 @@ fn check_common(
     }
 }
 
-/// Reads a list up to and including its end_of_list; the cursor ends after it. Each entry is checked as soon as it is
-/// read, and its expression is kept. The table ends at an offset.
+/// Reads a list up to its end_of_list, and leaves the cursor after it. Each entry is checked as
+/// soon as it is read, and its expression is stored. `end` is the offset of the table's end.
 pub fn read_list(
     alloc: Global,
     cursor: &mut Cursor<'_>,

@@ -1,4 +1,4 @@
-//! A checked section.
+//! Checks a whole section, and looks up its lists.
 
 ghost use Rattle.std.specs.Prelude.{◌≡◌, ◌<◌, ◌≤◌, ◌^◌, Contains, length, map, IfOk, IfErr, MatchOption};
 ghost use Rattle.dw_bytes.specs.Answers.{Answers};
@@ -17,12 +17,14 @@ use dw_bytes::{Cursor, Fault, Target};
 use std::alloc::Global;
 use std::marker::Model;
 
-/// A `.debug_loclists` section that was checked: it is tables without a gap, each offset of a table's array is that of a
-/// list, and each expression is good as a location. Its model is its target and its bytes.
+/// A `.debug_loclists` section that passed the check: it consists of tables without gaps, each
+/// offset in a table's array is the offset of a list, and each expression passes the check as a
+/// location. Its model is its target and its bytes.
 ///
 /// ```rust
 /// let lists = check_lists(alloc, section, target)?;
-/// // The list that DW_AT_location names, in a unit that begins at 0x1000, where the program stands at 0x1005.
+/// // The list at 0xc, the value of a DW_AT_location, in a unit that begins at 0x1000, while the
+/// // program is stopped at 0x1005.
 /// if let Some(list) = lists.list(0xc) {
 ///     for (offset, expression) in lists.locations_at(&list, 0x1000, 0x1005) {
 ///         println!(rt; "{offset:#x}: {} operations", expression.operation_count())?;
@@ -48,17 +50,19 @@ impl<'a> Model for CheckedLists<'a> {
         IsKept (record { target = c.target; section = c.section.now }) c.contents };
 }
 
-/// Checks a section of fewer than 2^32 bytes. An error is the first fault, from left to right.
+/// Checks a section of fewer than 2^32 bytes. An error is the first fault from left to right.
 ///
-/// Each table is checked in this order: its length (1, 3), that its body is there (1, at the body's first byte), its
-/// version (50), its address size (6) and segment selector size (7), that its offset count and the offsets are there (1),
-/// each entry of its lists in turn, that the last list ends (54, at the table's end), and that each offset is that of a
-/// list's first byte (55). Each entry: its code (51), its operands (1, 2), that a default has no other before it in its
-/// list (53), that its range doesn't end before it begins (52), and its expression, as `dw_stack` checks it, with offsets
-/// of the section. The offset of `Memory` is 0.
+/// The checks of a table, in order: its length (1, 3), whether the section has the whole body (1,
+/// at the body's first byte), the version (50), the address size (6), the segment selector size
+/// (7), whether the offset count and the offsets fit in the body (1), each entry of each list,
+/// whether the last list ends (54, at the table's end), and whether each offset is that of a list's
+/// first byte (55). The checks of an entry: its code (51), its operands (1, 2), whether it is the
+/// first default of its list (53), whether its range ends no earlier than it begins (52), and its
+/// expression, as `dw_stack` checks it, but with offsets in the section. `Memory` is at offset 0.
 ///
-/// One pass over the bytes checks, and keeps what it has checked: a refused section takes room only for what comes before
-/// its fault. Besides, n offsets of an array and m lists take time n log m.
+/// This is one pass over the bytes. Memory grows as the pass goes on, so a refused section takes
+/// memory only for what comes before its fault. Looking up the n array offsets of a table among its
+/// m lists takes O(n log m) more.
 pub fn check_lists<'a>(
     alloc: Global,
     section: &'a [u8],
@@ -84,14 +88,14 @@ pub fn check_lists<'a>(
 }
 
 impl<'a> CheckedLists<'a> {
-    /// The target that the section was read under.
+    /// The target that the section was read with.
     pub fn target(&self) -> Target
         ensures { result ≡ self.now.target }
     {
         self.target
     }
 
-    /// The bytes of the section, which has no fault.
+    /// The bytes of the section. They have no fault.
     pub fn section(&self) -> &'a [u8]
         ensures section { result.now ≡ self.now.section }
         ensures checked { IsChecked self.now }
@@ -99,21 +103,22 @@ impl<'a> CheckedLists<'a> {
         self.section
     }
 
-    /// The offset of each table's first byte, in order.
+    /// The offset of each table's first byte in the section, in order.
     pub fn tables(&self) -> &[u32]
         ensures { result.now ≡ map (λ (t : Table). t.offset) (tables_in self.now) }
     {
         self.contents.tables.as_slice()
     }
 
-    /// All lists, in order, whether an array offset names them or not.
+    /// All lists, in order of offset, including lists that no array offset points to.
     pub fn lists(&self) -> &[LocationList]
         ensures { map start_of result.now ≡ starts_of (lists_in self.now) }
     {
         self.contents.lists.as_slice()
     }
 
-    /// All expressions, each with the offset of its first byte, in order. Every one is checked as a location.
+    /// All expressions, each with the offset of its first byte in the section, in order. All passed
+    /// the check as locations.
     pub fn expressions(&self) -> Expressions<'_, 'a>
         ensures expressions { result ≡ located_in self.now }
         ensures checked { IsChecked self.now }
@@ -121,7 +126,8 @@ impl<'a> CheckedLists<'a> {
         Expressions::new(self.section, self.target, &self.contents.expressions)
     }
 
-    /// The list whose first byte is at an offset of the section, if there is one. Binary search; doesn't allocate.
+    /// The list whose first byte is at `offset` in the section, if there is one. Binary search;
+    /// doesn't allocate.
     pub fn list(&self, offset: u32) -> Option<LocationList>
         ensures { MatchOption result
             (¬ Contains (starts_of (lists_in self.now)) offset)
@@ -131,9 +137,9 @@ impl<'a> CheckedLists<'a> {
         find_list(&self.contents.lists, u64::from(offset))
     }
 
-    /// The expressions of one of these lists that hold at an address, in order: those of the bounded entries whose range
-    /// contains the address, or, if there are none, the default's. The base is the unit's; sums don't wrap. Doesn't
-    /// allocate.
+    /// The expressions of `list`, a list of this section, that hold at `address`, in order: those
+    /// of all entries whose range contains the address, or, if there are none, the default's.
+    /// `base` is the unit's base address; sums don't wrap. Doesn't allocate.
     pub fn locations_at(&self, list: &LocationList, base: u64, address: u64) -> LocationsAt<'_, 'a>
         requires { Contains (starts_of (lists_in self.now)) (start_of list.now) }
         ensures { (l : Loclist) → Contains (lists_in self.now) l →

@@ -1,4 +1,4 @@
-//! The expressions of a list that hold at an address.
+//! Iterates over the expressions of a list that hold at an address.
 
 ghost use Rattle.std.specs.Iterator.{YieldsFirstBy, item_count};
 ghost use Rattle.dw_stack.specs.Located.{located_of};
@@ -10,15 +10,17 @@ use dw_stack::CheckedExpression;
 use std::iter::FusedIterator;
 use std::marker::Model;
 
-/// The expressions of a list that hold at an address, each with the offset of its first byte in the section, in the order
-/// of the list. It reads the list's entries as it goes, finds each expression by binary search, and doesn't allocate. Its
-/// model is the list of what is still to come.
+/// The expressions of a list that hold at an address, each with the offset of its first byte in the
+/// section, in the order of the list. The iterator reads the entries as it goes, finds each
+/// expression by binary search, and doesn't allocate. The model is the list of the expressions that
+/// are still to come.
 #[derive(Debug, Drop)]
 pub struct LocationsAt<'c, 'a> {
     walk: ListWalk<'a>,
     address: u64,
     expressions: &'c [KeptExpression],
-    /// Whether a bounded entry held.
+    /// Whether an entry whose range contains the address was found; if so, the default doesn't
+    /// hold.
     found: bool,
     ended: bool,
 }
@@ -40,7 +42,8 @@ impl<'c, 'a> LocationsAt<'c, 'a> {
     ghost use Rattle.std.specs.Prelude.{◌≡◌, false};
     ghost use Rattle.dw_loclists.specs.Walks.{still_to_come, IsWalk};
 
-    /// Those that a walk from the beginning of a list gives.
+    /// An iterator over the expressions that hold at `address`; `walk` is at the beginning of the
+    /// list.
     pub(crate) fn new(walk: ListWalk<'a>, address: u64, expressions: &'c [KeptExpression]) -> Self
         requires { IsWalk false address walk expressions.now }
         ensures { result ≡ still_to_come false address walk.entry }

@@ -18,7 +18,8 @@ use crate::list::read_list;
 use dw_bytes::{Body, Cursor, Fault, FaultKind, Format, Target};
 use std::alloc::Global;
 
-/// Reads the header fields between a table's length and its array. Gives the number of offsets in the array.
+/// Reads the header fields between a table's length and its array. Returns the number of offsets in
+/// the array.
 pub fn read_header(cursor: &mut Cursor<'_>, target: Target) -> Result<u32, Fault>
     ensures exact { ParsesBy (λ count. count)
         (fields_at (table_header target)) cursor.old result cursor.new }
@@ -37,7 +38,7 @@ pub fn read_header(cursor: &mut Cursor<'_>, target: Target) -> Result<u32, Fault
     cursor.u32()
 }
 
-/// Reads lists up to the end of their table, and keeps them.
+/// Reads and checks lists up to the end of their table, and stores them in `contents`.
 fn read_lists(
     alloc: Global,
     cursor: &mut Cursor<'_>,
@@ -59,8 +60,8 @@ fn read_lists(
     Ok(())
 }
 
-/// Reads the array of a table again, now that its lists are known: each offset must be that of a list's first byte,
-/// counted from the array's first byte.
+/// Reads the array of a table a second time, when its lists are known. Each offset counts from the
+/// array's first byte, and must lead to the first byte of a list of the table.
 fn check_array(
     cursor: &mut Cursor<'_>,
     format: Format,
@@ -89,7 +90,8 @@ fn check_array(
     Ok(())
 }
 
-/// Reads the table at an offset of a section, checks it and keeps what it contains. Gives the offset after it.
+/// Reads and checks the table at offset `at` of the section, and stores what it contains in
+/// `contents`. Returns the offset of the table's end.
 #[tactic(auto, unfolding(crate::specs::Reading::table_at))]
 pub fn read_table(
     alloc: Global,

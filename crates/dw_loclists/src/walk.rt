@@ -1,4 +1,4 @@
-//! Walks a list for an address.
+//! Walks a list in search of the entries that hold at an address.
 
 ghost use Rattle.std.specs.Prelude.{◌≡◌, ◌<◌, [], ◌∷◌, MatchOption};
 ghost use Rattle.dw_bytes.specs.Operands.{block_of};
@@ -7,7 +7,8 @@ ghost use Rattle.dw_loclists.specs.Locations.{location_of};
 use crate::entry::Entry;
 use dw_bytes::{Block, Cursor};
 
-/// What is left of a list: the entries ahead, the base that they count from, and the default if one was read.
+/// The rest of a list: the entries not yet read, the base address that they count from, and the
+/// default if one was read already.
 #[derive(Debug, Drop)]
 pub struct ListWalk<'a> {
     pub cursor: Cursor<'a>,
@@ -18,7 +19,8 @@ pub struct ListWalk<'a> {
 impl<'a> ListWalk<'a> {
     ghost use Rattle.dw_loclists.specs.Walks.{default_located, IsReadable, held_ahead, default_ahead};
 
-    /// Advances past the next bounded entry that holds at an address. Gives its expression, or none where the list ends.
+    /// Advances past the next entry whose range contains `address`, and returns its expression;
+    /// `None` if the list has no more such entries.
     pub fn next_held(&mut self, address: u64) -> Option<Block<'a>>
         requires { IsReadable self.old }
         ensures { MatchOption result

@@ -4,8 +4,8 @@ ghost use Rattle.std.specs.Prelude.{◌≡◌, ◌<◌, ◌^◌, length};
 
 use dw_bytes::Target;
 
-/// The bytes of an expression and the target that their numbers are encoded for (DWARF 5, section 2.5). Offsets inside it
-/// count from its first byte. Its bytes have not been checked.
+/// The bytes of an expression and the target that their numbers are encoded for (DWARF 5, section
+/// 2.5). Offsets in an expression count from its first byte. The bytes have not been checked.
 ///
 /// ```rust
 /// // DW_OP_breg7 8, DW_OP_deref
@@ -33,14 +33,14 @@ impl<'a> Expression<'a> {
         Expression { bytes, target }
     }
 
-    /// All of its bytes.
+    /// All bytes of the expression.
     pub fn bytes(&self) -> &'a [u8]
         ensures { result.now ≡ bytes_of self.now }
     {
         self.bytes
     }
 
-    /// The target that it is read with.
+    /// The byte order and address size that the expression is read with.
     pub fn target(&self) -> Target
         ensures { result ≡ target_of self.now }
     {

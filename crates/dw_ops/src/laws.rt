@@ -1,4 +1,4 @@
-//! Laws of operations: functions that do nothing. The contract of each is a law.
+//! Laws about operations. The functions do nothing: the contract of each is a law.
 
 ghost use Rattle.std.specs.Prelude.{◌≡◌, ◌<◌, ◌↔◌, ℕ, List, [], ◌∷◌, ◌++◌, length, map, Ok, Err};
 ghost use Rattle.dw_bytes.specs.declared.target.Target.{Target};
@@ -7,25 +7,28 @@ ghost use Rattle.dw_bytes.specs.Reading.{ReadPosition, IsExact};
 ghost use Rattle.dw_ops.specs.Operations.{Operation};
 ghost use Rattle.dw_ops.specs.Opcodes.{EncodesOperation, AreOperations, operation_at, operations_of};
 
-/// No operation's bytes are a prefix of another's, and the same bytes encode only one operation.
+/// No operation's encoding is a proper prefix of another encoding, and the same bytes encode only
+/// one operation.
 pub fn operations_are_unambiguous()
     ensures { (target : Target) (at : ℕ) (a b x y : List ℕ) (i j : Operation)
         → EncodesOperation target at a i → EncodesOperation target at b j → a ++ x ≡ b ++ y
         → (a ≡ b) × (i ≡ j) }
 {}
 
-/// An operation is read exactly where it is encoded.
+/// An operation is read exactly if the next bytes encode it.
 pub fn operations_are_exact()
     ensures { (r : ReadPosition) → IsExact operation_at (EncodesOperation r.target r.position) r }
 {}
 
-/// The operations of bytes are read to the end exactly if the bytes are their encodings, one after another.
+/// Bytes are read to the end as operations exactly if they are the encodings of these operations,
+/// one after another.
 pub fn expressions_are_operations()
     ensures { (r : ReadPosition) (items : List (ℕ × Operation))
         → (operations_of r ≡ map Ok items) ↔ AreOperations r.target r.position r.rest items }
 {}
 
-/// The operations of bytes are the first and then those after it, up to the end or the first fault.
+/// Reading all operations gives the first one and then those that follow it. Reading stops at the
+/// end of the bytes, or at the first fault, which is then the last item.
 pub fn operations_come_in_order()
     ensures operation { (r : ReadPosition) (i : Operation) (after : ReadPosition)
         → operation_at r ≡ Ok (i, after)

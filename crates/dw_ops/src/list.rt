@@ -12,10 +12,11 @@ use dw_bytes::Fault;
 use smallvec::SmallVec;
 use std::alloc::Global;
 
-/// All operations of an expression, each with its offset: one pass over its bytes. Up to 16 take no memory.
+/// All operations of an expression, each with its offset, in one pass over the bytes. Memory is
+/// allocated only for more than 16 operations.
 ///
-/// A refusal is the first fault of `decode_one` from left to right, or `Memory` at 0 if there isn't enough memory for
-/// more than 16 operations.
+/// A refusal is the first fault that `decode_one` gives from left to right, or `Memory` at 0 if
+/// memory for more than 16 operations can't be allocated.
 pub fn operations<'a>(
     alloc: Global,
     expression: &Expression<'a>,

@@ -1,12 +1,13 @@
 //! The operations of expressions.
 
-/// An operation with its operands as they are encoded (DWARF 5, sections 2.5 and 7.7.1). There is one variant for each
-/// line of the standard's table that the profile has; a line for 32 codes is one variant with a number.
+/// An operation with its operands as they are encoded (DWARF 5, sections 2.5 and 7.7.1). There is
+/// one variant for each line of the standard's table that docs/PROFILE.md lists. The 32 opcodes of
+/// lit, reg or breg are one variant with a number.
 #[derive(Clone, Copy, Debug, PartialEq, Eq)]
 pub enum Operation<'a> {
     /// `DW_OP_addr`: pushes the address.
     Addr { address: u64 },
-    /// `DW_OP_deref`: replaces the top by the word at that address.
+    /// `DW_OP_deref`: replaces the top, an address, by the word at that address.
     Deref,
     /// `DW_OP_const1u`: pushes the value.
     Const1u { value: u8 },
@@ -38,7 +39,8 @@ pub enum Operation<'a> {
     Pick { index: u8 },
     /// `DW_OP_swap`: exchanges the top and the second entry.
     Swap,
-    /// `DW_OP_rot`: makes the top the third entry, the second the top and the third the second.
+    /// `DW_OP_rot`: the top becomes the third entry, the second entry the top, and the third the
+    /// second.
     Rot,
     /// `DW_OP_abs`: the absolute value of the top, signed.
     Abs,
@@ -64,9 +66,9 @@ pub enum Operation<'a> {
     PlusUconst { value: u64 },
     /// `DW_OP_shl`: the second entry shifted left by the top.
     Shl,
-    /// `DW_OP_shr`: the second entry shifted right by the top, zeros in.
+    /// `DW_OP_shr`: the second entry shifted right by the top, filled with zeros.
     Shr,
-    /// `DW_OP_shra`: the second entry shifted right by the top, its sign in.
+    /// `DW_OP_shra`: the second entry shifted right by the top, filled with its sign bit.
     Shra,
     /// `DW_OP_xor`: bitwise exclusive or.
     Xor,
@@ -98,9 +100,10 @@ pub enum Operation<'a> {
     Fbreg { offset: i64 },
     /// `DW_OP_bregx`: pushes the register's value plus the offset.
     Bregx { register: u16, offset: i64 },
-    /// `DW_OP_piece`: what comes before it is a piece of `size` bytes.
+    /// `DW_OP_piece`: the location before it is that of a piece of `size` bytes.
     Piece { size: u32 },
-    /// `DW_OP_deref_size`: replaces the top by that many bytes at that address, zero-extended.
+    /// `DW_OP_deref_size`: replaces the top, an address, by the `size` bytes at that address,
+    /// zero-extended.
     DerefSize { size: u8 },
     /// `DW_OP_nop`: does nothing.
     Nop,
@@ -108,15 +111,16 @@ pub enum Operation<'a> {
     PushObjectAddress,
     /// `DW_OP_call_frame_cfa`: pushes the CFA.
     CallFrameCfa,
-    /// `DW_OP_bit_piece`: what comes before it is a piece of `size` bits, from an offset in bits.
+    /// `DW_OP_bit_piece`: the location before it is that of a piece of `size` bits, which begins
+    /// `offset` bits into the location.
     BitPiece { size: u32, offset: u32 },
-    /// `DW_OP_implicit_value`: the value is these bytes.
+    /// `DW_OP_implicit_value`: the value is `bytes`.
     ImplicitValue { bytes: &'a [u8] },
     /// `DW_OP_stack_value`: the value is the top.
     StackValue,
 }
 
-/// Fills the unused slots of a list: nop.
+/// `Nop`, which fills the unused slots of a list.
 impl Default for Operation<'_> {
     ghost use Rattle.std.specs.Prelude.{◌≡◌};
     ghost use Rattle.dw_ops.specs.declared.operation.Operation.TheVariants.{Nop};

@@ -5,7 +5,7 @@ use Rattle.std.specs.List.{position, prefix_len, remove, list_any}
 use Rattle.std.proofs.lemmas.Bool.Decides.{nat_tests}
 use Rattle.dw_process.specs.Processes.{Modules, without}
 
--- the number of modules before the first one there
+-- the number of modules before the first one that is loaded at `load_address`
 abbrev before : ℕ → Modules → ℕ
 before load_address modules = prefix_len (λ m. not (m.load_address == load_address)) modules
 

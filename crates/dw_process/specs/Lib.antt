@@ -1,4 +1,4 @@
--- The modules of a process.
+-- the modules of a process
 pub mod Processes
--- Why one is not added.
+-- why a module isn't added
 pub mod Refusals

@@ -15,8 +15,8 @@ Modules = List (Module RowTable)
 
 -- ---- added and removed
 
--- A section without a fault is added, after the other modules, as a table of its rows, each of which takes 16 bytes of the
--- room or more.
+-- The section has no fault, and a table of its rows is added as the last module. Each row takes at
+-- least 16 of the `room` bytes.
 pub record IsAdded (target : Target) (section : List ℕ) (load_address room : ℕ) (old new : Modules) : Type 0 where
   pub accepted : section_fault target section ≡ None
   pub table : RowTable
@@ -24,25 +24,27 @@ pub record IsAdded (target : Target) (section : List ℕ) (load_address room : �
   pub within : 16 * length table.rows ≤ room
   pub modules : new ≡ old ++ record { rows = table; load_address = load_address } ∷ []
 
--- the modules without the first one at a load address
+-- the modules without the first one that is loaded at `load_address`
 abbrev pub without : ℕ → Modules → Modules
 without load_address [] = []
 without load_address (m ∷ modules) = if m.load_address == load_address then modules else m ∷ without load_address modules
 
 -- ---- rows
 
--- what is found for an address as loaded, in the module at a load address
+-- a row and its return address register, with the load address of their module
 abbrev pub found_with : ℕ → Row × ℕ → FoundRow
 found_with load_address found = record { load_address = load_address; row = found.0; return_register = found.1 }
 
--- A row that was found is one of a module with its load address, and its expressions are read under that module's target.
+-- The found row comes from a module of the process. `found` has that module's load address, and the
+-- row's expressions have that module's target.
 pub record IsFoundIn (modules : Modules) (found : FoundRow) : Type 0 where
   pub its_module : Module RowTable
   pub among : Contains modules its_module
   pub load_address : found.load_address ≡ its_module.load_address
   pub under : IsRowUnder its_module.rows.target found.row
 
--- from the first module that has a row for the address as linked there
+-- the row of an address as loaded, from the first module that has one; in each module the address
+-- as linked is looked up
 abbrev pub row_in : Modules → ℕ → Option FoundRow
 row_in [] address = None
 row_in (m ∷ modules) address = option_or

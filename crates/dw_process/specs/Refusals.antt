@@ -7,8 +7,8 @@ use Rattle.dw_rows.specs.UnwindTables.{table_bytes}
 use Rattle.dw_process.specs.declared.refusal.Refusal.{Refusal}
 use Rattle.dw_process.specs.declared.refusal.Refusal.TheVariants.{Section, Room}
 
--- The section has this first fault, or memory ran out; or the section has no fault, and its rows can take more than the
--- room.
+-- `Section fault`: memory ran out, or `fault` is the first fault of the section. `Room`: the
+-- section has no fault, but its table could need more than `room` bytes.
 abbrev pub IsRefused : Target → List ℕ → ℕ → Refusal → Type 0
 IsRefused target section room (Section fault) = (fault ≡ memory) ⊎ (section_fault target section ≡ Some fault)
 IsRefused target section room Room = (section_fault target section ≡ None) × (room < table_bytes (frame_of target section))

@@ -2,7 +2,7 @@
 
 use dw_rows::UnwindRow;
 
-/// The row of an address as loaded, and the module that has it.
+/// The row found for an address as loaded, and the module that it comes from.
 #[derive(Debug, Drop)]
 pub struct FoundRow<'p> {
     /// The load address of the module.

@@ -32,7 +32,7 @@ impl Model for Process {
     ghost view = { λ p. p.modules.items };
 }
 
-/// The index of the first module with a load address.
+/// The index of the first module that is loaded at `load_address`.
 fn place_of(modules: &[Module<SharedTable>], load_address: u64) -> Option<usize>
     ensures place { result
         ≡ position (λ m. m.load_address == load_address) modules.now }
@@ -60,10 +60,10 @@ impl Process {
         self.modules.as_slice()
     }
 
-    /// Checks a `.debug_frame` section of fewer than 2^32 bytes under a target, compiles it, and adds it as the last
-    /// module, with a load address. `room` is the number of bytes that its rows and their rules may take
-    /// (`CheckedFrame::compile`); what the check and the compiling take meanwhile isn't bounded by it. If the section is
-    /// refused, the modules are unchanged.
+    /// Checks a `.debug_frame` section of fewer than 2^32 bytes for a target, compiles it, and adds
+    /// it as the last module, loaded at `load_address`. `room` is the number of bytes that the
+    /// compiled rows and their rules may take (`CheckedFrame::compile`); it doesn't bound the
+    /// memory that checking and compiling take meanwhile. After an error the modules are unchanged.
     pub fn add(
         &mut self,
         alloc: Global,
@@ -90,7 +90,7 @@ impl Process {
         }
     }
 
-    /// Removes the first module with a load address. Gives whether there was one.
+    /// Removes the first module that is loaded at `load_address`. Returns whether there was one.
     #[tactic(auto, using(crate::proofs::Removing::removes))]
     pub fn remove(&mut self, load_address: u64) -> bool
         ensures removed { self.new ≡ without load_address self.old }
@@ -105,8 +105,9 @@ impl Process {
         }
     }
 
-    /// The row of an address as loaded, from the first module that has one, or none if no module has one. Doesn't
-    /// allocate; takes one look-up for each module up to that one.
+    /// The row of an address as loaded, from the first module that has a row for the address, or
+    /// none if no module has one. Doesn't allocate. Takes one look-up in each module up to the one
+    /// that has the row.
     pub fn row_for_address(&self, address: u64) -> Option<FoundRow<'_>>
         ensures row { result ≡ row_in self.now address }
         ensures under { IfSome result (IsFoundIn self.now) }
@@ -125,8 +126,9 @@ impl Process {
         None
     }
 
-    /// A process with the same modules, which shares their tables: each may go to its own thread, and the tables are
-    /// freed with the last of them. None if there isn't enough memory.
+    /// Makes another process with the same modules. Both processes share the compiled tables, which
+    /// are freed with the last process that has them; each process may go to its own thread. None
+    /// if there isn't enough memory.
     pub fn share(&self, alloc: Global) -> Option<Process>
         ensures { IfSome result (λ other. other ≡ self.now) }
     {

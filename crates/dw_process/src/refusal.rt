@@ -8,9 +8,9 @@ use dw_bytes::Fault;
 /// Why a module isn't added.
 #[derive(Clone, Copy, Debug, PartialEq, Eq)]
 pub enum Refusal {
-    /// The first fault of its section, or out of memory (`Memory`, with offset 0).
+    /// The first fault of the module's section, or out of memory (kind `Memory`, offset 0).
     Section(Fault),
-    /// Its rows take more than the given room.
+    /// The rows of the module's section may need more than `room` bytes.
     Room,
 }
 

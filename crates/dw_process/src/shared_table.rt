@@ -24,7 +24,7 @@ impl Model for SharedTable {
 }
 
 impl SharedTable {
-    /// A table with one owner, or none if there isn't enough memory.
+    /// The first owner of `table`, or none if there isn't enough memory.
     pub fn new(alloc: Global, table: UnwindTable) -> Option<Self>
         ensures { IfSome result (λ owner. owner ≡ table) }
     {
@@ -34,7 +34,7 @@ impl SharedTable {
         }
     }
 
-    /// Adds an owner of the same table. None if it already has 2^63 - 1.
+    /// Makes another owner of the same table. None if the table already has 2^63 - 1 owners.
     pub fn share(&self) -> Option<Self>
         ensures { IfSome result (λ owner. owner ≡ self.now) }
     {
@@ -44,7 +44,8 @@ impl SharedTable {
         }
     }
 
-    /// The row of an address, as `UnwindTable::row_and_return_register`.
+    /// The row of an address and its return address register, from
+    /// `UnwindTable::row_and_return_register`.
     #[inline(always)]
     pub fn row_and_return_register(&self, address: u64) -> Option<(UnwindRow<'_, '_>, u16)>
         ensures row { result ≡ row_at self.now address }
@@ -54,7 +55,7 @@ impl SharedTable {
     }
 }
 
-/// Gives what its table gives.
+/// Looks rows up in the shared table.
 impl UnwindRows for SharedTable {
     type Slot = ();
 

@@ -1,4 +1,5 @@
--- Numbers without a fault can be an ABI, and the number that is refused is the first that occurred before.
+-- Numbers without a fault can be an ABI, and a number that is refused is the first one that has
+-- occurred before.
 use Rattle.std.proofs.Common.{◌≡◌, ℕ, ◌<◌, Bool, true, false, cond, List, [], ◌∷◌, ◌++◌, length, Option, None, Some, refl, sym, ap, ◌∙◌}
 use Rattle.std.proofs.Common.{arith, ltb, ◌||◌, take, subst, append_assoc, length-append}
 use Rattle.std.specs.Prelude.{◌↔◌, nat_eq, option_map}
@@ -14,7 +15,7 @@ use Rattle.dw_rows.specs.declared.abi.TheConstants.{MAX_KEPT}
 use Rattle.dw_rows.specs.Abi.{is_among, abi_fault, place_of_second, CanBeAbi, StandsAgain}
 use Rattle.dw_rows.proofs.AbiRules.{no-fault, second-here, second-later, twice}
 
--- ---- distinct numbers, and one after them
+-- ---- distinct numbers, and one more number after them
 
 all-behind : (x n : ℕ) (xs : List ℕ) → AllByRecursion (λ y. nat_eq x y ≡ false) xs → nat_eq x n ≡ false
     → AllByRecursion (λ y. nat_eq x y ≡ false) (xs ++ n ∷ [])
@@ -41,7 +42,7 @@ unfolding IsDistinct
 none-before [] n rest d = refl
 none-before (x ∷ before) n rest d = rw (one-of x n before rest d.0, none-before before n rest d.1) refl
 
--- ---- the first that occurred before
+-- ---- the first number that has occurred before
 
 regrouped : (before : List ℕ) (n : ℕ) (rest : List ℕ) → (before ++ n ∷ []) ++ rest ≡ before ++ n ∷ rest
 regrouped before n rest = append_assoc before (n ∷ []) rest

@@ -1,4 +1,4 @@
--- The rules of an ABI, register after register.
+-- How `Abi::new` builds the rules of an ABI, one register after the other.
 use Rattle.std.proofs.Common.{◌≡◌, ◌≢◌, ℕ, zero, suc, ◌+◌, ◌<◌, ◌≤◌, Bool, true, false, cond, List, [], ◌∷◌, ◌++◌, length, Option}
 use Rattle.std.proofs.Common.{None, Some, refl, sym, ap, ◌∙◌}
 use Rattle.std.proofs.Common.{arith, eqb, ltb, ◌||◌, take, drop, get_or, inl, inr, subst, length-append}
@@ -17,12 +17,12 @@ use Rattle.dw_rows.specs.Abi.{kept, unnamed, stack_pointer, is_among, abi_of, ru
 use Rattle.dw_rows.specs.AbiViews.{role_of_rule, roles_of, AreRoles}
 use Rattle.dw_rows.proofs.Tables.{Clears, full-count, rule_list-table, rule_list-same, rule_in-rule_list, IsTable-rule_list}
 
--- the rule of a register by the callee-saved registers and the stack pointer
+-- the rule of register r under the ABI with these callee-saved registers and this stack pointer
 abbrev pub abi_rule : List ℕ → Option ℕ → ℕ → PlacedRule
 abi_rule registers pointer r =
     cond (is_among r (option_to_list pointer)) (val_offset (pos 0)) (cond (is_among r registers) same_value default)
 
--- one more rule than there are
+-- a rule for a register without one makes the list of rules longer by one
 pub one-more : (es : List (ℕ × PlacedRule)) (q : ℕ) (x : PlacedRule) → q < 65536 → x ≢ default → IsTable 0 es → rule_in es q ≡ default
     → length (rule_list (changed_at (rule_in es) q x)) ≡ length es + 1
 one-more es q x b some t none = full-count es es q x b some clears
@@ -33,7 +33,7 @@ one-more es q x b some t none = full-count es es q x b some clears
     clears : Clears es q es
     clears = record { table = t; rules = sym (rule_list-table es t) ∙ rule_list-same _ _ (λ r h. same r) }
 
--- ---- the registers that were named
+-- ---- the registers that were added so far
 
 among-more : (r : ℕ) (before : List ℕ) (n : ℕ) → is_among r (before ++ n ∷ []) ≡ (is_among r before || eqb n r)
 among-more r [] n = grind (arith, nat_tests)
@@ -63,7 +63,7 @@ named-some before rules n is b some =
     go true h = refl
     go false h = absurd (some h)
 
--- one more that is callee-saved
+-- the rules after one more callee-saved register
 pub keeps-more : (before : List ℕ) (rules : List (ℕ × PlacedRule)) (n : ℕ) → rules ≡ rule_list (abi_rule before None)
     → rule_list (changed_at (rule_in rules) n same_value) ≡ rule_list (abi_rule (before ++ n ∷ []) None)
 keeps-more before rules n is = rule_list-same _ _ each
@@ -80,7 +80,7 @@ keeps-more before rules n is = rule_list-same _ _ each
         ap (λ l. rule_in l r) is ∙ rule_in-rule_list (abi_rule before None) r h in
         ap (cond (eqb n r) same_value) listed ∙ go (eqb n r) (is_among r before) ∙ ap kept-rule (sym (among-more r before n))
 
--- the stack pointer
+-- the rules after the stack pointer
 pub points-more : (before : List ℕ) (rules : List (ℕ × PlacedRule)) (n : ℕ) → rules ≡ rule_list (abi_rule before None)
     → rule_list (changed_at (rule_in rules) n (val_offset (pos 0))) ≡ rule_list (abi_rule before (Some n))
 points-more before rules n is = rule_list-same _ _ each
@@ -96,7 +96,7 @@ points-more before rules n is = rule_list-same _ _ each
         ap (λ l. rule_in l r) is ∙ rule_in-rule_list (abi_rule before None) r h in
         ap (cond (eqb n r) (val_offset (pos 0))) listed ∙ go (eqb n r) (is_among r before)
 
--- ---- the index of a second
+-- ---- the index of the first number that has occurred before
 
 pub second-here : (before : List ℕ) (n : ℕ) (rest : List ℕ) → is_among n before ≡ true
     → place_of_second before (n ∷ rest) ≡ Some (length before)
@@ -117,7 +117,7 @@ pub no-fault : (registers : List ℕ) (pointer : Option ℕ) → length register
     → place_of_second [] (registers ++ option_to_list pointer) ≡ None → abi_fault registers pointer ≡ None
 no-fault registers pointer few is = rw (le-ltb MAX_KEPT (length registers) few, is) refl
 
--- ---- the loop over what is registers: its state, and what it has done
+-- ---- the loop over the callee-saved registers: what is known after some of them
 
 pub record KeepsUpTo (registers behind : List ℕ) (place : ℕ) (rules : List (ℕ × PlacedRule)) : Type 0 where
   pub are : rules ≡ rule_list (abi_rule (take place registers) None)
@@ -152,7 +152,7 @@ keeps-next registers behind place rules new k lt fits none is few = record {
       ∙ ap (λ l. place_of_second l (drop (place + 1) registers ++ behind)) (sym (take_more registers place 0 lt));
 }
 
--- all of it
+-- what is known after all of them
 pub keeps-all : (registers behind : List ℕ) (place : ℕ) (rules : List (ℕ × PlacedRule)) → KeepsUpTo registers behind place rules
     → length registers ≤ place → place ≤ length registers → (rules ≡ rule_list (abi_rule registers None))
     × (place_of_second [] (registers ++ behind) ≡ place_of_second registers behind)
@@ -163,9 +163,9 @@ keeps-all registers behind place rules k ge le =
       k.second ∙ ap (λ l. place_of_second l (drop place registers ++ behind)) all ∙ ap (λ l. place_of_second registers (l ++ behind)) none,
     )
 
--- ---- its result
+-- ---- the result of `Abi::new`
 
--- registers are below 2^16
+-- each number is less than 2^16
 abbrev pub AreRegisters : List ℕ → Type 0
 AreRegisters registers = (i : ℕ) → get_or registers i 0 < 65536
 
@@ -239,7 +239,7 @@ pub is-none : (o : Option ℕ) → ((n : ℕ) → o ≡ Some n → ⊥) → o �
 is-none None other = refl
 is-none (Some n) other = absurd (other n refl)
 
--- without a stack pointer
+-- there is no stack pointer
 pub made-without : (registers : List ℕ) (pointer : Option ℕ) (place : ℕ) (rules : List (ℕ × PlacedRule)) → length registers ≤ MAX_KEPT
     → KeepsUpTo registers (option_to_list pointer) place rules → length registers ≤ place → place ≤ length registers → pointer ≡ None
     → (abi_fault registers pointer ≡ None) × (rules ≡ rule_list (abi_rule registers pointer))
@@ -249,7 +249,7 @@ made-without registers pointer place rules few k ge le none =
       all.0 ∙ ap (λ (o : Option ℕ). rule_list (abi_rule registers o)) (sym none),
     )
 
--- with one that is callee-saved
+-- the stack pointer is also named as callee-saved
 pub kept-pointer : (registers : List ℕ) (pointer : Option ℕ) (place : ℕ) (rules : List (ℕ × PlacedRule)) (n : ℕ)
     → length registers ≤ MAX_KEPT
     → KeepsUpTo registers (option_to_list pointer) place rules → length registers ≤ place → place ≤ length registers → pointer ≡ Some n
@@ -261,7 +261,7 @@ kept-pointer registers pointer place rules n few k ge le is fits some =
     (all.1 ∙ ap (λ (o : Option ℕ). place_of_second registers (option_to_list o)) is
     ∙ second-here registers n [] (named-some registers rules n all.0 fits some))
 
--- with one that is not
+-- the stack pointer isn't named as callee-saved
 pub made-with : (registers : List ℕ) (pointer : Option ℕ) (place : ℕ) (rules new : List (ℕ × PlacedRule)) (n : ℕ)
     → length registers ≤ MAX_KEPT
     → KeepsUpTo registers (option_to_list pointer) place rules → length registers ≤ place → place ≤ length registers → pointer ≡ Some n
@@ -274,7 +274,7 @@ made-with registers pointer place rules new n few k ge le is fits none made =
       made ∙ points-more registers rules n all.0 ∙ ap (λ (o : Option ℕ). rule_list (abi_rule registers o)) (sym is),
     )
 
--- ---- a second occurrence is among what is named
+-- ---- the index of a number that has occurred before is among the numbers
 
 second-inside : (before rest : List ℕ) (at : ℕ) → place_of_second before rest ≡ Some at → at < length before + length rest
 second-inside before [] at is = absurd (cc)
@@ -293,7 +293,7 @@ few-named (Some n) = omega arith
 abbrev pub twice : ℕ → Fault
 twice at = record { kind = AbiTwice; at = at }
 
--- each fault is at a number, or after all callee-saved ones
+-- the index of a fault is that of a number, or the count of callee-saved registers
 pub abi-stands : (registers : List ℕ) (pointer : Option ℕ) (fault : Fault) → abi_fault registers pointer ≡ Some fault
     → fault.at ≤ length registers
 abi-stands registers pointer fault is = go (ltb MAX_KEPT (length registers)) refl is

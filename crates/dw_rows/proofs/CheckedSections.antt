@@ -1,4 +1,4 @@
--- What a checked section is known to be.
+-- What is known of a checked section.
 use Rattle.std.proofs.Common.{◌≡◌, ℕ, ◌+◌, ◌≤◌, List, length, None, Contains, sym, subst, ap, ◌∙◌}
 use Rattle.dw_bytes.specs.declared.target.Target.{Target}
 use Rattle.dw_bytes.specs.Answers.{fault_in}
@@ -17,7 +17,7 @@ use Rattle.dw_rows.proofs.Faults.{option_or-none, none-each}
 use Rattle.dw_rows.proofs.Parts.{parts-pass, covers-once-in}
 use Rattle.dw_rows.proofs.SectionOrder.{cies-ascend, fdes-ascend, cies-sound, fdes-sound}
 
--- its records were read, and no part has a fault
+-- the records of a checked section were read, and no part of the check found a fault
 pub checked-read : (s : FrameSection) → IsChecked s → fault_in (entries_of s.target s.section) ≡ None
 unfolding section_fault
 checked-read s k =
@@ -45,7 +45,8 @@ checked-cies-good s k = none-each cie_fault s.cies (parts-pass s.cies s.fdes (ch
 pub checked-once : (s : FrameSection) → IsChecked s → CoversOnce s.fdes
 checked-once s k = covers-once-in s.cies s.fdes (checked-fdes-ascend s k) (checked-parts s k)
 
--- programs are of its target and lie in it, and so do addresses
+-- the programs of a checked section have its target and lie in it, and no FDE's addresses pass the
+-- target's highest one
 pub checked-cies-sound : (s : FrameSection) → IsChecked s → (c : Cie) → Contains s.cies c → IsSoundCie s.target (length s.section) c
 checked-cies-sound s k c among = cies-sound s.target s.section c (subst (λ (t : FrameSection). Contains t.cies c) k.whole among)
 
@@ -55,7 +56,7 @@ checked-fdes-sound s k f among = fdes-sound s.target s.section f (subst (λ (t :
 pub checked-fits : (s : FrameSection) → IsChecked s → (f : Fde) → Contains s.fdes f → f.initial_location + f.address_range ≤ top_of s.target
 checked-fits s k f among = (checked-fdes-sound s k f among).range
 
--- its expressions are those of its programs
+-- the expressions of a checked section are those of its programs
 pub in-programs : (s : FrameSection) → IsChecked s → (e : LocatedExpression) → Contains s.expressions e
     → Contains (frame_expressions s.cies s.fdes) e
 in-programs s k e among =
@@ -63,7 +64,7 @@ in-programs s k e among =
     let there : Contains (frame_expressions t.cies t.fdes) e = subst (λ (u : FrameSection). Contains u.expressions e) k.whole among in
     subst (λ (u : FrameSection). Contains (frame_expressions u.cies u.fdes) e) (sym k.whole) there
 
--- what a section without a fault stores
+-- a checked section stores what it has to (`IsKept`)
 pub kept : (target : Target) (section : List ℕ) (cies : List Cie) (left : List KeptRules) (fdes : List Fde) (index : List IndexEntry)
     → fault_in (entries_of target section) ≡ None → cies ≡ (frame_of target section).cies → fdes ≡ (frame_of target section).fdes
     → parts_fault cies fdes ≡ None → AreLeftBy cies left → IsAddressIndex fdes index → (expressions : List LocatedExpression)

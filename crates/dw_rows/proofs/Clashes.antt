@@ -1,4 +1,4 @@
--- FDEs that share addresses, as tests and as facts.
+-- FDEs that share addresses: the test for it, and what the test says.
 use Rattle.std.proofs.Common.{◌≡◌, ℕ, zero, suc, ◌<◌, List, [], ◌∷◌, Option, Some, None, Contains, Bool, true, false, refl, sym, ap, ◌∙◌}
 use Rattle.std.proofs.Common.{subst, arith, if◌then◌else◌, inl, inr}
 use Rattle.std.specs.Prelude.{◌&&◌, ◌||◌, nat_lt}
@@ -32,7 +32,7 @@ shares-address f g (a, cf, cg) =
     let g_high = cg.1 in
     grind (arith, nat_tests)
 
--- the test that an earlier FDE shares an address
+-- the test whether f comes before g in the section and shares an address with it
 abbrev pub clashes : Fde → Fde → Bool
 clashes g f = nat_lt f.offset g.offset && shares f g
 
@@ -65,21 +65,21 @@ overlap_at g = record { kind = Overlap; at = g.offset }
 abbrev overlap_if : Fde → Bool → Option Fault
 overlap_if g b = if b then Some (overlap_at g) else None
 
--- no FDE before this one shares an address with it, by the test
+-- if no FDE before g shares an address with g, there is no fault at g
 pub apart-none : (fdes : List Fde) (g : Fde) → IsApart fdes g → overlap_fault fdes g ≡ None
 apart-none fdes g apart = elim (list_any (clashes g) fdes) as (λ b. list_any (clashes g) fdes ≡ b → overlap_if g b ≡ None) [
   | true ↦ λ e. let clash = any-true (clashes g) fdes e in absurd (no-clash fdes g apart clash.0 clash.1 clash.2)
   | false ↦ λ e. refl
 ] refl
 
--- one does
+-- if an FDE before g shares an address with g, there is a fault at g
 pub overlaps-some : (fdes : List Fde) (g : Fde) → Overlaps fdes g → overlap_fault fdes g ≡ Some (overlap_at g)
 overlaps-some fdes g (f, (k, lt, is), order, shared) =
     let test : clashes g f ≡ true = both (nat_lt f.offset g.offset) (shares f g) (lt-ltb _ _ order) (shares-address f g shared) in
     let any : list_any (clashes g) fdes ≡ true = list_any_at (clashes g) fdes k f lt (ap (clashes g) is ∙ test) in
     ap (overlap_if g) any
 
--- the first element of a list in order that has a fault
+-- the first fault of a list in order is that of its first element with a fault
 pub first-of : {X : Type 0} (at : X → ℕ) (t : X → Option Fault) (xs : List X) → Ascends at xs → (x : X) (f : Fault) → Contains xs x
     → t x ≡ Some f → ((y : X) → Contains xs y → at y < at x → t y ≡ None) → first_fault t xs ≡ Some f
 first-of at t [] up x f (k, lt, is) here before = absurd (omega arith)
@@ -90,7 +90,7 @@ first-of at t (y ∷ xs) up x f (suc k, lt, is) here before =
     let rest = first-of at t xs up.1 x f (k, omega arith, is) here (λ z c h. before z (suc c.0, omega (arith, c.1), c.2) h) in
     ap (λ o. option_or o (first_fault t xs)) none ∙ rest
 
--- if each passes, there is no fault
+-- if no element has a fault, the list has none
 pub each-none : {X : Type 0} (t : X → Option Fault) (xs : List X) → ((x : X) → Contains xs x → t x ≡ None) → first_fault t xs ≡ None
 each-none t [] all = refl
 each-none t (x ∷ xs) all = ap (λ o. option_or o (first_fault t xs)) (all x (zero, omega arith, refl))

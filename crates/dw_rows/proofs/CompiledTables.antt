@@ -1,4 +1,4 @@
--- What a table of a section gives: the rows that its section gives, what they name, and the laws of tables.
+-- A compiled table gives the same rows as its section, and the laws of tables.
 use Rattle.std.proofs.Common.{◌≡◌, ℕ, zero, suc, ◌+◌, ◌-◌, ◌<◌, ◌≤◌, ◌==◌, Bool, true, false, cond, List, [], ◌∷◌, length, get_or, refl, sym, ap, ◌∙◌}
 use Rattle.std.proofs.Common.{Option, Some, None, Contains, map, subst, arith, inl, inr}
 use Rattle.std.proofs.lemmas.List.{length-append}
@@ -39,22 +39,22 @@ use Rattle.dw_frame.specs.Sections.{top_of}
 use Rattle.dw_rows.proofs.TableRows.{placed-none, placed-row}
 use Rattle.dw_rows.proofs.FilledTables.{covered-has, first-cover}
 
--- ---- what else is known of a row that is found
+-- ---- more about the row that a section has at an address
 
--- an FDE covers its address
+-- an FDE covers the address of the row
 pub row-covered : (s : FrameSection) (a : ℕ) (row : Row) → row_of s a ≡ Some row → (f : Fde) × Contains s.fdes f × Covers f a
 row-covered s a row found = elim (first-cover a s.fdes) [
   | inl here ↦ here
   | inr none ↦ let wrong : None ≡ Some row = sym (row-none s a none) ∙ found in cc
 ]
 
--- if none is found, no FDE covers it
+-- if there is no row at an address, no FDE covers it
 pub row-missing : (s : FrameSection) (a : ℕ) → IsChecked s → row_of s a ≡ None → (f : Fde) → Contains s.fdes f → Covers f a → ⊥
 row-missing s a checked none f among covered =
     let one = has-one-row s a checked f among covered in
     let wrong : None ≡ Some one.row = sym none ∙ one.found in cc
 
--- its addresses are addresses of the target
+-- the row has only addresses of the target
 pub row-fits : (s : FrameSection) (a : ℕ) (row : Row) → IsChecked s → row_of s a ≡ Some row
     → (row.start ≤ top_of s.target) × (row.end ≤ top_of s.target)
 row-fits s a row checked found =
@@ -93,7 +93,7 @@ find-given es a (x ∷ rows) = go (has a x) (find-given es a rows)
     go true next = refl
     go false next = next
 
--- a table of its own has what its rows give
+-- a table finds what its rows without expressions give, with their expressions
 pub table-finds : (t : RowTable) (target : Target) (es : List LocatedExpression) (rows : List (PlacedRow × ℕ)) (a : ℕ)
     → record { target = target; rows = map (given_found es) rows } ≡ t → option_map (given_found es) (find (has a) rows) ≡ row_at t a
 table-finds t target es rows a is = sym (find-given es a rows) ∙ ap (λ (x : RowTable). row_at x a) is
@@ -103,7 +103,7 @@ found-at : (s : FrameSection) (a : ℕ) (o : Option (PlacedRow × ℕ)) → IsCh
 found-at s a None checked h = row-missing s a checked h
 found-at s a (Some x) checked h = h
 
--- it is the table of a section of which the rows are
+-- rows of a section, with its target and its expressions, are a table of the section
 pub table-of : (s : FrameSection) (target : Target) (es : List LocatedExpression) (rows : List (PlacedRow × ℕ)) → target ≡ s.target
     → es ≡ s.expressions → ArePlacedRows s rows → IsTableOf s (record { target = target; rows = map (given_found es) rows })
 table-of s target es rows same lent are = record {
@@ -113,7 +113,7 @@ table-of s target es rows same lent are = record {
       (found-at s a (find (has a) rows) are.checked (are.row a));
 }
 
--- what is found names what is lent
+-- the expressions that a found row names are among `es`
 pub found-lends : (es : List LocatedExpression) (a : ℕ) (rows : List (PlacedRow × ℕ)) (x : PlacedRow × ℕ) → All (LendsFound es) rows
     → find (has a) rows ≡ Some x → LendsFound es x
 found-lends es a rows x all = go rows (recursion_from_All (LendsFound es) rows all)
@@ -126,7 +126,7 @@ found-lends es a rows x all = go rows (recursion_from_All (LendsFound es) rows a
         by true later e = let same : y ≡ x = cc in subst (LendsFound es) same lends.0
         by false later e = later e
 
--- ---- the entry that a look-up finds, with what is read of it
+-- ---- the entry that a look-up finds, and what the code reads from it
 
 start-of : (entries : List TableEntry) (n x : ℕ) (d : TableEntry) → n < length entries
     → option_map entry_start (slice_get entries n) ≡ Some x → (get_or entries n d).start ≡ x
@@ -172,7 +172,7 @@ none-read entries sets rows a after entry k view count some at at_set cfa =
     ap (λ (l : List (PlacedRow × ℕ)). find (has a) l) (sym view)
     ∙ placed-none entries sets a n d counted (ap (λ (x : KeptSet). x.rules.cfa) is_set ∙ cfa)
 
--- ---- what a row that is found names
+-- ---- the expressions that a found row names
 
 pub cfa-lent : (es : List LocatedExpression) (rows : List (PlacedRow × ℕ)) (a : ℕ) (x : PlacedRow × ℕ) (c : PlacedCfa)
     → All (LendsFound es) rows → find (has a) rows ≡ Some x → x.0.cfa ≡ Some c → LendsCfa es c
@@ -182,7 +182,7 @@ pub rules-lent : (es : List LocatedExpression) (rows : List (PlacedRow × ℕ)) 
     → find (has a) rows ≡ Some x → LendsEach es x.0.rules
 rules-lent es rows a x all found = (found-lends es a rows x all found).rules
 
--- ---- a row's expressions are under the target
+-- ---- a row's expressions have the table's target
 
 pub found-among : {X : Type 0} (p : X → Bool) (xs : List X) (x : X) → find p xs ≡ Some x → Contains xs x
 found-among p [] x e = cc
@@ -233,7 +233,7 @@ module _ (es : List LocatedExpression) (target : Target) (each : (e : LocatedExp
       go None is = tt
       go (Some x) is = row-under x (found-lends es a rows x all is)
 
--- ---- the rows of a checked section are under its target
+-- ---- the expressions in the rows of a checked section have its target
 
 good-rule-under : (s : FrameSection) → IsChecked s → (x : Rule) → IsGoodRule s.expressions x → IsRuleUnder s.target x
 good-rule-under s k (expression e) h = (checked-expressions s k e h.among).1
@@ -295,7 +295,7 @@ found-once s a (Some x) (Some y) h k =
 pub tables-same : (s : FrameSection) (t u : RowTable) → IsTableOf s t → IsTableOf s u → (a : ℕ) → row_at t a ≡ row_at u a
 tables-same s t u one other a = found-once s a (row_at t a) (row_at u a) (one.row a) (other.row a)
 
--- ---- no more rows than entries
+-- ---- there are no more rows than entries
 
 at-most-one : (o : Option PlacedCfa) (start to : ℕ) (k : KeptSet) → length (row_if o start to k) ≤ 1
 at-most-one None start to k = omega arith

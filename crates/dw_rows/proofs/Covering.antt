@@ -96,7 +96,7 @@ pub not-missed : (c : Cie) (f : Fde) (a : ℕ) → fde_fault c f ≡ None → f.
 not-missed c f a none low high missed = none-some _ missed
     (find-some a f.initial_location (f.initial_location + f.address_range) (rows_of c f) (cover-rows c f none) low high)
 
--- a row that is found among rows up to an address begins and ends by it
+-- a row that is found among rows that end at `to` begins and ends at or below `to`
 pub found-by : {E : Type 0} (p : RowOver E → Bool) (from to : ℕ) (rows : List (RowOver E)) (row : RowOver E) → Cover from rows to
     → find p rows ≡ Some row
     → (row.start ≤ to) × (row.end ≤ to)

@@ -1,4 +1,4 @@
--- The expressions of programs come in order of their offsets, and each is found at its own.
+-- The expressions of programs are in order of offset, and each is found at its own offset.
 use Rattle.std.proofs.Common.{◌≡◌, ◌≢◌, ℕ, zero, suc, ◌+◌, ◌<◌, ◌≤◌, ◌==◌, List, [], ◌∷◌, ◌++◌, length, Some}
 use Rattle.std.proofs.Common.{None, Result, Ok, Err, Contains, true, false, refl, sym, ap, subst, ◌∙◌, arith, inl, inr, if◌then◌else◌}
 use Rattle.std.specs.Prelude.{find}
@@ -28,12 +28,13 @@ use Rattle.dw_rows.specs.Section.{frame_of, cies_among, fdes_among}
 use Rattle.dw_rows.proofs.Search.{ascending-same}
 use Rattle.dw_rows.proofs.SectionOrder.{are-records}
 
--- Expressions of a target: each is after an offset, and after the end of the one before it, and all end at another at most.
+-- Expressions of one target that follow each other: the first begins after `low`, each begins after
+-- the end of the one before it, and none ends after `high`.
 abbrev pub Rise : Target → ℕ → ℕ → List LocatedExpression → Type 0
 Rise target low high [] = low ≤ high
 Rise target low high (e ∷ es) = (low < e.offset) × (e.target ≡ target) × Rise target (e.offset + length e.bytes) high es
 
--- where one of them is
+-- one such expression begins after `low`, and doesn't end after `high`
 pub record IsInside (target : Target) (low high : ℕ) (e : LocatedExpression) : Type 0 where
   pub behind : low < e.offset
   pub ends : e.offset + length e.bytes ≤ high
@@ -96,7 +97,7 @@ rise-inside target low high (g ∷ es) up e (suc k, lt, is) =
 abbrev read-of : List (Result (ℕ × Instruction) Fault) → List LocatedExpression
 read-of items = expressions_in (values_in items)
 
--- one more instruction at the front
+-- one more instruction before the others
 front-rises : (target : Target) (at end high : ℕ) (i : Instruction) (items : List (ℕ × Instruction)) → at < end
     → EndsWithItsBlock target at end i → Rise target end high (expressions_in items)
     → Rise target at high (expressions_in ((at, i) ∷ items))
@@ -136,7 +137,7 @@ program-rises-by (suc n) r le = elim (cases_lt 0 (length r.rest)) [
   | inl some ↦ next-rises r (λ after lt. program-rises-by n after (omega arith)) some (instruction_at r) refl
 ]
 
--- those of a program rise from its first byte to its end
+-- the expressions of a program follow each other, between its first byte and its end
 pub program-rises : (r : ReadPosition) → Rise r.target r.position (r.position + length r.rest) (expressions_of r)
 program-rises r = program-rises-by (length r.rest) r (omega arith)
 
@@ -146,7 +147,7 @@ program-inside r e among = rise-inside r.target r.position (end-of r) (expressio
 
 -- ---- records
 
--- those of a record's program rise from the record's offset to its end
+-- the expressions of a record's program follow each other, between the record's offset and its end
 own-rises : (target : Target) (at offset end : ℕ) (program : ReadPosition) → offset ≡ at → LiesIn target end offset program
     → Rise target at end (expressions_of program)
 own-rises target at offset end program same lies =
@@ -190,7 +191,7 @@ fdes-rise target at bytes (cie_record c ∷ records) (first, rest, parts, here, 
 no-expression : {A : Type 0} (e : LocatedExpression) → Contains [] e → A
 no-expression e (k, lt, is) = absurd (omega arith)
 
--- none of a CIE begins where one of an FDE does
+-- no expression of a CIE begins at the same offset as one of an FDE
 apart : (target : Target) (at : ℕ) (bytes : List ℕ) (records : List Record) → AreRecords target at bytes records
     → (e g : LocatedExpression) → Contains (cie_expressions (cies_among records)) e → Contains (fde_expressions (fdes_among records)) g
     → e.offset ≢ g.offset
@@ -248,7 +249,7 @@ pub expressions-apart : (target : Target) (section : List ℕ) → fault_in (ent
     → e.offset ≢ g.offset
 expressions-apart target section none = apart target 0 section (records-in target section) (are-records target section none)
 
--- each of a section lies inside it
+-- each expression of a section lies inside it
 pub expression-inside : (target : Target) (section : List ℕ) → fault_in (entries_of target section) ≡ None → (e : LocatedExpression)
     → Contains (frame_expressions (frame_of target section).cies (frame_of target section).fdes) e → IsInside target 0 (length section) e
 expression-inside target section none e among =
@@ -267,7 +268,7 @@ in-rest e g es (suc k, lt, is) other = (k, omega arith, is)
 behind : (e g : LocatedExpression) (es : List LocatedExpression) → Contains es e → Contains (g ∷ es) e
 behind e g es (k, lt, is) = (suc k, omega arith, is)
 
--- the only one at an offset is found there
+-- if only one expression has an offset, it is found at that offset
 pub found-at : (es : List LocatedExpression) (e : LocatedExpression) (at : ℕ) → Contains es e → e.offset ≡ at
     → ((g : LocatedExpression) → Contains es g → g.offset ≡ at → g ≡ e) → expression_at es at ≡ Some e
 found-at [] e at among same only = no-expression e among
@@ -278,7 +279,7 @@ found-at (x ∷ es) e at among same only = elim (x.offset == at) as
           let clash : true ≡ false = sym is ∙ no in cc)) same (λ g g_in. only g (behind g x es g_in))
     ] refl
 
--- if none is there, none is found
+-- if no expression has an offset, none is found there
 pub absent-at : (es : List LocatedExpression) (at : ℕ) → ((e : LocatedExpression) → Contains es e → e.offset ≢ at)
     → expression_at es at ≡ None
 absent-at [] at none = refl
@@ -288,7 +289,8 @@ absent-at (x ∷ es) at none = elim (x.offset == at) as
       | false ↦ λ no. absent-at es at (λ e among. none e (behind e x es among))
     ] refl
 
--- one that is found in a front part, and one that isn't
+-- what is found in the first part is found in both parts together; if nothing is, the second part
+-- decides
 pub in-front : (es gs : List LocatedExpression) (at : ℕ) (e : LocatedExpression) → expression_at es at ≡ Some e
     → expression_at (es ++ gs) at ≡ Some e
 in-front es gs at e is = find-append (λ y. y.offset == at) es gs ∙ ap (λ o. option_or o (expression_at gs at)) is
@@ -312,7 +314,7 @@ only-in-both es gs up next other e g e_in g_in same =
       ]
     ]
 
--- if two parts ascend and share no offset, each is found at its own
+-- if two lists ascend and share no offset, each expression of both is found at its own offset
 pub found-in-parts : (es gs : List LocatedExpression) → Ascends at-offset es → Ascends at-offset gs
     → ((e g : LocatedExpression) → Contains es e → Contains gs g → e.offset ≢ g.offset) → (e : LocatedExpression)
     → Contains (es ++ gs) e → expression_at (es ++ gs) e.offset ≡ Some e

@@ -1,4 +1,4 @@
--- What the expressions of programs and of a section are: those of their instructions, CIEs and FDEs.
+-- Which expressions a program and a section have: those of their instructions, CIEs and FDEs.
 use Rattle.std.proofs.Common.{◌≡◌, ℕ, zero, suc, List, [], ◌∷◌, Option, Some, None, Contains, sym, ap, subst, ◌∙◌, arith}
 use Rattle.std.specs.List.{cons_option}
 use Rattle.std.proofs.lemmas.List.Elements.{Contains-append_left, Contains-append_right}
@@ -18,7 +18,7 @@ further : (o : Option LocatedExpression) (es : List LocatedExpression) (e : Loca
 further None es e among = among
 further (Some x) es e (k, lt, is) = (suc k, omega arith, is)
 
--- the expression of an instruction of a program
+-- the expression of an instruction is among those of the program
 pub of-instruction : (items : List (ℕ × Instruction)) (item : ℕ × Instruction) (e : LocatedExpression) → Contains items item
     → expression_in item.1 ≡ Some e → Contains (expressions_in items) e
 of-instruction [] item e (k, lt, is) has = absurd (omega arith)
@@ -27,12 +27,12 @@ of-instruction (x ∷ items) item e (zero, lt, is) has =
 of-instruction (x ∷ items) item e (suc k, lt, is) has =
     further (expression_in x.1) (expressions_in items) e (of-instruction items item e (k, omega arith, is) has)
 
--- the instruction of an effect
+-- each effect of a program is that of one of its instructions
 pub of-effect : (cie : Cie) (items : List (ℕ × Instruction)) (x : Effect) → Contains (effects_by cie items) x
     → (item : ℕ × Instruction) × Contains items item × (effect_of cie item.1 ≡ x)
 of-effect cie items x among = contained-map (λ (item : ℕ × Instruction). effect_of cie item.1) items x among
 
--- the expressions of a CIE, and of an FDE, are among the section's
+-- the expressions of each CIE and of each FDE are among the section's
 pub of-cie : (cies : List Cie) (c : Cie) (e : LocatedExpression) → Contains cies c → Contains (expressions_of c.program) e
     → Contains (cie_expressions cies) e
 of-cie [] c e (k, lt, is) own = absurd (omega arith)

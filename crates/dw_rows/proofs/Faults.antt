@@ -1,4 +1,4 @@
--- First faults of lists, and the CIE at an offset.
+-- The first fault of a list, and the CIE at an offset.
 use Rattle.std.proofs.Common.{◌≡◌, ◌≢◌, ℕ, zero, suc, ◌+◌, ◌<◌, ◌≤◌, ◌==◌, List, [], ◌∷◌, length, get_or, drop, map, Option, Some, None}
 use Rattle.std.proofs.Common.{Contains, true, false, refl, sym, ap, ◌∙◌, subst, arith, drop-cons, if◌then◌else◌}
 use Rattle.std.specs.Prelude.{find}
@@ -12,12 +12,12 @@ use Rattle.dw_rows.specs.Overlap.{cie_offset}
 use Rattle.dw_frame.specs.Bounds.{Ascends}
 use Rattle.dw_rows.proofs.Search.{ascending-same}
 
--- if the first of two or else the other is none, both are
+-- if `option_or` gives none, both of its arguments are none
 pub option_or-none : {A : Type 0} (a b : Option A) → option_or a b ≡ None → (a ≡ None) × (b ≡ None)
 option_or-none None b e = (refl, e)
 option_or-none (Some x) b e = let clash : Some x ≡ None = e in cc
 
--- what is left of a list begins with the element at the index
+-- without its first i elements a list begins with the element at index i
 pub drop-at : {X : Type 0} (xs : List X) (i : ℕ) (x : X) → i < length xs → get_or xs i x ≡ x → drop i xs ≡ x ∷ drop (i + 1) xs
 drop-at xs i x lt is =
     let next : suc i ≡ i + 1 = omega arith in
@@ -28,17 +28,17 @@ from-here : {X Y : Type 0} (view : X → Y) (t : Y → Option Fault) (xs : List 
 from-here view t xs i x lt is =
     ap (λ l. first_fault t (map view l)) (drop-at xs i x lt is)
 
--- an element that passes
+-- an element without a fault can be left out
 pub passed : {X Y : Type 0} (view : X → Y) (t : Y → Option Fault) (xs : List X) (i : ℕ) (x : X) → i < length xs → get_or xs i x ≡ x
     → t (view x) ≡ None → first_fault t (map view (drop i xs)) ≡ first_fault t (map view (drop (i + 1) xs))
 passed view t xs i x lt is none = from-here view t xs i x lt is ∙ ap (λ o. option_or o (first_fault t (map view (drop (i + 1) xs)))) none
 
--- an element that has a fault
+-- an element with a fault decides the first fault from its index on
 pub refused : {X Y : Type 0} (view : X → Y) (t : Y → Option Fault) (xs : List X) (i : ℕ) (x : X) (f : Fault) → i < length xs
     → get_or xs i x ≡ x → t (view x) ≡ Some f → first_fault t (map view (drop i xs)) ≡ Some f
 refused view t xs i x f lt is some = from-here view t xs i x lt is ∙ ap (λ o. option_or o (first_fault t (map view (drop (i + 1) xs)))) some
 
--- no element is left
+-- past the last element there is no fault
 pub ended : {X Y : Type 0} (view : X → Y) (t : Y → Option Fault) (xs : List X) (i : ℕ) → length xs ≤ i
     → first_fault t (map view (drop i xs)) ≡ None
 ended view t [] zero le = refl
@@ -52,7 +52,7 @@ Contains-rest : (c x : Cie) (xs : List Cie) → Contains (x ∷ xs) c → x.offs
 Contains-rest c x xs (zero, lt, is) other = absurd (other (ap cie_offset is))
 Contains-rest c x xs (suc k, lt, is) other = (k, omega arith, is)
 
--- if a CIE is at an offset, it is found there
+-- a CIE among these is found at its offset
 pub found-at : (cies : List Cie) → Ascends cie_offset cies → (c : Cie) (at : ℕ) → Contains cies c → c.offset ≡ at → cie_at cies at ≡ Some c
 found-at [] up c at (k, lt, is) same = absurd (omega arith)
 found-at (x ∷ xs) up c at among same = elim (x.offset == at) as
@@ -62,7 +62,7 @@ found-at (x ∷ xs) up c at among same = elim (x.offset == at) as
           let clash : true ≡ false = sym no ∙ e in cc)) same
     ] refl
 
--- if none is there, none is found
+-- if no CIE has an offset, none is found there
 pub absent-at : (cies : List Cie) (at : ℕ) → ((c : Cie) → Contains cies c → c.offset ≢ at) → cie_at cies at ≡ None
 absent-at [] at none = refl
 absent-at (x ∷ xs) at none = elim (x.offset == at) as
@@ -71,7 +71,7 @@ absent-at (x ∷ xs) at none = elim (x.offset == at) as
       | false ↦ λ e. absent-at xs at (λ c h. none c (suc h.0, omega (arith, h.1), h.2))
     ] refl
 
--- a CIE that is found is among them, at its offset
+-- a CIE that is found is among these, and has the offset
 pub at-found : (cies : List Cie) (at : ℕ) (c : Cie) → cie_at cies at ≡ Some c → Contains cies c × (c.offset ≡ at)
 at-found [] at c e = let nothing : Option Cie = None in let clash : nothing ≡ Some c = e in cc
 at-found (x ∷ xs) at c e = elim (x.offset == at) as
@@ -85,7 +85,7 @@ none-behind : {X : Type 0} (t : X → Option Fault) (y : X) (xs : List X) → t 
 none-behind t y xs here x rest (zero, lt, is) = ap t (sym is) ∙ here
 none-behind t y xs here x rest (suc k, lt, is) = rest (k, omega arith, is)
 
--- if no element has a fault, none does
+-- if a list has no fault, none of its elements has one
 pub none-each : {X : Type 0} (t : X → Option Fault) (xs : List X) → first_fault t xs ≡ None → (x : X) → Contains xs x → t x ≡ None
 none-each t [] none x (k, lt, is) = absurd (omega arith)
 none-each t (y ∷ xs) none x among = elim (t y) as (λ o. t y ≡ o → option_or o (first_fault t xs) ≡ None → t x ≡ None) [

@@ -1,4 +1,5 @@
--- The table of all FDEs: its rows are those of the section, and what they name is lent.
+-- The table of all FDEs has the rows of the section, and the expressions that the rows name are
+-- among the section's.
 use Rattle.std.proofs.Common.{◌≡◌, ℕ, zero, suc, ◌+◌, ◌<◌, ◌≤◌, Bool, true, false, cond, List, [], ◌∷◌, ◌++◌, length, get_or, refl, sym, ap, ◌∙◌}
 use Rattle.std.proofs.Common.{Option, Some, None, IsSome, Contains, take, subst, arith, append_assoc, inl, inr, ◌⊎◌}
 use Rattle.std.proofs.lemmas.Bool.{cases_lt}
@@ -36,7 +37,7 @@ each-more s [] f = append-nil (placed_rows s f)
 each-more s (x ∷ fdes) f =
     ap (λ l. placed_rows s x ++ l) (each-more s fdes f) ∙ sym (append_assoc (placed_rows s x) (rows_of_each s fdes) (placed_rows s f))
 
--- finding among rows with a register
+-- finding a row among rows that are paired with one register
 find-returning : (a r : ℕ) (rows : List PlacedRow)
     → find (has a) (returning r rows) ≡ option_map (with_register r) (find (has_address a) rows)
 find-returning a r [] = refl
@@ -48,7 +49,7 @@ find-returning a r (x ∷ rows) = go (has_address a x) (find-returning a r rows)
     go true next = refl
     go false next = next
 
--- an FDE has the row of an address that it covers, and of no other
+-- an FDE has a row for each address that it covers, and for no other
 pub covered-has : (s : FrameSection) → IsChecked s → (f : Fde) → Contains s.fdes f → (a : ℕ) → Covers f a
     → (c : Cie) × (row : PlacedRow) × (cie_in s f ≡ Some c) × (find (has_address a) (rows_behind (cie_in s f) f) ≡ Some row)
     × (find (has a) (placed_rows s f) ≡ Some (row, c.return_address_register))
@@ -103,7 +104,7 @@ covers-so a f here = grind (arith, nat_tests)
 in-later : (x y : Fde) (xs : List Fde) → Contains xs y → Contains (x ∷ xs) y
 in-later x y xs at = (suc at.0, omega (arith, at.1), at.2)
 
--- the first that covers an address, or that none does
+-- there is an FDE that covers the address, or none does
 pub first-cover : (a : ℕ) (fdes : List Fde) → ((f : Fde) × Contains fdes f × Covers f a) ⊎ ((f : Fde) → Contains fdes f → Covers f a → ⊥)
 first-cover a [] = inr (λ f among. absurd (omega (arith, among.1)))
 first-cover a (x ∷ fdes) = go (covers a x) refl (first-cover a fdes)
@@ -154,7 +155,7 @@ one-in-each s checked a (x ∷ fdes) f row from among covered found = go (covers
         (λ c. let wrong : true ≡ false = sym (covers-so a x c) ∙ e in cc))
         ∙ next (λ g at. from g (in-later x g fdes at)) (k, omega (arith, few), here) covered found
 
--- the row of an address is that of all rows
+-- the row of an address among the rows of all FDEs is the section's row there
 pub row-in-each : (s : FrameSection) (fdes : List Fde) → IsChecked s → IsIndexOf s.fdes fdes → (a : ℕ)
     → IsPlacedAt s a (find (has a) (rows_of_each s fdes))
 row-in-each s fdes checked index a = elim (first-cover a fdes) [
@@ -175,7 +176,7 @@ row-in-each s fdes checked index a = elim (first-cover a fdes) [
       (row-none s a (λ f among covered. none f (index.to f among (omega (arith, covered.0, covered.1))) covered))
 ]
 
--- ---- what rows name is lent
+-- ---- the expressions that rows name are the section's
 
 each-append : {X : Type 0} (P : X → Type 0) (xs ys : List X) → AllByRecursion P xs → AllByRecursion P ys → AllByRecursion P (xs ++ ys)
 each-append P [] ys a b = b
@@ -201,7 +202,7 @@ rows-lend es sets lends (e ∷ rest) within to =
 contains-at : {X : Type 0} (xs : List X) (i : ℕ) (d : X) → i < length xs → Contains xs (get_or xs i d)
 contains-at xs i d lt = (i, lt, get_or_default xs i (get_or xs i d) d lt)
 
--- one that comes later begins after the end
+-- of two FDEs in order of address the later one begins at or after the end of the earlier one
 index-apart : (fdes index : List Fde) → IsIndexOf fdes index → CoversOnce fdes → (i j : ℕ) (d f : Fde) → i < j → j < length index
     → get_or index i d ≡ f → f.initial_location + f.address_range ≤ (get_or index j d).initial_location
 index-apart fdes index is once i j d f lt within at =
@@ -220,7 +221,8 @@ index-apart fdes index is once i j d f lt within at =
       | inr behind ↦ behind
     ]
 
--- the rows of the first FDEs, up to a number of them, are in the table and end at an address, and the others begin after it
+-- The table has the rows of the first k FDEs, in order of address. They end at `last`, and all
+-- later FDEs begin at or after it.
 pub record IsFillingAll (s : FrameSection) (index : List Fde) (k last : ℕ) (entries : List TableEntry) (sets : List KeptSet) : Type 0 where
   pub table : IsTableUpTo s.expressions last entries sets
   pub next : (j : ℕ) (d : Fde) → k ≤ j → j < length index → last ≤ (get_or index j d).initial_location

@@ -1,4 +1,4 @@
--- Rows with their expressions instead of offsets.
+-- Rows with expressions in place of their offsets.
 use Rattle.std.proofs.Common.{◌≡◌, ◌≢◌, ℕ, ◌+◌, List, [], ◌∷◌, length, map, Some, Bool, true, false, cond, refl}
 use Rattle.std.proofs.Common.{ap, ◌∙◌, eqb, arith}
 use Rattle.std.specs.List.{AllByRecursion}
@@ -72,7 +72,7 @@ pub cover-with : (es : List LocatedExpression) (from : ℕ) (rows : List PlacedR
 cover-with es from [] to h = h
 cover-with es from (x ∷ rows) to h = (h.0, h.1, cover-with es x.end rows to h.2)
 
--- ---- what is lent has the kind of its rule
+-- ---- each expression in a rule has the kind that the rule needs
 
 pub rule-of-kind : (es : List LocatedExpression) (x : PlacedRule) → LendsRule es x → IsRuleOfKind (given_rule es x)
 rule-of-kind es (expression at) h = ap (λ (e : LocatedExpression). e.kind) (ap or_nowhere h.found) ∙ h.of_kind
@@ -103,7 +103,7 @@ lends-by : (es : List LocatedExpression) (rules : List (ℕ × PlacedRule)) (r :
 lends-by es [] r h = tt
 lends-by es (x ∷ rules) r h = chosen-lent es (eqb x.0 r) x.1 (rule_in rules r) h.0 (lends-by es rules r h.1)
 
--- the rule of a register names what is lent
+-- if a list's rules name only expressions among `es`, so does the rule of each register
 pub lends-rule_in : (es : List LocatedExpression) (rules : List (ℕ × PlacedRule)) (r : ℕ) → LendsEach es rules
     → LendsRule es (rule_in rules r)
 lends-rule_in es rules r h = lends-by es rules r (recursion_from_All (LendsEntry es) rules h)

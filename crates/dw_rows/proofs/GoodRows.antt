@@ -1,4 +1,4 @@
--- The rows of a checked section have good expressions, each of the kind of its rule.
+-- The rows of a checked section have good expressions, each of the kind that its rule needs.
 use Rattle.std.proofs.Common.{◌≡◌, ℕ, zero, suc, ◌+◌, ◌==◌, Bool, true, false, cond, List, [], ◌∷◌, map, Option, Some, None, Contains}
 use Rattle.std.proofs.Common.{refl, sym, ap, subst, arith}
 use Rattle.std.specs.Prelude.{All, IfSome, find, option_and_then, option_map}
@@ -26,7 +26,7 @@ use Rattle.dw_rows.proofs.Lending.{lends-in, row-lends}
 use Rattle.dw_rows.proofs.CheckedSections.{checked-parts}
 use Rattle.dw_rows.proofs.GoodExpressions.{checked-expressions}
 
--- what is found is one of the elements
+-- what `find` returns is one of the elements
 found-among : {X : Type 0} (p : X → Bool) (xs : List X) (x : X) → find p xs ≡ Some x → Contains xs x
 found-among p [] x e = cc
 found-among p (y ∷ xs) x e = go (λ later. found-among p xs x later) (p y) e
@@ -35,7 +35,7 @@ found-among p (y ∷ xs) x e = go (λ later. found-among p xs x later) (p y) e
     go next true is = let same : y ≡ x = cc in (zero, omega arith, same)
     go next false is = let rest = next is in (suc rest.0, omega (arith, rest.1), rest.2)
 
--- ---- what is lent to rules is good
+-- ---- each expression that a rule names is good
 
 lent-good : (s : FrameSection) → IsChecked s → (kind : Kind) (at : ℕ) → IsLent s.expressions kind at
     → IsGoodAmong s.expressions kind (located_at s.expressions at)
@@ -80,7 +80,7 @@ one-of s program from to [] row are (i, lt, is) = absurd (omega arith)
 one-of s program from to (x ∷ rows) row are (zero, lt, is) = subst (IsRow s program) is are.1
 one-of s program from to (x ∷ rows) row are (suc i, lt, is) = one-of s program x.end to rows row are.2 (i, omega arith, is)
 
--- each row of an FDE
+-- each row of an FDE has good expressions
 pub row-good : (s : FrameSection) → IsChecked s → (f : Fde) → Contains s.fdes f → (row : Row) → Contains (rows_in s f) row
     → HasGoodExpressions s.expressions row
 row-good s checked f among row inside =
@@ -100,7 +100,7 @@ row-good s checked f among row inside =
     subst (HasGoodExpressions es) placed.2
     (record { cfa = cfa-good s checked (placed.0).cfa lent.0; rules = rules-good s checked (placed.0).rules lent.1 })
 
--- the row of an address
+-- the row of an address has good expressions
 pub found-good : (s : FrameSection) (a : ℕ) → IsChecked s → (row : Row) → row_of s a ≡ Some row → HasGoodExpressions s.expressions row
 found-good s a checked row is = go (find (covers a) s.fdes) refl is
   where

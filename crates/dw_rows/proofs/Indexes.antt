@@ -1,4 +1,4 @@
--- The index: filtered and sorted.
+-- The address index: FDEs that cover an address, sorted by address.
 use Rattle.std.proofs.Common.{◌≡◌, ◌≢◌, ℕ, zero, suc, ◌+◌, ◌-◌, ◌<◌, ◌≤◌, List, [], ◌∷◌, length, get_or, take, map, ◌++◌, Contains, refl}
 use Rattle.std.proofs.Common.{sym, ap, subst, ◌∙◌, arith, inl, inr, ◌⊎◌, ◌==◌, Bool, true, false, nat_lt, ltb-true, lt-ltb, leb, leb-true}
 use Rattle.std.proofs.Common.{leb-false, ◌*◌, filter, if◌then◌else◌, Option, Some, None}
@@ -22,7 +22,7 @@ use Rattle.dw_frame.specs.Records.{Fde}
 use Rattle.dw_rows.proofs.Search.{ascending-at, squeeze, three_ways}
 use Rattle.std.proofs.lemmas.Bool.{cases_lt, le-ltb}
 
--- no two indices have one offset
+-- FDEs at different indices have different offsets
 abbrev pub AreDistinct : List Fde → Type 0
 AreDistinct xs = (i j : ℕ) (d : Fde) → i < length xs → j < length xs → (get_or xs i d).offset ≡ (get_or xs j d).offset → i ≡ j
 
@@ -32,7 +32,7 @@ distinct-ascending xs up i j d i_in j_in same =
     let high : ¬ (j < i) = λ lt. let h = ascending-at fde_offset xs up j i d lt i_in in omega (arith, h, same) in
     squeeze i j low high
 
--- where an element of the swapped list was
+-- the index that an element had before the elements at a and b were swapped
 abbrev stood : ℕ → ℕ → ℕ → ℕ
 stood a b m = if m == a then b else (if m == b then a else m)
 
@@ -132,7 +132,7 @@ indexed fdes index up moved sorted =
       };
     }
 
--- if the last FDE that begins at or below an address ends before it, none covers it
+-- if the last FDE that begins at or below an address doesn't cover it, none does
 pub not-covered : (index : List Fde) → IsOrdered index → (place a : ℕ) (x : Fde) → CoversOnce index → 0 < place → place ≤ length index
     → get_or index (place - 1) x ≡ x → x.initial_location ≤ a
     → ((k : ℕ) (d : Fde) → place ≤ k → k < length index → a < (get_or index k d).initial_location)
@@ -155,7 +155,7 @@ not-covered index ordered place a x once some in_range x_is low above short f (k
           omega (arith, end, covered.1)
     ]
 
--- if each FDE begins above an address, none covers it
+-- if all FDEs begin above an address, none covers it
 pub none-covered : (index : List Fde) → (a : ℕ) → ((k : ℕ) (d : Fde) → k < length index → a < (get_or index k d).initial_location)
     → (f : Fde)
     → Contains index f → ¬ Covers f a
@@ -163,7 +163,7 @@ none-covered index a above f (k, k_in, k_is) covered =
     let h : a < f.initial_location = subst (λ v. a < v.initial_location) k_is (above k f k_in) in
     omega (arith, h, covered.0)
 
--- what covers an address among those in the index does so among all
+-- if no address is covered by two FDEs, none is covered by two FDEs of the index
 pub once-indexed : (fdes index : List Fde) → IsIndexOf fdes index → CoversOnce fdes → CoversOnce index
 once-indexed fdes index is once a f g f_in g_in = once a f g (is.from f f_in) (is.from g g_in)
 
@@ -174,7 +174,7 @@ cover-indexed fdes index is a (Some f) only =
 
 -- ---- the entries of the index
 
--- the FDE at an index, and what is stored of it
+-- the FDE that an index entry refers to
 pub fde_at-is : (fdes : List FrameDescriptionEntry) (e : IndexEntry) (x : FrameDescriptionEntry) → e.place < length fdes
     → get_or fdes e.place x ≡ x → fde_at (map fde_of fdes) e ≡ fde_of x
 fde_at-is fdes e x within is = get_or-map fde_of fdes e.place x no_fde within ∙ ap fde_of is
@@ -193,7 +193,7 @@ all-one : {X : Type 0} (P : X → Type 0) (x : X) → P x → All P (x ∷ [])
 all-one P x h zero d lt = h
 all-one P x h (suc k) d lt = absurd (omega arith)
 
--- one more FDE is looked at: it is added if it covers an address
+-- after one more FDE, whose entry was added, since it covers an address
 pub entries-more : (fdes : List FrameDescriptionEntry) (place : ℕ) (x : FrameDescriptionEntry) (entries : List IndexEntry)
     → place < length fdes → get_or fdes place x ≡ x → 0 < x.address_range → All (IsEntry (map fde_of fdes)) entries
     → map (fde_at (map fde_of fdes)) entries ≡ filter is_some_fde (take place (map fde_of fdes))
@@ -226,7 +226,7 @@ entries-same fdes place x within is none =
     sym (ap (filter is_some_fde) next ∙ filter-append is_some_fde (take place fs) (fde_of x ∷ [])
     ∙ ap (λ l. filter is_some_fde (take place fs) ++ l) no ∙ append-nil (filter is_some_fde (take place fs)))
 
--- entries in order of their beginnings are FDEs in order of address
+-- if entries are sorted by their starts, their FDEs are sorted by address
 pub sorted-entries : (fdes : List Fde) (entries : List IndexEntry) → All (IsEntry fdes) entries → IsNonDecreasingBy (λ e. e.start) entries
     → IsNonDecreasingBy initial_of (map (fde_at fdes) entries)
 sorted-entries fdes entries all sorted =
@@ -238,7 +238,7 @@ sorted-entries fdes entries all sorted =
     let h = sorted i j d le lt in
     omega arith)
 
--- an entry of the index, and its number among the FDEs
+-- the FDE index in an entry is within the list of FDEs
 pub entry-within : (fdes : List FrameDescriptionEntry) (entries : List IndexEntry) (i : ℕ) (d : IndexEntry)
     → All (IsEntry (map fde_of fdes)) entries → i < length entries → (get_or entries i d).place < length fdes
 entry-within fdes entries i d all i_in =
@@ -260,7 +260,7 @@ entry-start fdes entries i d x all i_in is =
     (All-get_or (IsEntry (map fde_of fdes)) entries i d i_in all).start
     ∙ ap (λ (f : Fde). f.initial_location) (fde_at-is fdes (get_or entries i d) x (entry-within fdes entries i d all i_in) (sym is))
 
--- the entries are sorted by where they begin
+-- the entries of an address index are sorted by their starts
 pub starts-sorted : (fdes : List Fde) (entries : List IndexEntry) → IsAddressIndex fdes entries
     → IsNonDecreasingBy (λ (e : IndexEntry). e.start) entries
 starts-sorted fdes entries is i j d le lt =
@@ -271,7 +271,7 @@ starts-sorted fdes entries is i j d le lt =
     let h = sorted-back (fde_at fdes) initial_of entries is.index_of.ordered.sorted i j d le lt in
     omega (arith, h)
 
--- where entries begin above an address, their FDEs do
+-- if entries begin above an address, so do their FDEs
 pub starts-above : (fdes : List Fde) (entries : List IndexEntry) (place a : ℕ) → All (IsEntry fdes) entries
     → ((k : ℕ) (d : IndexEntry) → place ≤ k → k < length entries → a < (get_or entries k d).start)
     → (k : ℕ) (d : Fde) → place ≤ k → k < length (map (fde_at fdes) entries) → a < (get_or (map (fde_at fdes) entries) k d).initial_location
@@ -285,14 +285,14 @@ starts-above fdes entries place a all above k d le lt =
     let at : get_or (map (fde_at fdes) entries) k d ≡ fde_at fdes (get_or entries k e) = get_or-map (fde_at fdes) entries k e d k_in in
     subst (λ (f : Fde). a < f.initial_location) (sym at) (omega (arith, h, b))
 
--- ---- going on by quarters
+-- ---- steps of the search by quarters
 
 pub start-at : (entries : List IndexEntry) (i j : ℕ) (d e : IndexEntry) → i ≡ j → j < length entries
     → (get_or entries i d).start ≡ (get_or entries j e).start
 start-at entries i j d e same lt = ap (λ (n : ℕ). (get_or entries n d).start) same
     ∙ ap (λ (x : IndexEntry). x.start) (get_or_default entries j d e lt)
 
--- a stride of this many quarters, by the entries on either side of it
+-- the stride of n quarters
 so-many : (entries : List IndexEntry) (low q a n m : ℕ) → n ≡ m → IsStride entries low q a (m * q) → IsStride entries low q a (n * q)
 so-many entries low q a n m same h = subst (λ (v : ℕ). IsStride entries low q a (v * q)) (sym same) h
 

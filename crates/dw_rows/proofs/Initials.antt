@@ -1,4 +1,4 @@
--- Rules that are stored one after another, and what the CIEs of a section leave.
+-- Rule sets that share one list of entries, and the rules that a section's CIEs leave.
 use Rattle.std.proofs.Common.{◌≡◌, ℕ, zero, suc, ◌≤◌, List, [], ◌∷◌, ◌++◌, length, drop, Some, None, refl, sym, ap, ◌∙◌, subst, arith}
 use Rattle.std.specs.Prelude.{slice_get, slice_range}
 use Rattle.std.proofs.lemmas.List.{map-append, length-append, take-append-le, drop_at}
@@ -13,7 +13,7 @@ use Rattle.dw_rows.specs.Views.{entries_of}
 use Rattle.dw_rows.specs.ProgramState.{IsLeftBy}
 use Rattle.dw_rows.specs.Initial.{AreLeftBy, kept_in_span, kept_in_spans, IsSpan, AreSpans}
 
--- ---- more entries after those that are there
+-- ---- more entries at the end
 
 range-front : {X : Type 0} (xs ys : List X) (i j : ℕ) → j ≤ length xs → slice_range (xs ++ ys) i j ≡ slice_range xs i j
 range-front xs ys i j h = between_is (xs ++ ys) i j ∙ (ap (drop i) (take-append-le j xs ys h) ∙ sym (between_is xs i j))
@@ -43,14 +43,14 @@ kept-grown entries more (s ∷ spans) all =
     let rest = kept-grown entries more spans all.1 in
     cc
 
--- ---- one span more
+-- ---- one more span
 
 spans-one : (entries : List RuleEntry) (spans : List RuleSpan) (s : RuleSpan) → AreSpans entries spans → IsSpan entries s
     → AreSpans entries (spans ++ s ∷ [])
 spans-one entries [] s all one = (one, tt)
 spans-one entries (x ∷ spans) s all one = (all.0, spans-one entries spans s all.1 one)
 
--- the entries of a row after those that are there, and their span
+-- after the entries of one more rule set, and their span, were added at the end
 pub record Pushed (entries more : List RuleEntry) (spans : List RuleSpan) (s : RuleSpan) : Type 0 where
   pub are : AreSpans (entries ++ more) (spans ++ s ∷ [])
   pub kept : kept_in_spans (entries ++ more) (spans ++ s ∷ []) ≡ kept_in_spans entries spans
@@ -76,7 +76,7 @@ pushed entries more spans s all here there few table =
           ∙ ap (λ k. kept_in_spans entries spans ++ k ∷ []) last);
     }
 
--- ---- what the CIEs leave, one after the other
+-- ---- the rules that the CIEs leave, in order
 
 pub left-one : (cies : List Cie) (left : List KeptRules) (c : Cie) (k : KeptRules) → AreLeftBy cies left → IsLeftBy c k
     → AreLeftBy (cies ++ c ∷ []) (left ++ k ∷ [])

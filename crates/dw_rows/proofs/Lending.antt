@@ -1,4 +1,4 @@
--- The expressions of a section are lent to the rules that name them.
+-- The expressions that rules name are among the section's.
 use Rattle.std.proofs.Common.{◌≡◌, ℕ, zero, suc, List, [], ◌∷◌, length, reverse, take, drop, Some, Contains, refl, sym, ap, subst, ◌∙◌}
 use Rattle.std.proofs.Common.{arith, inl, inr}
 use Rattle.std.specs.Prelude.{IfSome}
@@ -30,7 +30,7 @@ use Rattle.dw_rows.proofs.Programs.{effects-good, good-read-fde, start-same}
 use Rattle.dw_rows.proofs.Tables.{rule_list-table, rule_list-same}
 use Rattle.dw_rows.proofs.CheckedSections.{checked-read, in-programs}
 
--- ---- what a cursor keeps
+-- ---- the rules that a cursor has
 
 start-rules : (es : List LocatedExpression) (c : Cie) (f : Fde) → LendsTo es (effects_of_cie c) → (r : ℕ)
     → LendsRule es ((fde_start c f).rules r)
@@ -39,7 +39,7 @@ start-rules es c f to r = rules-have (LendsRule es) cie_start (λ q. tt) (effect
 start-cfa : (es : List LocatedExpression) (c : Cie) (f : Fde) → LendsTo es (effects_of_cie c) → IfSome (fde_start c f).cfa (LendsCfa es)
 start-cfa es c f to = cfa-has (LendsCfa es) (λ r n. tt) cie_start tt (effects_of_cie c) to.cfas 0
 
--- the rules that a cursor holds name expressions that are lent
+-- the rules in force at a cursor name only expressions among `es`
 pub lends-kept : (es : List LocatedExpression) (c : Cie) (f : Fde) (before : List Effect) (w : RowCursor) → Lends es c f
     → StandsBehind c f before w → LendsRules es w.context.current
 lends-kept es c f before w lends h =
@@ -71,7 +71,7 @@ in-take (suc n) [] x among = absurd (omega (arith, among.1))
 in-take (suc n) (y ∷ xs) x (zero, lt, is) = (zero, omega arith, is)
 in-take (suc n) (y ∷ xs) x (suc k, lt, is) = let j = in-take n xs x (k, omega (arith, lt), is) in (suc j.0, omega (arith, j.1), j.2)
 
--- the row after instructions of a good program names such expressions alone
+-- a row of a good program names only expressions among `es`
 pub row-lends : (es : List LocatedExpression) (c : Cie) (f : Fde) → (good : IsGoodFdeProgram c f) → (row : PlacedRow) (k : ℕ)
     → IsRowAt (start_in c f good) (program_in c f good) k row → Lends es c f → IfSome row.cfa (LendsCfa es) × LendsEach es row.rules
 row-lends es c f good row k at lends =
@@ -93,7 +93,7 @@ row-lends es c f good row k at lends =
           (λ q x among. lends.to_fde.rules q x (own (sets q x) among)) 0 r)),
     )
 
--- ---- what an instruction names
+-- ---- the expression that an instruction names
 
 abbrev LendsEffect : List LocatedExpression → Effect → Type 0
 LendsEffect es (sets q x) = LendsRule es x
@@ -132,7 +132,7 @@ effect-lent es cie (Instruction.val_offset_sf a b) found = tt
 effect-lent es cie (Instruction.val_expression a b) found =
     record { lent = located_as FrameRegister b; found = found (located_as FrameRegister b) refl; of_kind = refl }
 
--- what instructions are read of a program
+-- the expressions of instructions that were read are among `es`
 read-lent : (es : List LocatedExpression) (cie : Cie) (items : List (ℕ × Instruction))
     → ((item : ℕ × Instruction) (e : LocatedExpression) → Contains items item → expression_in item.1 ≡ Some e
     → expression_at es e.offset ≡ Some e) →
@@ -141,7 +141,7 @@ read-lent es cie items found x among =
     let it = of-effect cie items x among in
     subst (LendsEffect es) it.2 (effect-lent es cie (it.0).1 (λ e has. found it.0 e it.1 has))
 
--- ---- a checked section lends its expressions
+-- ---- the expressions of a checked section
 
 found-in : (s : FrameSection) → IsChecked s → (e : LocatedExpression) → Contains (frame_expressions s.cies s.fdes) e
     → expression_at s.expressions e.offset ≡ Some e
@@ -152,7 +152,7 @@ found-in s k e among =
     let found : expression_at t.expressions e.offset ≡ Some e = expression-found s.target s.section (checked-read s k) e there in
     subst (λ (u : FrameSection). expression_at u.expressions e.offset ≡ Some e) (sym k.whole) found
 
--- no two begin at one offset
+-- no two of a section's expressions begin at the same offset
 pub one-at-offset : (s : FrameSection) → IsChecked s → (d e : LocatedExpression) → Contains s.expressions d → Contains s.expressions e
     → d.offset ≡ e.offset → d ≡ e
 one-at-offset s k d e d_in e_in same =
@@ -175,7 +175,7 @@ lends-in s k c f c_in f_in =
       to_fde = record { rules = λ q x among. of_fde (sets q x) among; cfas = λ d among. of_fde (defines_cfa d) among };
     }
 
--- ---- the two parts of the expressions are in order
+-- ---- the expressions of CIEs are in order, and so are those of FDEs
 
 pub cies-in-order : (s : FrameSection) → IsChecked s → Ascends expression_offset (take (length (cie_expressions s.cies)) s.expressions)
 cies-in-order s k =

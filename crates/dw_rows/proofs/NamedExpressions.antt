@@ -1,4 +1,4 @@
--- What holds of all that instructions set holds of the rules that they leave.
+-- A property of all rules that instructions set is a property of the rules that they leave.
 use Rattle.std.proofs.Common.{ℕ, zero, suc, List, [], ◌∷◌, Option, Some, Bool, true, false, cond, Contains, refl, arith}
 use Rattle.std.specs.Prelude.{All, IfSome, ℤ, ◌==◌}
 use Rattle.std.proofs.lemmas.List.Elements.{All-append, All-from_recursion}
@@ -16,11 +16,11 @@ chosen : {X : Type 0} (P : X → Type 0) (b : Bool) (x y : X) → P x → P y �
 chosen P true x y h k = h
 chosen P false x y h k = k
 
--- each rule that instructions set has the property
+-- each register rule that the instructions set has the property
 abbrev pub EachSet : (PlacedRule → Type 0) → List Effect → Type 0
 EachSet P before = (q : ℕ) (x : PlacedRule) → Contains before (sets q x) → P x
 
--- each CFA's rule that they define has it
+-- each CFA rule that the instructions define has the property
 abbrev pub EachDefined : (PlacedCfa → Type 0) → List Effect → Type 0
 EachDefined P before = (c : PlacedCfa) → Contains before (defines_cfa c) → P c
 

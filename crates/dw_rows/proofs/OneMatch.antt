@@ -1,4 +1,4 @@
--- A match of brackets is unique.
+-- A restore_state has at most one match, and so has a remember_state.
 use Rattle.std.proofs.Common.{◌≡◌, ℕ, ◌+◌, ◌<◌, ◌≤◌, List, [], ◌∷◌, ◌++◌, length, refl, sym, ap, ◌∙◌, arith, inl, inr, append_assoc}
 use Rattle.std.proofs.Common.{length-append}
 use Rattle.std.proofs.lemmas.Bool.{cases_lt}
@@ -6,7 +6,7 @@ use Rattle.dw_rows.specs.Effects.{Effect, remembers_state, restores_state}
 use Rattle.dw_rows.specs.Good.{remembers, restores_in, IsBalanced, Match}
 use Rattle.dw_rows.proofs.Matching.{remembers-append, restores-append}
 
--- two ways to part a list: the longer front begins with the shorter one
+-- if a list is split in two ways, the longer front begins with the shorter one
 record Between (a b c d : List Effect) : Type 0 where
   middle : List Effect
   front : c ≡ a ++ middle
@@ -21,7 +21,8 @@ between (x ∷ a) b (y ∷ c) d e l =
     let k = between a b c d rest (omega arith) in
     record { middle = k.middle; front = ap (λ l. y ∷ l) k.front ∙ ap (λ z. z ∷ (a ++ k.middle)) (sym same); back = k.back }
 
--- what lies between brackets holds no restore_state that is unmatched, and none after it
+-- two balanced stretches, each followed by a restore_state, can't begin at the same place and
+-- differ in length
 no-shorter : (b c r s : List Effect) → IsBalanced b → IsBalanced c → b ++ restores_state ∷ r ≡ c ++ restores_state ∷ s → length b < length c
     → ⊥
 no-shorter b c r s b_good c_good e l = go k.middle k.front k.back
@@ -40,7 +41,8 @@ no-shorter b c r s b_good c_good e l = go k.middle k.front k.back
         let same : remembers (b ++ restores_state ∷ []) ≡ remembers b + 0 = remembers-append b (restores_state ∷ []) in
         omega (arith, b_good.equal)
 
--- nor a remember_state
+-- two balanced stretches, each after a remember_state, can't end at the same place and differ in
+-- length
 no-later : (f b g c : List Effect) → IsBalanced b → IsBalanced c → f ++ remembers_state ∷ b ≡ g ++ remembers_state ∷ c → length f < length g
     → ⊥
 no-later f b g c b_good c_good e l = go k.middle k.front k.back
@@ -57,7 +59,7 @@ no-later f b g c b_good c_good e l = go k.middle k.front k.back
         let same : restores_in b ≡ restores_in m + restores_in c = ap restores_in whole ∙ restores-append m (remembers_state ∷ c) in
         omega (arith, b_good.equal, c_good.equal)
 
--- lists that are equal up to places of one number are so
+-- if two splits of a list have fronts of the same length, the fronts and the backs are equal
 same-fronts : (a c b d : List Effect) → a ++ b ≡ c ++ d → length a ≡ length c → (a ≡ c) × (b ≡ d)
 same-fronts [] [] b d e l = (refl, e)
 same-fronts [] (y ∷ c) b d e l = absurd (omega arith)
@@ -79,7 +81,7 @@ one-restore p i j k m n =
       ]
     ]
 
--- what is before the restore_state
+-- the program, split at the restore_state
 before-restore : (p : List Effect) (i j : ℕ) → (m : Match p i j) → p ≡ (m.front ++ remembers_state ∷ m.between) ++ restores_state ∷ m.back
 before-restore p i j m = m.whole ∙ sym (append_assoc m.front (remembers_state ∷ m.between) (restores_state ∷ m.back))
 

@@ -23,9 +23,9 @@ use Rattle.dw_rows.proofs.Lending.{lends-in, row-lends}
 use Rattle.dw_rows.proofs.GivenRows.{filter-with}
 use Rattle.dw_rows.proofs.CheckedSections.{checked-parts, checked-once}
 
--- ---- the row that alone passes a test
+-- ---- the only row that passes a test
 
--- it is found
+-- `find` returns the only row that passes the test
 found-alone : (p : Row → Bool) (rows : List Row) (row : Row) → filter p rows ≡ row ∷ [] → find p rows ≡ Some row
 found-alone p [] row e = cc
 found-alone p (x ∷ rows) row e = go (λ later. found-alone p rows row later) (p x) e
@@ -35,7 +35,7 @@ found-alone p (x ∷ rows) row e = go (λ later. found-alone p rows row later) (
     go next true e = let same : x ≡ row = cc in ap Some same
     go next false e = next e
 
--- and it is one of the rows of the program
+-- the only row that passes the test is a row of the program
 row-alone : (s : Start) (program : List Effect) (p : PlacedRow → Bool) (from to : ℕ) (rows : List PlacedRow) (row : PlacedRow)
     → AreRowsFrom s program from rows to → filter p rows ≡ row ∷ [] → IsRow s program row × (p row ≡ true)
 row-alone s program p from to [] row are e = cc
@@ -54,9 +54,9 @@ has-both a row e =
     let both : (leb row.start a && ltb a row.end) ≡ true = e in
     (grind (arith, nat_tests), grind (arith, nat_tests))
 
--- ---- rows after the same instructions are one
+-- ---- two rows after the same instructions are equal
 
--- the first address of each is one of the other, and so is the last
+-- two rows after the same instructions begin and end at the same addresses
 starts-by : (s : Start) (p : List Effect) (k : ℕ) (x y : PlacedRow) → IsRowAt s p k x → IsRowAt s p k y → y.start ≤ x.start
 starts-by s p k x y r t =
     let here = (r.range x.start r.low (omega (arith, r.some, r.high))).0 ((omega arith), r.some) in

@@ -1,4 +1,4 @@
--- Expressions with their bytes, one after another.
+-- Checked expressions whose bytes are in one array.
 use Rattle.std.proofs.Common.{◌≡◌, ℕ, zero, suc, ◌+◌, ◌<◌, ◌≤◌, List, [], ◌∷◌, ◌++◌, length, get_or, take, drop, refl, sym, ap, ◌∙◌, subst, arith}
 use Rattle.std.proofs.lemmas.List.{length-append, length-drop, drop-append-le, take-append-le}
 use Rattle.std.proofs.Math.Seq.{drop-append_seam, take-length}
@@ -18,7 +18,7 @@ use Rattle.dw_rows.proofs.Elements.{ascending-back, contains-map, contained-map}
 use Rattle.dw_rows.proofs.ExpressionOrder.{found-at, absent-at}
 use Rattle.dw_rows.specs.OwnedExpressions.{bytes_in, owned_in, all_owned, IsOwned, AreOwned}
 
--- ---- bytes after those that were there
+-- ---- more bytes at the end
 
 bytes-grown : (bytes more : List ℕ) (k : OwnedExpression) → k.start + k.length ≤ length bytes
     → bytes_in (bytes ++ more) k ≡ bytes_in bytes k
@@ -60,14 +60,14 @@ pub are-more : (bytes : List ℕ) (kept : List OwnedExpression) (k : OwnedExpres
 are-more bytes [] k are is = (is, tt)
 are-more bytes (x ∷ kept) k are is = (are.0, are-more bytes kept k are.1 is)
 
--- the one at an index
+-- the expression at an index
 pub owned-at : (bytes : List ℕ) (kept : List OwnedExpression) (n : ℕ) (k : OwnedExpression) → AreOwned bytes kept → n < length kept
     → get_or kept n k ≡ k → IsOwned bytes k
 owned-at bytes [] n k are lt at = absurd (omega arith)
 owned-at bytes (x ∷ kept) zero k are lt at = subst (IsOwned bytes) at are.0
 owned-at bytes (x ∷ kept) (suc n) k are lt at = owned-at bytes kept n k are.1 (omega arith) at
 
--- what is learned about a checked expression, by its calls
+-- an expression passed its check, if its parts are those of a checked expression
 pub owned-checked : (kind also : Kind) (target one other : Target) (bytes its : List ℕ) (depth count : ℕ) → IsGoodExpression kind one its
     → one ≡ target → its ≡ bytes → also ≡ kind → other ≡ target → IsDepthOf kind target bytes depth
     → count ≡ length (operations_in target bytes)
@@ -79,7 +79,7 @@ owned-checked kind also target one other bytes its depth count good of_one of_by
     (subst (λ (t : Target). IsChecked (record { kind = kind; target = t; bytes = bytes; depth = depth; count = count })) (sym of_other)
     (record { good = right; depth = deep; count = many }))
 
--- ---- the one at an offset
+-- ---- the expression at an offset
 
 abbrev pub offset_in : OwnedExpression → ℕ
 offset_in x = x.offset

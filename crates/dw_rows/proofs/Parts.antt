@@ -1,4 +1,4 @@
--- The parts of a section's judgement.
+-- The parts of a section's check.
 use Rattle.std.proofs.Common.{◌≡◌, List, Option, Some, None, Contains, refl, sym, ap, ◌∙◌, if◌then◌else◌}
 use Rattle.std.specs.Prelude.{is_some}
 use Rattle.std.specs.Option.{option_or}
@@ -12,7 +12,7 @@ use Rattle.dw_frame.specs.Bounds.{Ascends}
 use Rattle.dw_rows.proofs.Faults.{option_or-none, none-each, at-found}
 use Rattle.dw_rows.proofs.Clashes.{once-covered}
 
--- each part has no fault
+-- none of the parts found a fault
 pub record PartsPass (cies : List Cie) (fdes : List Fde) : Type 0 where
   pub pointers : first_fault (pointer_fault cies) fdes ≡ None
   pub cie_programs : first_fault cie_fault cies ≡ None
@@ -36,7 +36,7 @@ found-by : (o : Option Cie) (fault : Fault) → (if is_some o then None else Som
 found-by (Some c) fault e = (c, refl)
 found-by None fault e = let clash : Some fault ≡ None = e in cc
 
--- the CIE that an FDE points to
+-- an FDE whose CIE_pointer has no fault has a CIE
 pub pointed : (cies : List Cie) (f : Fde) → pointer_fault cies f ≡ None → (c : Cie) × (cie_at cies f.cie_pointer ≡ Some c)
 pointed cies f none = found-by (cie_at cies f.cie_pointer) _ none
 
@@ -47,7 +47,7 @@ pointed-in cies fdes none f among = pointed cies f (none-each (pointer_fault cie
 pub covers-once-in : (cies : List Cie) (fdes : List Fde) → Ascends fde_offset fdes → parts_fault cies fdes ≡ None → CoversOnce fdes
 covers-once-in cies fdes up none = once-covered fdes up (parts-pass cies fdes none).overlap
 
--- the programs of an FDE and of its CIE are good
+-- in a section without a fault the programs of an FDE and of its CIE have none
 pub good-behind : (cies : List Cie) (fdes : List Fde) → parts_fault cies fdes ≡ None → (f : Fde) → Contains fdes f → (c : Cie)
     → cie_at cies f.cie_pointer ≡ Some c → (cie_fault c ≡ None) × (fde_fault c f ≡ None)
 good-behind cies fdes none f among c is =

@@ -1,4 +1,4 @@
--- Rules and registers in pairs.
+-- Rule sets, each with its return address register.
 use Rattle.std.proofs.Common.{◌≡◌, ℕ, zero, suc, ◌<◌, List, [], ◌∷◌, ◌++◌, length, get_or, refl, sym, ap, arith, Some}
 use Rattle.std.specs.Prelude.{slice_get}
 use Rattle.dw_rows.specs.RuleSet.{KeptRules}

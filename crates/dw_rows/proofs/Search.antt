@@ -1,4 +1,4 @@
--- Indices in order of offset.
+-- Lists in order of offset: indices and offsets go up together.
 use Rattle.std.proofs.Common.{◌≡◌, ◌≢◌, ℕ, zero, suc, ◌+◌, ◌<◌, ◌≤◌, List, [], ◌∷◌, length, get_or, Ok, Err, Contains, sym, ap, subst}
 use Rattle.std.proofs.Common.{◌∙◌, arith, inl, inr, ◌⊎◌}
 use Rattle.std.specs.List.Sorted.{IsBinarySearchResult, IsNonDecreasingBy}
@@ -10,7 +10,7 @@ use Rattle.std.proofs.lemmas.List.Elements.{All-from_recursion, Contains-get_or}
 use Rattle.std.proofs.lemmas.Bool.Decides.{nat_tests}
 use Rattle.dw_frame.specs.Bounds.{Ascends}
 
--- below, equal or above
+-- i is less than j, equal to j, or greater
 pub three_ways : (i j : ℕ) → (i < j) ⊎ ((i ≡ j) ⊎ (j < i))
 three_ways i j = elim (cases_lt i j) [
   | inl lt ↦ inl lt
@@ -18,11 +18,11 @@ three_ways i j = elim (cases_lt i j) [
       (cases_lt j i) [ inl lt ↦ inr (inr lt) | inr ge ↦ inr (inl (omega arith)) ]
 ]
 
--- below one more
+-- k is less than i, or equal to i
 pub before_or_at : (k i : ℕ) → k < i + 1 → (k < i) ⊎ (k ≡ i)
 before_or_at k i lt = elim (cases_lt k i) [ inl low ↦ inl low | inr le ↦ inr (omega arith) ]
 
--- neither below nor above
+-- if i is neither less nor greater than j, both are equal
 pub squeeze : (i j : ℕ) → ¬ (i < j) → ¬ (j < i) → i ≡ j
 squeeze i j low high = elim (three_ways i j) [ inl lt ↦ absurd (low lt) | inr rest ↦ elim rest [ inl e ↦ e | inr lt ↦ absurd (high lt) ] ]
 
@@ -41,7 +41,7 @@ pub ascending-place : {X : Type 0} (at : X → ℕ) (xs : List X) → Ascends at
 ascending-place at xs up i j d i_in j_in lt =
     grind (arith, ascending-at at xs up j i d, λ (same : i ≡ j). ap (λ k. at (get_or xs k d)) same)
 
--- two elements at one offset are one
+-- two elements with the same offset are the same
 pub ascending-same : {X : Type 0} (at : X → ℕ) (xs : List X) → Ascends at xs → (x y : X) → Contains xs x → Contains xs y → at x ≡ at y
     → x ≡ y
 ascending-same at xs up x y (i, i_in, i_is) (j, j_in, j_is) same =
@@ -56,7 +56,7 @@ ascending-same at xs up x y (i, i_in, i_is) (j, j_in, j_is) same =
 index-rises : (a b k : ℕ) → a ≤ b → ordering_index (nat_cmp a k) ≤ ordering_index (nat_cmp b k)
 index-rises a b k le = grind (arith, nat_tests)
 
--- what a search by key finds
+-- what a binary search by key finds
 pub searched-found : {X : Type 0} (key : X → ℕ) (xs : List X) (k : ℕ) (d : X) (i : ℕ) → i < length xs
     → IsBinarySearchResult (λ y. nat_cmp (key y) k) xs (Ok i) → Contains xs (get_or xs i d) × (key (get_or xs i d) ≡ k)
 searched-found key xs k d i in_range found = (Contains-get_or xs i d in_range, ranked _ k _ (sym (found d)))

@@ -1,4 +1,4 @@
--- How much room the rows of a table take.
+-- How many bytes the rows of a table take.
 use Rattle.std.proofs.Common.{◌≡◌, ℕ, zero, suc, ◌+◌, ◌*◌, ◌<◌, ◌≤◌, List, [], ◌∷◌, ◌++◌, length, get_or, take, map, Contains, refl, sym, ap, ◌∙◌}
 use Rattle.std.proofs.Common.{Some, None, subst, arith, Result, Ok, Err}
 use Rattle.std.specs.Result.{IfErr, IsErrAnd}
@@ -23,18 +23,18 @@ use Rattle.dw_rows.proofs.GivenRows.{length-with}
 use Rattle.dw_rows.proofs.Indexes.{AreDistinct}
 use Rattle.dw_rows.proofs.TableRows.{rows-pushed, with-cfa}
 
--- an error for less room than one bound is one for less than another
+-- a lack of room against one bound is a lack of room against another
 pub lacks-more : (why : Unmade) (room other less more : ℕ) → (room < less → other < more) → LacksRoom why room less → LacksRoom why other more
 lacks-more Memory room other less more up h = tt
 lacks-more Room room other less more up h = up h
 
--- an error that is passed on says the same
+-- a call that passes an error on has the same reason for it
 pub still-lacks : {X : Type 0} (r : Result X Unmade) (why : Unmade) (room most : ℕ) → IsErrAnd r (λ e. e ≡ why) → LacksRoom why room most
     → IfErr r (λ e. LacksRoom e room most)
 still-lacks (Ok x) why room most is h = tt
 still-lacks (Err e) why room most is h = subst (λ w. LacksRoom w room most) (sym is) h
 
--- one more element
+-- the sum over a list with one more element at the front
 pub sum-cons : {X : Type 0} (f : X → ℕ) (x : X) (xs : List X) → sum_by f (x ∷ xs) ≡ f x + sum_by f xs
 sum-cons f x xs = omega (arith, sum_by-append f (x ∷ []) xs)
 
@@ -65,7 +65,7 @@ fde-cost s c f pointed =
 
 -- ---- the rows of an FDE
 
--- one more row
+-- one more row costs no more than an entry with its rule set
 pub cost-on : (es : List LocatedExpression) (c : Cie) (f : Fde) (rows : List (PlacedRow × ℕ)) (w w' : RowCursor)
     (entries new : List TableEntry) (sets new_sets : List KeptSet) (start end : ℕ) → IsFilling c f rows w entries sets
     → GivesNextRow w (Some (start, end)) w' → IsTableUpTo es w.context.location entries sets
@@ -86,7 +86,7 @@ cost-on es c f rows w w' entries new sets new_sets start end h step t pushed =
     ∙ sum_by-append (λ x. row_bytes x.0) (rows_to sets entries w.context.location) (row ∷ [])
     ∙ omega arith
 
--- and what all take has room for it
+-- the next row's cost is part of the cost of all rows of the FDE
 pub cost-next : (c : Cie) (f : Fde) (rows : List (PlacedRow × ℕ)) (w w' : RowCursor) (entries : List TableEntry) (sets : List KeptSet)
     (start end : ℕ) → IsFilling c f rows w entries sets → GivesNextRow w (Some (start, end)) w'
     → cost (rows_to sets entries w.context.location) + entry_bytes w'.context.current ≤ cost rows
@@ -104,7 +104,7 @@ cost-next c f rows w w' entries sets start end h step =
       sum-cons (λ x. row_bytes x.0) row rest,
     )
 
--- if no row is left, all were counted
+-- if no row is left, the rows in the table are all that count
 pub cost-all : (c : Cie) (f : Fde) (rows : List (PlacedRow × ℕ)) (w w' : RowCursor) (entries : List TableEntry) (sets : List KeptSet)
     → IsFilling c f rows w entries sets → GivesNextRow w None w' → cost (rows_to sets entries w.context.location) ≡ cost rows
 cost-all c f rows w w' entries sets h step =
@@ -144,7 +144,7 @@ in-without (y ∷ xs) (suc i) zero x apart lt is = (zero, omega arith, is)
 in-without (y ∷ xs) (suc i) (suc j) x apart lt is =
     let rest = in-without xs i j x (λ same. apart (ap suc same)) (omega arith) is in (suc rest.0, omega (arith, rest.1), rest.2)
 
--- FDEs that are among others, none of them twice, take no more than these
+-- if different FDEs are all among others, their sum is no more than that of the others
 sum-within : (f : Fde → ℕ) (xs ys : List Fde) → AreDistinct xs → ((x : Fde) → Contains xs x → Contains ys x)
     → sum_by f xs ≤ sum_by f ys
 sum-within f [] ys distinct within = omega arith
@@ -169,7 +169,7 @@ sum-within f (x ∷ xs) ys distinct within =
         omega (arith, twice) in
         in-without ys at.0 there.0 y apart there.1 there.2
 
--- the first of an index take no more than all FDEs
+-- the sum over the first k FDEs of an index is no more than that over all FDEs
 pub sum-first : (f : Fde → ℕ) (fdes index : List Fde) (k : ℕ) → IsIndexOf fdes index → sum_by f (take k index) ≤ sum_by f fdes
 sum-first f fdes index k is =
     omega (arith, sum_by-take-le f index k, sum-within f index fdes is.ordered.distinct is.from)

@@ -1,4 +1,4 @@
--- Rows by the entries of a table in order of address: how a table grows by the rows of an FDE, and which row has an address.
+-- The rows of a table's entries: how they grow by the rows of an FDE, and which row has an address.
 use Rattle.std.proofs.Common.{◌≡◌, ℕ, zero, suc, ◌+◌, ◌<◌, ◌≤◌, Bool, true, false, cond, List, [], ◌∷◌, ◌++◌, length, get_or, refl, sym, ap, ◌∙◌}
 use Rattle.std.proofs.Common.{Option, Some, None, subst, arith, append_assoc, inl, inr, ◌⊎◌}
 use Rattle.std.proofs.lemmas.Bool.{cases_lt}
@@ -24,7 +24,7 @@ use Rattle.dw_rows.specs.CompiledTable.{IsTableUpTo, IsClosedAt, IsBegunAt, IsPu
 use Rattle.dw_rows.proofs.Covering.{cover-after, here, not-here-below, not-here-above}
 use Rattle.dw_rows.proofs.Lending.{lends-kept}
 
--- ---- one entry more
+-- ---- one more entry
 
 next-more : (rest : List TableEntry) (e : TableEntry) (to : ℕ) → next_start (rest ++ e ∷ []) to ≡ next_start rest e.start
 next-more [] e to = refl
@@ -112,7 +112,7 @@ rows-pushed es last entries new sets new_sets start k t p to =
     ∙ ap (λ (l : List (PlacedRow × ℕ)). l ++ row_from new_sets e to) (rows-grown sets new_sets p.numbered.same entries t.within start)
     ∙ ap (λ (x : KeptSet). rows_to sets entries start ++ row_with start to x) is
 
--- ---- the end of a row, where the next doesn't begin
+-- ---- an entry without rules, where a row ends and no other begins
 
 pub closed-pushed : (end : ℕ) (old new : List TableEntry) (old_sets new_sets : List KeptSet)
     → IsPushed old old_sets end no_set new new_sets → IsClosedAt end old old_sets new new_sets
@@ -187,14 +187,14 @@ filling-table es c f rows w w' entries new sets new_sets start end h step t push
     (table-pushed es w.context.location entries new sets new_sets start
     (record { rules = w'.context.current; register = c.return_address_register }) t pushed (omega arith) lends) (omega arith)
 
--- the rules of the next row name what is lent
+-- the rules of the next row name only expressions among `es`
 pub filling-lends : (es : List LocatedExpression) (c : Cie) (f : Fde) (rows : List (PlacedRow × ℕ)) (w w' : RowCursor) (entries : List TableEntry)
     (sets : List KeptSet) (start end : ℕ) → IsFilling c f rows w entries sets → GivesNextRow w (Some (start, end)) w' → Lends es c f
     → LendsRules es w'.context.current
 filling-lends es c f rows w w' entries sets start end h step lends =
     let p = step c f h.before h.is_at in lends-kept es c f p.after w' lends p.is_at
 
--- if no row is left, the end was reached
+-- if no row is left, the cursor is at the end of the FDE's addresses
 pub filling-end : (c : Cie) (f : Fde) (rows : List (PlacedRow × ℕ)) (w w' : RowCursor) (entries : List TableEntry) (sets : List KeptSet)
     → IsFilling c f rows w entries sets → GivesNextRow w None w' → w.context.location ≡ f.initial_location + f.address_range
 filling-end c f rows w w' entries sets h step =
@@ -223,7 +223,7 @@ filled s c f last old new old_sets new_sets pointed all t = record {
   rows = all ∙ ap (λ o. rows_to old_sets old last ++ returning_behind o f) (sym pointed);
 }
 
--- ---- finding in lists
+-- ---- `find` in lists
 
 pub find-behind : {X : Type 0} (p : X → Bool) (xs ys : List X) → find p xs ≡ None → find p (xs ++ ys) ≡ find p ys
 find-behind p [] ys none = refl
@@ -266,7 +266,7 @@ none-above sets (e ∷ es) a to above =
     (below-row k.rules.cfa a e.start (next_start es to) k (above 0 e (omega arith)))
     ∙ none-above sets es a to (λ m d lt. above (suc m) d (omega arith))
 
--- where the entry after an index begins
+-- where the entry after index n begins
 abbrev pub next_at : List TableEntry → ℕ → ℕ → ℕ
 next_at [] n to = to
 next_at (e ∷ es) zero to = next_start es to
@@ -302,14 +302,14 @@ row-at sets (e ∷ es) (suc n) a to d lt below above =
     (above-row k.rules.cfa a e.start (next_start es to) k (next-low es a to (omega arith) (λ d. below 1 d (omega arith))))
     ∙ row-at sets es n a to d (omega arith) (λ m d le. below (suc m) d (omega arith)) (λ m d lt there. above (suc m) d (omega arith) (omega arith))
 
--- ---- the row of an address, by the count of entries up to it
+-- ---- the row of an address, by the number of entries that begin at or below it
 
--- none begins that low
+-- no entry begins at or below the address, so no row has it
 pub placed-below : (entries : List TableEntry) (sets : List KeptSet) (a : ℕ) → IsEntryCount entries a 0
     → find (has a) (rows_to sets entries 0) ≡ None
 placed-below entries sets a count = none-above sets entries a 0 (λ k d lt. count.above k d (omega arith) lt)
 
--- the row of an address by the rules of the last entry at or below it
+-- the row of an address, by the rules of the last entry that begins at or below it
 abbrev row-of-entry : List KeptSet → ℕ → ℕ → ℕ → ℕ → Option (PlacedRow × ℕ)
 row-of-entry sets a n start to = find (has a) (row_with start to (set_numbered sets n))
 
@@ -320,7 +320,7 @@ at-place entries sets a n d count =
     row-at sets entries n a 0 d (omega (arith, count.bound)) (λ k d le. count.below k d (omega arith))
     (λ k d lt there. count.above k d (omega arith) there)
 
--- all begin at or below it
+-- all entries begin at or below the address, so it is past the last row
 pub placed-above : (entries : List TableEntry) (sets : List KeptSet) (a n : ℕ) → IsEntryCount entries a n → n ≡ length entries
     → find (has a) (rows_to sets entries 0) ≡ None
 placed-above entries sets a zero count all = placed-below entries sets a count
@@ -341,7 +341,7 @@ the-row : (o : Option PlacedCfa) (c : PlacedCfa) (a start to : ℕ) (k : KeptSet
 the-row None c a start to k e low high = cc
 the-row (Some d) c a start to k e low high = rw (here a (row_between start to k.rules) low high) refl
 
--- an entry without rules of the CFA
+-- the last entry at or below the address has no CFA rule, so no row has the address
 pub placed-none : (entries : List TableEntry) (sets : List KeptSet) (a n : ℕ) (d : TableEntry) → IsEntryCount entries a (suc n)
     → (set_numbered sets (get_or entries n d).set).rules.cfa ≡ None → find (has a) (rows_to sets entries 0) ≡ None
 placed-none entries sets a n d count none =
@@ -349,7 +349,7 @@ placed-none entries sets a n d count none =
     let k = set_numbered sets e.set in
     at-place entries sets a n d count ∙ no-row k.rules.cfa a e.start (next_at entries n 0) k none
 
--- a row by the entry and the one after it
+-- the row of the entry at index n, which ends where the next entry begins
 abbrev pub row-at-place : List TableEntry → List KeptSet → ℕ → TableEntry → PlacedRow × ℕ
 row-at-place entries sets n d =
     let k = set_numbered sets (get_or entries n d).set in

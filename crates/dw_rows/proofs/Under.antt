@@ -1,4 +1,4 @@
--- The rules of two tables, where one fills in what the other leaves default.
+-- The rules of two tables, where the second gives rules to registers that have none in the first.
 use Rattle.std.proofs.Common.{◌≡◌, ◌≢◌, ℕ, zero, suc, ◌+◌, ◌<◌, ◌≤◌, true, false, List, [], ◌∷◌, length, refl, sym, ap, ◌∙◌, subst}
 use Rattle.std.proofs.Common.{arith, eqb, inl, inr, eq-eqb, ◌-◌, take, drop, get_or, Less, Equal, Greater, nat_cmp}
 use Rattle.std.specs.Cmp.{nat_cmp_is}
@@ -20,7 +20,7 @@ use Rattle.dw_rows.proofs.GivenRows.{rule_in-with, table-with, lends-rule_in}
 use Rattle.dw_rows.proofs.NamedExpressions.{listed-have}
 use Rattle.dw_rows.proofs.Tables.{rule_in-below, rule_list-table, rule_list-same, rule_in-rule_list, IsTable-rule_list}
 
--- ---- one rule instead of another
+-- ---- a rule, or another one if it is default
 
 or-default : {E : Type 0} → (x : RuleOver E) → or_rule x default ≡ x
 or-default default = refl
@@ -52,9 +52,9 @@ or-with es (register r) y = refl
 or-with es (expression e) y = refl
 or-with es (val_expression e) y = refl
 
--- ---- the first of a list of rules
+-- ---- the first entry of a table
 
--- a table without the registers below a number
+-- a table whose registers are all at least `low`
 table-from : {E : Type 0} → (low : ℕ) (es : List (ℕ × RuleOver E)) → IsTable 0 es → ((r : ℕ) → r < low → rule_in es r ≡ default)
     → IsTable low es
 table-from low [] t none = tt
@@ -105,7 +105,7 @@ in-first e es = let yes : eqb e.0 e.0 ≡ true = eq-eqb e.0 e.0 refl in rw yes r
 in-behind : {E : Type 0} → (e : ℕ × RuleOver E) (es : List (ℕ × RuleOver E)) (r : ℕ) → e.0 < r → rule_in (e ∷ es) r ≡ rule_in es r
 in-behind e es r lt = let no : eqb e.0 r ≡ false = grind (arith, nat_tests) in rw no refl
 
--- a table begins at its first register
+-- all registers of a table are at least its first one
 from-first : {E : Type 0} → (e : ℕ × RuleOver E) (es : List (ℕ × RuleOver E)) → IsTable 0 (e ∷ es) → IsTable e.0 (e ∷ es)
 from-first e es t = (omega arith, t.1, t.2, t.3)
 
@@ -155,16 +155,16 @@ lowest-other o es os t none =
 pub none-of-either : {E : Type 0} → rules_of_either {E = E} [] [] ≡ []
 none-of-either {E} = rule_list-table {E = E} [] tt
 
--- the first table alone
+-- with an empty second table the rules are those of the first
 pub either-alone : {E : Type 0} → (es : List (ℕ × RuleOver E)) → IsTable 0 es → rules_of_either es [] ≡ es
 either-alone es t = rule_list-same (rule_of_either es []) (rule_in es) (λ r h. or-default (rule_in es r)) ∙ rule_list-table es t
 
--- what is after the first is a table too
+-- a table without its first entry is a table
 pub behind-first : {E : Type 0} → (x : ℕ × RuleOver E) (xs : List (ℕ × RuleOver E)) → IsTable 0 (x ∷ xs) → IsTable 0 xs
 behind-first x [] t = tt
 behind-first x (y ∷ ys) t = (omega arith, t.3.1, t.3.2, t.3.3)
 
--- ---- as many as both have, at most
+-- ---- there are at most as many rules as the two tables have entries
 
 few-by : {E : Type 0} → (fuel : ℕ) (es os : List (ℕ × RuleOver E)) → IsTable 0 es → IsTable 0 os → length es + length os ≤ fuel
     → length (rules_of_either es os) ≤ length es + length os
@@ -198,7 +198,7 @@ pub few-of-either : {E : Type 0} → (es os : List (ℕ × RuleOver E)) → IsTa
     → length (rules_of_either es os) ≤ length es + length os
 few-of-either es os t u = few-by (length es + length os) es os t u (omega arith)
 
--- ---- with expressions
+-- ---- the same rules, with expressions in place of their offsets
 
 pub rule_list-with : (es : List LocatedExpression) (f : ℕ → PlacedRule)
     → given_rules es (rule_list f) ≡ rule_list (λ r. given_rule es (f r))
@@ -206,7 +206,7 @@ rule_list-with es f =
     sym (rule_list-table (given_rules es (rule_list f)) (table-with es 0 (rule_list f) (IsTable-rule_list f)))
     ∙ rule_list-same _ _ (λ r h. rule_in-with es (rule_list f) r ∙ ap (given_rule es) (rule_in-rule_list f r h))
 
--- the rule of a role names no expression
+-- the rule that an ABI gives a role names no expression
 role-with : (es : List LocatedExpression) (x : Role) → given_rule es (rule_of_role x) ≡ rule_of_role x
 role-with es unnamed = refl
 role-with es kept = refl
@@ -240,7 +240,7 @@ lends-either es rules others h k =
     listed-have (LendsRule es) (rule_of_either rules others)
     (λ r. lends-or es (rule_in rules r) (rule_in others r) (lends-rule_in es rules r h) (lends-rule_in es others r k))
 
--- the rules of either, with expressions, where the others are those of an ABI
+-- the rules of two tables, with expressions, if the second is that of an ABI
 pub either-with : (es : List LocatedExpression) (rules others : List (ℕ × PlacedRule)) (abi : Abi)
     → ((r : ℕ) → rule_in others r ≡ rule_of_role (abi r))
     → given_rules es (rules_of_either rules others) ≡ rules_under abi (given_rules es rules)
@@ -251,7 +251,7 @@ either-with es rules others abi are =
     ∙ ap (λ x. or_rule (rule_in (given_rules es rules) r) (given_rule es x)) (are r)
     ∙ ap (λ x. or_rule (rule_in (given_rules es rules) r) x) (role-with es (abi r)))
 
--- ---- the lowest entry, and what is left
+-- ---- the lowest entry of two tables, and what remains of both
 
 pub lowest-less : (e : ℕ × PlacedRule) (left os : List (ℕ × PlacedRule)) → IsTable 0 (e ∷ left) → IsTable 0 os
     → ((r : ℕ) → r ≤ e.0 → rule_in os r ≡ default) → IsLowest (e ∷ left) os e left os
@@ -285,14 +285,14 @@ lowest-greater o es right t u none = record {
       (other.0, h, All-from_recursion (LendsEntry xs) right other.1);
 }
 
--- no rule is below the first
+-- registers less than a table's first one have no rule
 pub none-below : (o : ℕ × PlacedRule) (right : List (ℕ × PlacedRule)) (n : ℕ) → IsTable 0 (o ∷ right) → n < o.0
     → (r : ℕ) → r ≤ n → rule_in (o ∷ right) r ≡ default
 none-below o right n t lt r le = rule_in-below o.0 (o ∷ right) r (from-first o right t) (omega (arith, lt, le))
 
--- ---- the same of entries
+-- ---- the same for the code's entries
 
--- those after the first
+-- the entries after the first one
 behind-is : (x : RuleEntry) (rest : List RuleEntry) → take (length (x ∷ rest) - 1) (drop 1 (x ∷ rest)) ≡ rest
 behind-is x rest = let count : length (x ∷ rest) - 1 ≡ length rest = omega arith in ap (λ n. take n rest) count ∙ take-length rest
 
@@ -334,13 +334,13 @@ first-equal (x ∷ rest) (y ∷ behind) d some more t u same =
     IsLowest (entries_of (x ∷ rest)) (entries_of (y ∷ behind)) (entry_of x) (entries_of l) (entries_of behind))
     (sym (behind-is x rest)) (lowest-equal (entry_of x) (entry_of y) (entries_of rest) (entries_of behind) t u same))
 
--- a table's first register is above every one below it
+-- registers less than the first entry's have no rule
 pub none-below-first : (entries : List RuleEntry) (d : RuleEntry) (n : ℕ) → 1 ≤ length entries → IsTable 0 (entries_of entries)
     → n < (entry_of (get_or entries 0 d)).0 → (r : ℕ) → r ≤ n → rule_in (entries_of entries) r ≡ default
 none-below-first [] d n some t lt r le = absurd (omega (arith, some))
 none-below-first (x ∷ rest) d n some t lt r le = none-below (entry_of x) (entries_of rest) n t lt r le
 
--- ---- an order of registers
+-- ---- comparing registers
 
 pub less-from-cmp : (x y : ℕ) → nat_cmp x y ≡ Less → x < y
 less-from-cmp x y h = elim (cases_lt x y) [

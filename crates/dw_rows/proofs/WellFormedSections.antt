@@ -1,4 +1,4 @@
--- A section has no fault exactly if it is well formed.
+-- A section has no fault if and only if it is well formed.
 use Rattle.std.proofs.Common.{◌≡◌, ℕ, ◌↔◌, List, [], ◌∷◌, map, Some, None, Ok, Contains, refl, ap, ◌∙◌, subst, arith}
 use Rattle.dw_bytes.specs.declared.target.Target.{Target}
 use Rattle.dw_bytes.specs.Answers.{values_in, fault_in}
@@ -18,7 +18,7 @@ use Rattle.dw_rows.proofs.Parts.{PartsPass, parts-pass, pass-parts, pointed-in, 
 use Rattle.dw_rows.proofs.Programs.{good-from-cie, cie-from-good, good-from-fde, fde-from-good}
 use Rattle.dw_rows.proofs.SectionOrder.{are-records, cies-ascend, fdes-ascend}
 
--- what the laws of programs say
+-- the laws about programs that are used here
 record ProgramLaws : Type 0 where
   cie : (c : Cie) → (cie_fault c ≡ None) ↔ IsGoodCieProgram c
   fde : (c : Cie) (f : Fde) → cie_fault c ≡ None → (fde_fault c f ≡ None) ↔ IsGoodFdeProgram c f

@@ -1,5 +1,5 @@
--- What an ABI says about registers. DWARF 5, section 6.4.1, leaves it to the ABI what a register without a rule is; what
--- can be stated about it here is the profile's own.
+-- What an ABI says about registers. DWARF 5, section 6.4.1, leaves the meaning of a register
+-- without a rule to the ABI. Which statements an ABI can make here is this project's choice.
 use Rattle.std.specs.Prelude.{◌≡◌, ℕ, ◌≤◌, Bool, true, pos, nat_eq, nat_lt, if◌then◌else◌, List, [], ◌∷◌, ◌++◌, length, ◌==◌, take}
 use Rattle.std.specs.Prelude.{Option, Some, None, option_map, slice_get}
 use Rattle.std.specs.List.{list_any, IsDistinct}
@@ -9,7 +9,8 @@ use Rattle.dw_bytes.specs.declared.fault.FaultKind.TheVariants.{AbiTooLarge, Abi
 use Rattle.dw_rows.specs.Rules.{RuleOver, Rule, default, same_value, val_offset, rule_in, rule_list}
 use Rattle.dw_rows.specs.declared.abi.TheConstants.{MAX_KEPT}
 
--- What it says about a register: nothing, that it is callee-saved, or that it is the stack pointer.
+-- What an ABI says about a register: nothing, that it is callee-saved, or that it is the stack
+-- pointer.
 pub data Role : Type 0 where
   unnamed : Role
   kept : Role
@@ -21,46 +22,47 @@ Abi = ℕ → Role
 abbrev pub is_among : ℕ → List ℕ → Bool
 is_among r registers = list_any (λ n. n == r) registers
 
--- the ABI with these callee-saved registers and this stack pointer
+-- the ABI with the callee-saved registers `registers` and the stack pointer `pointer`
 abbrev pub abi_of : List ℕ → Option ℕ → Abi
 abi_of registers pointer r =
     if is_among r (option_to_list pointer) then stack_pointer
     else (if is_among r registers then kept else unnamed)
 
--- the one that says nothing
+-- the ABI that says nothing
 abbrev pub no_abi : Abi
 no_abi r = unnamed
 
 -- ---- a row's rules under an ABI
 
--- The rule of a register to which the row gives none: a callee-saved one has its present value, and the stack pointer's value
--- was the CFA.
+-- The rule that an ABI gives a register without a rule in the row: a callee-saved register still
+-- has the caller's value, and the stack pointer's value in the caller is the CFA.
 abbrev pub rule_of_role : {E : Type 0} → Role → RuleOver E
 rule_of_role unnamed = default
 rule_of_role kept = same_value
 rule_of_role stack_pointer = val_offset (pos 0)
 
--- a rule, or another one instead of default
+-- the first rule, or the second one if the first is default
 abbrev pub or_rule : {E : Type 0} → RuleOver E → RuleOver E → RuleOver E
 or_rule default other = other
 or_rule rule other = rule
 
--- the rule of a register, by the row's rules and else the ABI's
+-- the row's rule for a register, or the ABI's if the row has none
 abbrev pub rule_under : Abi → List (ℕ × Rule) → ℕ → Rule
 rule_under abi rules r = or_rule (rule_in rules r) (rule_of_role (abi r))
 
--- those other than default, by ascending registers
+-- the rules under an ABI other than default, by ascending registers
 abbrev pub rules_under : Abi → List (ℕ × Rule) → List (ℕ × Rule)
 rules_under abi rules = rule_list (rule_under abi rules)
 
 -- ---- what can be an ABI
 
--- There are no more callee-saved registers than the limit, and no number occurs twice, the stack pointer's included.
+-- There are at most MAX_KEPT callee-saved registers, and no number occurs twice, the stack
+-- pointer's included.
 pub record CanBeAbi (registers : List ℕ) (pointer : Option ℕ) : Type 0 where
   pub few : length registers ≤ MAX_KEPT
   pub distinct : IsDistinct nat_eq (registers ++ option_to_list pointer)
 
--- the first number that occurred before is at this index
+-- the number at index `place` is the first one that has occurred before
 pub record StandsAgain (numbers : List ℕ) (place : ℕ) : Type 0 where
   pub number : ℕ
   pub here : slice_get numbers place ≡ Some number
@@ -69,13 +71,13 @@ pub record StandsAgain (numbers : List ℕ) (place : ℕ) : Type 0 where
 
 -- ---- the first fault
 
--- the index of the first number that occurred before, after those of `before`
+-- The index of the first number that has occurred before. `before` has the numbers up to here.
 abbrev pub place_of_second : List ℕ → List ℕ → Option ℕ
 place_of_second before [] = None
 place_of_second before (n ∷ rest) = if is_among n before then Some (length before) else place_of_second (before ++ n ∷ []) rest
 
--- Numbers past the limit are refused first; then a number that occurred before. The stack pointer comes after all
--- callee-saved ones.
+-- Too many callee-saved registers are refused first, and then a number that has occurred before.
+-- The stack pointer counts as the last number.
 abbrev pub abi_fault : List ℕ → Option ℕ → Option Fault
 abi_fault registers pointer =
     if nat_lt MAX_KEPT (length registers) then Some (record { kind = AbiTooLarge; at = MAX_KEPT })

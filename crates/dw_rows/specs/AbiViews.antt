@@ -1,4 +1,4 @@
--- What an ABI of the code stands for: the roles of registers, by a table of rules.
+-- The ABI that the code's table of rules stands for: the role of each register.
 use Rattle.std.specs.Prelude.{◌≡◌, ℕ, List}
 use Rattle.dw_rows.specs.Abi.{Abi, Role, unnamed, kept, stack_pointer, rule_of_role}
 use Rattle.dw_rows.specs.Rules.{PlacedRule, default, val_offset, rule_in}
@@ -11,6 +11,6 @@ role_of_rule rule = kept
 abbrev pub roles_of : List (ℕ × PlacedRule) → Abi
 roles_of rules r = role_of_rule (rule_in rules r)
 
--- each rule is that of a role
+-- each rule in the table is the rule of some role
 abbrev pub AreRoles : List (ℕ × PlacedRule) → Type 0
 AreRoles rules = (r : ℕ) → rule_in rules r ≡ rule_of_role (roles_of rules r)

@@ -1,4 +1,5 @@
--- All rows of a section in order of address, as a table stores them. No contract of a public call mentions this.
+-- All rows of a section in order of address, as a compiled table stores them. No contract of a
+-- public call mentions this.
 use Rattle.std.specs.Prelude.{map, ◌≡◌, ℕ, ◌+◌, ◌*◌, ◌<◌, ◌≤◌, List, [], ◌∷◌, ◌++◌, length, All, IfSome, Option, Some, None, find, slice_get, slice_index_or}
 use Rattle.std.specs.List.Sorted.{IsNonDecreasingBy}
 use Rattle.dw_frame.specs.Records.{Cie, Fde}
@@ -16,11 +17,11 @@ use Rattle.dw_rows.specs.UnwindRows.{rows_of}
 use Rattle.dw_rows.specs.Section.{FrameSection, IsChecked, IsReturnRegister, cie_in, row_of}
 use Rattle.dw_rows.specs.UnwindTables.{has}
 
--- the numbers that are at these distances from a base
+-- the numbers at these distances from `base`
 abbrev pub based : ℕ → List ℕ → List ℕ
 based base offsets = map (λ o. base + o) offsets
 
--- starts and numbers, in pairs
+-- table entries, from a list of starts and a list of rule set numbers
 abbrev pub paired : List ℕ → List ℕ → List TableEntry
 paired [] sets = []
 paired (start ∷ starts) [] = []
@@ -28,29 +29,29 @@ paired (start ∷ starts) (set ∷ sets) = record { start = start; set = set } �
 
 -- ---- rows by where they begin
 
--- rules, and the return address register that the CIE names
+-- a rule set, with the return address register that the CIE names
 pub record KeptSet : Type 0 where
   pub rules : KeptRules
   pub register : ℕ
 
--- rules and registers, in pairs
+-- rule sets with their registers, from a list of each
 abbrev pub zipped : List KeptRules → List ℕ → List KeptSet
 zipped [] registers = []
 zipped (k ∷ rules) [] = []
 zipped (k ∷ rules) (r ∷ registers) = record { rules = k; register = r } ∷ zipped rules registers
 
--- rules that no row has, since they don't give the CFA
+-- an empty rule set: it has no CFA rule, so no row has it
 abbrev pub no_rules : KeptRules
 no_rules = record { cfa = None; rules = [] }
 
 abbrev pub no_set : KeptSet
 no_set = record { rules = no_rules; register = 0 }
 
--- the rules of a number
+-- the rule set with a number
 abbrev pub set_numbered : List KeptSet → ℕ → KeptSet
 set_numbered sets n = slice_index_or sets n no_set
 
--- the row with these rules, if they give the CFA
+-- the row from `start` to `to` with these rules and its register, or no row if there is no CFA rule
 abbrev pub row_if : Option PlacedCfa → ℕ → ℕ → KeptSet → List (PlacedRow × ℕ)
 row_if None start to k = []
 row_if (Some c) start to k = (row_between start to k.rules, k.register) ∷ []
@@ -65,7 +66,8 @@ abbrev pub next_start : List TableEntry → ℕ → ℕ
 next_start [] to = to
 next_start (e ∷ rest) to = e.start
 
--- the rows of the entries: each ends where the next entry begins, and the last at an address
+-- The rows of the entries, with their registers. Each row ends where the next entry begins, and the
+-- last one ends at `to`.
 abbrev pub rows_to : List KeptSet → List TableEntry → ℕ → List (PlacedRow × ℕ)
 rows_to sets [] to = []
 rows_to sets (e ∷ rest) to = row_from sets e (next_start rest to) ++ rows_to sets rest to
@@ -75,14 +77,14 @@ entry_start e = e.start
 
 -- ---- the rows of FDEs one after another
 
--- rows with one register
+-- rows, each paired with the return address register `r`
 abbrev pub with_register : ℕ → PlacedRow → PlacedRow × ℕ
 with_register r row = (row, r)
 
 abbrev pub returning : ℕ → List PlacedRow → List (PlacedRow × ℕ)
 returning r rows = map (with_register r) rows
 
--- the rows of an FDE, with the register of its CIE
+-- the rows of an FDE, with the return address register of its CIE
 abbrev pub returning_behind : Option Cie → Fde → List (PlacedRow × ℕ)
 returning_behind None f = []
 returning_behind (Some c) f = returning c.return_address_register (rows_of c f)
@@ -94,31 +96,33 @@ abbrev pub rows_of_each : FrameSection → List Fde → List (PlacedRow × ℕ)
 rows_of_each s [] = []
 rows_of_each s (f ∷ fdes) = placed_rows s f ++ rows_of_each s fdes
 
--- ---- a table that grows
+-- ---- a table that is being filled
 
 abbrev pub LendsSet : List LocatedExpression → KeptSet → Type 0
 LendsSet es k = LendsRules es k.rules
 
--- entries in order, none beyond an address, and each with rules that name what is lent
+-- Entries in order, none beyond `last`. Each refers to a stored rule set, and the expressions that
+-- rule sets name are among `es`.
 pub record IsTableUpTo (es : List LocatedExpression) (last : ℕ) (entries : List TableEntry) (sets : List KeptSet) : Type 0 where
   pub sorted : IsNonDecreasingBy entry_start entries
   pub below : (k : ℕ) (d : TableEntry) → k < length entries → (slice_index_or entries k d).start ≤ last
   pub within : (k : ℕ) (d : TableEntry) → k < length entries → (slice_index_or entries k d).set < length sets
   pub lends : All (LendsSet es) sets
 
--- the last row ends at an address, and no row is there from then on
+-- the table's last row is now ended at `end`, so that no row covers later addresses
 pub record IsClosedAt (end : ℕ) (old : List TableEntry) (old_sets : List KeptSet) (new : List TableEntry) (new_sets : List KeptSet)
     : Type 0 where
   pub table : (es : List LocatedExpression) → IsTableUpTo es end old old_sets → IsTableUpTo es end new new_sets
   pub rows : (es : List LocatedExpression) → IsTableUpTo es end old old_sets → (to : ℕ) → rows_to new_sets new to ≡ rows_to old_sets old end
 
--- the last row ends at one address, and the next begins at another
+-- the table's last row ended at `end`, and the table is ready for a row that begins at `start`
 pub record IsBegunAt (end start : ℕ) (old : List TableEntry) (old_sets : List KeptSet) (new : List TableEntry) (new_sets : List KeptSet)
     : Type 0 where
   pub table : (es : List LocatedExpression) → IsTableUpTo es end old old_sets → end ≤ start → IsTableUpTo es start new new_sets
   pub rows : (es : List LocatedExpression) → IsTableUpTo es end old old_sets → rows_to new_sets new start ≡ rows_to old_sets old end
 
--- rules have a number, after those that were there or among them
+-- The rule set `k` has the number `n`: it is either one of the old rule sets, or was added after
+-- them.
 pub record IsNumbered (old : List KeptSet) (k : KeptSet) (n : ℕ) (new : List KeptSet) : Type 0 where
   pub found : slice_get new n ≡ Some k
   pub inside : n < length new
@@ -126,76 +130,76 @@ pub record IsNumbered (old : List KeptSet) (k : KeptSet) (n : ℕ) (new : List K
   pub same : (m : ℕ) → m < length old → set_numbered new m ≡ set_numbered old m
   pub lends : (es : List LocatedExpression) → All (LendsSet es) old → LendsRules es k.rules → All (LendsSet es) new
 
--- one more entry
+-- one entry was added, which begins at `start` and has the rule set `k`
 pub record IsPushed (old : List TableEntry) (old_sets : List KeptSet) (start : ℕ) (k : KeptSet) (new : List TableEntry)
     (new_sets : List KeptSet) : Type 0 where
   pub number : ℕ
   pub entries : new ≡ old ++ record { start = start; set = number } ∷ []
   pub numbered : IsNumbered old_sets k number new_sets
 
--- the rows so far and those that the cursor still has are these
+-- the rows in the table, followed by the rows that the cursor hasn't reached, are `rows`
 pub record IsFilling (c : Cie) (f : Fde) (rows : List (PlacedRow × ℕ)) (w : RowCursor) (entries : List TableEntry) (sets : List KeptSet)
     : Type 0 where
   pub before : List Effect
   pub is_at : StandsBehind c f before w
   pub all : rows_to sets entries w.context.location ++ returning c.return_address_register (rows_left c f before w) ≡ rows
 
--- the FDE's rows came after those that were there, which end at an address
+-- the FDE's rows were added after the old ones, which end at `last`
 pub record IsFilled (s : FrameSection) (f : Fde) (last : ℕ) (old : List TableEntry) (old_sets : List KeptSet) (new : List TableEntry)
     (new_sets : List KeptSet) : Type 0 where
   pub table : IsTableUpTo s.expressions (f.initial_location + f.address_range) new new_sets
   pub rows : rows_to new_sets new (f.initial_location + f.address_range) ≡ rows_to old_sets old last ++ placed_rows s f
 
--- ---- the room that is left
+-- ---- the room that a table may take
 
--- If room runs out, there was less than this.
+-- If the reason is a lack of room, `room` is less than `most`.
 abbrev pub LacksRoom : Unmade → ℕ → ℕ → Type 0
 LacksRoom Memory room most = Unit {0}
 LacksRoom Room room most = room < most
 
--- what rules take besides the entry of a row, and with it
+-- how many bytes a rule set takes, without and with the entry of a row that has it
 abbrev pub set_bytes : KeptRules → ℕ
 set_bytes k = 64 + 16 * length k.rules
 
 abbrev pub entry_bytes : KeptRules → ℕ
 entry_bytes k = 80 + 16 * length k.rules
 
--- ---- a whole table
+-- ---- a finished table
 
--- this many entries begin at or below an address, and no others
+-- exactly `count` entries begin at or below the address `a`
 pub record IsEntryCount (entries : List TableEntry) (a count : ℕ) : Type 0 where
   pub bound : count ≤ length entries
   pub below : (k : ℕ) (d : TableEntry) → k < count → (slice_index_or entries k d).start ≤ a
   pub above : (k : ℕ) (d : TableEntry) → count ≤ k → k < length entries → a < (slice_index_or entries k d).start
 
--- the same of starts alone
+-- exactly `count` starts are at or below the address `a`
 pub record IsStartCount (starts : List ℕ) (a count : ℕ) : Type 0 where
   pub bound : count ≤ length starts
   pub below : (k d : ℕ) → k < count → slice_index_or starts k d ≤ a
   pub above : (k d : ℕ) → count ≤ k → k < length starts → a < slice_index_or starts k d
 
--- entries in order, each with rules that are there
+-- entries in order, each of which refers to a stored rule set
 pub record AreEntries (entries : List TableEntry) (sets : List KeptSet) : Type 0 where
   pub sorted : IsNonDecreasingBy entry_start entries
   pub within : (k : ℕ) (d : TableEntry) → k < length entries → (slice_index_or entries k d).set < length sets
 
--- ---- rows and the expressions that they name
+-- ---- rows, and the expressions that they name
 
--- what a row names is among the expressions
+-- each expression that the row names is among `es`
 pub record LendsFound (es : List LocatedExpression) (found : PlacedRow × ℕ) : Type 0 where
   pub cfa : IfSome found.0.cfa (LendsCfa es)
   pub rules : LendsEach es found.0.rules
 
--- a row with the expressions that it names, and its register
+-- the row with its expressions instead of their offsets, and its register
 abbrev pub given_found : List LocatedExpression → PlacedRow × ℕ → Row × ℕ
 given_found es found = (given_row es found.0, found.1)
 
--- what is found is the section's row of an address, with the register that the CIE names
+-- what was found at an address is the section's row there, with its CIE's return address register
 abbrev pub IsPlacedAt : FrameSection → ℕ → Option (PlacedRow × ℕ) → Type 0
 IsPlacedAt s a None = row_of s a ≡ None
 IsPlacedAt s a (Some found) = (row_of s a ≡ Some (given_row s.expressions found.0)) × IsReturnRegister s a found.1
 
--- the rows are those of a section
+-- a look-up among `rows` finds the section's row at each address
 pub record ArePlacedRows (s : FrameSection) (rows : List (PlacedRow × ℕ)) : Type 0 where
   pub checked : IsChecked s
   pub lends : All (LendsFound s.expressions) rows

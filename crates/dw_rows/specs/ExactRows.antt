@@ -10,28 +10,29 @@ use Rattle.dw_rows.specs.Section.{FrameSection, IsCoverOf, rows_in, row_of}
 
 -- The address has exactly one row, and it is the standard's.
 pub record HasOneRow (s : FrameSection) (a : ℕ) : Type 0 where
-  -- one FDE covers it, whose CIE_pointer is the offset of this CIE
+  -- exactly one FDE covers the address, and its CIE_pointer is the offset of this CIE
   pub fde : Fde
   pub covers : IsCoverOf s.fdes a (Some fde)
   pub cie : Cie
   pub among : Contains s.cies cie
   pub pointed : cie.offset ≡ fde.cie_pointer
-  -- both programs are good: brackets are balanced, and locations never go back
+  -- the programs of the FDE and of the CIE are good
   pub good : IsGoodFdeProgram cie fde
-  -- one of the FDE's rows has the address
+  -- exactly one of the FDE's rows has the address
   pub row : Row
   pub one : filter (has_address a) (rows_in s fde) ≡ row ∷ []
-  -- It has the rules after the longest prefix of the program whose location is at most the address, and its range is all
-  -- covered addresses with that prefix.
+  -- The row has the rules after the longest prefix of the program whose location is at most the
+  -- address. Its range is all covered addresses with that prefix.
   pub last : ℕ
   pub longest : IsLast (start_in cie fde good) (program_in cie fde good) a last
   pub placed : PlacedRow
   pub standard : IsRowAt (start_in cie fde good) (program_in cie fde good) last placed
-  -- no other row has these rules and this range
+  -- no other row has the rules after that prefix and that range
   pub only : (other : PlacedRow) → IsRowAt (start_in cie fde good) (program_in cie fde good) last other → other ≡ placed
-  -- instead of each offset that its rules name it has the expression of the section that begins there, of the rule's kind
+  -- In `row` the offsets of expressions are replaced by the section's expressions that begin there.
+  -- Each has the kind that its rule needs.
   pub given : row ≡ given_row s.expressions placed
   pub cfa_lent : IfSome placed.cfa (LendsCfa s.expressions)
   pub lent : LendsEach s.expressions placed.rules
-  -- and it is what a look-up returns
+  -- a look-up returns this row
   pub found : row_of s a ≡ Some row

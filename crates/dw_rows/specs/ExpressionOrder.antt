@@ -12,7 +12,7 @@ expression_offset e = e.offset
 abbrev pub AreInOrder : List (ℕ × CheckedExpression) → Type 0
 AreInOrder xs = Ascends expression_offset (all_located xs)
 
--- it is a proposition: two proofs of it are the same
+-- two proofs of `Ascends` are equal, and so are two proofs of `AreInOrder`
 ascends-prop : (es : List LocatedExpression) → IsProp (Ascends expression_offset es)
 ascends-prop [] = Unit-prop
 ascends-prop (e ∷ es) = ×_prop (AllByRecursion-prop (λ g. e.offset < g.offset) (λ g. le_prop) es) (ascends-prop es)

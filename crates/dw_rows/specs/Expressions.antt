@@ -1,4 +1,5 @@
--- The expressions of programs: what they are, where they are, and under which kind (DWARF 5, sections 6.4.2.2 and 6.4.2.3).
+-- The expressions of programs: which they are, where they begin, and of which kind they are (DWARF
+-- 5, sections 6.4.2.2 and 6.4.2.3).
 use Rattle.std.specs.Prelude.{ℕ, ◌==◌, List, [], ◌∷◌, ◌++◌, Option, Some, None, find}
 use Rattle.std.specs.List.{filter_map}
 use Rattle.dw_bytes.specs.Answers.{values_in}
@@ -9,27 +10,28 @@ use Rattle.dw_frame.specs.Codes.{instructions_of}
 use Rattle.dw_stack.specs.declared.state.Kind.TheVariants.{FrameCfa, FrameRegister}
 use Rattle.dw_stack.specs.Located.{LocatedExpression, located_as}
 
--- The expression of an instruction, if it has one: that of a CFA begins with nothing, that of a register with the CFA.
+-- The expression of an instruction, if it has one. An expression for the CFA is evaluated from an
+-- empty stack, one for a register from a stack with the CFA on it.
 abbrev pub expression_in : Instruction → Option LocatedExpression
 expression_in (Instruction.def_cfa_expression e) = Some (located_as FrameCfa e)
 expression_in (Instruction.expression r e) = Some (located_as FrameRegister e)
 expression_in (Instruction.val_expression r e) = Some (located_as FrameRegister e)
 expression_in _ = None
 
--- those of instructions, in order
+-- the expressions of a list of instructions, in order
 abbrev pub expressions_in : List (ℕ × Instruction) → List LocatedExpression
 expressions_in items = filter_map (λ item. expression_in item.1) items
 
--- one, or none, as a list
+-- a list of one element or of none
 abbrev pub list_of : Option LocatedExpression → List LocatedExpression
 list_of None = []
 list_of (Some e) = e ∷ []
 
--- the expressions of a program, up to its first fault
+-- the expressions of a program's instructions before its first fault
 abbrev pub expressions_of : ReadPosition → List LocatedExpression
 expressions_of program = expressions_in (values_in (instructions_of program))
 
--- those of CIEs one after another, and of FDEs
+-- the expressions of a list of CIEs, and of a list of FDEs, one program after another
 abbrev pub cie_expressions : List Cie → List LocatedExpression
 cie_expressions [] = []
 cie_expressions (c ∷ cies) = expressions_of c.program ++ cie_expressions cies
@@ -38,10 +40,10 @@ abbrev pub fde_expressions : List Fde → List LocatedExpression
 fde_expressions [] = []
 fde_expressions (f ∷ fdes) = expressions_of f.program ++ fde_expressions fdes
 
--- all of a section, in the order in which they are judged
+-- all expressions of a section, in the order in which they are checked
 abbrev pub frame_expressions : List Cie → List Fde → List LocatedExpression
 frame_expressions cies fdes = cie_expressions cies ++ fde_expressions fdes
 
--- the one that begins at an offset
+-- the expression that begins at the offset `at`
 abbrev pub expression_at : List LocatedExpression → ℕ → Option LocatedExpression
 expression_at expressions at = find (λ e. e.offset == at) expressions

@@ -1,4 +1,4 @@
--- Rows as callers get them: with the expressions themselves, where programs name them by their offsets.
+-- Rows as callers get them: with expressions, where programs have the expressions' offsets.
 use Rattle.std.specs.Prelude.{◌≡◌, ℕ, List, [], map, Option, Some, None, All}
 use Rattle.std.specs.Option.{option_map}
 use Rattle.dw_bytes.specs.declared.target.Order.TheVariants.{Little}
@@ -10,7 +10,7 @@ use Rattle.dw_rows.specs.Expressions.{expression_at}
 use Rattle.dw_rows.specs.Rules.{PlacedRule, PlacedCfa, PlacedRow, Rule, Cfa, Row, default, undefined, same_value, offset, val_offset}
 use Rattle.dw_rows.specs.Rules.{register, expression, val_expression, register_and_offset, cfa_expression}
 
--- an expression that is nowhere, for an offset where none begins, which no rule names
+-- A placeholder for the expression at an offset where none begins. No rule names such an offset.
 abbrev pub nowhere : LocatedExpression
 nowhere = record { offset = 0; kind = FrameCfa; target = record { order = Little; address_size = Four }; bytes = [] }
 
@@ -18,11 +18,11 @@ abbrev pub or_nowhere : Option LocatedExpression → LocatedExpression
 or_nowhere None = nowhere
 or_nowhere (Some e) = e
 
--- the one that begins at an offset
+-- the expression that begins at the offset `at`
 abbrev pub located_at : List LocatedExpression → ℕ → LocatedExpression
 located_at expressions at = or_nowhere (expression_at expressions at)
 
--- a rule, with the expression that it names
+-- a rule, with the expression in place of its offset
 abbrev pub given_rule : List LocatedExpression → PlacedRule → Rule
 given_rule expressions default = default
 given_rule expressions undefined = undefined
@@ -51,7 +51,7 @@ given_row expressions row = record {
   rules = given_rules expressions row.rules;
 }
 
--- ---- each expression has the kind of its rule
+-- ---- each expression has the kind that its rule needs
 
 abbrev pub IsOfKind : Kind → LocatedExpression → Type 0
 IsOfKind kind e = e.kind ≡ kind
@@ -68,9 +68,9 @@ IsCfaOfKind _ = Unit {0}
 abbrev pub IsEntryOfKind : ℕ × Rule → Type 0
 IsEntryOfKind entry = IsRuleOfKind entry.1
 
--- ---- what rules name is among the expressions
+-- ---- each expression that a rule names is among these
 
--- one of that kind begins at the offset
+-- an expression of this kind begins at the offset `at`
 pub record IsLent (expressions : List LocatedExpression) (kind : Kind) (at : ℕ) : Type 0 where
   pub lent : LocatedExpression
   pub found : expression_at expressions at ≡ Some lent

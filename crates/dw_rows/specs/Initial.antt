@@ -1,4 +1,5 @@
--- What the initial instructions of CIEs leave, as a checked section stores it. No contract of a public call mentions this.
+-- The rules that the initial instructions of CIEs leave, as a checked section stores them. No
+-- contract of a public call mentions this.
 use Rattle.std.specs.Prelude.{◌+◌, ◌≤◌, List, [], ◌∷◌, length, map, slice_range}
 use Rattle.std.specs.Option.{option_map}
 use Rattle.std.specs.List.{AllByRecursion}
@@ -11,23 +12,23 @@ use Rattle.dw_rows.specs.RuleSet.{KeptRules}
 use Rattle.dw_rows.specs.Views.{kept_cfa_of, entries_of}
 use Rattle.dw_rows.specs.ProgramState.{IsLeftBy}
 
--- what the CIEs leave, one for each, in their order
+-- the rule sets that the CIEs' programs leave, one for each CIE, in their order
 abbrev pub AreLeftBy : List Cie → List KeptRules → Type 0
 AreLeftBy [] [] = Unit {0}
 AreLeftBy (c ∷ cies) (k ∷ left) = IsLeftBy c k × AreLeftBy cies left
 AreLeftBy [] (k ∷ left) = ⊥
 AreLeftBy (c ∷ cies) [] = ⊥
 
--- ---- rules that are stored one after another
+-- ---- rule sets that share one list of entries
 
--- the rules of a span of entries
+-- the rule set that a span of the entries stands for
 abbrev pub kept_in_span : List RuleEntry → RuleSpan → KeptRules
 kept_in_span entries s = record { cfa = option_map kept_cfa_of s.cfa; rules = entries_of (slice_range entries s.start s.end) }
 
 abbrev pub kept_in_spans : List RuleEntry → List RuleSpan → List KeptRules
 kept_in_spans entries spans = map (kept_in_span entries) spans
 
--- a span lies among the entries, and its rules are those of a row
+-- the span lies within the entries, and those entries can be the register rules of a row
 pub record IsSpan (entries : List RuleEntry) (s : RuleSpan) : Type 0 where
   pub order : s.start ≤ s.end
   pub within : s.end ≤ length entries

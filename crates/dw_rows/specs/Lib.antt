@@ -1,65 +1,66 @@
--- ---- To be believed: the standard's words. To check the headline against DWARF 5, read these.
+-- ---- Trusted: what DWARF 5 says. To check the headline against the standard, read these.
 -- the rules of a row (6.4.1)
 pub mod Rules
--- what each instruction does (6.4.2)
+-- what each call frame instruction does (6.4.2)
 pub mod Effects
--- the expressions of programs, and where they are (6.4.2.2, 6.4.2.3)
+-- the expressions of programs, and where they begin (6.4.2.2, 6.4.2.3)
 pub mod Expressions
--- location, rules and CFA after instructions (6.4.1)
+-- the location, the rules and the CFA's rule after some instructions (6.4.1)
 pub mod InForce
--- the rows of a program (6.4.1)
+-- the rows of an FDE's program (6.4.1)
 pub mod UnwindRows
--- the rules after each instruction, clause by clause (6.4.2.2 to 6.4.2.4)
+-- the rules after each instruction, stated for each instruction alone (6.4.2.2 to 6.4.2.4)
 pub mod Clauses
--- good programs: brackets, locations, rows (6.4.1, 6.4.2)
+-- when a program is good: matching remember_states, locations, rows (6.4.1, 6.4.2)
 pub mod Good
--- whole sections (6.4.1): what is accepted, its first fault, the row of an address
+-- whole sections: when one is accepted, its first fault, the row of an address (6.4.1)
 pub mod Section
--- what an ABI says about registers without a rule (own; 6.4.1 leaves it to ABIs)
+-- what an ABI says about registers without a rule (this project's choice; 6.4.1 leaves it to ABIs)
 pub mod Abi
--- sections that are right (6.4.1)
+-- when a section is well formed (6.4.1)
 pub mod WellFormed
--- rows with their expressions, as callers get them (6.4.1)
+-- rows with expressions in place of their offsets, as callers get them (6.4.1)
 pub mod GivenRows
 -- rows whose expressions are good (6.4.2.2, 6.4.2.3)
 pub mod GoodRows
--- the one row of an address (6.4.1)
+-- the only row of an address in an accepted section (6.4.1)
 pub mod ExactRows
--- tables that store rows by themselves
+-- compiled tables, which store all rows of a section
 pub mod UnwindTables
--- ---- The first fault, as a function of the bytes. Laws tie it to what is to be believed.
--- the first fault of a program
+-- ---- The first fault, computed from the bytes. Laws tie it to the trusted definitions.
+-- the first fault of a CIE's or an FDE's program
 pub mod Judgement
--- ---- What the code's own values stand for, and what its calls return.
--- rules and rows of the code
+-- ---- What the code's values mean.
+-- rules and rows
 pub mod Views
--- roles of registers, as the code has them
+-- ABIs: the role of each register
 pub mod AbiViews
--- the expressions that rows lend
+-- the checked expressions that the rules of a row refer to
 pub mod LentExpressions
--- ---- Internal: no contract of a public call mentions these.
--- the rules of a row, as they are stored
+-- ---- Internal: no contract of a public call uses these.
+-- rule sets: the rules of a row, as they are stored
 pub mod RuleSet
--- the index of a register in a table of rules, and remembered rules
+-- the index of a register in a table of rules, and the stack of remembered rules
 pub mod RememberStack
--- the position of a program
+-- the state of a running program
 pub mod ProgramState
--- programs that are judged as they are read
+-- programs that are checked while they are read
 pub mod Judging
--- expressions in order of offset
+-- checked expressions in order of offset
 pub mod ExpressionOrder
--- the rules of two tables
+-- the rules of two tables taken together
 pub mod FirstEntry
--- effects of the code
+-- effects of instructions, as the code represents them
 pub mod EffectViews
--- what the initial instructions of CIEs leave
+-- the rules that the initial instructions of CIEs leave
 pub mod Initial
--- going from row to row
+-- runs of a program that stop after each row
 pub mod RowCursors
--- FDEs in order of offset and of address, their index, and what a checked section stores
+-- FDEs in order of offset and of address, the address index, and what a checked section stores
 pub mod Overlap
--- all rows of a section in order of address
+-- all rows of a section in order of address, as a compiled table stores them
 pub mod CompiledTable
--- expressions with bytes of their own, and those that a section stores
+-- checked expressions stored together with a copy of their bytes
 pub mod OwnedExpressions
+-- checked expressions borrowed from a checked section
 pub mod BorrowedExpressions

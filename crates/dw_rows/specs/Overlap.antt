@@ -1,4 +1,5 @@
--- FDEs in order of offset, and in order of address. No contract of a public call mentions these.
+-- FDEs in order of offset and in order of address, and what a checked section stores. No contract
+-- of a public call mentions these.
 use Rattle.std.specs.Prelude.{◌≡◌, ℕ, ◌+◌, ◌*◌, ◌<◌, ◌≤◌, List, [], length, map, All, Contains, slice_index_or}
 use Rattle.dw_bytes.specs.declared.target.Format.TheVariants.{Dwarf32}
 use Rattle.dw_bytes.specs.declared.target.Order.TheVariants.{Little}
@@ -20,13 +21,13 @@ cie_offset c = c.offset
 abbrev pub initial_of : Fde → ℕ
 initial_of f = f.initial_location
 
--- x is the first in order of offset that fails
+-- x is the first element, in order of `at`, that fails; all elements before it pass
 pub record IsFirst {X : Type 0} (at : X → ℕ) (Passes Fails : X → Type 0) (xs : List X) (x : X) : Type 0 where
   pub among : Contains xs x
   pub fails : Fails x
   pub before : (y : X) → Contains xs y → at y < at x → Passes y
 
--- no FDE that begins earlier shares an address with this one
+-- no FDE before g in the section shares an address with g
 abbrev pub IsApart : List Fde → Fde → Type 0
 IsApart fdes g = (f : Fde) → Contains fdes f → f.offset < g.offset → ¬ SharesAddress f g
 
@@ -39,7 +40,7 @@ AreApart fdes = (f : Fde) → Contains fdes f → IsApart fdes f
 abbrev pub IsFirstOverlap : List Fde → Fde → Type 0
 IsFirstOverlap fdes g = IsFirst fde_offset (IsApart fdes) (Overlaps fdes) fdes g
 
--- among the FDEs up to an offset: two that share an address, or none
+-- two FDEs with offsets up to `last` share an address; and the opposite: no two of them do
 pub record ClashWithin (fdes : List Fde) (last : ℕ) : Type 0 where
   pub f : Fde
   pub g : Fde
@@ -52,22 +53,22 @@ pub record ClashWithin (fdes : List Fde) (last : ℕ) : Type 0 where
 abbrev pub ApartWithin : List Fde → ℕ → Type 0
 ApartWithin fdes last = (f g : Fde) → Contains fdes f → Contains fdes g → f.offset < g.offset → g.offset ≤ last → ¬ SharesAddress f g
 
--- FDEs that cover an address each, in order of address, none of them twice
+-- FDEs in order of address, each of which covers an address, and none of which occurs twice
 pub record IsOrdered (index : List Fde) : Type 0 where
   pub some : (f : Fde) → Contains index f → 0 < f.address_range
   pub distinct : (i j : ℕ) (d : Fde) → i < length index → j < length index
       → (slice_index_or index i d).offset ≡ (slice_index_or index j d).offset → i ≡ j
   pub sorted : IsNonDecreasingBy initial_of index
 
--- the FDEs that cover an address, in order of address
+-- `index` has exactly the FDEs that cover an address, in order of address
 pub record IsIndexOf (fdes index : List Fde) : Type 0 where
   pub from : (f : Fde) → Contains index f → Contains fdes f
   pub to : (f : Fde) → Contains fdes f → 0 < f.address_range → Contains index f
   pub ordered : IsOrdered index
 
--- ---- the index as it is stored: where each FDE begins, and its index among all
+-- ---- the index as it is stored: where each FDE begins, and its index among all FDEs
 
--- an FDE that covers nothing, for an index past the end, which no entry has
+-- A placeholder for an index past the end, which no entry has. It is an FDE that covers nothing.
 abbrev pub no_fde : Fde
 no_fde = record {
   offset = 0;
@@ -79,7 +80,7 @@ no_fde = record {
   program = record { target = record { order = Little; address_size = Four }; position = 0; rest = [] };
 }
 
--- the FDE of an entry
+-- the FDE that an index entry refers to
 abbrev pub fde_at : List Fde → IndexEntry → Fde
 fde_at fdes e = slice_index_or fdes e.place no_fde
 
@@ -87,25 +88,26 @@ pub record IsEntry (fdes : List Fde) (e : IndexEntry) : Type 0 where
   pub within : e.place < length fdes
   pub start : e.start ≡ (fde_at fdes e).initial_location
 
--- the entries are those of the FDEs that cover an address, in order of address
+-- the entries refer to exactly the FDEs that cover an address, in order of address
 pub record IsAddressIndex (fdes : List Fde) (entries : List IndexEntry) : Type 0 where
   pub each : All (IsEntry fdes) entries
   pub index_of : IsIndexOf fdes (map (fde_at fdes) entries)
 
--- the entry at this distance begins at or below an address, if it isn't the first entry itself, and the one a quarter
--- further doesn't
+-- The entry `stride` after `low` begins at or below the address `a`, unless `stride` is 0. The
+-- entry a quarter further begins above it, unless `stride` is three quarters.
 pub record IsStride (entries : List IndexEntry) (low quarter a stride : ℕ) : Type 0 where
   pub bound : stride ≤ 3 * quarter
   pub below : (d : IndexEntry) → 0 < stride → (slice_index_or entries (low + stride) d).start ≤ a
   pub above : (d : IndexEntry) → stride < 3 * quarter → a < (slice_index_or entries (low + stride + quarter) d).start
 
--- this many entries begin at or below an address, and no others
+-- exactly `count` entries begin at or below the address `a`
 pub record IsCountUpTo (entries : List IndexEntry) (a count : ℕ) : Type 0 where
   pub bound : count ≤ length entries
   pub below : (k : ℕ) (d : IndexEntry) → k < count → (slice_index_or entries k d).start ≤ a
   pub above : (k : ℕ) (d : IndexEntry) → count ≤ k → k < length entries → a < (slice_index_or entries k d).start
 
--- what a checked section stores: its records, what its CIEs leave, and its FDEs in order of address
+-- What a checked section stores: its records, the rules that its CIEs leave, its FDEs in order of
+-- address, and how many of its expressions belong to CIEs.
 pub record IsKept (s : FrameSection) (left : List KeptRules) (index : List IndexEntry) (count : ℕ) : Type 0 where
   pub checked : IsChecked s
   pub left_by : AreLeftBy s.cies left

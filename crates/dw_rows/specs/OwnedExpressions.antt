@@ -1,22 +1,23 @@
--- Checked expressions that are stored with their bytes. No contract of a public call mentions this.
+-- Checked expressions, stored together with a copy of their bytes. No contract of a public call
+-- mentions this.
 use Rattle.std.specs.Prelude.{◌≤◌, ℕ, ◌+◌, List, length, map, take, drop}
 use Rattle.std.specs.List.{AllByRecursion}
 use Rattle.dw_stack.specs.Expressions.{IsChecked}
 use Rattle.dw_stack.specs.Located.{LocatedExpression}
 use Rattle.dw_rows.specs.declared.owned_expressions.OwnedExpression.{OwnedExpression}
 
--- the bytes of one among those of all
+-- the bytes of one expression, cut out of the bytes of all expressions
 abbrev pub bytes_in : List ℕ → OwnedExpression → List ℕ
 bytes_in bytes k = take k.length (drop k.start bytes)
 
--- the expression, where it was in its section
+-- the expression `k` with its bytes, and its offset in the section
 abbrev pub owned_in : List ℕ → OwnedExpression → LocatedExpression
 owned_in bytes k = record { offset = k.offset; kind = k.kind; target = k.target; bytes = bytes_in bytes k }
 
 abbrev pub all_owned : List ℕ → List OwnedExpression → List LocatedExpression
 all_owned bytes kept = map (owned_in bytes) kept
 
--- its bytes are there, and it is good
+-- the bytes of `k` lie within `bytes`, and the expression has passed its check
 pub record IsOwned (bytes : List ℕ) (k : OwnedExpression) : Type 0 where
   pub inside : k.start + k.length ≤ length bytes
   pub checked : IsChecked (record { kind = k.kind; target = k.target; bytes = bytes_in bytes k; depth = k.depth; count = k.count })

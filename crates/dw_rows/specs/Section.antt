@@ -1,4 +1,5 @@
--- A whole `.debug_frame` section: what is right in it, and its first fault (DWARF 5, section 6.4.1).
+-- A whole `.debug_frame` section: when it is accepted, and its first fault (DWARF 5, section
+-- 6.4.1).
 use Rattle.std.specs.Prelude.{◌≡◌, ℕ, ◌+◌, ◌<◌, ◌≤◌, ◌==◌, ◌&&◌, nat_lt, nat_le, Bool, if◌then◌else◌, Option, Some, None, is_some, List}
 use Rattle.std.specs.Prelude.{[], ◌∷◌, Contains, find, map, option_and_then}
 use Rattle.std.specs.Option.{option_or}
@@ -16,8 +17,8 @@ use Rattle.dw_rows.specs.Judgement.{cie_fault, fde_fault}
 use Rattle.dw_rows.specs.GivenRows.{given_row}
 use Rattle.dw_rows.specs.UnwindRows.{rows_of, has_address}
 
--- A section with a target, and what is read of it before its first fault: the CIEs and the FDEs separately, each in the
--- order of the section, and the expressions of their programs.
+-- A section with its target, and what is read before its first fault: CIEs and FDEs in separate
+-- lists, each in the order of the section, and the expressions of their programs.
 pub record FrameSection : Type 0 where
   pub target : Target
   pub section : List ℕ
@@ -50,7 +51,7 @@ frame_of target section =
       expressions = frame_expressions (cies_among records) (fdes_among records);
     }
 
--- ---- what FDEs cover
+-- ---- the addresses that FDEs cover
 
 abbrev pub Covers : Fde → ℕ → Type 0
 Covers f a = (f.initial_location ≤ a) × (a < f.initial_location + f.address_range)
@@ -58,27 +59,27 @@ Covers f a = (f.initial_location ≤ a) × (a < f.initial_location + f.address_r
 abbrev pub SharesAddress : Fde → Fde → Type 0
 SharesAddress f g = (a : ℕ) × Covers f a × Covers g a
 
--- no address is covered by two
+-- no address is covered by two FDEs
 abbrev pub CoversOnce : List Fde → Type 0
 CoversOnce fdes = (a : ℕ) (f g : Fde) → Contains fdes f → Contains fdes g → Covers f a → Covers g a → f ≡ g
 
--- the only FDE that covers an address, or none if none does
+-- the only FDE that covers the address a, or none if no FDE covers it
 abbrev pub IsCoverOf : List Fde → ℕ → Option Fde → Type 0
 IsCoverOf fdes a None = (f : Fde) → Contains fdes f → ¬ Covers f a
 IsCoverOf fdes a (Some f) = Contains fdes f × Covers f a × ((g : Fde) → Contains fdes g → Covers g a → g ≡ f)
 
--- ---- the first fault, of records that were read
+-- ---- the first fault of the records, once they were read
 
 -- the fault of the first element that has one
 abbrev pub first_fault : {X : Type 0} → (X → Option Fault) → List X → Option Fault
 first_fault test [] = None
 first_fault test (x ∷ xs) = option_or (test x) (first_fault test xs)
 
--- the CIE at an offset
+-- the CIE that begins at the offset `at`
 abbrev pub cie_at : List Cie → ℕ → Option Cie
 cie_at cies at = find (λ c. c.offset == at) cies
 
--- an FDE's CIE_pointer is the offset of a CIE
+-- a fault if the FDE's CIE_pointer isn't the offset of a CIE
 abbrev pub pointer_fault : List Cie → Fde → Option Fault
 pointer_fault cies f = if is_some (cie_at cies f.cie_pointer) then None else Some (record { kind = NoSuchCie; at = f.cie_pointer_offset })
 
@@ -86,36 +87,37 @@ abbrev pub fault_behind : Option Cie → Fde → Option Fault
 fault_behind None f = None
 fault_behind (Some c) f = fde_fault c f
 
--- an FDE's program is good after its CIE's
+-- the first fault of an FDE's program, which begins with the rules that its CIE's program leaves
 abbrev pub program_fault : List Cie → Fde → Option Fault
 program_fault cies f = fault_behind (cie_at cies f.cie_pointer) f
 
--- both cover some address: each begins before the other ends, and neither is empty
+-- the FDEs share an address: each begins before the other ends, and neither is empty
 abbrev pub shares : Fde → Fde → Bool
 shares f g = nat_lt 0 f.address_range && nat_lt 0 g.address_range
     && nat_lt f.initial_location (g.initial_location + g.address_range)
     && nat_lt g.initial_location (f.initial_location + f.address_range)
 
--- no FDE before this one shares an address with it
+-- a fault if an FDE before this one in the section shares an address with it
 abbrev pub overlap_fault : List Fde → Fde → Option Fault
 overlap_fault fdes g = if list_any (λ f. nat_lt f.offset g.offset && shares f g) fdes then Some (record { kind = Overlap; at = g.offset })
     else None
 
--- all CIE_pointers, then the CIEs' programs, then the FDEs' programs
+-- the first fault of the CIE_pointers, else of the CIEs' programs, else of the FDEs' programs
 abbrev pub programs_fault : List Cie → List Fde → Option Fault
 programs_fault cies fdes = option_or (first_fault (pointer_fault cies) fdes)
     (option_or (first_fault cie_fault cies) (first_fault (program_fault cies) fdes))
 
--- and then the addresses
+-- the first fault of CIE_pointers and programs, else the first overlap of FDEs
 unfoldable pub parts_fault : List Cie → List Fde → Option Fault
 parts_fault cies fdes = option_or (programs_fault cies fdes) (first_fault (overlap_fault fdes) fdes)
 
--- the first fault of a section: of its records, or else of what was read
+-- the first fault of a section: of reading its records, else of the records that were read
 unfoldable pub section_fault : Target → List ℕ → Option Fault
 section_fault target section = option_or (fault_in (entries_of target section))
     (parts_fault (frame_of target section).cies (frame_of target section).fdes)
 
--- A section that is accepted: it is its bytes, and these have no fault.
+-- A section that is accepted: its records and expressions are those read from its bytes, and it has
+-- no fault.
 pub record IsChecked (s : FrameSection) : Type 0 where
   pub whole : s ≡ frame_of s.target s.section
   pub faultless : section_fault s.target s.section ≡ None
@@ -139,13 +141,13 @@ rows_in s f = map (given_row s.expressions) (rows_behind (cie_in s f) f)
 abbrev pub covers : ℕ → Fde → Bool
 covers a f = nat_le f.initial_location a && nat_lt a (f.initial_location + f.address_range)
 
--- that of the FDE that covers it, if one does
+-- the row of the address a in the FDE that covers it, if an FDE does
 abbrev pub row_of : FrameSection → ℕ → Option Row
 row_of s a = option_and_then (λ f. find (has_address a) (rows_in s f)) (find (covers a) s.fdes)
 
 -- ---- the return address
 
--- the return address register that the CIE of the FDE that covers an address names
+-- r is the return address register named by the CIE of the FDE that covers the address a
 abbrev pub IsReturnRegister : FrameSection → ℕ → ℕ → Type 0
 IsReturnRegister s a r = (fde : Fde) × (cie : Cie) × IsCoverOf s.fdes a (Some fde) × (cie_in s fde ≡ Some cie)
     × (cie.return_address_register ≡ r)

@@ -1,4 +1,4 @@
--- Tables that store the rows of a section by themselves: nothing of the section is needed any more.
+-- Compiled tables: they store the rows of a section, and nothing of the section is needed any more.
 use Rattle.std.specs.Prelude.{◌≡◌, ℕ, ◌+◌, ◌*◌, Bool, List, All, Contains, IfSome, Option, Some, None, find, length}
 use Rattle.std.specs.List.{sum_by}
 use Rattle.dw_bytes.specs.declared.target.Target.{Target}
@@ -8,44 +8,46 @@ use Rattle.dw_rows.specs.Rules.{RowOver, Row, Rule, Cfa, expression, val_express
 use Rattle.dw_rows.specs.UnwindRows.{has_address}
 use Rattle.dw_rows.specs.Section.{FrameSection, Covers, IsReturnRegister, row_of, rows_in}
 
--- Rows, each with its return address register, and the target that they were read with.
+-- Rows, each with its return address register, and the target that the section was read with.
 pub record RowTable : Type 0 where
   pub target : Target
   pub rows : List (Row × ℕ)
 
--- such a row has an address
+-- the row of such a pair has the address
 abbrev pub has : {E : Type 0} → ℕ → RowOver E × ℕ → Bool
 has address found = has_address address found.0
 
--- the row of an address, with its register
+-- the row of an address in a table, with its return address register
 abbrev pub row_at : RowTable → ℕ → Option (Row × ℕ)
 row_at t address = find (has address) t.rows
 
--- What is found is a section's row of an address, with the register that the CIE names; if none is found, no FDE covers it.
+-- What was found at an address is the section's row there, with the return address register that
+-- its CIE names. If nothing was found, no FDE covers the address.
 abbrev pub IsFoundAt : FrameSection → ℕ → Option (Row × ℕ) → Type 0
 IsFoundAt s address None = (f : Fde) → Contains s.fdes f → ¬ Covers f address
 IsFoundAt s address (Some found) = (row_of s address ≡ Some found.0) × IsReturnRegister s address found.1
 
--- At each address it gives the row that the section has there, and none if no FDE of the section covers the address.
+-- The table gives the section's row at each address, and none if no FDE of the section covers the
+-- address.
 pub record IsTableOf (s : FrameSection) (t : RowTable) : Type 0 where
   pub target : t.target ≡ s.target
   pub row : (address : ℕ) → IsFoundAt s address (row_at t address)
 
--- ---- the room that is always enough for a table, in bytes: less is enough if rows share their rules
+-- ---- how many bytes are always enough for a table; less is enough if rows share their rules
 
--- for a row: 80, and 16 for each register that has a rule
+-- for a row: 80, and 16 more for each register that has a rule
 abbrev pub row_bytes : {E : Type 0} → RowOver E → ℕ
 row_bytes row = 80 + 16 * length row.rules
 
--- for the rows of an FDE, and for where they end
+-- for the rows of an FDE, and 80 for the entry that ends the rows before it
 abbrev pub fde_bytes : FrameSection → Fde → ℕ
 fde_bytes s f = 80 + sum_by row_bytes (rows_in s f)
 
--- for those of all FDEs
+-- for the rows of all FDEs, and 80 for the entry that ends the last row
 abbrev pub table_bytes : FrameSection → ℕ
 table_bytes s = 80 + sum_by (fde_bytes s) s.fdes
 
--- ---- a row's expressions are read with a target
+-- ---- the target of a row's expressions
 
 abbrev pub IsUnder : Target → LocatedExpression → Type 0
 IsUnder target e = e.target ≡ target

@@ -1,4 +1,4 @@
--- A section that is right, in the standard's words (DWARF 5, section 6.4.1).
+-- When a section is well formed, in the standard's words (DWARF 5, section 6.4.1).
 use Rattle.std.specs.Prelude.{◌≡◌, ℕ, List, Contains}
 use Rattle.dw_bytes.specs.declared.target.Target.{Target}
 use Rattle.dw_frame.specs.Records.{Cie, Fde, Record}
@@ -6,8 +6,9 @@ use Rattle.dw_frame.specs.Sections.{AreRecords}
 use Rattle.dw_rows.specs.Good.{IsGoodCieProgram, IsGoodFdeProgram}
 use Rattle.dw_rows.specs.Section.{cies_among, fdes_among, CoversOnce}
 
--- The bytes are the encodings of records without gaps; each CIE_pointer is the offset of a CIE; all programs are good,
--- those of FDEs after their CIE's; and no address is covered by two FDEs.
+-- The bytes are the encodings of records without gaps. Each CIE_pointer is the offset of a CIE. All
+-- programs are good; an FDE's program begins with the rules that its CIE's leaves. No address is
+-- covered by two FDEs.
 pub record IsWellFormed (target : Target) (section : List ℕ) : Type 0 where
   pub records : List Record
   pub encoded : AreRecords target 0 section records

@@ -1,4 +1,4 @@
-//! What an ABI says about registers to which a row gives no rule.
+//! What an ABI says about registers that have no rule in a row.
 
 ghost use Rattle.std.specs.Prelude.{◌≡◌, ◌≢◌, ◌<◌, ◌+◌, ◌≤◌, ℕ, None, Some, length, MatchResult};
 ghost use Rattle.std.specs.Bool.{OnTrue, OnFalse};
@@ -12,11 +12,13 @@ use crate::map::{MAX_RULES, RegisterRuleMap, RuleEntry};
 use dw_bytes::{Fault, FaultKind};
 use std::marker::Model;
 
-/// An `Abi` names at most this many callee-saved registers. With the stack pointer they fit a table of rules.
+/// An `Abi` can name at most this many callee-saved registers. It is one less than `MAX_RULES`, so
+/// that the stack pointer's rule fits into the same table.
 pub const MAX_KEPT: usize = MAX_RULES - 1;
 
-/// What an ABI says about registers that no instruction has given a rule: which ones are callee-saved (`kept`: a call
-/// keeps their values), and which one is the stack pointer. DWARF 5, section 6.4.1, leaves that to the ABI.
+/// What an ABI says about registers without a rule: which registers are callee-saved (a call
+/// preserves their values), and which register is the stack pointer. DWARF 5, section 6.4.1, leaves
+/// this to the ABI.
 ///
 /// ```rust
 /// // The ABI of x86-64: calls keep rbx, rbp and r12 to r15, and register 7 is the stack pointer.
@@ -39,7 +41,8 @@ impl Model for Abi {
     ghost invariant = { λ abi. AreRoles abi.rules };
 }
 
-/// Gives a register its rule, unless it has one: then it returns `false`.
+/// Gives a register the rule `rule` and returns `true`. If the register has a rule already, nothing
+/// changes, and the result is `false`.
 fn add_abi_rule(rules: &mut RegisterRuleMap, number: u16, rule: KeptRule) -> bool
     requires table { IsTable 0 rules.old }
     requires room { length rules.old < MAX_RULES }
@@ -68,9 +71,11 @@ impl Abi {
         }
     }
 
-    /// An ABI with these callee-saved registers, and with this stack pointer, whose value in the caller is the CFA. More
-    /// than `MAX_KEPT` numbers are refused with `AbiTooLarge` at that index; else a number that occurs a second time with
-    /// `AbiTwice` at its index. The stack pointer's index comes after all callee-saved registers.
+    /// An ABI with the callee-saved registers `kept` and the stack pointer `stack_pointer`. The
+    /// caller's value of the stack pointer is the CFA. More than `MAX_KEPT` registers in `kept` are
+    /// refused with `AbiTooLarge` at index `MAX_KEPT`. Otherwise a number that occurs twice is
+    /// refused with `AbiTwice` at the index of its second occurrence; for the stack pointer that is
+    /// the length of `kept`.
     pub fn new(kept: &[u16], stack_pointer: Option<u16>) -> Result<Abi, Fault>
         ensures { MatchResult result
             (λ abi. (abi_fault kept.now stack_pointer ≡ None)
@@ -98,14 +103,14 @@ impl Abi {
         Ok(Abi { rules })
     }
 
-    /// The rule that it gives a register, `Default` if it doesn't name the register.
+    /// The rule that the ABI gives a register, or `Default` if the ABI doesn't name the register.
     pub(crate) fn register(&self, number: u16) -> KeptRule
         ensures { kept_rule_of result ≡ rule_of_role (roles_of self.now number) }
     {
         self.rules.register(number)
     }
 
-    /// The entries of its rules, by ascending registers.
+    /// The ABI's rules, in ascending order of registers.
     pub(crate) fn as_slice(&self) -> &[RuleEntry]
         ensures rules { (r : ℕ) → rule_in (entries_of result.now) r
             ≡ rule_of_role (roles_of self.now r) }
@@ -116,7 +121,7 @@ impl Abi {
     }
 }
 
-/// The fault of a register that is named a second time, at an index.
+/// The fault that the number at index `place` has occurred before.
 fn abi_twice_at(place: usize) -> Fault
     requires { place ≤ MAX_KEPT }
     ensures { result ≡ record { kind = FaultKind.AbiTwice; at = place } }

@@ -1,4 +1,4 @@
-//! The checked expressions of a section, as the section stores them.
+//! Checked expressions, borrowed from a checked section.
 
 ghost use Rattle.std.specs.Prelude.{◌≡◌, ◌++◌, [], None, Some, MatchOption};
 ghost use Rattle.dw_stack.specs.Located.{located_of, all_located};
@@ -7,9 +7,9 @@ ghost use Rattle.dw_rows.specs.ExpressionOrder.{AreInOrder, in_order_prop};
 
 use dw_stack::CheckedExpression;
 
-/// The checked expressions of a section's CIEs and of its FDEs (DWARF 5, sections 6.4.2.2 and 6.4.2.3), each with the
-/// offset of its first byte in the section. Both parts are in order of these offsets. It owns no memory: the expressions
-/// are borrowed.
+/// The checked expressions of a section's CIEs and of its FDEs (DWARF 5, sections 6.4.2.2 and
+/// 6.4.2.3), each with the offset of its first byte in the section. Both slices are in order of
+/// these offsets. This type owns no memory: the expressions are borrowed.
 #[derive(Clone, Copy, Debug)]
 pub struct BorrowedExpressions<'f, 'a> {
     pub cies: &'f [(u32, CheckedExpression<'a>)],
@@ -21,7 +21,7 @@ pub struct BorrowedExpressions<'f, 'a> {
 impl<'f, 'a> BorrowedExpressions<'f, 'a> {
     ghost use Rattle.dw_rows.specs.BorrowedExpressions.{borrowed_by};
 
-    /// The expressions of a section that has none.
+    /// No expressions.
     pub(crate) fn empty() -> Self
         ensures { borrowed_by result ≡ [] }
     {
@@ -31,7 +31,7 @@ impl<'f, 'a> BorrowedExpressions<'f, 'a> {
         }
     }
 
-    /// The expressions of CIEs and those of FDEs, each in order of offset.
+    /// The expressions of CIEs and those of FDEs. Each slice must be in order of offset.
     pub(crate) fn new(
         cies: &'f [(u32, CheckedExpression<'a>)],
         fdes: &'f [(u32, CheckedExpression<'a>)],
@@ -43,7 +43,8 @@ impl<'f, 'a> BorrowedExpressions<'f, 'a> {
         BorrowedExpressions { cies, fdes }
     }
 
-    /// The expression that begins at an offset of the section, by binary search: first among those of CIEs, which are few.
+    /// The expression that begins at an offset of the section. It searches the CIEs' expressions
+    /// first, since there are few of them. Both searches are binary.
     pub(crate) fn at(&self, offset: u32) -> Option<CheckedExpression<'a>>
         ensures { MatchOption result
             (expression_at (borrowed_by self.now) offset ≡ None)
@@ -57,7 +58,7 @@ impl<'f, 'a> BorrowedExpressions<'f, 'a> {
     }
 }
 
-/// The expression at an offset, by binary search.
+/// The expression that begins at an offset of the section, by binary search.
 fn find_lent<'a>(
     expressions: &[(u32, CheckedExpression<'a>)],
     offset: u32,

@@ -1,4 +1,4 @@
-//! What an instruction does.
+//! What a call frame instruction does, with its offsets computed.
 
 ghost use Rattle.std.specs.Prelude.{◌≡◌, ℤ, pos, ◌*◌, ◌*ℤ◌};
 ghost use Rattle.dw_frame.specs.Views.{cie_of, instruction_of};
@@ -8,15 +8,15 @@ ghost use Rattle.dw_rows.specs.EffectViews.{effect_by};
 use crate::kept_rule::KeptRule;
 use dw_frame::{CallFrameInstruction, CommonInformationEntry};
 
-/// What an instruction does to the location, the rules and what is remembered. Its numbers are exact: whether an offset
-/// fits has not been checked yet.
+/// What an instruction does to the location, the rules and the remembered rules. Offsets and deltas
+/// are exact: whether they fit in 64 bits is not checked yet.
 #[derive(Clone, Copy)]
 pub enum InstructionEffect {
     Stays,
     AdvanceLoc(u128),
     SetLoc(u64),
     DefinesCfa { register: u16, offset: i128 },
-    /// The CFA is what the expression at that offset of the section evaluates to.
+    /// The CFA becomes what the expression at this offset of the section evaluates to.
     DefinesCfaExpression(u32),
     ChangesRegister(u16),
     ChangesOffset(i128),
@@ -28,7 +28,7 @@ pub enum InstructionEffect {
     RestoreState,
 }
 
-/// An unsigned offset that isn't factored.
+/// An unsigned offset that isn't multiplied by a factor.
 #[inline(always)]
 fn unfactored_offset(offset: u64) -> i128
     ensures { result ≡ pos offset }
@@ -52,7 +52,7 @@ fn data_aligned_signed_offset(cie: &CommonInformationEntry<'_>, offset: i64) -> 
     i128::from(offset) * i128::from(cie.data_alignment_factor)
 }
 
-/// An advance by a delta times the code alignment factor.
+/// An advance of the location by `delta` times the code alignment factor.
 #[inline(always)]
 fn advance_effect(cie: &CommonInformationEntry<'_>, delta: u32) -> InstructionEffect
     ensures { result ≡ InstructionEffect.AdvanceLoc (delta * cie.now.code_alignment_factor) }
@@ -60,7 +60,7 @@ fn advance_effect(cie: &CommonInformationEntry<'_>, delta: u32) -> InstructionEf
     InstructionEffect::AdvanceLoc(u128::from(delta) * u128::from(cie.code_alignment_factor))
 }
 
-/// What the instruction does, with the factors of the CIE applied.
+/// What `instruction` does, with the alignment factors of `cie` applied.
 #[inline(always)]
 pub fn instruction_effect(
     cie: &CommonInformationEntry<'_>,

@@ -1,4 +1,4 @@
-//! Checked expressions, as rows lend them.
+//! The checked expressions that the rules of a row refer to.
 
 ghost use Rattle.std.specs.Prelude.{◌≡◌, [], None, Some, MatchOption};
 ghost use Rattle.dw_stack.specs.Located.{located_of};
@@ -8,7 +8,8 @@ use crate::borrowed_expressions::BorrowedExpressions;
 use crate::owned_expressions::OwnedExpressions;
 use dw_stack::CheckedExpression;
 
-/// The checked expressions that rows lend: those that a section stores, or those that a table stores with their bytes.
+/// The checked expressions that the rules of a row refer to: borrowed from a checked section, or
+/// owned by a compiled table.
 #[derive(Clone, Copy, Debug)]
 pub enum LentExpressions<'f, 'a> {
     Borrowed(BorrowedExpressions<'f, 'a>),
@@ -18,7 +19,7 @@ pub enum LentExpressions<'f, 'a> {
 impl<'f, 'a> LentExpressions<'f, 'a> {
     ghost use Rattle.dw_rows.specs.LentExpressions.{lent_by};
 
-    /// The expressions of a section that has none.
+    /// No expressions.
     pub(crate) fn empty() -> Self
         ensures { lent_by result ≡ [] }
     {

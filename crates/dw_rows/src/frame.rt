@@ -1,4 +1,4 @@
-//! A checked section.
+//! A checked `.debug_frame` section: the check, and look-ups in it.
 
 ghost use Rattle.std.specs.Prelude.{◌≡◌, ◌+◌, ◌*◌, ◌<◌, ◌≤◌, ◌^◌, None, Some, Contains, length, map, option_map, IfOk, IfErr, IfSome, IfNone};
 ghost use Rattle.std.specs.Prelude.{find};
@@ -40,7 +40,8 @@ use dw_stack::CheckedExpression;
 use std::alloc::Global;
 use std::marker::Model;
 
-/// A section that was checked: each FDE has its CIE, each program is good, and no address is covered by two FDEs.
+/// A section that passed `check_frame`: each CIE_pointer is the offset of a CIE, each program
+/// passes its check, and no address is covered by two FDEs.
 ///
 /// ```rust
 /// let frame = check_frame(alloc, section, target)?;
@@ -62,14 +63,15 @@ pub struct CheckedFrame<'a> {
     target: Target,
     section: &'a [u8],
     cies: Vec<CommonInformationEntry<'a>>,
-    /// What the initial instructions of each CIE leave.
+    /// For each CIE: the rules that its initial instructions leave.
     initial: InitialRules,
     fdes: Vec<FrameDescriptionEntry<'a>>,
-    /// The FDEs that cover an address, in order of address.
+    /// The FDEs that cover at least one address, in order of address.
     index: Vec<IndexEntry>,
-    /// The expressions of programs, those of the CIEs first, each with the offset where it begins.
+    /// The checked expressions of all programs, each with the offset of its first byte in the
+    /// section. Those of the CIEs come first.
     expressions: Vec<(u32, CheckedExpression<'a>)>,
-    /// How many of them are the CIEs'.
+    /// How many of the expressions belong to CIEs.
     in_cies: usize,
 }
 
@@ -100,11 +102,11 @@ impl<'a> Model for CheckedFrame<'a> {
         }) c.initial c.index.items c.in_cies };
 }
 
-/// An FDE from a compiler has at least this many bytes. The list of FDEs gets room for one per this many bytes of the
-/// section at once, so that it need not be moved as it grows.
+/// FDEs that compilers write have at least this many bytes. So the list of FDEs gets its full
+/// capacity at once: one FDE for each `USUAL_FDE` bytes of the section.
 const USUAL_FDE: usize = 48;
 
-/// The records of a section, CIEs and FDEs in separate lists. One pass.
+/// Reads the records of a section in one pass, and returns its CIEs and its FDEs.
 fn records_of<'a>(
     alloc: Global,
     section: &'a [u8],
@@ -134,7 +136,7 @@ fn records_of<'a>(
     Ok((cies, fdes))
 }
 
-/// Checks that no address is covered by two FDEs.
+/// Checks that no address is covered by two FDEs. `index` has the FDEs in order of address.
 fn check_overlap(fdes: &[FrameDescriptionEntry<'_>], index: &[IndexEntry]) -> Result<(), Fault>
     requires fdes { Ascends fde_offset (map fde_of fdes.now) }
     requires index { IsAddressIndex (map fde_of fdes.now) index.now }
@@ -150,18 +152,19 @@ fn check_overlap(fdes: &[FrameDescriptionEntry<'_>], index: &[IndexEntry]) -> Re
     }
 }
 
-/// What is learned about the programs of a section.
+/// What the check of a section's programs returns.
 #[derive(Drop)]
 struct JudgedPrograms<'a> {
-    /// What the initial instructions of each CIE leave.
+    /// For each CIE: the rules that its initial instructions leave.
     initial: InitialRules,
-    /// The expressions, those of the CIEs first.
+    /// The checked expressions, each with the offset of its first byte. Those of the CIEs come
+    /// first.
     expressions: Vec<(u32, CheckedExpression<'a>)>,
-    /// How many of them are the CIEs'.
+    /// How many of the expressions belong to CIEs.
     in_cies: usize,
 }
 
-/// Judges what comes before the addresses: the CIE_pointers, and the programs.
+/// Checks the CIE_pointers first, then the programs of the CIEs, then those of the FDEs.
 fn check_programs<'a>(
     alloc: Global,
     cies: &[CommonInformationEntry<'a>],
@@ -188,7 +191,8 @@ fn check_programs<'a>(
     })
 }
 
-/// Judges the records part by part, in order. Returns what is learned about the programs, and the FDEs in order of address.
+/// Checks the CIE_pointers, then the programs, then that no address is covered twice. Returns what
+/// the programs' check returns, and the FDEs in order of address.
 #[tactic(auto, unfolding(crate::specs::Section::parts_fault))]
 fn check_parts<'a>(
     alloc: Global,
@@ -211,9 +215,12 @@ fn check_parts<'a>(
     Ok((programs, index))
 }
 
-/// Checks a section of fewer than 2^32 bytes: its records, the CIE_pointer of each FDE, the programs of the CIEs, those of
-/// the FDEs, and that no address is covered twice. The first fault in that order is the answer: those of `entries`; 9 at a CIE_pointer;
-/// those of `check_cie` and of `check_fde`; 23 at the first FDE that shares an address with one before it. Memory (60) is at 0.
+/// Checks a section of fewer than 2^32 bytes: its records, the CIE_pointer of each FDE, the
+/// programs of the CIEs, those of the FDEs, and that no address is covered twice.
+///
+/// A refusal is the first fault in that order: a fault of `entries`; `NoSuchCie` (9) at a
+/// CIE_pointer; a fault of `check_cie` or `check_fde`; `Overlap` (23) at the first FDE that shares
+/// an address with an FDE before it in the section. `Memory` (60) has offset 0.
 #[tactic(auto, unfolding(crate::specs::Section::section_fault))]
 pub fn check_frame<'a>(
     alloc: Global,
@@ -252,7 +259,7 @@ impl<'a> CheckedFrame<'a> {
         self.target
     }
 
-    /// The bytes of the section, which have no fault.
+    /// The bytes of the section. The section has no fault.
     pub fn section(&self) -> &'a [u8]
         ensures section { result.now ≡ self.now.section }
         ensures checked { IsChecked self.now }
@@ -260,7 +267,7 @@ impl<'a> CheckedFrame<'a> {
         self.section
     }
 
-    /// All CIEs, in the order of the section. Their programs are good.
+    /// All CIEs, in the order of the section. Each CIE's program has passed its check.
     pub fn cies(&self) -> &[CommonInformationEntry<'a>]
         ensures cies { map cie_of result.now ≡ self.now.cies }
         ensures good { (c : Cie) → Contains self.now.cies c → cie_fault c ≡ None }
@@ -268,7 +275,8 @@ impl<'a> CheckedFrame<'a> {
         self.cies.as_slice()
     }
 
-    /// All FDEs, in the order of the section. Their addresses are addresses of the target.
+    /// All FDEs, in the order of the section. No FDE covers an address past the target's highest
+    /// one.
     pub fn fdes(&self) -> &[FrameDescriptionEntry<'a>]
         ensures fdes { map fde_of result.now ≡ self.now.fdes }
         ensures fit { (f : Fde) → Contains self.now.fdes f
@@ -277,15 +285,17 @@ impl<'a> CheckedFrame<'a> {
         self.fdes.as_slice()
     }
 
-    /// All expressions of the programs, each with the offset in the section where it begins: those of the CIEs' first, then those
-    /// of the FDEs', each in the order of the section. Each is checked under its kind.
+    /// The checked expressions of all programs, each with the offset of its first byte in the
+    /// section. Those of the CIEs come first, then those of the FDEs, each in the order of the
+    /// section.
     pub fn expressions(&self) -> &[(u32, CheckedExpression<'a>)]
         ensures { all_located result.now ≡ self.now.expressions }
     {
         self.expressions.as_slice()
     }
 
-    /// The FDE that covers an address: the only one that does, found by binary search.
+    /// The FDE that covers an address, or none. No two FDEs cover one address. The FDE is found by
+    /// binary search.
     pub fn fde_for_address(&self, address: u64) -> Option<FrameDescriptionEntry<'a>>
         ensures only { IsCoverOf self.now.fdes address (option_map fde_of result) }
         ensures fit { IfSome result (λ fde. fde.initial_location + fde.address_range
@@ -294,7 +304,8 @@ impl<'a> CheckedFrame<'a> {
         covering(&self.fdes, &self.index, address)
     }
 
-    /// The CIE of one of the FDEs, found by binary search. Both have good programs.
+    /// The CIE of one of this section's FDEs, found by binary search. The programs of both have
+    /// passed their checks.
     pub fn cie_of(&self, fde: &FrameDescriptionEntry<'a>) -> CommonInformationEntry<'a>
         requires { Contains self.now.fdes (fde_of fde.now) }
         ensures cie { cie_in self.now (fde_of fde.now) ≡ Some (cie_of result) }
@@ -307,8 +318,9 @@ impl<'a> CheckedFrame<'a> {
         }
     }
 
-    /// The CIE of one of the FDEs, as `cie_of`. The rules that it leaves are stored in the state, as those that programs
-    /// begin with. It is looked for first at the index `near`, which becomes its index.
+    /// Returns the CIE of one of this section's FDEs, and stores in `state` the rules that the
+    /// CIE's program leaves: the FDE's program begins with them. The search tries the CIE at index
+    /// `near` and the next one first, and sets `near` to the index of the CIE.
     pub(crate) fn begin_with_cie(
         &self,
         state: &mut UnwindState,
@@ -327,7 +339,7 @@ impl<'a> CheckedFrame<'a> {
         }
     }
 
-    /// The FDEs that cover an address, in order of address.
+    /// The FDEs that cover at least one address, in order of address.
     pub(crate) fn index(&self) -> &[IndexEntry]
         ensures index { IsAddressIndex self.now.fdes result.now }
         ensures checked { IsChecked self.now }
@@ -335,15 +347,18 @@ impl<'a> CheckedFrame<'a> {
         self.index.as_slice()
     }
 
-    /// A table of the rows of all FDEs, for millions of look-ups. It borrows nothing, so the section may be dropped.
+    /// Compiles the rows of all FDEs into a table, for millions of look-ups. The table borrows
+    /// nothing, so the section may be dropped.
     ///
-    /// `room` is the number of bytes that its rows and their rules may take: the rows of a section of N bytes may take
-    /// 700 times N. `Ok(None)` means that they would take more, and nothing is kept. That never happens if `room` is
-    /// enough for all rows with no rules shared between them: 80 bytes for each row and 16 for each of its register
-    /// rules, 80 for each FDE, and 80 more. The contract says so, and that a table has at most one row for every 16 bytes
-    /// of `room`; that its rules fit too is tested, not proved.
+    /// `room` is the number of bytes that the table's rows and their rules may take. The rows of a
+    /// section of N bytes may take 700 times N. `Ok(None)` means that they would take more than
+    /// `room`; then nothing is stored. That never happens if `room` is enough for all rows with no
+    /// rules shared: 80 bytes for each row, 16 for each of its register rules, 80 for each FDE, and
+    /// 80 more. Proved: this, and that the table has at most one row for every 16 bytes of `room`.
+    /// That its rules fit in `room` as well is tested, not proved.
     ///
-    /// The only fault is `Memory`, at 0. It runs each program once, and takes time n log n at most for n rows.
+    /// The only fault is `Memory`, with offset 0. Each program is run once. For n rows it takes O(n
+    /// log n) time.
     pub fn compile(&self, alloc: Global, room: usize) -> Result<Option<UnwindTable>, Fault>
         ensures table { IfOk result (λ made. IfSome made (IsTableOf self.now)) }
         ensures room { IfOk result
@@ -358,7 +373,7 @@ impl<'a> CheckedFrame<'a> {
         }
     }
 
-    /// The expressions, as the section stores them.
+    /// The section's checked expressions, borrowed.
     pub(crate) fn borrowed(&self) -> BorrowedExpressions<'_, 'a>
         ensures { borrowed_by result ≡ self.now.expressions }
     {
@@ -366,15 +381,16 @@ impl<'a> CheckedFrame<'a> {
         BorrowedExpressions::new(cies, fdes)
     }
 
-    /// The expressions, as rows lend them.
+    /// The section's checked expressions, in the form that rows refer to.
     pub(crate) fn lent(&self) -> LentExpressions<'_, 'a>
         ensures { lent_by result ≡ self.now.expressions }
     {
         LentExpressions::Borrowed(self.borrowed())
     }
 
-    /// The rows of one of the FDEs, in the order of their addresses. Each call runs the FDE's program again as the rows
-    /// are requested, starting from the stored rules of its CIE, and takes no memory.
+    /// The rows of one of this section's FDEs, in order of address. The iterator runs the FDE's
+    /// program again, as the rows are requested, starting from the stored rules of its CIE. It
+    /// allocates no memory.
     #[inline(always)]
     pub fn rows(&self, fde: &FrameDescriptionEntry<'a>) -> Rows<'_, 'a>
         requires { Contains self.now.fdes (fde_of fde.now) }
@@ -383,7 +399,8 @@ impl<'a> CheckedFrame<'a> {
         Rows::of(self, fde)
     }
 
-    /// Replaces `rows` by the rows of one of the FDEs, as the method `rows` gives them. Returns the FDE's CIE, as `cie_of`.
+    /// Restarts `rows` at the first row of another of this section's FDEs, so that it gives what
+    /// the method `rows` would. Returns the FDE's CIE.
     pub fn rows_into<'f>(
         &'f self,
         fde: &FrameDescriptionEntry<'a>,
@@ -397,8 +414,9 @@ impl<'a> CheckedFrame<'a> {
         rows.restart_in(self, fde)
     }
 
-    /// The row of an address, or none if no FDE covers it. It takes no memory: the FDE is found by binary search, and its
-    /// program is run up to that row, starting from the stored rules of its CIE.
+    /// The row of an address, or none if no FDE covers the address. It allocates no memory. The FDE
+    /// is found by binary search, and its program is run up to that row, starting from the stored
+    /// rules of its CIE.
     pub fn row_for_address(&self, address: u64) -> Option<UnwindTableRow<'_, 'a>>
         ensures row { result ≡ row_of self.now address }
         ensures fit { IfSome result (λ row. (row.start ≤ top_of self.now.target)
@@ -409,8 +427,9 @@ impl<'a> CheckedFrame<'a> {
         Some(row)
     }
 
-    /// Overwrites `row` with the row of an address, and returns the FDE that covers the address and its CIE. If no FDE
-    /// does, it returns none, and `row` is unchanged. One binary search finds the FDE, and one its CIE.
+    /// Overwrites `row` with the row of an address, and returns the CIE and the FDE that covers the
+    /// address. If no FDE covers the address, the result is none, and `row` is unchanged. The FDE
+    /// and the CIE are each found by one binary search.
     pub fn row_for_address_into<'f>(
         &'f self,
         address: u64,
@@ -430,8 +449,9 @@ impl<'a> CheckedFrame<'a> {
         Some((cie, fde))
     }
 
-    /// Overwrites `row` with the row of an address that an FDE covers, and returns the FDE's CIE. It isn't inlined: room
-    /// for a state is then made once, and only if an FDE is found.
+    /// Overwrites `row` with the row of `address`, which `fde` must cover, and returns the FDE's
+    /// CIE. It isn't inlined, since an `UnwindState` is large: this way its stack memory is taken
+    /// only once an FDE is found.
     #[inline(never)]
     fn write_row_of<'f>(
         &'f self,

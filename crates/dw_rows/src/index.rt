@@ -1,4 +1,4 @@
-//! FDEs in order of address.
+//! An index of FDEs in order of address: overlaps, and the FDE of an address.
 
 ghost use Rattle.std.specs.Prelude.{◌≡◌, ◌+◌, ◌*◌, ◌<◌, ◌≤◌, length, map, All, MatchBool, MatchOption, IfOk, filter, nat_lt, option_map};
 ghost use Rattle.dw_frame.specs.Views.{fde_of};
@@ -12,14 +12,15 @@ ghost use Rattle.dw_rows.specs.declared.index.IndexEntry.{IndexEntry};
 use dw_frame::FrameDescriptionEntry;
 use std::alloc::{AllocError, Global};
 
-/// Where an FDE begins in the address space, and its index among all FDEs. Each entry that a search looks at takes 16 bytes.
+/// Where an FDE begins in the address space, and its index among all FDEs. The entry has a copy of
+/// the FDE's start (16 bytes in all), so that a search doesn't read the FDEs.
 #[derive(Clone, Copy)]
 pub struct IndexEntry {
     pub start: u64,
     pub place: usize,
 }
 
-/// The entries of the FDEs that cover at least one address.
+/// The index entries of the FDEs that cover at least one address, in the order of the section.
 fn covering_some(
     alloc: Global,
     fdes: &[FrameDescriptionEntry<'_>],
@@ -38,7 +39,8 @@ fn covering_some(
     Ok(index)
 }
 
-/// The FDEs that cover at least one address, in order of address: n log n for n FDEs.
+/// The index of the FDEs that cover at least one address, in order of address. It takes O(n log n)
+/// time for n FDEs.
 pub fn index_of(
     alloc: Global,
     fdes: &[FrameDescriptionEntry<'_>],
@@ -51,7 +53,8 @@ pub fn index_of(
     Ok(index)
 }
 
-/// Whether two of the FDEs up to an offset share an address. One pass over FDEs in order of address.
+/// Whether two FDEs with offsets up to `last` share an address. It is one pass over the FDEs in
+/// order of address.
 fn overlaps(fdes: &[FrameDescriptionEntry<'_>], index: &[IndexEntry], last: u32) -> bool
     requires { IsAddressIndex (map fde_of fdes.now) index.now }
     ensures { MatchBool result (ClashWithin (map (fde_at (map fde_of fdes.now)) index.now) last)
@@ -70,8 +73,9 @@ fn overlaps(fdes: &[FrameDescriptionEntry<'_>], index: &[IndexEntry], last: u32)
     false
 }
 
-/// The first FDE in order of offset that shares an address with one before it. Once there is an overlap up to an offset,
-/// there is one up to every later offset: so a binary search finds the first, in n log n for n FDEs.
+/// The first FDE, in order of offset, that shares an address with an FDE before it. If FDEs up to
+/// one offset overlap, so do the FDEs up to any later offset. So a binary search finds the first
+/// such FDE, in O(n log n) time for n FDEs.
 pub fn first_overlap<'a>(
     fdes: &[FrameDescriptionEntry<'a>],
     index: &[IndexEntry],
@@ -98,8 +102,9 @@ pub fn first_overlap<'a>(
     Some(fdes[high])
 }
 
-/// How far to go on from an entry towards the last one that begins at or below an address: none, one, two or three
-/// quarters. It sums and doesn't branch: a binary search with branches would wait for a wrong guess at every other step.
+/// One step of the search for the last entry that begins at or below `address`: how far to move on
+/// from `low`, by zero, one, two or three times `quarter`. It adds comparison results instead of
+/// branching, since a branch would be mispredicted at every other step.
 #[inline(always)]
 fn stride(index: &[IndexEntry], low: usize, quarter: usize, address: u64) -> usize
     requires sorted { IsNonDecreasingBy (λ (e : IndexEntry). e.start) index.now }
@@ -112,7 +117,7 @@ fn stride(index: &[IndexEntry], low: usize, quarter: usize, address: u64) -> usi
     (first + second + third) * quarter
 }
 
-/// How many entries begin at or below an address, in log n steps for n entries.
+/// How many entries begin at or below `address`, in O(log n) steps for n entries.
 fn count_up_to(index: &[IndexEntry], address: u64) -> usize
     requires { IsNonDecreasingBy (λ (e : IndexEntry). e.start) index.now }
     ensures { IsCountUpTo index.now address result }
@@ -131,7 +136,7 @@ fn count_up_to(index: &[IndexEntry], address: u64) -> usize
     low
 }
 
-/// The FDE that covers an address, found among FDEs in order of address.
+/// The FDE that covers `address`, or none, by binary search in the index.
 pub fn covering<'a>(
     fdes: &[FrameDescriptionEntry<'a>],
     index: &[IndexEntry],

@@ -1,4 +1,5 @@
-//! What the initial instructions of CIEs leave.
+//! A list of rule sets that shares one array of entries. It holds what the initial instructions of
+//! CIEs leave.
 
 ghost use Rattle.std.specs.Prelude.{◌≡◌, ◌<◌, ◌≤◌, [], ◌∷◌, ◌++◌, length, Some, slice_get, MatchResult};
 ghost use Rattle.std.specs.Bool.{OnTrue};
@@ -12,7 +13,7 @@ use crate::rule_set::RuleSet;
 use std::alloc::{AllocError, Global};
 use std::marker::Model;
 
-/// Where the rules of one CIE are in the list of all, and the rule of its CFA.
+/// Where the register rules of one rule set are in the shared array of entries, and its CFA rule.
 #[derive(Clone, Copy)]
 pub struct RuleSpan {
     pub cfa: Option<KeptCfa>,
@@ -20,8 +21,9 @@ pub struct RuleSpan {
     pub end: usize,
 }
 
-/// The rules that the initial instructions of CIEs leave (DWARF 5, section 6.4.1), of one CIE after another. All are in
-/// one list, so that each CIE needs no memory request of its own, and only the room of the rules that it has.
+/// A list of rule sets. In a checked section they are the rules that the initial instructions of
+/// each CIE leave (DWARF 5, section 6.4.1), in the order of the CIEs. All register rules are in one
+/// array, so that a CIE needs no allocation of its own and takes only the room of its rules.
 #[derive(Drop)]
 pub struct InitialRules {
     entries: Vec<RuleEntry>,
@@ -42,7 +44,7 @@ impl Model for InitialRules {
 }
 
 impl InitialRules {
-    /// The rules of no CIE yet.
+    /// An empty list.
     pub fn new(alloc: Global) -> Self
         ensures { result ≡ [] }
     {
@@ -52,7 +54,7 @@ impl InitialRules {
         }
     }
 
-    /// Adds the rules that one more CIE leaves. If memory is refused, the stored rules stay.
+    /// Appends a rule set. If memory can't be allocated, the list is unchanged.
     pub fn push(&mut self, rules: &RuleSet) -> Result<(), AllocError>
         ensures { MatchResult result (λ _. self.new ≡ self.old ++ rules.now ∷ [])
             (λ _. self.new ≡ self.old) }
@@ -71,7 +73,7 @@ impl InitialRules {
         Ok(())
     }
 
-    /// The same rules, in memory of just their size.
+    /// Moves the list into memory of exactly its size.
     pub fn cut(&mut self, alloc: Global) -> Result<(), AllocError>
         ensures { self.new ≡ self.old }
     {
@@ -82,7 +84,8 @@ impl InitialRules {
         Ok(())
     }
 
-    /// Copies the rules that the CIE at an index leaves. Its cost grows with the number of rules that there are.
+    /// Copies the rule set at index `place` to `rules`. The cost is proportional to the number of
+    /// its register rules.
     pub fn copy_to(&self, place: usize, rules: &mut RuleSet)
         requires { place < length self.now }
         ensures { slice_get self.now place ≡ Some rules.new }
@@ -91,14 +94,15 @@ impl InitialRules {
         rules.assign(span.cfa, &self.entries[span.start..span.end]);
     }
 
-    /// How many there are.
+    /// How many rule sets there are.
     pub fn count(&self) -> usize
         ensures { result ≡ length self.now }
     {
         self.spans.len()
     }
 
-    /// Lends the rules at an index: that of the CFA, and the entries of the others.
+    /// Borrows the rule set at index `place`: the CFA's rule, and the entries of the register
+    /// rules.
     #[inline(always)]
     pub fn lend(&self, place: usize) -> (Option<KeptCfa>, &[RuleEntry])
         requires { place < length self.now }
@@ -113,7 +117,7 @@ impl InitialRules {
         (span.cfa, &self.entries[span.start..span.end])
     }
 
-    /// Whether the rules at an index are these.
+    /// Whether the rule set at index `place` equals `rules`.
     pub fn are_at(&self, place: usize, rules: &RuleSet) -> bool
         requires { place < length self.now }
         ensures { OnTrue result (slice_get self.now place ≡ Some rules.now) }
@@ -123,7 +127,7 @@ impl InitialRules {
     }
 }
 
-/// Whether both are the same rule of the CFA.
+/// Whether both CFA rules are the same, or both are missing.
 fn same_cfa(one: Option<KeptCfa>, other: Option<KeptCfa>) -> bool
     ensures { OnTrue result (one ≡ other) }
 {
@@ -151,7 +155,7 @@ fn same_kind(one: RuleKind, other: RuleKind) -> bool
     one == other
 }
 
-/// Whether both are the same entry.
+/// Whether both entries are the same.
 #[inline(always)]
 fn same_entry(one: &RuleEntry, other: &RuleEntry) -> bool
     ensures { OnTrue result (one.now ≡ other.now) }
@@ -162,7 +166,7 @@ fn same_entry(one: &RuleEntry, other: &RuleEntry) -> bool
         && one.number == other.number
 }
 
-/// Whether both are the same entries.
+/// Whether both slices have the same entries.
 fn same_entries(entries: &[RuleEntry], others: &[RuleEntry]) -> bool
     ensures { OnTrue result (entries.now ≡ others.now) }
 {

@@ -1,4 +1,4 @@
-//! The expressions of programs, judged in place.
+//! The expressions of programs, which are checked as the programs are read.
 
 ghost use Rattle.std.specs.Prelude.{◌≡◌, [], ◌∷◌, ◌++◌, Some, OnOk};
 ghost use Rattle.dw_bytes.specs.Answers.{Answers};
@@ -12,8 +12,8 @@ use dw_stack::{CheckedExpression, Kind, check_expression};
 use std::alloc::Global;
 use std::marker::Model;
 
-/// The expressions that were judged and are good, in the order of judging, each with the offset in the section where it
-/// begins.
+/// The expressions that have passed their check, in the order in which they were checked. Each has
+/// the offset of its first byte in the section.
 #[derive(Drop)]
 pub struct JudgedExpressions<'a> {
     alloc: Global,
@@ -33,7 +33,7 @@ impl<'a> JudgedExpressions<'a> {
     ghost use Rattle.std.specs.Prelude.{length};
     ghost use Rattle.dw_stack.specs.Located.{all_located};
 
-    /// None yet.
+    /// An empty list.
     pub fn new(alloc: Global) -> Self
         ensures { result ≡ [] }
     {
@@ -43,21 +43,21 @@ impl<'a> JudgedExpressions<'a> {
         }
     }
 
-    /// How many there are.
+    /// How many expressions there are.
     pub fn count(&self) -> usize
         ensures { result ≡ length self.now }
     {
         self.kept.len()
     }
 
-    /// All of them.
+    /// Returns all expressions.
     pub fn into_kept(self) -> Vec<(u32, CheckedExpression<'a>)>
         ensures { all_located result.items ≡ self.entry }
     {
         self.kept
     }
 
-    /// Judges the expression of an instruction, if it has one, and stores it.
+    /// Checks the expression of an instruction, if it has one, and stores it.
     #[inline(always)]
     pub fn judge(&mut self, instruction: &CallFrameInstruction<'a>) -> Result<(), Fault>
         ensures answer { Answers (located_fault (expression_in (instruction_of instruction.now)))
@@ -79,7 +79,8 @@ impl<'a> JudgedExpressions<'a> {
         }
     }
 
-    /// Judges an expression under its kind, and stores it.
+    /// Checks an expression as an expression of kind `kind`, and stores it. A fault has its offset
+    /// in the section.
     fn judge_as(&mut self, kind: Kind, found: UnwindExpression<'a>) -> Result<(), Fault>
         ensures answer { Answers
             (located_fault (Some (located_as kind (expression_of found.entry)))) result }

@@ -1,32 +1,35 @@
-//! Rules as programs give them and states store them: an expression is named by its offset in the section.
+//! Rules as they are stored. They name an expression by its offset in the section.
 
-/// What a register of the caller is (DWARF 5, section 6.4.1). An offset counts from the CFA.
+/// How to find the caller's value of a register (DWARF 5, section 6.4.1). Offsets count from the
+/// CFA.
 #[derive(Clone, Copy)]
 pub enum KeptRule {
-    /// No rule is in force: no instruction has set one, or a restore has brought back what the CIE's program left, which
-    /// was no rule. It means undefined, unless an ABI says more.
+    /// No rule is in force. Either no instruction has set one, or a restore went back to what the
+    /// CIE's program left, which was no rule. The register is undefined unless an ABI says
+    /// otherwise.
     Default,
-    /// It isn't available.
+    /// The caller's value can't be recovered.
     Undefined,
-    /// It is the register's present value.
+    /// The register still has the caller's value.
     SameValue,
-    /// It is saved at that offset.
+    /// The caller's value is saved in memory, at the CFA plus this offset.
     Offset(i64),
-    /// It is the CFA plus that offset.
+    /// The caller's value is the CFA plus this offset.
     ValOffset(i64),
-    /// It is the value of that register.
+    /// The caller's value is in the register with this number.
     Register(u16),
-    /// It is saved at the address that the expression at that offset of the section evaluates to.
+    /// The caller's value is saved in memory, at the address that the expression at this offset of
+    /// the section evaluates to.
     Expression(u32),
-    /// It is what the expression at that offset of the section evaluates to.
+    /// The caller's value is what the expression at this offset of the section evaluates to.
     ValExpression(u32),
 }
 
 /// How the CFA is found (DWARF 5, section 6.4.1).
 #[derive(Clone, Copy, Debug)]
 pub enum KeptCfa {
-    /// It is the value of a register plus an offset.
+    /// The CFA is the value of `register` plus `offset`.
     RegisterAndOffset { register: u16, offset: i64 },
-    /// It is what the expression at that offset of the section evaluates to.
+    /// The CFA is what the expression at this offset of the section evaluates to.
     Expression(u32),
 }

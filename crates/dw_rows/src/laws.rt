@@ -1,4 +1,5 @@
-//! What the definitions say, in the standard's words: functions that do nothing. The contract of each is a law.
+//! Laws: what the definitions in `specs/` imply, in the standard's words. Each law is the contract
+//! of a function that does nothing.
 
 ghost use Rattle.std.specs.Prelude.{◌≡◌, ◌⊎◌, false, ℕ, ◌+◌, ◌<◌, ◌≤◌, ◌↔◌, List, length, Option, Some, None, slice_get, filter, [], ◌∷◌};
 ghost use Rattle.std.specs.Prelude.{Err, All, Contains, IfSome, map, ◌++◌};
@@ -32,8 +33,9 @@ ghost use Rattle.dw_rows.specs.declared.abi.TheConstants.{MAX_KEPT};
 ghost use Rattle.dw_rows.specs.declared.map.TheConstants.{MAX_RULES};
 ghost use Rattle.dw_rows.specs.declared.remember_stack.TheConstants.{MAX_REMEMBERED};
 
-/// The rules after each instruction are those that the instruction gives, and after a restore_state those before its
-/// match. No others are.
+/// After each instruction the rules are those that the instruction gives. After a restore_state
+/// they are those before the matching remember_state. If each restore_state has a match, no other
+/// rules meet these conditions.
 pub fn rules_by_instruction()
     ensures meet { (s : Start) (program : List Effect)
         → AreRules s program (rule_after s program) (cfa_after s program) }
@@ -45,15 +47,17 @@ pub fn rules_by_instruction()
         × (cfa k ≡ cfa_after s program k) }
 {}
 
-/// A CIE's program has no fault exactly if it is good, and likewise an FDE's after a good CIE's.
+/// A CIE's program has no fault if and only if it meets the conditions of `IsGoodCieProgram`. If
+/// the CIE's program has no fault, the same holds for an FDE's program and `IsGoodFdeProgram`.
 pub fn good_programs_have_no_fault()
     ensures cie { (cie : Cie) → (cie_fault cie ≡ None) ↔ IsGoodCieProgram cie }
     ensures fde { (cie : Cie) (fde : Fde) → cie_fault cie ≡ None
         → (fde_fault cie fde ≡ None) ↔ IsGoodFdeProgram cie fde }
 {}
 
-/// If no instruction before it was refused, an instruction with an expression is refused by none of the tests that come
-/// before its expression's. So its expression can be judged first.
+/// If an instruction has an expression, and no instruction before it was refused, then none of the
+/// tests that come before the check of its expression refuses it. So its expression can be checked
+/// first.
 pub fn expressions_are_judged_in_their_place()
     ensures behind { (s : Start) (before : List Effect) (cie : Cie) (i : Instruction)
         (e : LocatedExpression) → expression_in i ≡ Some e → location_of s before ≤ s.end
@@ -63,15 +67,17 @@ pub fn expressions_are_judged_in_their_place()
         → expression_in i ≡ Some e → is_barred (effect_of cie i) ≡ false }
 {}
 
-/// The rows of an FDE whose program is good are the rows of the addresses that it covers: each has the rules after the
-/// longest prefix of the program whose location is no higher, and all covered addresses with that prefix.
+/// If an FDE's program is good, its rows are those of the addresses that the FDE covers. For a
+/// covered address, take the longest prefix of the program whose location is at most the address:
+/// the row has the rules after that prefix, and consists of all covered addresses with the same
+/// prefix.
 pub fn rows_are_those_of_addresses()
     ensures { (cie : Cie) (fde : Fde) → (good : IsGoodFdeProgram cie fde)
         → AreRowsOf cie fde good (rows_of cie fde) }
 {}
 
-/// The rows of an FDE whose program is good follow each other without gaps and cover what it covers, and each covered
-/// address has one.
+/// If an FDE's program is good, its rows follow each other without gaps, and together cover exactly
+/// what the FDE covers. Each covered address is in exactly one row.
 pub fn rows_cover()
     ensures cover { (cie : Cie) (fde : Fde) → fde_fault cie fde ≡ None
         → Cover fde.initial_location (rows_of cie fde) (fde.initial_location + fde.address_range) }
@@ -82,7 +88,8 @@ pub fn rows_cover()
         → Cover from rows to → Cover from (map (given_row es) rows) to }
 {}
 
-/// A list of rules by ascending registers and the function that it stands for agree.
+/// A list of rules in ascending order of registers, and the function from registers to rules that
+/// it represents, can be converted into each other without loss.
 pub fn rule_lists_are_rules()
     ensures list { (entries : List (ℕ × PlacedRule)) → IsTable 0 entries
         → rule_list (rule_in entries) ≡ entries }
@@ -91,8 +98,9 @@ pub fn rule_lists_are_rules()
     ensures table { (rules : ℕ → PlacedRule) → IsTable 0 (rule_list rules) }
 {}
 
-/// The rules under an ABI are by ascending registers, and are those that the row gives, or else the ABI: each that is
-/// listed, and each register's. Under an ABI that says nothing a row has its own rules.
+/// The rules of a row under an ABI are a list in ascending order of registers. Each entry of the
+/// list, and the list's rule for each register, is the row's rule, or else the ABI's. Under an ABI
+/// that says nothing, a row has its own rules.
 pub fn rules_under_abis()
     ensures each { (abi : Abi) (rules : List (ℕ × Rule))
         → All (λ entry. entry.1 ≡ rule_under abi rules entry.0) (rules_under abi rules) }
@@ -102,8 +110,9 @@ pub fn rules_under_abis()
     ensures none { (rules : List (ℕ × Rule)) → IsTable 0 rules → rules_under no_abi rules ≡ rules }
 {}
 
-/// Numbers named for an ABI have no fault exactly if they can be one. A number that is refused because it occurs twice is
-/// the first that occurred before.
+/// The register numbers given for an ABI have no fault if and only if there are at most `MAX_KEPT`
+/// callee-saved ones, and no number occurs twice. If a number is refused because it occurs twice,
+/// it is the first one that has occurred before.
 pub fn abis_without_fault_are_distinct()
     ensures good { (registers : List ℕ) (pointer : Option ℕ)
         → (abi_fault registers pointer ≡ None) ↔ CanBeAbi registers pointer }
@@ -112,15 +121,17 @@ pub fn abis_without_fault_are_distinct()
         → StandsAgain (registers ++ option_to_list pointer) place }
 {}
 
-/// A section has no fault exactly if it is well formed: a concatenation of records whose CIE_pointers point to CIEs, with
-/// good programs, and no address covered by two FDEs.
+/// A section has no fault if and only if it is well formed: it is a sequence of records without
+/// gaps, each CIE_pointer is the offset of a CIE, all programs are good, and no address is covered
+/// by two FDEs.
 pub fn frame_sections_without_fault_are_well_formed()
     ensures { (target : Target) (section : List ℕ)
         → (section_fault target section ≡ None) ↔ IsWellFormed target section }
 {}
 
-/// In a section that is accepted each address that an FDE covers has exactly one row, the standard's: one FDE covers it,
-/// one of that FDE's rows has it, and a look-up returns that row. Any other address has none.
+/// In an accepted section, each address that an FDE covers has exactly one row, the standard's: one
+/// FDE covers the address, one of that FDE's rows has it, and a look-up returns that row. Any other
+/// address has no row.
 pub fn exact_rows()
     ensures covered { (s : FrameSection) (a : ℕ) → IsChecked s → (f : Fde) → Contains s.fdes f
         → Covers f a → HasOneRow s a }
@@ -128,8 +139,9 @@ pub fn exact_rows()
         → row_of s a ≡ None }
 {}
 
-/// What an accepted section holds: good programs that lie in it and are of its target, in order of offset, and good
-/// expressions, which also lie in it and are of its target, no two of them beginning at one offset.
+/// What an accepted section has: programs that are good, lie inside the section and have its
+/// target, in order of offset; and expressions that are good, lie inside the section and have its
+/// target. No two expressions begin at the same offset.
 pub fn checked_frame_sections()
     ensures well_formed { (s : FrameSection) → IsChecked s → IsWellFormed s.target s.section }
     ensures cies { (s : FrameSection) → IsChecked s → (c : Cie) → Contains s.cies c
@@ -147,8 +159,9 @@ pub fn checked_frame_sections()
         → Contains s.expressions d → Contains s.expressions e → d.offset ≡ e.offset → d ≡ e }
 {}
 
-/// In a section that is accepted each expression of a row is one of the section's, has the kind of its rule, and is good: in the
-/// rows of each FDE, and so in the row of each address. It is read under the section's target.
+/// In an accepted section, each expression in a row is one of the section's, is good, and has the
+/// kind that its rule needs. This holds for the rows of each FDE, and so for the row of each
+/// address. The expression has the section's target.
 pub fn rows_have_good_expressions()
     ensures rows { (s : FrameSection) → IsChecked s → (f : Fde) → Contains s.fdes f → (row : Row)
         → Contains (rows_in s f) row → HasGoodExpressions s.expressions row }
@@ -158,7 +171,8 @@ pub fn rows_have_good_expressions()
         → row_of s a ≡ Some row → IsRowUnder s.target row }
 {}
 
-/// A table of a section that is accepted has rows with addresses of the section's target, and two such tables find the same.
+/// The rows in a table of an accepted section have only addresses of the section's target. Two
+/// tables of the same section return the same row for each address.
 pub fn tables_of_sections()
     ensures fit { (s : FrameSection) (t : RowTable) → IsChecked s → IsTableOf s t → (a : ℕ)
         → IfSome (row_at t a) (λ found. ((found.0).start ≤ top_of s.target)
@@ -167,7 +181,7 @@ pub fn tables_of_sections()
         → row_at t a ≡ row_at u a }
 {}
 
-/// Each restore_state has at most one match, and so has each remember_state.
+/// Each remember_state has at most one matching restore_state, and the other way around.
 pub fn matches_are_unique()
     ensures restore { (program : List Effect) (i j k : ℕ) → Match program i j → Match program i k
         → j ≡ k }
@@ -175,15 +189,16 @@ pub fn matches_are_unique()
         → i ≡ k }
 {}
 
-/// The limits: how many registers of a row may have a rule other than default, how many callee-saved registers an ABI may
-/// have, and how many rows may be remembered at once.
+/// The limits: how many registers in a row may have a rule other than default, how many
+/// callee-saved registers an ABI may have, and how many remember_states may be open at once.
 pub fn row_limits()
     ensures rules { MAX_RULES ≡ 128 }
     ensures kept { MAX_KEPT ≡ 127 }
     ensures remembered { MAX_REMEMBERED ≡ 16 }
 {}
 
-/// Each fault of a program is inside it or at its end, and the same holds for a section and for an ABI's numbers.
+/// The offset of each fault of a program is inside the program or at its end. Likewise for a
+/// section; and for an ABI, the index of a fault is among the numbers or just after them.
 pub fn frame_faults_stand_inside()
     ensures cie { (cie : Cie) (fault : Fault) → cie_fault cie ≡ Some fault
         → StandsIn cie.program (Err fault) }

@@ -1,4 +1,5 @@
-//! The rows of a checked `.debug_frame` section (DWARF 5, section 6.4).
+//! Checks `.debug_frame` sections, and finds the rows of their unwind tables (DWARF 5, section
+//! 6.4).
 #![tactic(auto)]
 
 mod abi;

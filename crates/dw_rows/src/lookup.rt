@@ -1,4 +1,4 @@
-//! The row of an address, by an FDE whose program is good.
+//! The row of an address, found by running the program of the FDE that covers it.
 
 ghost use Rattle.std.specs.Prelude.{◌≡◌, ◌+◌, ◌<◌, ◌≤◌, List, ◌∷◌, Some, find, map};
 ghost use Rattle.std.specs.Bool.{OnTrue, OnFalse};
@@ -17,8 +17,8 @@ use crate::row_cursor::{Next, begin_rows_at, next_plain};
 use crate::unwind_state::UnwindState;
 use dw_frame::{CommonInformationEntry, FrameDescriptionEntry, Instructions};
 
-/// Overwrites `row` with the row that has an address. The FDE covers the address, and the state holds the rules that the
-/// CIE's program leaves.
+/// Overwrites `row` with the row of `address`. `fde` must cover the address, and `state` must have
+/// the rules that the CIE's program leaves.
 pub(crate) fn write_row_at<'f, 'a>(
     state: &mut UnwindState,
     cie: &CommonInformationEntry<'a>,
@@ -64,9 +64,10 @@ pub(crate) fn write_row_at<'f, 'a>(
     }
 }
 
-/// Searches one remember/restore pair, from after the remember_state. True if the row was found and written; else the
-/// cursor is after the matching restore_state, with the rules restored. Only here are rules remembered, those of one
-/// pair; nested pairs recurse.
+/// Searches one remember/restore pair, starting just after its remember_state. The result is `true`
+/// if the row was found and written. Otherwise `instructions` is just past the matching
+/// restore_state, and the rules from before the pair are in force again. Each call remembers the
+/// rules of one pair, and calls itself for a nested pair.
 #[inline(never)]
 fn write_row_in_bracket<'f, 'a>(
     state: &mut UnwindState,

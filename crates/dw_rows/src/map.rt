@@ -1,4 +1,4 @@
-//! The rules of a row, by register.
+//! The register rules of a row, in order of register.
 
 ghost use Rattle.std.specs.Prelude.{◌≡◌, ◌≢◌, ℕ, ◌+◌, ◌<◌, ◌≤◌, ◌==◌, [], List, ◌-◌, length, take, slice_get, insert, remove, slice_range, ◌∷◌, ◌++◌, MatchResult};
 ghost use Rattle.std.specs.List.{remove_range};
@@ -13,10 +13,10 @@ use dw_bytes::FaultKind;
 use std::fmt;
 use std::marker::Model;
 
-/// At most this many registers of a row have a rule other than `Default`.
+/// At most this many registers in a row may have a rule other than `Default`.
 pub const MAX_RULES: usize = 128;
 
-/// What kind of rule a register has.
+/// The kind of a register's rule, without its operand.
 #[derive(Clone, Copy, Debug, PartialEq)]
 pub enum RuleKind {
     Default,
@@ -29,8 +29,10 @@ pub enum RuleKind {
     ValExpression,
 }
 
-/// A register and its rule, in 16 bytes: an offset and a number are there whatever the kind. The number is the other register, or
-/// the offset in the section where the expression begins. Fields lie in this order, the widest first, so that none is padded.
+/// A register and its rule, in 16 bytes. `offset` is the operand of the kinds `Offset` and
+/// `ValOffset`. `number` is the other register for the kind `Register`, and the expression's offset
+/// in the section for `Expression` and `ValExpression`. The widest fields come first, so that there
+/// is no padding.
 #[derive(Clone, Copy, Debug)]
 pub struct RuleEntry {
     pub offset: i64,
@@ -52,7 +54,7 @@ impl Default for RuleEntry {
     }
 }
 
-/// An entry with this rule.
+/// The entry of a register with this rule.
 #[inline(always)]
 fn entry_with_rule(register: u16, rule: KeptRule) -> RuleEntry
     ensures { entry_of result ≡ (register, kept_rule_of rule) }
@@ -92,8 +94,8 @@ pub fn rule_of_entry(entry: &RuleEntry) -> KeptRule
     }
 }
 
-/// At most `MAX_RULES` entries, in their order. What lies past the last one is left as it was, so that a row that is written over
-/// another costs one write of each of its entries.
+/// A list of at most `MAX_RULES` entries. Array elements past `count` keep their old contents, so
+/// that replacing a row's rules writes only the new entries.
 #[derive(Drop)]
 struct EntryTable {
     entries: [RuleEntry; MAX_RULES],
@@ -114,7 +116,7 @@ impl Model for EntryTable {
 }
 
 impl EntryTable {
-    /// No entry.
+    /// An empty table.
     #[inline(always)]
     fn new() -> Self
         ensures { result.items ≡ [] }
@@ -134,7 +136,7 @@ impl EntryTable {
         self.count
     }
 
-    /// Whether there is no room left.
+    /// Whether the table has `MAX_RULES` entries.
     #[inline(always)]
     fn is_full(&self) -> bool
         ensures value { result ≡ (length self.now.items == MAX_RULES) }
@@ -152,7 +154,7 @@ impl EntryTable {
         &self.entries[..self.count]
     }
 
-    /// Drops all entries.
+    /// Removes all entries, in O(1) time.
     #[inline(always)]
     fn clear(&mut self)
         ensures { self.new.items ≡ [] }
@@ -160,7 +162,7 @@ impl EntryTable {
         self.count = 0;
     }
 
-    /// Takes on these entries. Its cost is theirs.
+    /// Replaces all entries by the entries of a slice. It copies only these.
     #[inline(always)]
     fn assign(&mut self, entries: &[RuleEntry])
         requires { length entries.now ≤ MAX_RULES }
@@ -171,7 +173,8 @@ impl EntryTable {
         self.count = count;
     }
 
-    /// Puts an entry at a place, and moves the later ones up. There must be room.
+    /// Inserts an entry at index `place`, and moves the later entries up. The table must not be
+    /// full.
     #[inline(always)]
     fn insert(&mut self, place: usize, entry: RuleEntry)
         requires in_bounds { place ≤ length self.old.items }
@@ -184,7 +187,7 @@ impl EntryTable {
         self.count = count + 1;
     }
 
-    /// Removes the entry at a place, and moves the later ones down.
+    /// Removes the entry at index `place`, and moves the later entries down.
     #[inline(never)]
     fn remove(&mut self, place: usize)
         requires { place < length self.old.items }
@@ -203,7 +206,8 @@ impl fmt::Debug for EntryTable {
     }
 }
 
-/// Puts an entry at a place, and moves the later ones up, over the last one.
+/// Inserts an entry at index `place`, and moves the later entries up. The last entry is
+/// overwritten.
 #[inline(always)]
 fn insert_into(entries: &mut [RuleEntry], place: usize, entry: RuleEntry)
     requires { place < length entries.old }
@@ -217,7 +221,7 @@ fn insert_into(entries: &mut [RuleEntry], place: usize, entry: RuleEntry)
     }
 }
 
-/// Moves the entries from `start` up to `end` after the others.
+/// Moves the entries from `start` up to `end` to the end of the slice.
 fn move_to_end(entries: &mut [RuleEntry], start: usize, end: usize)
     requires order { start ≤ end }
     requires in_bounds { end ≤ length entries.old }
@@ -226,7 +230,7 @@ fn move_to_end(entries: &mut [RuleEntry], start: usize, end: usize)
     entries[start..].rotate_left(end - start);
 }
 
-/// The rules other than `Default`, by ascending registers.
+/// The register rules of a row, other than `Default`, in ascending order of registers.
 #[derive(Debug, Drop)]
 pub struct RegisterRuleMap {
     entries: EntryTable,
@@ -246,7 +250,7 @@ impl Model for RegisterRuleMap {
 }
 
 impl RegisterRuleMap {
-    /// No rule but `Default`.
+    /// A map in which each register has the rule `Default`.
     #[inline(always)]
     pub fn new() -> Self
         ensures { result ≡ [] }
@@ -256,7 +260,7 @@ impl RegisterRuleMap {
         }
     }
 
-    /// The rule of a register.
+    /// The rule of a register, `Default` if it has no entry.
     #[inline(always)]
     pub fn register(&self, number: u16) -> KeptRule
         ensures { kept_rule_of result ≡ rule_in self.now number }
@@ -264,7 +268,7 @@ impl RegisterRuleMap {
         rule_of_register(self.entries.as_slice(), number)
     }
 
-    /// The same rules again. Its cost is that of the rules that are there.
+    /// A copy. It writes a whole new table, and then the rules.
     pub fn copy(&self) -> Self
         ensures { result ≡ self.now }
     {
@@ -273,21 +277,21 @@ impl RegisterRuleMap {
         RegisterRuleMap { entries }
     }
 
-    /// Drops all rules but `Default`.
+    /// Gives each register the rule `Default`.
     pub fn clear(&mut self)
         ensures { self.new ≡ [] }
     {
         self.entries.clear();
     }
 
-    /// Takes on other rules. Its cost is that of the rules that are there and of those that come.
+    /// Replaces all rules by those of `other`. It copies only these.
     pub fn copy_from(&mut self, other: &RegisterRuleMap)
         ensures { self.new ≡ other.now }
     {
         self.entries.assign(other.entries.as_slice());
     }
 
-    /// Takes on the rules of some entries. Its cost is that of the rules that are there and of those that come.
+    /// Replaces all rules by those of `entries`. It copies only these.
     pub fn assign(&mut self, entries: &[RuleEntry])
         requires few { length entries.now ≤ MAX_RULES }
         requires table { IsTable 0 (entries_of entries.now) }
@@ -296,7 +300,7 @@ impl RegisterRuleMap {
         self.entries.assign(entries);
     }
 
-    /// The entries of the rules other than `Default`, by ascending registers.
+    /// The entries, in ascending order of registers. None has the rule `Default`.
     pub fn as_slice(&self) -> &[RuleEntry]
         ensures entries { entries_of result.now ≡ self.now }
         ensures few { length result.now ≤ MAX_RULES }
@@ -305,7 +309,8 @@ impl RegisterRuleMap {
         self.entries.as_slice()
     }
 
-    /// Gives a register a rule. It is refused where there would be too many rules.
+    /// Gives a register a rule, or refuses it with `TooManyRules` if more than `MAX_RULES`
+    /// registers would then have a rule.
     #[inline(always)]
     pub fn set(&mut self, number: u16, rule: KeptRule) -> Result<(), FaultKind>
         ensures { MatchResult result
@@ -322,7 +327,7 @@ impl RegisterRuleMap {
     }
 }
 
-/// The rule of a register.
+/// The rule of a register, `Default` if it has no entry. The search is linear.
 #[inline(always)]
 pub fn rule_of_register(entries: &[RuleEntry], register: u16) -> KeptRule
     ensures { kept_rule_of result ≡ rule_in (entries_of entries.now) register }
@@ -335,7 +340,8 @@ pub fn rule_of_register(entries: &[RuleEntry], register: u16) -> KeptRule
     KeptRule::Default
 }
 
-/// How many entries are below the register.
+/// The index at which the register's entry is or would be inserted: how many entries have a lower
+/// register.
 #[inline(always)]
 fn place_of_register(entries: &[RuleEntry], register: u16) -> usize
     ensures value { result ≡ place_in register (entries_of entries.now) }
@@ -349,7 +355,8 @@ fn place_of_register(entries: &[RuleEntry], register: u16) -> usize
     entries.len()
 }
 
-/// Gives the register the rule `Default`, and answers how many entries are below it.
+/// Gives the register the rule `Default`, by removing its entry. Returns the index at which its
+/// entry would be inserted.
 #[inline(always)]
 fn clear_rule(table: &mut EntryTable, register: u16) -> usize
     requires { IsTable 0 (entries_of table.old.items) }
@@ -366,7 +373,8 @@ fn clear_rule(table: &mut EntryTable, register: u16) -> usize
     place
 }
 
-/// Gives the register the rule. Only where there is no room for it, it answers `false`.
+/// Gives the register the rule, and returns `true`. If the table is full and the register has no
+/// entry in it, the result is `false`, and nothing changes.
 #[inline(always)]
 fn put_rule(table: &mut EntryTable, register: u16, rule: KeptRule) -> bool
     requires { IsTable 0 (entries_of table.old.items) }

@@ -1,4 +1,4 @@
-//! Checked expressions that are stored with their bytes.
+//! Checked expressions, stored together with a copy of their bytes.
 
 ghost use Rattle.std.specs.Prelude.{◌≡◌, ◌++◌, ◌∷◌, [], IfOk, None, Some, MatchOption};
 ghost use Rattle.dw_frame.specs.Bounds.{Ascends};
@@ -14,12 +14,12 @@ use dw_stack::{CheckedExpression, Kind};
 use std::alloc::{AllocError, Global};
 use std::marker::Model;
 
-/// What is stored of an expression: where it was in its section, where its bytes are now, and what was learned about it.
+/// A checked expression, except for its bytes: those are in the array of an `ExpressionList`.
 #[derive(Clone, Copy, Debug)]
 pub struct OwnedExpression {
-    /// The offset of its first byte in the section.
+    /// The offset in the section at which the expression begins.
     pub offset: u32,
-    /// Where its bytes begin among those of all expressions.
+    /// The index of its first byte in the array that has the bytes of all expressions.
     pub start: u32,
     pub length: u32,
     /// The number of its operations.
@@ -29,10 +29,10 @@ pub struct OwnedExpression {
     pub target: Target,
 }
 
-/// Expressions with their bytes. Its model is the list of them.
+/// Checked expressions with a copy of their bytes. The model is the list of the expressions.
 #[derive(Debug, Drop)]
 pub struct ExpressionList {
-    /// The bytes of one expression after another.
+    /// The bytes of all expressions, one after another.
     bytes: Vec<u8>,
     kept: Vec<OwnedExpression>,
 }
@@ -51,7 +51,7 @@ impl Model for ExpressionList {
 }
 
 impl ExpressionList {
-    /// No expressions yet.
+    /// An empty list.
     pub fn new(alloc: Global) -> Self
         ensures { result ≡ [] }
     {
@@ -61,7 +61,7 @@ impl ExpressionList {
         }
     }
 
-    /// Adds one, with a copy of its bytes.
+    /// Appends an expression, and copies its bytes.
     pub fn push(&mut self, offset: u32, checked: &CheckedExpression<'_>) -> Result<(), AllocError>
         ensures { IfOk result (λ _. self.new ≡ self.old ++ located_of (offset, checked.now) ∷ []) }
     {
@@ -109,7 +109,7 @@ impl ExpressionList {
     }
 }
 
-/// The same expressions, with bytes of their own.
+/// Copies expressions together with their bytes.
 fn list_of(
     alloc: Global,
     expressions: &[(u32, CheckedExpression<'_>)],
@@ -123,8 +123,8 @@ fn list_of(
     Ok(list)
 }
 
-/// The checked expressions of a section, with bytes of their own. Its model is the list of them: those of CIEs, and then
-/// those of FDEs, each in order of offset.
+/// The checked expressions of a section with a copy of their bytes. The model is the list of the
+/// expressions: first those of the CIEs, then those of the FDEs, each in order of offset.
 #[derive(Debug, Drop)]
 pub struct OwnedExpressions {
     cies: ExpressionList,
@@ -146,7 +146,7 @@ impl Model for OwnedExpressions {
 }
 
 impl OwnedExpressions {
-    /// The same as the borrowed ones, with copies of their bytes.
+    /// Copies borrowed expressions together with their bytes.
     pub fn of(alloc: Global, borrowed: &BorrowedExpressions<'_, '_>) -> Result<Self, AllocError>
         ensures { IfOk result (λ owned. owned ≡ borrowed_by borrowed.now) }
     {
@@ -155,7 +155,8 @@ impl OwnedExpressions {
         Ok(OwnedExpressions { cies, fdes })
     }
 
-    /// The expression that began at an offset of the section, by binary search: first among those of CIEs, which are few.
+    /// The expression that began at an offset of the section. It searches the CIEs' expressions
+    /// first, since there are few of them. Both searches are binary.
     pub fn at(&self, offset: u32) -> Option<CheckedExpression<'_>>
         ensures { MatchOption result (expression_at self.now offset ≡ None)
             (λ checked. expression_at self.now offset ≡ Some (located_of (offset, checked))) }

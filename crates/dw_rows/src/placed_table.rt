@@ -1,4 +1,4 @@
-//! Rows in order of address, whose rules name their expressions by offset.
+//! All rows of a section in order of address. Their rules name expressions by offset.
 
 ghost use Rattle.std.specs.Prelude.{◌≡◌, ◌+◌, ◌*◌, ◌≤◌, Contains, IfOk, IfErr, All, find, length};
 ghost use Rattle.std.specs.Option.{option_map};
@@ -22,20 +22,21 @@ use dw_frame::FrameDescriptionEntry;
 use std::alloc::Global;
 use std::marker::Model;
 
-/// How many bytes a row takes at most, with its share of what leads to it.
+/// How many bytes of the room an entry is charged, besides those of its rule set. An entry takes no
+/// more than this, its share of the block counts included.
 pub const ROW_ROOM: usize = 16;
 
-/// A table that grows.
+/// A compiled table while it is being filled.
 #[derive(Drop)]
 pub struct GrowingTable {
     pub entries: TableEntries,
     pub numbers: RuleNumbers,
-    /// Where the last row ends.
+    /// The address after the last row so far.
     pub end: u64,
 }
 
 impl GrowingTable {
-    /// Adds one entry.
+    /// Appends an entry: from `start` on, these rules hold, with this return address register.
     fn push(&mut self, start: u64, rules: &RuleSet, register: u16) -> Result<(), Unmade>
         ensures pushed { IfOk result (λ _. IsPushed self.old.entries self.old.numbers.sets start
             (record { rules = rules.now; register = register })
@@ -53,7 +54,7 @@ impl GrowingTable {
         Ok(())
     }
 
-    /// Notes that no row is there from where the last row ends.
+    /// Appends an entry without rules at `end`: no row covers the addresses from there on.
     fn close(&mut self) -> Result<(), Unmade>
         ensures closed { IfOk result (λ _. IsClosedAt self.old.end self.old.entries
             self.old.numbers.sets self.new.entries self.new.numbers.sets) }
@@ -70,7 +71,8 @@ impl GrowingTable {
         Ok(())
     }
 
-    /// Prepares for a row that begins at an address. If the last one ends before that, no row is there in between.
+    /// Prepares for a row that begins at `start`. If the last row ends before that, the gap gets an
+    /// entry without rules.
     fn begin_at(&mut self, start: u64) -> Result<(), Unmade>
         ensures begun { IfOk result (λ _. IsBegunAt self.old.end start self.old.entries
             self.old.numbers.sets self.new.entries self.new.numbers.sets) }
@@ -87,7 +89,8 @@ impl GrowingTable {
     }
 }
 
-/// Adds the rows of one more FDE, which begins at or above where those so far end.
+/// Appends the rows of one more FDE. It must not begin below `table.end`, where the rows so far
+/// end.
 fn fill(
     frame: &CheckedFrame<'_>,
     fde: &FrameDescriptionEntry<'_>,
@@ -121,7 +124,7 @@ fn fill(
     Ok(())
 }
 
-/// The rows of all FDEs, in order of address.
+/// Fills a table with the rows of all FDEs, in order of address.
 fn fill_all(alloc: Global, frame: &CheckedFrame<'_>, room: usize) -> Result<GrowingTable, Unmade>
     ensures entries { IfOk result (λ table. AreEntries table.entries table.numbers.sets) }
     ensures rows { IfOk result (λ table. ArePlacedRows frame.now
@@ -151,8 +154,8 @@ fn fill_all(alloc: Global, frame: &CheckedFrame<'_>, room: usize) -> Result<Grow
     Ok(table)
 }
 
-/// Rows in order of address, each with its register. Its model is the list of them. An expression is named by its offset
-/// in the section.
+/// All rows of a section in order of address, each with its return address register. The model is
+/// the list of rows. Rules name an expression by its offset in the section.
 #[derive(Drop)]
 pub struct PlacedTable {
     entries: TableEntries,
@@ -173,7 +176,8 @@ impl Model for PlacedTable {
 }
 
 impl PlacedTable {
-    /// The rows of a checked section, in `room` bytes at most, not counting what growing takes for a while.
+    /// Compiles the rows of a checked section into at most `room` bytes. What the arrays take on
+    /// top while they grow isn't counted.
     pub fn of(frame: &CheckedFrame<'_>, alloc: Global, room: usize) -> Result<Self, Unmade>
         ensures rows { IfOk result (ArePlacedRows frame.now) }
         ensures room { IfOk result (λ rows. 16 * length rows ≤ room) }
@@ -190,7 +194,8 @@ impl PlacedTable {
         })
     }
 
-    /// The row of an address, with its register, or none. Its rules and expressions are lent.
+    /// The row of an address and its return address register, or none. The row's rules and
+    /// expressions are borrowed.
     #[inline(always)]
     pub fn find<'t, 'a>(
         &'t self,

@@ -1,4 +1,4 @@
-//! Rows that are remembered.
+//! The stack of remember_state and restore_state: rules that are remembered.
 
 ghost use Rattle.std.specs.Prelude.{◌≡◌, ◌<◌, [], ◌∷◌, length, Some};
 ghost use Rattle.std.specs.Bool.{OnTrue, OnFalse};
@@ -6,11 +6,11 @@ ghost use Rattle.std.specs.Bool.{OnTrue, OnFalse};
 use crate::rule_set::RuleSet;
 use std::marker::Model;
 
-/// At most this many rows are remembered at a time.
+/// At most this many remember_states may be open at a time.
 pub const MAX_REMEMBERED: usize = 16;
 
-/// The rules of rows that are remembered, the last first. Rules take their room when they are remembered,
-/// and not before.
+/// The rules that remember_state has saved. The model lists them with the last one first. A slot is
+/// filled in only when rules are first pushed to it.
 #[derive(Drop)]
 pub struct RememberStack {
     rows: [Option<RuleSet>; MAX_REMEMBERED],
@@ -31,7 +31,7 @@ impl Model for RememberStack {
 }
 
 impl RememberStack {
-    /// None yet.
+    /// An empty stack.
     #[inline(always)]
     pub fn new() -> Self
         ensures { result ≡ [] }
@@ -42,21 +42,22 @@ impl RememberStack {
         }
     }
 
-    /// How many there are.
+    /// How many rule sets are remembered.
     pub fn depth(&self) -> usize
         ensures { result ≡ length self.now }
     {
         self.depth
     }
 
-    /// Forgets all.
+    /// Removes all remembered rules.
     pub fn clear(&mut self)
         ensures { self.new ≡ [] }
     {
         self.depth = 0;
     }
 
-    /// Remembers one more. There must be room. A slot that had rules before is used again.
+    /// Pushes a copy of `rules`. The stack must not be full. A slot that was used before is
+    /// overwritten.
     pub fn push(&mut self, rules: &RuleSet)
         requires { length self.old < MAX_REMEMBERED }
         ensures { self.new ≡ rules.now ∷ self.old }
@@ -65,8 +66,8 @@ impl RememberStack {
         self.depth += 1;
     }
 
-    /// Takes on the rules that were remembered last, and forgets them there. Only where there are none
-    /// it answers `false`.
+    /// Pops the rules that were remembered last into `rules`, and returns `true`. If there are
+    /// none, it returns `false`.
     pub fn pop(&mut self, rules: &mut RuleSet) -> bool
         ensures some { OnTrue result (self.old ≡ rules.new ∷ self.new) }
         ensures none { OnFalse result (self.old ≡ []) }
@@ -83,7 +84,7 @@ impl RememberStack {
     }
 }
 
-/// Writes rules into a slot. Where it had some before, it isn't made anew.
+/// Writes rules into a slot. If the slot had rules before, only the new rules are copied.
 #[inline(always)]
 fn write_into(place: &mut Option<RuleSet>, rules: &RuleSet)
     ensures { place.new ≡ Some rules.now }

@@ -1,4 +1,4 @@
-//! The room that a table may take.
+//! The number of bytes that a table may take.
 
 ghost use Rattle.std.specs.Prelude.{◌≡◌, ◌+◌, IfOk, IfErr};
 ghost use Rattle.dw_rows.specs.declared.room.Unmade.TheVariants.{Memory};
@@ -6,12 +6,12 @@ ghost use Rattle.dw_rows.specs.CompiledTable.{LacksRoom};
 
 use std::alloc::{AllocError, AllocFailed};
 
-/// Why a table isn't made.
+/// Why a table wasn't made.
 #[derive(Clone, Copy, Debug, PartialEq, Eq)]
 pub(crate) enum Unmade {
-    /// Memory ran out.
+    /// Memory couldn't be allocated.
     Memory,
-    /// It takes more room than it may.
+    /// The table would take more bytes than it may.
     Room,
 }
 
@@ -31,7 +31,7 @@ impl<T: Drop> From<AllocFailed<T>> for Unmade {
     }
 }
 
-/// The room that is left after some is taken.
+/// How many of `room` bytes are left once `taken` more are used.
 pub(crate) fn less_room(room: usize, taken: usize) -> Result<usize, Unmade>
     ensures left { IfOk result (λ left. left + taken ≡ room) }
     ensures short { IfErr result (λ why. LacksRoom why room taken) }

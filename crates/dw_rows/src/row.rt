@@ -1,4 +1,4 @@
-//! Rows and their rules.
+//! A row of the unwind table, and the rules of its CFA and its registers.
 
 ghost use Rattle.std.specs.Prelude.{◌≡◌, ◌≤◌, ◌+◌, Some, All, [], length, pos, MatchOption};
 ghost use Rattle.dw_rows.specs.Abi.{or_rule, rule_under, rules_under};
@@ -22,34 +22,38 @@ use std::cmp::Ordering;
 use std::iter::FusedIterator;
 use std::marker::Model;
 
-/// What a register of the caller is (DWARF 5, section 6.4.1). An offset counts from the CFA.
+/// How to find the caller's value of a register (DWARF 5, section 6.4.1). Offsets count from the
+/// CFA.
 #[derive(Clone, Copy, Debug)]
 pub enum RegisterRule<'a> {
-    /// No rule is in force: no instruction has set one, or a restore has given back what the CIE's program left, which was no rule.
-    /// It means undefined, unless an ABI says more.
+    /// No rule is in force. Either no instruction has set one, or a restore went back to what the
+    /// CIE's program left, which was no rule. The register is undefined unless an ABI says
+    /// otherwise.
     Default,
-    /// It isn't available.
+    /// The caller's value can't be recovered.
     Undefined,
-    /// It is the register's present content.
+    /// The register still has the caller's value.
     SameValue,
-    /// It is saved at that offset.
+    /// The caller's value is saved in memory, at the CFA plus this offset.
     Offset(i64),
-    /// It is the CFA plus that offset.
+    /// The caller's value is the CFA plus this offset.
     ValOffset(i64),
-    /// It is the content of that register.
+    /// The caller's value is in the register with this number.
     Register(u16),
-    /// It is saved at the address that an expression gives, which begins with the CFA on its stack.
+    /// The caller's value is saved in memory, at the address that the expression evaluates to.
+    /// Evaluation starts with the CFA on the stack.
     Expression {
-        /// Where the expression begins in the section.
+        /// The offset of the expression's first byte in the section.
         offset: u32,
-        /// It is checked as a `FrameRegister`.
+        /// The expression, checked as a `FrameRegister`.
         expression: CheckedExpression<'a>,
     },
-    /// It is what an expression gives, which begins with the CFA on its stack.
+    /// The caller's value is what the expression evaluates to. Evaluation starts with the CFA on
+    /// the stack.
     ValExpression {
-        /// Where the expression begins in the section.
+        /// The offset of the expression's first byte in the section.
         offset: u32,
-        /// It is checked as a `FrameRegister`.
+        /// The expression, checked as a `FrameRegister`.
         expression: CheckedExpression<'a>,
     },
 }
@@ -57,21 +61,22 @@ pub enum RegisterRule<'a> {
 /// How the CFA is found (DWARF 5, section 6.4.1).
 #[derive(Clone, Copy, Debug)]
 pub enum CfaRule<'a> {
-    /// It is the content of a register plus an offset.
+    /// The CFA is the value of `register` plus `offset`.
     RegisterAndOffset {
         register: u16,
         offset: i64,
     },
-    /// It is what an expression gives, which begins with nothing on its stack.
+    /// The CFA is what the expression evaluates to. Evaluation starts with an empty stack.
     Expression {
-        /// Where the expression begins in the section.
+        /// The offset of the expression's first byte in the section.
         offset: u32,
-        /// It is checked as a `FrameCfa`.
+        /// The expression, checked as a `FrameCfa`.
         expression: CheckedExpression<'a>,
     },
 }
 
-/// The rule of a register, with the expression that it names.
+/// Turns a stored register rule into a public one: an expression's offset is replaced by the
+/// expression itself.
 #[inline(always)]
 pub(crate) fn given_rule<'a>(
     rule: KeptRule,
@@ -98,7 +103,8 @@ pub(crate) fn given_rule<'a>(
     }
 }
 
-/// The rule of the CFA, likewise.
+/// Turns a stored CFA rule into a public one: an expression's offset is replaced by the expression
+/// itself.
 #[inline(always)]
 pub(crate) fn given_cfa<'a>(cfa: KeptCfa, expressions: &LentExpressions<'_, 'a>) -> CfaRule<'a>
     requires { LendsCfa (lent_by expressions.now) (kept_cfa_of cfa) }
@@ -115,7 +121,7 @@ pub(crate) fn given_cfa<'a>(cfa: KeptCfa, expressions: &LentExpressions<'_, 'a>)
     }
 }
 
-/// The expression that a rule names, by binary search.
+/// Finds the expression at `offset`, which a rule names, by binary search.
 #[inline(never)]
 fn given_expression<'a>(offset: u32, expressions: &LentExpressions<'_, 'a>) -> CheckedExpression<'a>
     requires { (e : LocatedExpression) × (expression_at (lent_by expressions.now) offset ≡ Some e) }
@@ -127,8 +133,9 @@ fn given_expression<'a>(offset: u32, expressions: &LentExpressions<'_, 'a>) -> C
     }
 }
 
-/// The addresses from a start to before an end, and the rules that hold there. `'f` is the loan of the checked section, `'a` that of
-/// the section's bytes: the expression of a rule lives as long as these.
+/// A row of the unwind table: the addresses from `start` up to but not including `end`, and the
+/// rules that hold there. `'f` is the borrow of the checked section and `'a` that of the section's
+/// bytes. Expressions in its rules live for `'a`.
 #[derive(Debug, Drop)]
 pub struct UnwindTableRow<'f, 'a> {
     start: u64,
@@ -160,7 +167,7 @@ impl<'f, 'a> Model for UnwindTableRow<'f, 'a> {
 }
 
 impl<'f, 'a> UnwindTableRow<'f, 'a> {
-    /// A row of no address, as a buffer for others: `Rows::next_into` writes a row into it.
+    /// A row without addresses. It serves as a buffer: `Rows::next_into` overwrites it with a row.
     #[inline(always)]
     pub fn empty() -> Self
         ensures { result ≡ record {
@@ -182,7 +189,8 @@ impl<'f, 'a> UnwindTableRow<'f, 'a> {
         }
     }
 
-    /// Becomes the row of these addresses with these rules, which name the expressions that are lent.
+    /// Overwrites the row with these addresses and rules. Each offset in the rules is that of an
+    /// expression in `expressions`.
     pub(crate) fn set(
         &mut self,
         start: u64,
@@ -207,7 +215,7 @@ impl<'f, 'a> UnwindTableRow<'f, 'a> {
         self.expressions = expressions;
     }
 
-    /// The same row, lent.
+    /// The same row, borrowed.
     #[inline(always)]
     pub fn lend(&self) -> UnwindRow<'_, 'a>
         ensures { result ≡ self.now }
@@ -222,21 +230,21 @@ impl<'f, 'a> UnwindTableRow<'f, 'a> {
         )
     }
 
-    /// The first address that it covers.
+    /// The first address that the row covers.
     pub fn start_address(&self) -> u64
         ensures { result ≡ self.now.start }
     {
         self.start
     }
 
-    /// The address after the last one that it covers.
+    /// The address after the last one that the row covers.
     pub fn end_address(&self) -> u64
         ensures { result ≡ self.now.end }
     {
         self.end
     }
 
-    /// How the CFA is found. An expression is lent, as it was checked.
+    /// How the CFA is found. An expression in the rule is borrowed, and needs no second check.
     #[inline(always)]
     pub fn cfa(&self) -> CfaRule<'a>
         ensures cfa { self.now.cfa ≡ Some (cfa_rule_of result) }
@@ -245,7 +253,8 @@ impl<'f, 'a> UnwindTableRow<'f, 'a> {
         self.lend().cfa()
     }
 
-    /// The rule of a register: `Default` where none is in force. An expression is lent, as it was checked.
+    /// The rule of a register, or `Default` if none is in force. An expression in the rule is
+    /// borrowed, and needs no second check.
     #[inline(always)]
     pub fn register(&self, number: u16) -> RegisterRule<'a>
         ensures rule { rule_of result ≡ rule_in self.now.rules number }
@@ -254,7 +263,8 @@ impl<'f, 'a> UnwindTableRow<'f, 'a> {
         self.lend().register(number)
     }
 
-    /// The rules other than `Default`, each with its register, in ascending order of registers: at most `MAX_RULES`.
+    /// The rules other than `Default` as pairs of register and rule, in ascending order of
+    /// registers. There are at most `MAX_RULES`.
     pub fn rules(&self) -> RegisterRules<'_, 'a>
         ensures rules { result ≡ self.now.rules }
         ensures ascending { IsTable 0 self.now.rules }
@@ -264,7 +274,8 @@ impl<'f, 'a> UnwindTableRow<'f, 'a> {
         self.lend().rules()
     }
 
-    /// The rule of a register under an ABI, which is used if the row gives it none: `Undefined` if the ABI gives none either.
+    /// The rule of a register under an ABI. If the row has no rule for the register, the ABI's rule
+    /// is used; if the ABI has none either, the result is `Undefined`.
     #[inline(always)]
     pub fn register_with(&self, abi: &Abi, number: u16) -> RegisterRule<'a>
         ensures rule { rule_of result
@@ -274,8 +285,8 @@ impl<'f, 'a> UnwindTableRow<'f, 'a> {
         self.lend().register_with(abi, number)
     }
 
-    /// The rules under an ABI, which is used where the row gives none, each with its register, in ascending order of
-    /// registers: at most twice `MAX_RULES`.
+    /// The row's rules, and the ABI's rules for registers to which the row gives none: pairs of
+    /// register and rule, in ascending order of registers. There are at most twice `MAX_RULES`.
     #[inline(always)]
     pub fn rules_with<'r>(&'r self, abi: &'r Abi) -> RegisterRules<'r, 'a>
         ensures rules { result ≡ rules_under (roles_of abi.now) self.now.rules }
@@ -288,7 +299,8 @@ impl<'f, 'a> UnwindTableRow<'f, 'a> {
     }
 }
 
-/// Rules that are still to come, each with its register: those of entries, and of others for registers that have none there.
+/// An iterator over register rules, as pairs of register and rule in ascending order of registers.
+/// A rule in `others` counts only if `entries` has none for the same register.
 #[derive(Debug, Drop)]
 pub struct RegisterRules<'f, 'a> {
     pub(crate) entries: &'f [RuleEntry],
@@ -317,7 +329,8 @@ impl<'f, 'a> Model for RegisterRules<'f, 'a> {
         × LendsEach (lent_by r.expressions) (entries_of r.others.now) };
 }
 
-/// The entry of the lowest register, and what is left of both tables. Where both have the register, the entry is the first's.
+/// The entry of the lowest register, and what remains of both tables after it. If both have that
+/// register, the entry is the one in `entries`, and the one in `others` is skipped.
 #[inline(always)]
 fn lowest<'f>(
     entries: &'f [RuleEntry],

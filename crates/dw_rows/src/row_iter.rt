@@ -1,4 +1,4 @@
-//! The iterator over the rows of a program.
+//! The iterator over the rows of an FDE.
 
 ghost use Rattle.std.specs.Prelude.{◌≡◌, None};
 ghost use Rattle.dw_frame.specs.Views.{cie_of, fde_of};
@@ -15,12 +15,12 @@ use dw_frame::{CommonInformationEntry, FrameDescriptionEntry, Instructions};
 use std::iter::FusedIterator;
 use std::marker::Model;
 
-/// The rows of an FDE that are still to come, in the order of their addresses. It runs the program
-/// again, and takes no memory. `'f` is the loan of the checked section, `'a` that of its bytes.
+/// An iterator over the rows of an FDE, in order of address. It runs the FDE's program again, and
+/// allocates no memory. `'f` is the borrow of the checked section and `'a` that of its bytes.
 #[derive(Drop)]
 pub struct Rows<'f, 'a> {
     cie: CommonInformationEntry<'a>,
-    /// About where the CIE is among those of the section.
+    /// Where to begin the search for the next FDE's CIE: the index of this CIE.
     near: usize,
     fde: FrameDescriptionEntry<'a>,
     context: UnwindContext,
@@ -77,7 +77,7 @@ impl<'f, 'a> Rows<'f, 'a> {
         }
     }
 
-    /// Restarts in place with the rows of an FDE of a checked section, and gives its CIE.
+    /// Restarts at the first row of another FDE of a checked section, and returns that FDE's CIE.
     pub(crate) fn restart_in(
         &mut self,
         frame: &'f CheckedFrame<'a>,
@@ -97,8 +97,9 @@ impl<'f, 'a> Rows<'f, 'a> {
         cie
     }
 
-    /// Overwrites `row` with the next row, if there is one, and returns whether there was. Only the rules that are there
-    /// are copied, so one row serves for many.
+    /// Overwrites `row` with the next row, and returns `true`. If there is none, it returns
+    /// `false`, and `row` is unchanged. Only rules that exist are copied, so reusing one `row` is
+    /// cheap.
     #[inline(always)]
     pub fn next_into(&mut self, row: &mut UnwindTableRow<'f, 'a>) -> bool
         ensures some { OnTrue result (self.old ≡ row.new ∷ self.new) }

@@ -1,11 +1,11 @@
-//! The rules of a row together.
+//! The rules of a row: that of the CFA, and those of registers.
 
 use crate::kept_rule::{KeptCfa, KeptRule};
 use crate::map::{MAX_RULES, RegisterRuleMap, RuleEntry};
 use dw_bytes::FaultKind;
 use std::marker::Model;
 
-/// The rules of a row.
+/// The rules of a row: that of the CFA, if it has one, and those of registers.
 #[derive(Drop)]
 pub struct RuleSet {
     cfa: Option<KeptCfa>,
@@ -30,7 +30,7 @@ impl RuleSet {
     ghost use Rattle.dw_rows.specs.Views.{kept_rule_of, kept_cfa_of, entries_of};
     ghost use Rattle.dw_rows.specs.ProgramState.{Sets};
 
-    /// No rules.
+    /// No rules: the CFA has none, and each register has `Default`.
     #[inline(always)]
     pub fn new() -> Self
         ensures { result ≡ record { cfa = None; rules = [] } }
@@ -41,7 +41,7 @@ impl RuleSet {
         }
     }
 
-    /// The same rules again.
+    /// A copy.
     pub fn copy(&self) -> Self
         ensures { result ≡ self.now }
     {
@@ -51,7 +51,7 @@ impl RuleSet {
         }
     }
 
-    /// Drops all rules.
+    /// Removes the CFA's rule, and gives each register `Default`.
     pub fn clear(&mut self)
         ensures { self.new ≡ record { cfa = None; rules = [] } }
     {
@@ -59,7 +59,7 @@ impl RuleSet {
         self.rules.clear();
     }
 
-    /// Takes on other rules.
+    /// Replaces all rules by those of `other`.
     pub fn copy_from(&mut self, other: &RuleSet)
         ensures { self.new ≡ other.now }
     {
@@ -67,7 +67,7 @@ impl RuleSet {
         self.rules.copy_from(&other.rules);
     }
 
-    /// Takes on a rule of the CFA, and the rules of some entries.
+    /// Replaces the CFA's rule by `cfa`, and the register rules by those of `entries`.
     pub fn assign(&mut self, cfa: Option<KeptCfa>, entries: &[RuleEntry])
         requires few { length entries.now ≤ MAX_RULES }
         requires table { IsTable 0 (entries_of entries.now) }
@@ -80,7 +80,7 @@ impl RuleSet {
         self.rules.assign(entries);
     }
 
-    /// The CFA's rule.
+    /// The CFA's rule, if it has one.
     #[inline(always)]
     pub fn cfa(&self) -> Option<KeptCfa>
         ensures { self.now.cfa ≡ option_map kept_cfa_of result }
@@ -104,7 +104,7 @@ impl RuleSet {
         &self.rules
     }
 
-    /// The rule of a register.
+    /// The rule of a register, `Default` if none is in force.
     #[inline(always)]
     pub fn register(&self, number: u16) -> KeptRule
         ensures { kept_rule_of result ≡ rule_in self.now.rules number }
@@ -112,7 +112,8 @@ impl RuleSet {
         self.rules.register(number)
     }
 
-    /// Gives a register a rule.
+    /// Gives a register a rule, or refuses it with `TooManyRules` if too many registers would then
+    /// have a rule.
     #[inline(always)]
     pub fn set(&mut self, register: u16, rule: KeptRule) -> Result<(), FaultKind>
         ensures { Sets self.old register (kept_rule_of rule) result self.new }

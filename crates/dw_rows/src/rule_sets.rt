@@ -1,4 +1,4 @@
-//! Rules of rows with the registers that name return addresses.
+//! A list of rule sets, each with its return address register.
 
 ghost use Rattle.std.specs.Prelude.{◌≡◌, ◌<◌, ◌≤◌, [], ◌∷◌, ◌++◌, IfOk, length, Some, slice_get};
 ghost use Rattle.std.specs.Bool.{OnTrue};
@@ -13,7 +13,8 @@ use crate::rule_set::RuleSet;
 use std::alloc::{AllocError, Global};
 use std::marker::Model;
 
-/// Rules of rows, each with the return address register that the CIE names.
+/// A list of rule sets, each with the return address register that the CIE names. Rows of a table
+/// refer to them by index.
 #[derive(Drop)]
 pub struct RuleSets {
     rules: InitialRules,
@@ -32,7 +33,7 @@ impl Model for RuleSets {
 }
 
 impl RuleSets {
-    /// No rules yet.
+    /// An empty list.
     pub fn new(alloc: Global) -> Self
         ensures { result ≡ [] }
     {
@@ -42,7 +43,8 @@ impl RuleSets {
         }
     }
 
-    /// Adds one.
+    /// Appends a rule set with its return address register. If memory can't be allocated, the list
+    /// is unchanged.
     pub fn push(&mut self, rules: &RuleSet, register: u16) -> Result<(), AllocError>
         ensures { IfOk result (λ _. self.new
             ≡ self.old ++ record { rules = rules.now; register = register } ∷ []) }
@@ -57,7 +59,7 @@ impl RuleSets {
         }
     }
 
-    /// The same rules, in memory of just their size.
+    /// Moves the list into memory of exactly its size.
     pub fn cut(&mut self, alloc: Global) -> Result<(), AllocError>
         ensures { self.new ≡ self.old }
     {
@@ -67,14 +69,15 @@ impl RuleSets {
         Ok(())
     }
 
-    /// How many there are.
+    /// How many rule sets there are.
     pub fn count(&self) -> usize
         ensures { result ≡ length self.now }
     {
         self.registers.len()
     }
 
-    /// Lends the rules at an index: that of the CFA, the entries of the others, and the register.
+    /// Borrows the rule set at index `place`: the CFA's rule, the entries of the register rules,
+    /// and the return address register.
     #[inline(always)]
     pub fn lend(&self, place: usize) -> (Option<KeptCfa>, &[RuleEntry], u16)
         requires { place < length self.now }
@@ -92,7 +95,7 @@ impl RuleSets {
         (cfa, entries, self.registers[place])
     }
 
-    /// Whether the rules at an index are these.
+    /// Whether the element at index `place` has these rules and this return address register.
     pub fn are_at(&self, place: usize, rules: &RuleSet, register: u16) -> bool
         requires { place < length self.now }
         ensures { OnTrue result (slice_get self.now place

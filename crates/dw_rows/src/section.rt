@@ -1,4 +1,4 @@
-//! The judgement of a section's records, part by part.
+//! The checks of a section's CIE_pointers, of its CIEs' programs, and of its FDEs' programs.
 
 ghost use Rattle.std.specs.Prelude.{◌≡◌, ◌<◌, ◌++◌, None, Some, option_map, map, length, slice_get, MatchOption, IfSome, IfOk, OnOk};
 ghost use Rattle.dw_bytes.specs.Answers.{Judges, Answers};
@@ -20,7 +20,7 @@ use dw_bytes::{Fault, FaultKind};
 use dw_frame::{CommonInformationEntry, FrameDescriptionEntry};
 use std::alloc::Global;
 
-/// The index of the CIE that begins at an offset, by binary search among the CIEs in order of offset.
+/// The index of the CIE that begins at `offset`, by binary search. The CIEs are in order of offset.
 fn place_of_cie(cies: &[CommonInformationEntry<'_>], offset: u64) -> Option<usize>
     requires { Ascends cie_offset (map cie_of cies.now) }
     ensures { MatchOption result
@@ -34,7 +34,9 @@ fn place_of_cie(cies: &[CommonInformationEntry<'_>], offset: u64) -> Option<usiz
     }
 }
 
-/// The same. Most FDEs come after their CIE, so an index and the next one are tried before a binary search.
+/// Like `place_of_cie`, but tries the indices `near` and `near + 1` before the binary search.
+/// Callers pass where they found the last CIE, since most FDEs have the CIE of the FDE before them,
+/// or the next CIE.
 #[inline(always)]
 fn place_near(cies: &[CommonInformationEntry<'_>], near: usize, offset: u64) -> Option<usize>
     requires { Ascends cie_offset (map cie_of cies.now) }
@@ -52,7 +54,7 @@ fn place_near(cies: &[CommonInformationEntry<'_>], near: usize, offset: u64) -> 
     place_of_cie(cies, offset)
 }
 
-/// The CIE that begins at an offset.
+/// The CIE that begins at `offset`, by binary search.
 pub fn find_cie<'a>(
     cies: &[CommonInformationEntry<'a>],
     offset: u64,
@@ -64,8 +66,9 @@ pub fn find_cie<'a>(
     Some(cies[place])
 }
 
-/// The CIE that begins at an offset. The rules that it leaves are stored in the state, as those that programs begin with.
-/// It is looked for first at the index `near`, which becomes its index.
+/// Returns the CIE that begins at `offset`, and stores in `state` the rules that its program
+/// leaves: the programs of its FDEs begin with them. The search tries the indices `near` and `near
+/// + 1` first, and sets `near` to the CIE's index.
 pub fn begin_with_rules_of_cie<'a>(
     state: &mut UnwindState,
     cies: &[CommonInformationEntry<'a>],
@@ -84,7 +87,7 @@ pub fn begin_with_rules_of_cie<'a>(
     Some(cies[place])
 }
 
-/// A CIE that was found: the offset by which it was looked up, and its index.
+/// A CIE that was found, with the offset at which it begins and its index.
 #[derive(Clone, Copy)]
 struct FoundCie<'a> {
     offset: u64,
@@ -92,8 +95,8 @@ struct FoundCie<'a> {
     cie: CommonInformationEntry<'a>,
 }
 
-/// Like `begin_with_rules_of_cie`, after the CIE that was found last: if it is the same CIE, the state still holds its
-/// rules, and if it is the next one, nothing is searched.
+/// Like `begin_with_rules_of_cie`, where `last` is the CIE of the FDE before. If this is the same
+/// CIE, `state` already has its rules. If it is the next CIE, no binary search is needed.
 #[inline(always)]
 fn begin_with_rules_again<'a>(
     state: &mut UnwindState,
@@ -127,7 +130,7 @@ fn begin_with_rules_again<'a>(
     Some(FoundCie { offset, place, cie })
 }
 
-/// Checks that each CIE_pointer is the offset of a CIE: n log n for n records.
+/// Checks that each CIE_pointer is the offset of a CIE, in O(n log n) time for n records.
 pub fn check_pointers(
     cies: &[CommonInformationEntry<'_>],
     fdes: &[FrameDescriptionEntry<'_>],
@@ -151,7 +154,8 @@ pub fn check_pointers(
     Ok(())
 }
 
-/// Checks that each CIE's program is good. The rules that it leaves and its expressions are stored.
+/// Checks each CIE's program. Returns the rules that each program leaves, and adds the expressions
+/// to `judged`.
 pub fn check_cies<'a>(
     alloc: Global,
     state: &mut UnwindState,
@@ -170,7 +174,8 @@ pub fn check_cies<'a>(
     Ok(left)
 }
 
-/// Checks that each FDE's program is good after its CIE's. Its expressions are stored. Each CIE_pointer is the offset of a CIE.
+/// Checks each FDE's program, starting from the rules that its CIE's program leaves, and adds the
+/// expressions to `judged`. Each CIE_pointer must be the offset of a CIE.
 pub fn check_fdes<'a>(
     context: &mut UnwindContext,
     judged: &mut JudgedExpressions<'a>,

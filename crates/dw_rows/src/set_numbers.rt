@@ -1,11 +1,12 @@
-//! Numbers of rule sets.
+//! A compact list of rule set numbers.
 
 ghost use Rattle.std.specs.Prelude.{◌≡◌, ◌<◌, [], ◌∷◌, ◌++◌, IsTrue, IfSome, MatchResult, length, slice_index_or, ℕ};
 
 use std::alloc::{AllocError, Global};
 use std::marker::Model;
 
-/// Numbers, in two bytes each as long as they fit, and in four from the first that doesn't.
+/// A list of numbers. Up to the first one that doesn't fit in two bytes, each takes two bytes. From
+/// that one on, each takes four bytes.
 #[derive(Drop)]
 pub struct SetNumbers {
     narrow: Vec<u16>,
@@ -20,7 +21,7 @@ impl Model for SetNumbers {
     ghost view = { λ n. n.narrow.items ++ n.wide.items };
 }
 
-/// A number in two bytes, if it may be stored so.
+/// The number in two bytes, if it fits and `may_be_narrow` allows storing it so.
 fn narrow_number(may_be_narrow: bool, number: u32) -> Option<u16>
     ensures number { IfSome result (λ narrow. narrow ≡ number) }
     ensures narrow { IfSome result (λ _. IsTrue may_be_narrow) }
@@ -32,7 +33,7 @@ fn narrow_number(may_be_narrow: bool, number: u32) -> Option<u16>
 }
 
 impl SetNumbers {
-    /// No numbers yet.
+    /// An empty list.
     pub fn new(alloc: Global) -> Self
         ensures { result ≡ [] }
     {
@@ -42,7 +43,7 @@ impl SetNumbers {
         }
     }
 
-    /// Adds one.
+    /// Appends a number. If memory can't be allocated, the list is unchanged.
     pub fn push(&mut self, number: u32) -> Result<(), AllocError>
         ensures { MatchResult result (λ _. self.new ≡ self.old ++ number ∷ []) (λ _. self.new ≡ self.old) }
     {
@@ -61,7 +62,7 @@ impl SetNumbers {
         Ok(())
     }
 
-    /// Removes all.
+    /// Removes all numbers.
     pub fn clear(&mut self)
         ensures { self.new ≡ [] }
     {
@@ -69,7 +70,7 @@ impl SetNumbers {
         self.wide.clear();
     }
 
-    /// The same numbers, in memory of just their size.
+    /// Moves the list into memory of exactly its size.
     pub fn cut(&mut self, alloc: Global) -> Result<(), AllocError>
         ensures { self.new ≡ self.old }
     {
@@ -80,7 +81,7 @@ impl SetNumbers {
         Ok(())
     }
 
-    /// How many there are.
+    /// How many numbers there are.
     #[inline(always)]
     pub fn count(&self) -> usize
         ensures { result ≡ length self.now }
@@ -88,7 +89,7 @@ impl SetNumbers {
         self.narrow.len() + self.wide.len()
     }
 
-    /// The one at an index.
+    /// The number at index `place`.
     #[inline(always)]
     pub fn at(&self, place: usize) -> u32
         requires { place < length self.now }

@@ -1,11 +1,12 @@
-//! Ascending addresses.
+//! A compact list of ascending addresses.
 
 ghost use Rattle.std.specs.Prelude.{◌≡◌, ◌+◌, ◌<◌, [], ◌∷◌, ◌++◌, IfSome, IsTrue, MatchResult, length, slice_index_or, ℕ};
 
 use std::alloc::{AllocError, Global};
 use std::marker::Model;
 
-/// Addresses, in four bytes each as long as they lie within 2^32 of a base, and in eight from the first that doesn't.
+/// A list of addresses. Up to the first one that isn't within 2^32 above `base`, each takes four
+/// bytes, as its distance from `base`. From that one on, each takes eight bytes.
 #[derive(Drop)]
 pub struct Starts {
     base: u64,
@@ -24,7 +25,8 @@ impl Model for Starts {
     ghost invariant = { λ s. (k d : ℕ) → k < length s.near.items → s.base + slice_index_or s.near.items k d < 2 ^ 64 };
 }
 
-/// How far an address is from a base, in four bytes, if it may be stored so.
+/// The distance of `start` from `base`, if it fits in four bytes and `may_be_near` allows storing
+/// it so.
 fn near_offset(base: u64, may_be_near: bool, start: u64) -> Option<u32>
     ensures offset { IfSome result (λ offset. base + offset ≡ start) }
     ensures near { IfSome result (λ _. IsTrue may_be_near) }
@@ -39,7 +41,7 @@ fn near_offset(base: u64, may_be_near: bool, start: u64) -> Option<u32>
 }
 
 impl Starts {
-    /// No addresses yet.
+    /// An empty list.
     pub fn new(alloc: Global, base: u64) -> Self
         ensures { result ≡ [] }
     {
@@ -50,7 +52,7 @@ impl Starts {
         }
     }
 
-    /// Adds one.
+    /// Appends an address. If memory can't be allocated, the list is unchanged.
     pub fn push(&mut self, start: u64) -> Result<(), AllocError>
         ensures { MatchResult result (λ _. self.new ≡ self.old ++ start ∷ []) (λ _. self.new ≡ self.old) }
     {
@@ -69,7 +71,7 @@ impl Starts {
         Ok(())
     }
 
-    /// Removes all.
+    /// Removes all addresses.
     pub fn clear(&mut self)
         ensures { self.new ≡ [] }
     {
@@ -77,7 +79,7 @@ impl Starts {
         self.far.clear();
     }
 
-    /// The same addresses, in memory of just their size.
+    /// Moves the list into memory of exactly its size.
     pub fn cut(&mut self, alloc: Global) -> Result<(), AllocError>
         ensures { self.new ≡ self.old }
     {
@@ -88,7 +90,7 @@ impl Starts {
         Ok(())
     }
 
-    /// How many there are.
+    /// How many addresses there are.
     #[inline(always)]
     pub fn count(&self) -> usize
         ensures { result ≡ length self.now }
@@ -96,7 +98,7 @@ impl Starts {
         self.near.len() + self.far.len()
     }
 
-    /// The one at an index.
+    /// The address at index `place`.
     #[inline(always)]
     pub fn at(&self, place: usize) -> u64
         requires { place < length self.now }
@@ -111,7 +113,8 @@ impl Starts {
         }
     }
 
-    /// The base, and how far the first of them are from it.
+    /// The base, and the distances from it of the addresses that are stored in four bytes. They are
+    /// the first ones of the list.
     #[inline(always)]
     pub fn near(&self) -> (u64, &[u32]) {
         (self.base, self.near.as_slice())

@@ -15,10 +15,12 @@ use dw_bytes::Target;
 use std::alloc::Global;
 use std::marker::Model;
 
-/// All rows of a checked section in order of address, each with its return address register. `CheckedFrame::compile` makes one.
+/// All rows of a checked section in order of address, each with its return address register.
+/// `CheckedFrame::compile` makes the table.
 ///
-/// It borrows nothing: it owns the bytes of the few expressions in its rules, so the section may be dropped. A look-up
-/// takes two or three reads where a checked section runs a program.
+/// The table borrows nothing: it owns a copy of the bytes of the few expressions in its rules, so
+/// the section may be dropped. A look-up reads a few array elements, where a look-up in a checked
+/// section has to run a program.
 ///
 /// ```rust
 /// let Some(table) = frame.compile(alloc, 1 << 20)? else {
@@ -52,7 +54,7 @@ impl Model for UnwindTable {
 }
 
 impl UnwindTable {
-    /// The table of a checked section, in `room` bytes at most.
+    /// Compiles a checked section into a table of at most `room` bytes.
     pub(crate) fn of(frame: &CheckedFrame<'_>, alloc: Global, room: usize) -> Result<Self, Unmade>
         ensures table { IfOk result (IsTableOf frame.now) }
         ensures room { IfOk result (λ table. 16 * length table.rows ≤ room) }
@@ -74,21 +76,22 @@ impl UnwindTable {
         self.target
     }
 
-    /// The row of an address and the return address register that its CIE names, or none if no FDE covers the address.
-    /// The row's rules and expressions are lent. It takes no memory, and for n rows at most log n steps, mostly two or
-    /// three.
+    /// The row of an address and the return address register that its CIE names, or none if no FDE
+    /// covers the address. The row's rules and expressions are borrowed from the table. It
+    /// allocates no memory, and takes O(log n) steps for n rows, mostly only a few.
     #[inline(always)]
     pub fn row_and_return_register(&self, address: u64) -> Option<(UnwindRow<'_, '_>, u16)>
         ensures row { result ≡ row_at self.now address }
 
-        // The expressions that its rules name are read with the target.
+        // The row's expressions have the table's target.
         ensures under { IfSome result (λ found. IsRowUnder self.now.target found.0) }
     {
         self.rows
             .find(address, LentExpressions::Owned(&self.expressions))
     }
 
-    /// The row of an address, or none if no FDE covers it, as `row_and_return_register`.
+    /// The row of an address, or none if no FDE covers the address. Like `row_and_return_register`,
+    /// without the register.
     #[inline(always)]
     pub fn row_for_address(&self, address: u64) -> Option<UnwindRow<'_, '_>>
         ensures row { result ≡ option_map (λ found. found.0) (row_at self.now address) }

@@ -1,4 +1,4 @@
-//! Where rules begin to hold.
+//! The entries of a compiled table. They say which rules hold from which address on.
 
 ghost use Rattle.std.specs.Prelude.{◌≡◌, ◌<◌, ◌≤◌, [], ◌∷◌, ◌++◌, IfOk, length, slice_get, slice_index_or, Some, ℕ};
 ghost use Rattle.std.specs.Bool.{OnTrue};
@@ -11,26 +11,28 @@ use crate::starts::Starts;
 use std::alloc::{AllocError, Global};
 use std::marker::Model;
 
-/// The rules of this number hold from `start` on, up to where the next entry begins. If they don't give the CFA, no row is there.
+/// One entry of a compiled table: the rule set with number `set` holds from `start` up to the next
+/// entry's start. If the rule set has no CFA rule, no row covers these addresses.
 #[derive(Clone, Copy)]
 pub struct TableEntry {
     pub start: u64,
     pub set: u32,
 }
 
-/// How many starts are below each block of addresses: where to look first. Its answer is checked before it is used, so it
-/// affects only the time.
+/// Tells a look-up where to begin: for each block of addresses, how many starts are below it. A
+/// look-up checks the answer before it uses it, so this affects only the time.
 #[derive(Drop)]
 struct Blocks {
     shift: u32,
     counts: Vec<u32>,
 }
 
-/// About how many starts a block has.
+/// About how many starts a block has on average.
 const USUAL_BLOCK: usize = 16;
 
-/// How many bits an offset, `span` at most, is shifted by to give its block, if there may be this many blocks. All blocks
-/// have the same number of addresses.
+/// How many bits an offset is shifted right by to give its block. `span` is the greatest offset,
+/// and `blocks` the greatest block number that it may give. All blocks have the same number of
+/// addresses.
 fn block_shift(span: u64, blocks: u64) -> u32
     ensures { result < 64 }
 {
@@ -41,7 +43,7 @@ fn block_shift(span: u64, blocks: u64) -> u32
     shift
 }
 
-/// The block of an offset.
+/// The block that an offset is in.
 #[inline(always)]
 fn block_of(shift: u32, offset: u32) -> usize
     requires { shift < 64 }
@@ -49,7 +51,7 @@ fn block_of(shift: u32, offset: u32) -> usize
     (u64::from(offset) >> shift) as usize
 }
 
-/// The blocks of starts, which are in order and given by their distance from the base.
+/// Makes the blocks. `offsets` are the distances of the starts from the base, in ascending order.
 fn blocks_of(alloc: Global, offsets: &[u32]) -> Result<Blocks, AllocError> {
     let last = match offsets.last() {
         Some(last) => *last,
@@ -76,7 +78,8 @@ fn blocks_of(alloc: Global, offsets: &[u32]) -> Result<Blocks, AllocError> {
     Ok(Blocks { shift, counts })
 }
 
-/// How many starts are at or below an address, if that count lies between two indices: by a binary search that doesn't branch.
+/// How many starts are at or below `address`, if that count is between `from` and `to`. It is a
+/// binary search without branches.
 #[inline(always)]
 fn count_between(starts: &[u32], from: usize, to: usize, address: u32) -> usize {
     if from > to || to > starts.len() {
@@ -95,7 +98,7 @@ fn count_between(starts: &[u32], from: usize, to: usize, address: u32) -> usize 
     low
 }
 
-/// Whether the first `count` are at or below an address.
+/// Whether the first `count` starts are at or below `address`.
 #[inline(always)]
 fn are_low(starts: &Starts, count: usize, address: u64) -> bool
     requires sorted { IsNonDecreasingBy (λ x. x) starts.now }
@@ -111,7 +114,7 @@ fn are_low(starts: &Starts, count: usize, address: u64) -> bool
     true
 }
 
-/// Whether those after the first `count` are above an address.
+/// Whether the starts after the first `count` are above `address`.
 #[inline(always)]
 fn are_high(starts: &Starts, count: usize, address: u64) -> bool
     requires sorted { IsNonDecreasingBy (λ x. x) starts.now }
@@ -128,7 +131,7 @@ fn are_high(starts: &Starts, count: usize, address: u64) -> bool
     true
 }
 
-/// Whether `count` are at or below an address, and the others above it.
+/// Whether exactly `count` starts are at or below `address`.
 #[inline(always)]
 fn is_count(starts: &Starts, count: usize, address: u64) -> bool
     requires { IsNonDecreasingBy (λ x. x) starts.now }
@@ -144,7 +147,7 @@ fn is_count(starts: &Starts, count: usize, address: u64) -> bool
 }
 
 impl Blocks {
-    /// How many starts are at or below an address, as far as the blocks know.
+    /// How many starts are at or below `address`. The answer may be wrong, and must be checked.
     #[inline(always)]
     fn guess(&self, base: u64, offsets: &[u32], address: u64) -> usize {
         if self.shift >= 64 {
@@ -169,7 +172,8 @@ impl Blocks {
     }
 }
 
-/// Entries in order of address. The starts are stored together, since a look-up reads only these until it has found its entry.
+/// The entries of a compiled table, in order of address. The starts are stored in an array of their
+/// own, since a look-up reads only starts until it has found its entry.
 #[derive(Drop)]
 pub struct TableEntries {
     starts: Starts,
@@ -190,7 +194,7 @@ impl Model for TableEntries {
     ghost invariant = { λ t. length t.starts ≡ length t.sets };
 }
 
-/// How many of these are at or below an address, by binary search.
+/// How many starts are at or below `address`, by binary search.
 fn count_up_to(starts: &Starts, address: u64) -> usize
     requires { IsNonDecreasingBy (λ x. x) starts.now }
     ensures { IsStartCount starts.now address result }
@@ -210,7 +214,7 @@ fn count_up_to(starts: &Starts, address: u64) -> usize
 }
 
 impl TableEntries {
-    /// No entry.
+    /// An empty list.
     pub fn new(alloc: Global, base: u64) -> Self
         ensures { result ≡ [] }
     {
@@ -224,7 +228,8 @@ impl TableEntries {
         }
     }
 
-    /// The same entries, found faster, and in memory of just their size.
+    /// Moves the entries into memory of exactly their size, and makes the blocks that speed up
+    /// look-ups.
     pub fn finish(&mut self, alloc: Global) -> Result<(), AllocError>
         ensures { self.new ≡ self.old }
     {
@@ -235,7 +240,7 @@ impl TableEntries {
         Ok(())
     }
 
-    /// Adds one entry.
+    /// Appends an entry.
     pub fn push(&mut self, entry: TableEntry) -> Result<(), AllocError>
         ensures { IfOk result (λ _. self.new ≡ self.old ++ entry ∷ []) }
     {
@@ -250,14 +255,15 @@ impl TableEntries {
         }
     }
 
-    /// How many there are.
+    /// How many entries there are.
     pub fn count(&self) -> usize
         ensures { result ≡ length self.now }
     {
         self.starts.count()
     }
 
-    /// How many begin at or below an address.
+    /// How many entries begin at or below `address`. If the blocks' answer is wrong, a binary
+    /// search over all entries follows.
     pub fn count_up_to(&self, address: u64) -> usize
         requires { IsNonDecreasingBy entry_start self.now }
         ensures { IsEntryCount self.now address result }
@@ -270,7 +276,7 @@ impl TableEntries {
         count_up_to(&self.starts, address)
     }
 
-    /// The entry at an index.
+    /// The entry at index `place`.
     #[inline(always)]
     pub fn at(&self, place: usize) -> TableEntry
         requires { place < length self.now }
@@ -282,7 +288,7 @@ impl TableEntries {
         }
     }
 
-    /// Where the entry at an index begins.
+    /// The address at which the entry at index `place` begins.
     #[inline(always)]
     pub fn start_at(&self, place: usize) -> u64
         requires { place < length self.now }

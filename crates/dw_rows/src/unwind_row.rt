@@ -1,4 +1,4 @@
-//! Rows whose rules are lent.
+//! Rows whose rules are borrowed.
 
 ghost use Rattle.std.specs.Prelude.{◌≡◌, ◌≤◌, ◌+◌, Some, All, length};
 ghost use Rattle.dw_rows.specs.Abi.{or_rule, rule_under, rules_under};
@@ -16,8 +16,9 @@ use crate::map::{MAX_RULES, RuleEntry, rule_of_register};
 use crate::row::{CfaRule, RegisterRule, RegisterRules, given_cfa, given_rule};
 use std::marker::Model;
 
-/// A row of the table that unwinds (DWARF 5, section 6.4.1): the addresses from a start to before an end, and the rules that hold
-/// there, which an `UnwindTable` or an `UnwindTableRow` lends.
+/// A row of the unwind table (DWARF 5, section 6.4.1): the addresses from `start` up to but not
+/// including `end`, and the rules that hold there. The rules are borrowed from an `UnwindTable` or
+/// an `UnwindTableRow`.
 ///
 /// ```rust
 /// let Some((row, return_register)) = table.row_and_return_register(0x1004) else {
@@ -61,7 +62,8 @@ impl<'t, 'a> Model for UnwindRow<'t, 'a> {
 }
 
 impl<'t, 'a> UnwindRow<'t, 'a> {
-    /// The row of these addresses with these rules, which name the expressions that are lent.
+    /// A row with these addresses and rules. Each offset in the rules is that of an expression in
+    /// `expressions`.
     pub(crate) fn new(
         start: u64,
         end: u64,
@@ -89,21 +91,21 @@ impl<'t, 'a> UnwindRow<'t, 'a> {
         }
     }
 
-    /// The first address that it covers.
+    /// The first address that the row covers.
     pub fn start_address(&self) -> u64
         ensures { result ≡ self.now.start }
     {
         self.start
     }
 
-    /// The address after the last one that it covers.
+    /// The address after the last one that the row covers.
     pub fn end_address(&self) -> u64
         ensures { result ≡ self.now.end }
     {
         self.end
     }
 
-    /// How the CFA is found. An expression is lent, as it was checked.
+    /// How the CFA is found. An expression in the rule is borrowed, and needs no second check.
     #[inline(always)]
     pub fn cfa(&self) -> CfaRule<'a>
         ensures cfa { self.now.cfa ≡ Some (cfa_rule_of result) }
@@ -112,7 +114,8 @@ impl<'t, 'a> UnwindRow<'t, 'a> {
         given_cfa(self.cfa, &self.expressions)
     }
 
-    /// The rule of a register: `Default` where none is in force. An expression is lent, as it was checked.
+    /// The rule of a register, or `Default` if none is in force. An expression in the rule is
+    /// borrowed, and needs no second check.
     #[inline(always)]
     pub fn register(&self, number: u16) -> RegisterRule<'a>
         ensures rule { rule_of result ≡ rule_in self.now.rules number }
@@ -121,7 +124,8 @@ impl<'t, 'a> UnwindRow<'t, 'a> {
         given_rule(rule_of_register(self.rules, number), &self.expressions)
     }
 
-    /// The rules other than `Default`, each with its register, in ascending order of registers: at most `MAX_RULES`.
+    /// The rules other than `Default` as pairs of register and rule, in ascending order of
+    /// registers. There are at most `MAX_RULES`.
     pub fn rules(&self) -> RegisterRules<'t, 'a>
         ensures rules { result ≡ self.now.rules }
         ensures ascending { IsTable 0 self.now.rules }
@@ -135,7 +139,8 @@ impl<'t, 'a> UnwindRow<'t, 'a> {
         }
     }
 
-    /// The rule of a register under an ABI, which is used if the row gives it none: `Undefined` if the ABI gives none either.
+    /// The rule of a register under an ABI. If the row has no rule for the register, the ABI's rule
+    /// is used; if the ABI has none either, the result is `Undefined`.
     #[inline(always)]
     pub fn register_with(&self, abi: &Abi, number: u16) -> RegisterRule<'a>
         ensures rule { rule_of result
@@ -151,8 +156,8 @@ impl<'t, 'a> UnwindRow<'t, 'a> {
         }
     }
 
-    /// The rules under an ABI, which is used where the row gives none, each with its register, in ascending order of
-    /// registers: at most twice `MAX_RULES`.
+    /// The row's rules, and the ABI's rules for registers to which the row gives none: pairs of
+    /// register and rule, in ascending order of registers. There are at most twice `MAX_RULES`.
     #[inline(always)]
     pub fn rules_with<'r>(&self, abi: &'r Abi) -> RegisterRules<'r, 'a>
     where

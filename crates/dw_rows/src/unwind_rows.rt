@@ -1,4 +1,4 @@
-//! What gives the row of an address.
+//! Sources of rows: the trait of what can look up the row of an address.
 
 ghost use Rattle.std.specs.Prelude.{◌≡◌, ℕ, IfSome, Option};
 ghost use Rattle.dw_bytes.specs.declared.target.Target.{Target as OfTarget};
@@ -11,27 +11,31 @@ use crate::table::UnwindTable;
 use crate::unwind_row::UnwindRow;
 use dw_bytes::Target;
 
-/// What gives the row of an address: a borrowed checked section, by running a program, or a compiled table, by its
-/// arrays. Unwinding and walks use either. A borrowed table gives what the table itself gives, so that one table serves
-/// many processes.
+/// A source of rows: something that can look up the row of an address. It is either a borrowed
+/// checked section, which runs an FDE's program, or a compiled table, which searches arrays.
+/// Unwinding and stack walks work over both. A table can also be borrowed, so that many processes
+/// can share it.
 pub trait UnwindRows {
-    /// What a look-up writes its row into, if it has to: for a section it does; a table lends the row.
+    /// A buffer that a look-up may write the row into. A section writes the row there; a table
+    /// doesn't need a buffer, since it lends its own row.
     type Slot: Drop;
 
-    /// The target that rows are read with.
+    /// The target that the section was read with.
     ghost target_of: { Self → OfTarget };
 
-    /// What may be found at an address: a row, with its return address register, or none.
+    /// Which results a look-up of an address may have: a row and its return address register, or
+    /// none.
     ghost finds: { Self → ℕ → Option (Row × ℕ) → Type 0 };
 
-    /// The target that rows are read with.
+    /// The target that the section was read with.
     fn rows_target(&self) -> Target
         ensures { result ≡ target_of self.now };
 
-    /// A slot for one row.
+    /// Makes a buffer for one row.
     fn slot(&self) -> Self::Slot;
 
-    /// The row of an address, with the register that its CIE names for the return address, or none.
+    /// The row of an address and the return address register that its CIE names, or none if no FDE
+    /// covers the address.
     fn find_row<'p>(
         &'p self,
         address: u64,
@@ -106,7 +110,8 @@ impl<'f, 'a> UnwindRows for &'f CheckedFrame<'a> {
         address: u64,
         slot: &'p mut UnwindTableRow<'f, 'a>,
     ) -> Option<(UnwindRow<'p, 'p>, u16)> {
-        // A section without a fault has expressions of its own target alone.
+        // For the proof: by the contract of `section` the section has no fault, so all its
+        // expressions have its target.
         let _ = self.section();
         match self.row_for_address_into(address, slot) {
             Some((cie, _)) => Some((slot.lend(), cie.return_address_register)),

@@ -1,4 +1,4 @@
--- A configuration has only one successor, and a run only one end.
+-- A configuration has only one successor, and a run has only one outcome.
 use Rattle.std.proofs.Common.{◌≡◌, ◌∙◌, ℕ, ℤ, pos, zero, suc, ◌+◌, ◌-◌, ◌<◌, Bool, true, false, List, length, take, Option, Some, None}
 use Rattle.std.proofs.Common.{Result, Ok, Err, refl, sym, ap, subst, inl, inr, arith}
 use Rattle.std.specs.Prelude.{slice_get, MatchBool}
@@ -76,7 +76,7 @@ module _ (m : Meaning) (ops : List Placed) (len : ℕ) (laid : IsLaidOut ops len
       (record { location = location_of c.stack c.pending; size = extent_of x.1 })) (sym placed) ∙ sym u.pieces) in
       same_configuration d e offset stack pending pieces
 
-  -- no operation is at the end
+  -- no operation can run at the end
   pub ended_stands : (kind : Kind) (c : Configuration) → Ended kind ops len c → Meets ops c → ⊥
   ended_stands kind c ended t =
       let lt = within c t in
@@ -85,7 +85,7 @@ module _ (m : Meaning) (ops : List Placed) (len : ℕ) (laid : IsLaidOut ops len
       let at = stands_at c t in
       omega (arith, before, past, at, ended.there)
 
-  -- a step that has no answer has only one reason
+  -- an operation that fails has only one reason
   pub one_trouble : (c : Configuration) (w v : EvaluationError) → Stops m ops c w → Stops m ops c v → w ≡ v
   one_trouble c w v a b =
       let both : Err w ≡ Err v = sym a.answered

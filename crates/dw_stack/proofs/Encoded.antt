@@ -49,7 +49,8 @@ none_refused : {X : Type 0} (xs : List X) → fault_in (map {B = Result X Fault}
 none_refused [] = refl
 none_refused (x ∷ xs) = none_refused xs
 
--- what is read to the end is encoded, and what is encoded is read to the end
+-- bytes that are read to the end without a fault are the encodings of operations, and the other way
+-- round
 pub encoded_of : (target : Target) (bytes : List ℕ) → reading_fault target bytes ≡ None
     → AreOperations target 0 bytes (operations_in target bytes)
 encoded_of target bytes none =

@@ -1,4 +1,5 @@
--- What each expression has: a depth and states if it is good, and a verdict, whatever states are given.
+-- That a good expression has a depth and states, and that every expression, with or without given
+-- states, is good or has a first fault.
 use Rattle.std.proofs.Common.{◌≡◌, ◌⊎◌, ℕ, List, length, Option, Some, None, refl, inl, inr}
 use Rattle.std.proofs.lemmas.Bool.{cases_eq}
 use Rattle.dw_bytes.specs.declared.target.Target.{Target}
@@ -30,7 +31,7 @@ module _ (kind : Kind) (target : Target) (bytes : List ℕ) where
   pub each_has_a_certificate : IsGoodExpression kind target bytes → (states : List State) × AreStatesOf kind target bytes states
   each_has_a_certificate good = let certified = certified_of good in (certified.states, certified.are)
 
-  -- there are as many given states as operations, or another number of them
+  -- the number of given states is the number of operations, or it is another number
   count_tells : (given : Option (List State)) → (IsOtherCount target bytes given → ⊥) ⊎ IsOtherCount target bytes given
   count_tells None = inl (λ other. other)
   count_tells (Some states) = elim (cases_eq (length states) (length (operations_in target bytes))) [

@@ -57,7 +57,7 @@ unread-inside target bytes f is =
     let inside : f.at ≤ end-of r = read-up-to r (Err f) (refused-among (operations_of r) f is) in
     omega (arith, inside)
 
--- ---- what judgements refuse
+-- ---- faults of operations and of the end
 
 module _ (kind : Kind) (ops : List Placed) (len : ℕ) (laid : IsLaidOut ops len) where
   placed-inside : (k : ℕ) (x : Placed) (at : ℕ) → slice_get ops k ≡ Some x → x.0 ≡ at → at ≤ len

@@ -1,4 +1,4 @@
--- No height of a good expression is above the limit.
+-- No stack height on a path of a good expression is above the limit.
 use Rattle.std.proofs.Math.Logic.{∥∥₁_elim}
 use Rattle.std.specs.Coded.{le_prop}
 use Rattle.std.proofs.Common.{ℕ, ◌≤◌, Bool, List, refl, sym, ap, inl, inr, arith}
@@ -18,7 +18,7 @@ start_within FrameCfa = omega arith
 start_within FrameRegister = omega arith
 start_within Location = omega arith
 
--- a piece clears the stack, and everything else keeps the height
+-- a piece clears the stack, and all other operations keep the height
 pub next_height_le : (r : Role) (h : ℕ) (b : Bool) → (next_mode r h b).height ≤ h
 next_height_le role.Piece h b = omega arith
 next_height_le role.Plain h b = omega arith

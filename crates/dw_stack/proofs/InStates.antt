@@ -1,4 +1,4 @@
--- The states that arrive over the operations before are those of the paths.
+-- The states with which the first operations lead to an offset are those of the paths.
 use Rattle.std.proofs.Common.{◌≡◌, ◌∙◌, ℕ, ℤ, negsuc, zero, suc, ◌+◌, ◌≤◌, ◌<◌, ◌⊎◌, Bool, true, false, eqb, List, [], ◌∷◌, ◌++◌, length}
 use Rattle.std.proofs.Common.{map, Option, Some, None, refl, sym, ap, subst, inl, inr, arith, IsTrue, eq-eqb}
 use Rattle.std.specs.Prelude.{slice_get, if◌then◌else◌}
@@ -15,7 +15,7 @@ use Rattle.dw_stack.specs.FirstFault.{offsets_to, offsets_after, states_at, onwa
 use Rattle.dw_stack.proofs.Places.{place_of_some, later_place}
 use Rattle.dw_stack.proofs.Routes.{reach_from, Comes, reaches_from_comes, comes_from_reaches}
 
--- ---- what a list has
+-- ---- elements of a list
 
 abbrev pub Has : {X : Type 0} → List X → X → Type 0
 Has [] y = ⊥

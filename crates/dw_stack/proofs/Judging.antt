@@ -1,4 +1,4 @@
--- The judgements of one operation, one after another.
+-- The checks of one operation, in order.
 use Rattle.std.proofs.Common.{◌≡◌, ◌∙◌, ℕ, ℤ, pos, negsuc, ◌+◌, ◌<◌, ◌≤◌, ◌||◌, Bool, true, false, not, cond, ltb, List, [], ◌∷◌, length}
 use Rattle.std.proofs.Common.{Option, Some, None, refl, sym, ap, subst, inl, inr, arith}
 use Rattle.std.specs.Prelude.{find, is_some, slice_index_or}
@@ -23,7 +23,7 @@ use Rattle.dw_stack.specs.Judge.{IsEffectAt, Suits, TargetObjects, TargetIs, Jud
 use Rattle.dw_stack.proofs.InStates.{Has}
 use Rattle.dw_stack.proofs.Telling.{start_tells}
 
--- ---- the first that isn't passed
+-- ---- the first check that fails
 
 pub failed : (p : FaultKind → Bool) (xs : List FaultKind) (f : FaultKind) → find (λ g. not (p g)) xs ≡ Some f → p f ≡ false
 failed p [] f is = absurd (cc)
@@ -34,7 +34,7 @@ failed p (x ∷ xs) f is = by (p x) refl is (failed p xs f)
     by false here found later = ap p (sym (same_Some x f found)) ∙ here
     by true here found later = later found
 
--- they are checked in the order of their ranks
+-- the checks come in the order of their ranks
 abbrev Ascends : ℕ → List FaultKind → Type 0
 Ascends n [] = Unit {0}
 Ascends n (x ∷ xs) = (n < rank x) × Ascends (rank x) xs
@@ -61,7 +61,7 @@ passed_before p n (x ∷ xs) f g up is has less = by (p x) refl is (λ found lat
         ]
     by true at found rest = elim has [ inl here ↦ ap p (sym here) ∙ at | inr later ↦ rest found later ]
 
--- what comes before the first that isn't passed is passed
+-- an operation passes all checks before the first that it fails
 pub before_first : (kind : Kind) (ops : List Placed) (len k pieces : ℕ) (e : StackEffect) (s : StackState) (f g : FaultKind)
     → first_failed (passes kind ops len k pieces e s) ≡ Some f → rank g < rank f → passes kind ops len k pieces e s g ≡ true
 before_first kind ops len k pieces e s f g is less = by g less
@@ -82,7 +82,7 @@ before_first kind ops len k pieces e s f g is less = by g less
     by fault.TargetNotStart lt = there fault.TargetNotStart (inr (inr (inr (inr (inr (inr (inl refl))))))) lt
     by _ lt = refl
 
--- ---- the tests and what they say
+-- ---- what the results of the checks mean
 
 pub few_passes : (piece : Bool) (pieces : ℕ) → (piece ≡ true → pieces < MAX_PIECES) → not piece || ltb pieces MAX_PIECES ≡ true
 few_passes false pieces few = refl
@@ -105,7 +105,7 @@ start_passes ops len (Some t) there = elim (start_tells ops len t) [
   | inr none ↦ let at = there t refl in absurd (none.1 at.0 at.1 at.2)
 ]
 
--- ---- the five of the stack, and what is asked after them
+-- ---- the five checks of the stack, and the checks after them
 
 abbrev stacked : Bool → Bool → Bool → Bool → Bool → Option FaultKind → Option FaultKind
 stacked allowed alone needs low few rest =
@@ -135,7 +135,7 @@ stacked_none true true false d h rest is = absurd (cc)
 stacked_none true true true false h rest is = absurd (cc)
 stacked_none true true true true false rest is = absurd (cc)
 
--- the two of the jump
+-- the two checks of the jump
 abbrev branched : Bool → Bool → Option FaultKind
 branched ahead start = cond (not ahead) (Some fault.Backward) (cond (not start) (Some fault.TargetNotStart) None)
 
@@ -167,7 +167,7 @@ module _ (kind : Kind) (ops : List Placed) (len k pieces : ℕ) (s : StackState)
       stacked_passed (has_operation kind e) (stands_alone e.role s.mode s.height) _ _ few branch fits.allowed fits.alone
       (le-leb e.needs s.height fits.needs) (le-leb (height_after e s) MAX_HEIGHT low) (few_passes (is_piece e.role) pieces fits.few)
 
-  -- where all are passed the operation suits, and has a target if it jumps
+  -- an operation that passes all checks is allowed, and has a target if it jumps
   pub all_passed : first_failed (passes kind ops len k pieces e s) ≡ None → Suits kind e pieces s (height_after e s)
       × (is_ahead (place ops len (k + 1)) e.jump ≡ true) × (is_start ops len (jump_target (place ops len (k + 1)) e.jump) ≡ true)
   all_passed is =
@@ -225,7 +225,8 @@ module _ (kind : Kind) (ops : List Placed) (len k pieces : ℕ) (s : StackState)
             (subst (λ (d : StackEffect). TargetIs ops len k d.jump target) at.is is);
       }
 
--- where one state reaches an operation, the first judgement of it is what its step objects to
+-- if an operation is reached with one state, the first check that the operation fails is the fault
+-- of its step
 pub step_objects : (kind : Kind) (ops : List Placed) (len : ℕ) (given : Option (List State)) (i pieces : ℕ) (old : List InState)
     (f : FaultKind) (s : StackState) → slice_index_or old i Unreached ≡ Known s → Given ops len given i s
     → Objects kind ops len i pieces s f → StepObjects kind ops len given i pieces old f

@@ -1,4 +1,4 @@
--- The fault that the questions of an expression name is its first fault.
+-- The fault that the questions about an expression give is its first fault.
 use Rattle.std.proofs.Common.{◌≡◌, ◌∙◌, ◌⊎◌, ℕ, List, Some, None, sym, ap, subst, inl, inr}
 use Rattle.std.specs.Prelude.{Result, Ok, Err, OnOk, IfErr}
 use Rattle.std.proofs.lemmas.Option.{same_Some}
@@ -13,7 +13,7 @@ use Rattle.dw_stack.proofs.Unique.{one_fault}
 use Rattle.dw_stack.proofs.Whole.{good_faultless}
 
 module _ (kind : Kind) (target : Target) (bytes : List ℕ) where
-  -- what was checked is good, and these are its bytes
+  -- if a checked expression has these bytes, the bytes are a good expression
   pub good_of : (it : Checked) → IsChecked it → IsOf kind target bytes it → IsGoodExpression kind target bytes
   good_of it checked is =
       subst (λ (k : Kind). IsGoodExpression k target bytes) is.kind_is

@@ -1,4 +1,4 @@
--- How many of the operations name pieces.
+-- How many of the first operations are pieces.
 use Rattle.std.proofs.Common.{◌≡◌, ℕ, ◌+◌, ◌≤◌, cond, List, [], ◌∷◌, length, take, Some, refl, ap, arith, length-append}
 use Rattle.std.specs.Prelude.{slice_get}
 use Rattle.std.specs.List.{sum_by}
@@ -21,7 +21,7 @@ pub pieces_with : (ops : List Placed) (k : ℕ) (x : Placed) → slice_get ops k
     → pieces_before ops k + cond (is_piece (effect_of x.1).role) 1 0 ≡ pieces_before ops (k + 1)
 pieces_with ops k x stands = count_more ops k (pieces_before ops k) x (is_piece (effect_of x.1).role) stands refl refl
 
--- an operation adds the piece that it names
+-- an operation that is a piece adds one piece, and other operations add none
 pub length-pieces_after : (r : Role) (pieces : List Piece) (p : Piece)
     → length (pieces_after r pieces p) ≡ length pieces + cond (is_piece r) 1 0
 length-pieces_after role.Piece pieces p = let e = length-append pieces (p ∷ []) in omega (arith, e)

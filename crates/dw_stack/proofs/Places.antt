@@ -55,7 +55,8 @@ module _ (ops : List Placed) (len : ℕ) (laid : IsLaidOut ops len) where
     ]
   ]
 
--- no operation begins at t, and the end is not at t, if t is between two neighbours
+-- if t is between the offsets of two neighboring operations, neither an operation nor the end is at
+-- t
 pub nowhere : (ops : List Placed) (len : ℕ) → IsLaidOut ops len → (k t : ℕ) → 0 < k → k ≤ length ops → place ops len (k - 1) < t
     → (k < length ops → t ≤ place ops len k) → (place ops len k ≡ t → ⊥) → (j : ℕ) → j ≤ length ops → place ops len j ≡ t → ⊥
 nowhere ops len laid k t pos le low high ne j lej e =
@@ -70,7 +71,7 @@ nowhere ops len laid k t pos le low high ne j lej e =
       ]
     ]
 
--- no more operations than bytes
+-- there are no more operations than bytes
 place_ge : (ops : List Placed) (len : ℕ) → IsLaidOut ops len → (j : ℕ) → j ≤ length ops → j ≤ place ops len j
 place_ge ops len laid zero le = omega arith
 place_ge ops len laid (suc j) le =
@@ -81,7 +82,7 @@ place_ge ops len laid (suc j) le =
 pub count_le : (ops : List Placed) (len : ℕ) → IsLaidOut ops len → length ops ≤ len
 count_le ops len laid = omega (arith, place_ge ops len laid (length ops) (omega arith), place_past ops len (length ops) (omega arith))
 
--- and none begins after the end
+-- no operation begins after the end
 pub place_le : (ops : List Placed) (len : ℕ) → IsLaidOut ops len → (j : ℕ) → place ops len j ≤ len
 place_le ops len laid j =
     elim (cases_lt j (length ops)) [

@@ -1,4 +1,4 @@
--- A location that is one byte, which names a register.
+-- A location that is a single byte, DW_OP_reg0 to DW_OP_reg31.
 use Rattle.std.proofs.Common.{◌≡◌, ℕ, ◌+◌, ◌-◌, ◌<◌, ◌≤◌, true, false, List, [], ◌∷◌, length, drop, get_or, Some}
 use Rattle.std.proofs.Common.{Ok, refl, sym, ap, arith, rules}
 use Rattle.std.proofs.lemmas.Bool.{lt-ltb, le-ltb}
@@ -23,7 +23,7 @@ one_byte : (o : Order) (n : ℕ) → n ≡ number o 1 (n ∷ [])
 one_byte Little n = omega arith
 one_byte Big n = omega arith
 
--- the code of a register, in the table
+-- in the table of operations, the codes 50 to 6f (hex) are DW_OP_reg0 to DW_OP_reg31
 reg_line : (b : ℕ) → 0x50 ≤ b → b < 0x70 → line_of b ≡ Some (none (reg (b - 0x50)))
 reg_line b low high =
     rw (le-ltb b 0x12 (omega arith), le-ltb b 0x20 (omega arith), le-ltb b 0x30 (omega arith), le-ltb b 0x50 low, lt-ltb b 0x70 high) refl
@@ -46,7 +46,7 @@ reg_read e b is low high =
     (sym (ap (drop 1) is)) in
     rw (code, reg_line b low high) (ap (λ (r : ReadPosition). Ok (reg (b - 0x50), r)) end)
 
--- a list of exactly one byte
+-- a list of length 1 has just its first element
 single : (bs : List ℕ) → length bs ≡ 1 → bs ≡ get_or bs 0 0 ∷ []
 single [] is = absurd (omega arith)
 single (b ∷ []) is = refl

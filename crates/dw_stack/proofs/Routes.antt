@@ -1,4 +1,4 @@
--- Paths, edge by edge, and what arrives at an operation from those before.
+-- Paths, edge by edge, and the states with which earlier operations lead to an operation.
 use Rattle.std.proofs.Common.{◌≡◌, ℕ, ◌+◌, ◌<◌, ◌≤◌, ◌⊎◌, List, [], ◌∷◌, ◌++◌, length, Some, refl, sym, ◌∙◌, subst, inl, inr, arith}
 use Rattle.std.specs.Prelude.{slice_get}
 use Rattle.std.proofs.lemmas.Option.{slice_get_within}
@@ -31,7 +31,7 @@ module _ (kind : Kind) (ops : List Placed) (len : ℕ) where
   longer [] a h b g c k f e = (k, move_from b a g h c k (sym f.0) (sym f.1) e, (refl, refl))
   longer (d ∷ path) a h b g c k f e = (f.0, f.1, longer path d f.0 b g c k f.2 e)
 
-  -- one edge more
+  -- a path that is extended by an edge
   pub extend : (b : ℕ) (g : StackState) (c : ℕ) (k : StackState) → Reaches kind ops len b g → Edge ops len b g c k
       → Reaches kind ops len c k
   extend b g c k r e = record { path = r.path ++ c ∷ []; follows = longer r.path 0 (start_of kind) b g c k r.follows e }
@@ -55,11 +55,12 @@ module _ (kind : Kind) (ops : List Placed) (len : ℕ) where
         | inr last ↦ inr last
       ]
 
-  -- a path is at the start, or has a last edge
+  -- a path is still at the start of the expression, or has a last edge
   pub last_edge : (b : ℕ) (g : StackState) → Reaches kind ops len b g → ((0 ≡ b) × (start_of kind ≡ g)) ⊎ LastEdge kind ops len b g
   last_edge b g r = last_from r.path 0 (start_of kind) b g at_start r.follows
 
--- the offset where an edge ends
+-- b, the end of an edge, is the offset of an operation after the one numbered k, or the end of the
+-- expression
 pub record Lands (ops : List Placed) (len k b : ℕ) : Type 0 where
   pub number : ℕ
   pub later : k < number
@@ -79,7 +80,7 @@ pub edge_lands : (ops : List Placed) (len a : ℕ) (h : StackState) (b : ℕ) (g
     → Lands ops len e.number b
 edge_lands ops len a h b g e = lands ops len e.number e.placed b e.stands e.leads
 
--- the height h reaches offset b from the start, or over an edge of an operation numbered below i
+-- a path reaches offset b with state h, and its last edge is from an operation numbered below i
 pub record Before (kind : Kind) (ops : List Placed) (len i b : ℕ) (h : StackState) : Type 0 where
   pub last : LastEdge kind ops len b h
   pub below : last.edge.number < i
@@ -95,7 +96,7 @@ module _ (kind : Kind) (ops : List Placed) (len : ℕ) (laid : IsLaidOut ops len
         | inr before ↦ extend kind ops len before.last.a before.last.h b h before.last.reached before.last.edge
       ]
 
-  -- all that reaches an operation has come over the operations before it
+  -- each path to an operation comes over the operations before it, or is at the start
   pub comes_from_reaches : (i : ℕ) (h : StackState) → i ≤ length ops → Reaches kind ops len (place ops len i) h
       → Comes kind ops len i (place ops len i) h
   comes_from_reaches i h le r =
@@ -107,7 +108,7 @@ module _ (kind : Kind) (ops : List Placed) (len : ℕ) (laid : IsLaidOut ops len
             inr (record { last = last; below = omega (arith, l.later) })
       ]
 
-  -- what a path reaches is an operation or the end
+  -- a path leads to the offset of an operation, or to the end
   pub reached_place : (b : ℕ) (h : StackState) → Reaches kind ops len b h → (j : ℕ) × (j ≤ length ops) × (place ops len j ≡ b)
   reached_place b h r =
       elim (last_edge kind ops len b h r) [

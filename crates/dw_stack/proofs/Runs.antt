@@ -30,7 +30,7 @@ use Rattle.dw_stack.proofs.Pieces.{pieces_mono, pieces_with, length-pieces_after
 use Rattle.dw_stack.proofs.Ends.{pieced_after, result_there}
 use Rattle.dw_stack.proofs.Routes.{reach_from, extend, at_start, reached_place, edge_lands}
 
--- for each operation: what it names is what its role says
+-- for each operation: the location that it names is as its role says
 pending_is : (op : Operation) (s : List ℕ) (p : Option LocationDescription) (h : ℕ) (b : Bool) → p ≡ location_named op s
     → PendingIs (next_mode (effect_of op).role h b).mode p (next_mode (effect_of op).role h b).height
 pending_is (reg r) s p h b e = (r, e)
@@ -41,7 +41,7 @@ pending_is (piece n) s p h b e = (e, refl)
 pending_is (bit_piece n m) s p h b e = (e, refl)
 pending_is _ s p h b e = e
 
--- for each operation: if it jumps it has a jump, and else it falls through
+-- for each operation: if it jumps, its effect has a jump; otherwise its effect falls through
 branches : (op : Operation) (s : List ℕ) → MatchBool (jumps op s) ((z : ℤ) × ((effect_of op).jump ≡ Some z))
     (IsTrue (effect_of op).falls_through)
 branches (bra z) s = either (not (eqb (entry s 0) 0))
@@ -52,7 +52,7 @@ branches (bra z) s = either (not (eqb (entry s 0) 0))
 branches (skip z) s = (z, refl)
 branches _ s = refl
 
--- the rest goes by roles
+-- for each role: the stack height after an operation, and whether there are pieces then
 height_behind : (r : Role) (new rest : List ℕ) (b : Bool)
     → length (stack_after r new rest) ≡ (next_mode r (length rest + length new) b).height
 height_behind role.Piece new rest b = refl
@@ -73,7 +73,7 @@ pieced_behind role.Register h b parts p e = e
 pieced_behind role.Bytes h b parts p e = e
 pieced_behind role.Top h b parts p e = e
 
--- one step leads from agreement to agreement
+-- if a configuration agrees with a state, so do the configuration and the state after one step
 agrees_after : (m : Meaning) (ops : List Placed) (len : ℕ) (s : StackState) (c d : Configuration) (t : Step m ops len c d) → Agrees s c
     → Agrees (state_after (effect_of t.meets.placed.1) s) d
 agrees_after m ops len s c d t a = record {
@@ -97,7 +97,8 @@ agrees_after m ops len s c d t a = record {
         let fair = m.fair t.meets.placed.1 c.stack t.new t.meets.entries t.answered in
         omega (arith, l, fair, a.height)
 
--- where the roles agree with the state, the step is there
+-- if the state allows an operation with this role, a configuration that agrees with the state
+-- allows it, too
 can_do : (r : Role) (m : Mode) (h n : ℕ) (p : Option LocationDescription) → n ≡ h → StandsAlone r m h → PendingIs m p h → CanDo r n p
 can_do role.Piece mode.Stack h n None e alone is = omega (arith, leb-true h 1 alone, e)
 can_do role.Piece mode.AfterPiece h n None e alone is = let z = is.1 in omega (arith, z, e)
@@ -120,19 +121,19 @@ can_do r mode.AfterPiece h n (Some p) e alone is = let no_p = is.0 in absurd (cc
 can_do r mode.Register h n p e alone is = absurd (cc)
 can_do r mode.Value h n p e alone is = absurd (cc)
 
--- one step more at the end of a run
+-- a run that is extended by one step
 pub run_more : (m : Meaning) (ops : List Placed) (len n : ℕ) (c d e : Configuration) → Run m ops len n c d → Step m ops len d e
     → Run m ops len (suc n) c e
 run_more m ops len zero c d e run t = (e, subst (λ (x : Configuration). Step m ops len x e) (sym run) t, refl)
 run_more m ops len (suc n) c d e run t = (run.0, run.1, run_more m ops len n run.0 d e run.2 t)
 
 module _ (kind : Kind) (ops : List Placed) (len : ℕ) (laid : IsLaidOut ops len) (good : IsGood kind ops len) where
-  -- no jump goes back
+  -- no jump of a good expression is backward
   pub ahead_of : (k : ℕ) (x : Placed) (z : ℤ) → slice_get ops k ≡ Some x → (effect_of x.1).jump ≡ Some z → (n : ℕ) × (z ≡ pos n)
   ahead_of k x (pos n) stands jump = (n, refl)
   ahead_of k x (negsuc n) stands jump = absurd (good.ahead k (negsuc n) x stands jump refl)
 
-  -- where a jump leads is its target on paths
+  -- a jump leads a run to the offset to which it leads paths
   target_is : (k b : ℕ) (x : Placed) (o : Option ℤ) → slice_get ops k ≡ Some x → (effect_of x.1).jump ≡ o
       → JumpsTo o (place ops len (k + 1)) b → jump_target (place ops len (k + 1)) o ≡ Some b
   target_is k b x None stands jump to = absurd to
@@ -146,7 +147,7 @@ module _ (kind : Kind) (ops : List Placed) (len : ℕ) (laid : IsLaidOut ops len
       inr (there, good.targets k b x stands there)
   leads_there k b x false stands br to = inl (br, to)
 
-  -- a step goes along an edge
+  -- a step of a run follows an edge
   pub step_edge : (m : Meaning) (s : StackState) (c d : Configuration) (t : Step m ops len c d)
       → Edge ops len c.offset s d.offset (state_after (effect_of t.meets.placed.1) s)
   step_edge m s c d t = record {
@@ -159,7 +160,7 @@ module _ (kind : Kind) (ops : List Placed) (len : ℕ) (laid : IsLaidOut ops len
     state = refl;
   }
 
-  -- where a run is
+  -- a run is at an offset that a path reaches, and agrees with the state there
   Stands : Configuration → Type 0
   Stands c = (s : StackState) × Reaches kind ops len c.offset s × Agrees s c
 
@@ -200,7 +201,8 @@ module _ (kind : Kind) (ops : List Placed) (len : ℕ) (laid : IsLaidOut ops len
     agrees_at_start c s,
   )
 
-  -- each step goes to a later operation, and what a run reaches has its number
+  -- each step goes to a later operation: after n steps from operation i, a run is at operation i +
+  -- n or later, or at the end
   run_later : (m : Meaning) (n i : ℕ) (c d : Configuration) → i ≤ length ops → place ops len i ≡ c.offset → Run m ops len n c d
       → (j : ℕ) × (i + n ≤ j) × (j ≤ length ops) × (place ops len j ≡ d.offset)
   run_later m zero i c d le at run = (i, omega arith, le, at ∙ ap (λ (e : Configuration). e.offset) run)
@@ -213,7 +215,7 @@ module _ (kind : Kind) (ops : List Placed) (len : ℕ) (laid : IsLaidOut ops len
       let later = run_later m n l.number run.0 d l.within l.there run.2 in
       (later.0, omega (arith, later.1, l.later, same), later.2, later.3)
 
-  -- it has not reached the end if it is at an operation
+  -- a run that meets an operation hasn't reached the end
   before_end : (j : ℕ) (d : Configuration) → j ≤ length ops → place ops len j ≡ d.offset → Meets ops d → j + 1 ≤ length ops
   before_end j d le at t =
       let within = slice_get_within ops t.number t.placed t.stands in
@@ -221,7 +223,7 @@ module _ (kind : Kind) (ops : List Placed) (len : ℕ) (laid : IsLaidOut ops len
       (place_of_some ops len t.number t.placed t.stands ∙ t.from ∙ sym at) in
       omega (arith, same, within)
 
-  -- a step leads to a later offset
+  -- a step goes to a higher offset
   pub step_later : (m : Meaning) (c d : Configuration) → Step m ops len c d → c.offset < d.offset
   step_later m c d t =
       let e = step_edge m (start_of kind) c d t in
@@ -234,7 +236,7 @@ module _ (kind : Kind) (ops : List Placed) (len : ℕ) (laid : IsLaidOut ops len
         place_mono ops len laid e.number l.number l.later l.within,
       )
 
-  -- the configuration after a step
+  -- the configuration after the operation x pushed `new`
   behind : (x : Placed) (c : Configuration) (new : List ℕ) → ℕ → Configuration
   behind x c new at = record {
     offset = at;
@@ -243,7 +245,7 @@ module _ (kind : Kind) (ops : List Placed) (len : ℕ) (laid : IsLaidOut ops len
     pieces = pieces_after (effect_of x.1).role c.pieces (record { location = location_of c.stack c.pending; size = extent_of x.1 });
   }
 
-  -- a step from an operation that is there
+  -- if a configuration meets an operation that doesn't fail, there is a next step
   go_to : (m : Meaning) (c : Configuration) (new : List ℕ) (t : Meets ops c) (j : Bool) → m.answer t.placed.1 c.stack ≡ Ok new
       → j ≡ jumps t.placed.1 c.stack → MatchBool j ((z : ℤ) × ((effect_of t.placed.1).jump ≡ Some z))
       (IsTrue (effect_of t.placed.1).falls_through) → (e : Configuration) × Step m ops len c e
@@ -281,13 +283,14 @@ module _ (kind : Kind) (ops : List Placed) (len : ℕ) (laid : IsLaidOut ops len
         },
       )
 
-  -- an operation that is there answers, or says why it doesn't
+  -- a configuration that meets an operation isn't stuck: there is a next step, or the operation
+  -- fails
   answer_of : (m : Meaning) (c : Configuration) (t : Meets ops c) (a : Result (List ℕ) EvaluationError) → m.answer t.placed.1 c.stack ≡ a
       → IsNotStuck kind m ops len c
   answer_of m c t (Ok new) is = inr (inl (go_to m c new t (jumps t.placed.1 c.stack) is refl (branches t.placed.1 c.stack)))
   answer_of m c t (Err why) is = inr (inr (why, record { meets = t; answered = is }))
 
-  -- where a path reaches an operation, all that it needs is there
+  -- if a path reaches an operation, everything that the operation needs is there
   pub meets_at : (c : Configuration) (s : StackState) → Reaches kind ops len c.offset s → Agrees s c → (k : ℕ) (x : Placed)
       → slice_get ops k ≡ Some x → x.0 ≡ c.offset → Meets ops c
   meets_at c s there agrees k x stands at =
@@ -303,7 +306,8 @@ module _ (kind : Kind) (ops : List Placed) (len : ℕ) (laid : IsLaidOut ops len
             (good.alone k x s stands here) agrees.pending;
       }
 
-  -- from where a path comes, it goes on, or stops, or this is the end
+  -- a run isn't stuck: there is a next step, or the next operation fails, or the run is at the end
+  -- with a result
   on_from : (m : Meaning) (c : Configuration) → Stands c → IsNotStuck kind m ops len c
   unfolding Stands
   on_from m c r =
@@ -324,7 +328,7 @@ module _ (kind : Kind) (ops : List Placed) (len : ℕ) (laid : IsLaidOut ops len
             })
       ]
 
-  -- no stack is above the depth
+  -- no stack has more entries than the depth
   bound : (m : Meaning) (n depth : ℕ) (c d : Configuration) → IsDepth kind ops len depth → Stands c → length c.stack ≤ depth
       → Run m ops len n c d → length d.stack ≤ depth
   unfolding Stands
@@ -347,7 +351,7 @@ module _ (kind : Kind) (ops : List Placed) (len : ℕ) (laid : IsLaidOut ops len
       bound m n depth run.0 d deep (after, extend kind ops len c.offset r.0 run.0.offset after r.1 (step_edge m r.0 c run.0 t), agrees)
       (omega (arith, agrees.height, below, low)) run.2
 
-  -- with this number of steps left
+  -- a run that can take no more than `left` further steps can be carried on until it is over
   finish_in : (left : ℕ) (m : Meaning) (c : Configuration) → Starts kind c → (n : ℕ) (d : Configuration) → length ops ≤ n + left
       → Run m ops len n c d → Stands d → (k : ℕ) × (e : Configuration) × Run m ops len k c e × IsOver kind m ops len e
   finish_in zero m c s n d enough run here = elim (on_from m d here) [
@@ -368,7 +372,7 @@ module _ (kind : Kind) (ops : List Placed) (len : ℕ) (laid : IsLaidOut ops len
     ]
   ]
 
-  -- the offsets of a run are a path
+  -- the offsets that a run reaches are a path
   run_path : (m : Meaning) (n : ℕ) (c d : Configuration) (s : StackState) → Agrees s c → (run : Run m ops len n c d)
       → (t : StackState) × Follows ops len c.offset s (offsets_of m ops len n c d run) d.offset t × Agrees t d
   run_path m zero c d s agrees run = (
@@ -389,7 +393,7 @@ module _ (kind : Kind) (ops : List Placed) (len : ℕ) (laid : IsLaidOut ops len
       let p = run_path m n c d (start_of kind) (agrees_at_start c s) run in
       (p.0, subst (λ (at : ℕ). Follows ops len at (start_of kind) (offsets_of m ops len n c d run) d.offset p.0) s.offset p.1, p.2)
 
-  -- a run has no more pieces than operations before it name
+  -- a run has no more pieces than there are piece operations before it
   run_pieces : (m : Meaning) (n i : ℕ) (c d : Configuration) → i ≤ length ops → place ops len i ≡ c.offset
       → length c.pieces ≤ pieces_before ops i → Run m ops len n c d → (j : ℕ) × (j ≤ length ops) × (place ops len j ≡ d.offset)
       × (length d.pieces ≤ pieces_before ops j)
@@ -494,7 +498,7 @@ module _ (kind : Kind) (ops : List Placed) (len : ℕ) (laid : IsLaidOut ops len
   unfolding Stands
   run_stands m n c d s run = run_follows m n c d (starts c s) run
 
-  -- where a run is at an operation, it is as the certificate says
+  -- a run that is at an operation is as the certificate's state for that operation says
   pub as_certified : (states : List State) → AreStates kind ops len states → (m : Meaning) (c d : Configuration) (n k : ℕ) → Starts kind c
       → Run m ops len n c d → k < length ops → d.offset ≡ place ops len k
       → (s : StackState) × (slice_get states k ≡ Some (at_offset d.offset s)) × Agrees s d

@@ -1,4 +1,4 @@
--- What merely holds of a checked expression holds of it.
+-- Statements about checked expressions that follow from their truncated forms (`∥ .. ∥₁`).
 use Rattle.std.proofs.Math.Logic.{∥∥₁_elim, ∥∥₁_prop}
 use mathlib.Core.HLevel.{⊥_prop}
 use Rattle.std.specs.Coded.{Coded-set, coded_ℕ, coded_bool, le_prop}
@@ -39,7 +39,7 @@ mode_stable m n is = sym (mode_back m) ∙ (ap mode_of is ∙ mode_back n)
 abbrev made : ℕ → Mode → Bool → StackState
 made height m pieced = record { height = height; mode = m; pieced = pieced }
 
--- two states are one where they merely are
+-- two states are equal if `∥ s ≡ t ∥₁` holds
 state_stable : (s t : StackState) → ∥ s ≡ t ∥₁ → s ≡ t
 state_stable s t h =
     let height : s.height ≡ t.height = ∥∥₁_elim h (Coded-set coded_ℕ _ _) (λ e. ap (λ (x : StackState). x.height) e) in
@@ -69,7 +69,7 @@ found_stable : (o : Option State) (t : State) → ∥ o ≡ Some t ∥₁ → o 
 found_stable None t h = absurd (∥∥₁_elim h ⊥_prop (λ e. cc))
 found_stable (Some s) t h = ap (λ (x : State). Some x) (located_stable s t (∥∥₁_elim h ∥∥₁_prop (λ e. ∣ same_Some s t e ∣₁)))
 
--- what merely are the states are the states
+-- states are those of the operations if `∥ AreStates .. ∥₁` holds
 pub states_stable : (kind : Kind) (ops : List Placed) (len : ℕ) (states : List State) → ∥ AreStates kind ops len states ∥₁
     → AreStates kind ops len states
 states_stable kind ops len states h = record {
@@ -77,7 +77,7 @@ states_stable kind ops len states h = record {
   each = λ k x s stands r. found_stable (slice_get states k) (at_offset x.0 s) (∥∥₁_elim h ∥∥₁_prop (λ are. ∣ are.each k x s stands r ∣₁));
 }
 
--- an operation, or the end, begins at t, or none does
+-- either an operation or the end is at offset t, or neither is
 pub find_place : (ops : List Placed) (len t n : ℕ) → ((j : ℕ) × (j ≤ n) × (place ops len j ≡ t))
     ⊎ ((j : ℕ) → j ≤ n → place ops len j ≡ t → ⊥)
 find_place ops len t zero = elim (cases_eq (place ops len 0) t) [

@@ -1,4 +1,4 @@
--- What the tests of an expression's operations tell.
+-- What the results of tests on operations mean.
 use Rattle.std.proofs.Common.{◌≡◌, ◌≢◌, ◌∙◌, ℕ, zero, suc, ◌+◌, ◌≤◌, ◌⊎◌, ◌||◌, ◌&&◌, Bool, true, false, not, eqb, List, [], ◌∷◌}
 use Rattle.std.proofs.Common.{length, Some, refl, sym, ap, inl, inr, arith}
 use Rattle.std.specs.Prelude.{◌==◌, if◌then◌else◌}
@@ -12,7 +12,7 @@ use Rattle.dw_stack.specs.FirstFault.{number_of, same_state}
 use Rattle.dw_stack.proofs.InStates.{Has}
 use Rattle.dw_stack.proofs.Stable.{mode_stable}
 
--- a test is true where this holds, and else false
+-- the test b is true exactly if P holds
 abbrev pub Tells : Bool → Type 0 → Type 0
 Tells b P = ((b ≡ true) × P) ⊎ ((b ≡ false) × (P → ⊥))
 

@@ -1,4 +1,4 @@
--- Operations without branches: one state after another.
+-- Operations without branches, whose states follow one another.
 use Rattle.std.proofs.Common.{◌≡◌, ◌∙◌, ℕ, ℤ, zero, suc, ◌+◌, ◌<◌, ◌≤◌, Bool, true, false, cond, List, [], ◌∷◌, ◌++◌, length, get_or}
 use Rattle.std.proofs.Common.{get_or-set_same, get_or-set_other, length-append, Option, Some, None, Ok, refl, sym, ap, subst, arith}
 use Rattle.std.specs.Prelude.{slice_get, slice_set, replicate, max, ◌==◌}
@@ -30,14 +30,14 @@ use Rattle.dw_stack.proofs.Verdicts.{end_good, end_states, end_depth}
 use Rattle.dw_stack.proofs.Encoded.{encoded_of, laid_if_read}
 use Rattle.dw_stack.proofs.Deciding.{at_seam}
 
--- what doesn't branch falls through
+-- an operation that doesn't jump falls through
 falls : (op : Operation) → (effect_of op).jump ≡ None → (effect_of op).falls_through ≡ true
 falls (bra z) none = absurd (cc)
 falls (skip z) none = absurd (cc)
 falls _ none = refl
 
--- the first i operations were judged, with these states before them, and this state alone reaches the next one; nothing
--- reaches further
+-- the first i operations were checked, with these states before them; `state` is the only state
+-- with which paths reach the next operation, and nothing later is reached yet
 pub record Straight (kind : Kind) (ops : List Placed) (len i : ℕ) (state : StackState) (depth pieces : ℕ)
     (states : List State) : Type 0 where
   pub in_states : List InState
@@ -127,7 +127,8 @@ module _ (kind : Kind) (ops : List Placed) (len : ℕ) (laid : IsLaidOut ops len
         passes = record { mid = new; next = receives; target = refl };
       }
 
--- this much of an expression was read, and judged as if all of it could be read
+-- the bytes of an expression before the offset `at` were read, and their `count` operations were
+-- checked on the condition that the rest can be read, too
 pub record JudgedSoFar (kind : Kind) (e : Expression) (at count : ℕ) (state : StackState) (depth pieces : ℕ)
     (states : List State) : Type 0 where
   pub within : at ≤ length (bytes_of e)
@@ -140,7 +141,7 @@ pub record JudgedSoFar (kind : Kind) (e : Expression) (at count : ℕ) (state : 
   pub straight : IsLaidOut (operations_in (target_of e) (bytes_of e)) (length (bytes_of e))
       → Straight kind (operations_in (target_of e) (bytes_of e)) (length (bytes_of e)) count state depth pieces states
 
--- the same, with whatever states before what was judged
+-- `JudgedSoFar` without naming the states before the operations
 abbrev pub JudgedAlone : Kind → Expression → ℕ → ℕ → StackState → ℕ → ℕ → Type 0
 JudgedAlone kind e at count state depth pieces = (states : List State) × JudgedSoFar kind e at count state depth pieces states
 
@@ -156,7 +157,7 @@ begun kind e state is = subst (λ (s : StackState). JudgedSoFar kind e 0 0 s s.h
   straight = λ laid. straight_start kind (operations_in (target_of e) (bytes_of e)) (length (bytes_of e)) laid;
 })
 
--- one piece more, or none
+-- an operation adds at most one piece
 one_more : (b : Bool) (pieces count : ℕ) → pieces ≤ count → pieces + cond b 1 0 ≤ count + 1
 one_more true pieces count le = omega (arith, le)
 one_more false pieces count le = omega (arith, le)
@@ -198,7 +199,7 @@ further kind e at count state depth pieces states op next height j read forward 
     lt : count < length ops
     lt = slice_get_within ops count (at, op) stands
 
--- all was read
+-- what holds when all bytes were read
 module _ (kind : Kind) (e : Expression) (at count : ℕ) (state : StackState) (depth pieces : ℕ) (states : List State)
     (j : JudgedSoFar kind e at count state depth pieces states) (past : length (bytes_of e) ≤ at) where
   no_more : operations_of (reading_from e at) ≡ []
@@ -213,14 +214,14 @@ module _ (kind : Kind) (e : Expression) (at count : ℕ) (state : StackState) (d
   all : count ≡ length (operations_in (target_of e) (bytes_of e))
   all = sym j.count_is ∙ ap length (sym (append-nil j.before) ∙ (ap (λ l. j.before ++ values_in l) (sym no_more) ∙ j.parts))
 
-  -- these are the states on all paths
+  -- the states that were collected are those of all paths
   pub states_judged : AreStatesOf kind (target_of e) (bytes_of e) states
   states_judged =
       let s = j.straight laid_all in
       end_states kind (operations_in (target_of e) (bytes_of e)) (length (bytes_of e)) laid_all None count all states s.in_states depth
       pieces s.walked
 
-  -- and where the end gives a result, it is good
+  -- if there is a result at the end, the expression passed the check
   pub judged : HasResult kind (count == 0) state
       → IsChecked (record { kind = kind; target = target_of e; bytes = bytes_of e; depth = depth; count = count })
   judged result = record {

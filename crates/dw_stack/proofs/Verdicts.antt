@@ -1,4 +1,4 @@
--- From what was walked to the verdict: good, or the first fault.
+-- What follows from the pass over the operations: they are good, or there is a first fault.
 use Rattle.std.proofs.Math.Logic.{∥∥₁_elim}
 use mathlib.Core.HLevel.{⊥_prop}
 use Rattle.std.proofs.Common.{◌≡◌, ℕ, ℤ, negsuc, zero, suc, ◌+◌, ◌<◌, ◌≤◌, ◌⊎◌, true, List, length, get_or, Option, Some, None, refl, sym}
@@ -32,7 +32,7 @@ use Rattle.dw_stack.proofs.Pieces.{pieces_mono}
 use Rattle.dw_stack.proofs.Judging.{failed, before_first, few_passes, ahead_passes, start_passes}
 use Rattle.dw_stack.proofs.Walks.{Fine, Accepted, Walked, one_state}
 
--- a piece among the operations leaves room for itself
+-- if the operations don't have too many pieces, there is room for each one when it comes
 few_before : (ops : List Placed) (k : ℕ) (x : Placed) → slice_get ops k ≡ Some x → is_piece (effect_of x.1).role ≡ true
     → pieces_before ops (length ops) ≤ MAX_PIECES → pieces_before ops k < MAX_PIECES
 few_before ops k x s is few =
@@ -43,7 +43,7 @@ few_before ops k x s is few =
     omega (arith, more, few, pieces_mono ops (k + 1) (length ops) (omega (arith, within)))
 
 module _ (kind : Kind) (ops : List Placed) (len : ℕ) (laid : IsLaidOut ops len) where
-  -- what is fine passes each judgement
+  -- an operation that is `Fine` passes each check
   fine_passes : (f : FaultKind) (k : ℕ) (x : Placed) (s : StackState) → Fine kind ops len k x s
       → passes kind ops len k (pieces_before ops k) (effect_of x.1) s f ≡ true
   fine_passes fault.NotInFrame k x s fine = fine.allowed
@@ -61,7 +61,7 @@ module _ (kind : Kind) (ops : List Placed) (len : ℕ) (laid : IsLaidOut ops len
   fine_objection f k x s fine o = let yes = fine_passes f k x s fine in cc
 
   module _ (given : Option (List State)) where
-    -- what it means that the operation numbered i, with this state, passed the judgement of a kind
+    -- the operation numbered i, in state s, passed the check that is named by its fault
     Passes : ℕ → StackState → FaultKind → Type 0
     Passes i s fault.Unreachable = Reaches kind ops len (place ops len i) s
     Passes i s fault.Mismatch = (t : StackState) → Reaches kind ops len (place ops len i) t → t ≡ s
@@ -69,20 +69,20 @@ module _ (kind : Kind) (ops : List Placed) (len : ℕ) (laid : IsLaidOut ops len
     Passes i s fault.EndsEmpty = i < length ops
     Passes i s f = (x : Placed) → slice_get ops i ≡ Some x → Objection kind ops len i (pieces_before ops i) x s f → ⊥
 
-    -- an operation at the offset of the one numbered i is that one
+    -- an operation that has the offset of the operation numbered i has the number i
     number_is : (i k : ℕ) (x : Placed) (a : ℕ) → i ≤ length ops → slice_get ops k ≡ Some x → x.0 ≡ a → a ≡ place ops len i → k ≡ i
     number_is i k x a le s e at =
         let within = slice_get_within ops k x s in
         place_inj ops len laid k i (omega arith) le (place_of_some ops len k x s ∙ e ∙ at)
 
-    -- an objection with the operation's number and the state under other names
+    -- an objection still holds if equal values replace the operation's number and the state
     moved : (f : FaultKind) (k i : ℕ) (x : Placed) (t s : StackState) → k ≡ i → t ≡ s → Objection kind ops len k (pieces_before ops k) x t f
         → Objection kind ops len i (pieces_before ops i) x s f
     moved f k i x t s ek es o =
         subst (λ (n : ℕ). Objection kind ops len n (pieces_before ops n) x s f) ek
         (subst (λ (y : StackState). Objection kind ops len k (pieces_before ops k) x y f) es o)
 
-    -- a judgement that was passed does not refuse
+    -- a check that an operation passed doesn't refuse at the operation's offset
     pass_refuses : (f : FaultKind) (i : ℕ) (s : StackState) (a : ℕ) → i ≤ length ops → a ≡ place ops len i → Passes i s fault.Unreachable
         → Passes i s fault.Mismatch → Passes i s f → Refuses kind ops len given f a → ⊥
     unfolding Passes
@@ -111,7 +111,7 @@ module _ (kind : Kind) (ops : List Placed) (len : ℕ) (laid : IsLaidOut ops len
     accepted_passes fault.EndsEmpty i s lt a = lt
     accepted_passes f i s lt a = λ x e o. fine_objection f i x s (a.fine x e) o
 
-    -- the state at an operation that was judged
+    -- each operation that was checked has a state, which was accepted
     pub state_of : (i : ℕ) (states : List State) (in_states : List InState) (depth pieces k : ℕ)
         → Walked kind ops len given i states in_states depth pieces → k < i
         → (s : StackState) × (slice_get states k ≡ Some (at_offset (place ops len k) s)) × Accepted kind ops len given k s
@@ -123,7 +123,7 @@ module _ (kind : Kind) (ops : List Placed) (len : ℕ) (laid : IsLaidOut ops len
           | inr past ↦ absurd (omega (arith, past.0, w.long))
         ]
 
-    -- where a refusal is
+    -- a check refuses only at the offset of an operation, or at the end
     refusal_place : (f : FaultKind) (a : ℕ) → Refuses kind ops len given f a → (j : ℕ) × (j ≤ length ops) × (place ops len j ≡ a)
     refusal_place fault.Unreachable a r = (r.0, omega (arith, slice_get_within ops r.0 r.1 r.2), place_of_some ops len r.0 r.1 r.2 ∙ r.3)
     refusal_place fault.Mismatch a r = reached_place kind ops len laid a r.0 r.2
@@ -132,7 +132,8 @@ module _ (kind : Kind) (ops : List Placed) (len : ℕ) (laid : IsLaidOut ops len
 
     module _ (i : ℕ) (states : List State) (in_states : List InState) (depth pieces : ℕ)
         (w : Walked kind ops len given i states in_states depth pieces) where
-      -- nothing refuses at an operation that was judged
+      -- no check refuses below the offset of the operation numbered i, as all operations before it
+      -- were checked
       none_below : i ≤ length ops → (f : FaultKind) (a : ℕ) → a < place ops len i → Refuses kind ops len given f a → ⊥
       none_below le f a lt r =
           let p = refusal_place f a r in
@@ -143,7 +144,8 @@ module _ (kind : Kind) (ops : List Placed) (len : ℕ) (laid : IsLaidOut ops len
           pass_refuses f p.0 h.0 a p.1 (sym p.2) (accepted_passes fault.Unreachable p.0 h.0 lt' h.2)
           (accepted_passes fault.Mismatch p.0 h.0 lt' h.2) (accepted_passes f p.0 h.0 lt' h.2) r
 
-      -- the first fault, if all before it at this offset passed
+      -- a check that refuses at the operation numbered i is the first fault, if no earlier check
+      -- refuses there
       first_here : (f : FaultKind) (a : ℕ) → i ≤ length ops → a ≡ place ops len i → Refuses kind ops len given f a
           → ((g : FaultKind) → rank g < rank f → Refuses kind ops len given g a → ⊥) → IsFirstFault kind ops len given f a
       first_here f a le at r here = record {
@@ -154,7 +156,8 @@ module _ (kind : Kind) (ops : List Placed) (len : ℕ) (laid : IsLaidOut ops len
         ];
       }
 
-      -- the first fault at an operation that one state reaches
+      -- the first fault is at the operation numbered i if one state reaches that operation, f
+      -- refuses there, and all checks before f are passed
       one_fault : (f : FaultKind) (s : StackState) → i < length ops → get_or in_states i Unreached ≡ Known s
           → (Reaches kind ops len (place ops len i) s → Refuses kind ops len given f (place ops len i))
           → ((g : FaultKind) → rank g < rank f → Passes i s fault.Unreachable → Passes i s fault.Mismatch → Passes i s g)
@@ -173,7 +176,7 @@ module _ (kind : Kind) (ops : List Placed) (len : ℕ) (laid : IsLaidOut ops len
       before_state fault.Mismatch s lt u m = m
       before_state _ s lt u m = absurd (omega (arith, lt))
 
-      -- all before the first judgement of the operation that isn't passed
+      -- before the first check of the operation alone that fails, all checks are passed
       before_local : (f g : FaultKind) (x : Placed) (s : StackState) → i < length ops → slice_get ops i ≡ Some x
           → first_failed (passes kind ops len i (pieces_before ops i) (effect_of x.1) s) ≡ Some f → rank g < rank f
           → Passes i s fault.Unreachable → Passes i s fault.Mismatch → Given ops len given i s → Passes i s g
@@ -188,7 +191,7 @@ module _ (kind : Kind) (ops : List Placed) (len : ℕ) (laid : IsLaidOut ops len
           subst (λ (z : Placed). Objection kind ops len i (pieces_before ops i) z s g) (same_Some y x (sym e ∙ stands)) o in
           cc
 
-      -- a judgement of the operation alone
+      -- a check of the operation alone that fails in state s refuses at the operation's offset
       local_refuses : (f : FaultKind) (x : Placed) (s : StackState) → slice_get ops i ≡ Some x
           → Objection kind ops len i (pieces_before ops i) x s f → Reaches kind ops len (place ops len i) s
           → Refuses kind ops len given f (place ops len i)
@@ -208,7 +211,7 @@ module _ (kind : Kind) (ops : List Placed) (len : ℕ) (laid : IsLaidOut ops len
           (failed (passes kind ops len i (pieces_before ops i) (effect_of o.placed.1) s) judgements f first))
           (λ g less u m. before_local f g o.placed s lt o.stands first less u m is)
 
-      -- what a step objects to is the first fault
+      -- the fault with which a step stops is the first fault
       pub step_fault : (f : FaultKind) → i < length ops → StepObjects kind ops len given i pieces in_states f
           → IsFirstFault kind ops len given f (place ops len i)
       unfolding Passes
@@ -359,7 +362,7 @@ module _ (kind : Kind) (ops : List Placed) (len : ℕ) (laid : IsLaidOut ops len
           below_empty fault.EndsEmpty less r = omega (arith, less)
           below_empty _ less r = no_operation_at_end r.0 r.1 r.3 r.4
 
-      -- the state at each operation
+      -- each operation has a state, which was accepted
       accepted_at : (k : ℕ) (x : Placed) → slice_get ops k ≡ Some x
           → (s : StackState) × (slice_get states k ≡ Some (at_offset (place ops len k) s)) × Accepted kind ops len given k s
       accepted_at k x s = state_of i states in_states depth pieces k w (omega (arith, slice_get_within ops k x s))
@@ -383,7 +386,7 @@ module _ (kind : Kind) (ops : List Placed) (len : ℕ) (laid : IsLaidOut ops len
                 ends g (reach_from kind ops len b len g g b_is refl r) ∙ sym (ends e (reach_from kind ops len b len e e b_is refl q))
           ]
 
-      -- what is fine at the one state is fine at each state that paths have there
+      -- an operation is `Fine` in each state that paths have there, because they have only one
       fine_at : (k : ℕ) (x : Placed) (s : StackState) → slice_get ops k ≡ Some x → Reaches kind ops len x.0 s → Fine kind ops len k x s
       fine_at k x s stands r =
           let a = accepted_at k x stands in
@@ -425,7 +428,7 @@ module _ (kind : Kind) (ops : List Placed) (len : ℕ) (laid : IsLaidOut ops len
             (elim t [ inl same ↦ inl same | inr u ↦ inr (u.0, u.1, u.2, u.3, u.4, u.5, omega (arith, slice_get_within ops u.0 u.1 u.3)) ]);
       }
 
--- a good program meets no fault, with its states if some are given
+-- good operations have no fault, as long as the given states, if there are any, are right
 pub good_refuses : (kind : Kind) (ops : List Placed) (len : ℕ) → IsLaidOut ops len → (given : Option (List State))
     → ((k : ℕ) (x : Placed) (s : StackState) → slice_get ops k ≡ Some x → Reaches kind ops len x.0 s → Given ops len given k s)
     → IsGood kind ops len → (f : FaultKind) (a : ℕ) → Refuses kind ops len given f a → ⊥

@@ -1,4 +1,4 @@
--- What holds once the first operations were judged.
+-- What holds after the pass has checked the first operations.
 use Rattle.std.proofs.Common.{◌≡◌, ℕ, ℤ, zero, suc, ◌+◌, ◌<◌, ◌≤◌, ◌⊎◌, Bool, true, false, List, [], ◌∷◌, ◌++◌, length, get_or, Option}
 use Rattle.std.proofs.Common.{Some, None, refl, sym, ap, ◌∙◌, subst, inl, inr, arith, IsTrue, cond, length-append}
 use Rattle.std.specs.Prelude.{slice_get, max}
@@ -28,7 +28,7 @@ use Rattle.dw_stack.proofs.Describes.{Describes, describes_same, describes_is, d
 use Rattle.std.proofs.lemmas.List.Sums.{count_by_more_yes, count_by_more_no}
 use Rattle.std.proofs.lemmas.Option.{get_or_from_slice_get}
 
--- the operation x, numbered k, meets all that is required of it at the state s
+-- the operation x, numbered k, is allowed in state s, and its jump, if it has one, has a target
 pub record Fine (kind : Kind) (ops : List Placed) (len k : ℕ) (x : Placed) (s : StackState) : Type 0 where
   pub allowed : IsAllowed kind (effect_of x.1)
   pub alone : StandsAlone (effect_of x.1).role s.mode s.height
@@ -38,14 +38,15 @@ pub record Fine (kind : Kind) (ops : List Placed) (len k : ℕ) (x : Placed) (s 
   pub ahead : (z : ℤ) → (effect_of x.1).jump ≡ Some z → branch_target (place ops len (k + 1)) z ≡ None → ⊥
   pub target : (t : ℕ) → branch_target_of ops len k (effect_of x.1) ≡ Some t → IsTarget ops len k t
 
--- the operation numbered k was judged, at the state s that paths have there
+-- the operation numbered k was checked in state s, the only state that paths have there
 pub record Accepted (kind : Kind) (ops : List Placed) (len : ℕ) (given : Option (List State)) (k : ℕ) (s : StackState) : Type 0 where
   pub reached : Reaches kind ops len (place ops len k) s
   pub one : (t : StackState) → Reaches kind ops len (place ops len k) t → t ≡ s
   pub given_is : Given ops len given k s
   pub fine : (x : Placed) → slice_get ops k ≡ Some x → Fine kind ops len k x s
 
--- as Touches, over the operations numbered below i
+-- h is the stack height before or after an operation numbered below i on a path, or at the start of
+-- the expression
 abbrev pub TouchesBelow : Kind → List Placed → ℕ → ℕ → ℕ → Type 0
 TouchesBelow kind ops len i h =
     (h ≡ (start_of kind).height) ⊎ ((k : ℕ) × (x : Placed) × (s : StackState) × (slice_get ops k ≡ Some x) × Reaches kind ops len x.0 s
@@ -66,7 +67,7 @@ pub record Walked (kind : Kind) (ops : List Placed) (len : ℕ) (given : Option 
   pub counted : pieces ≡ pieces_before ops i
   pub few : pieces ≤ MAX_PIECES
 
--- an element of a list with one more at its end
+-- an element of a list that was extended at its end by one element
 pub get_push : (hs : List State) (h : State) (k : ℕ) (g : State) → slice_get (hs ++ h ∷ []) k ≡ Some g
     → (slice_get hs k ≡ Some g) ⊎ ((k ≡ length hs) × (h ≡ g))
 get_push [] h zero g e = inr (refl, same_Some h g e)
@@ -80,11 +81,12 @@ get_push (x ∷ hs) h (suc k) g e =
 
 module _ (kind : Kind) (ops : List Placed) (len : ℕ) (laid : IsLaidOut ops len) (given : Option (List State)) (i pieces : ℕ)
     (h : StackState) (out : OutState) (lt : i < length ops) (j : Judged kind ops len i pieces h out) where
-  -- a height that is after the operation numbered i, at the place numbered n
+  -- the operation numbered i leads to the one numbered n, with state g
   Goes : ℕ → StackState → Type 0
   Goes n g = Leads ops len i (effect_of j.placed.1) (place ops len n) × (g ≡ out.state)
 
-  -- the heights that come from the operations up to i are those from before, and the one after i
+  -- the states to which the first i + 1 operations lead: those to which the first i lead, and the
+  -- one after the operation numbered i
   comes_more : ((g : StackState) → Reaches kind ops len (place ops len i) g → g ≡ h) → (n : ℕ) (g : StackState)
       → Comes kind ops len (i + 1) (place ops len n) g → Comes kind ops len i (place ops len n) g ⊎ Goes n g
   unfolding Goes
@@ -133,7 +135,7 @@ module _ (kind : Kind) (ops : List Placed) (len : ℕ) (laid : IsLaidOut ops len
             inr (record { last = record { a = place ops len i; h = h; reached = reached; edge = edge }; below = omega arith })
       ]
 
--- what the operation's target and the number found for it say about each other
+-- a branch target as an offset, and as the number of an operation
 target_to : (ops : List Placed) (len k n : ℕ) (o : Option ℤ) (o' : Option ℕ) → TargetIs ops len k o o' → o' ≡ Some n
     → (jump_target (place ops len (k + 1)) o ≡ Some (place ops len n)) × IsTarget ops len k (place ops len n)
 target_to ops len k n None None is e = absurd (cc)
@@ -240,7 +242,7 @@ le_right n a b e = omega arith
 le_left : (n a b c : ℕ) → n ≤ a → n ≤ max (max a b) c
 le_left n a b c le = omega arith
 
--- the depth, with one operation more
+-- the depth of the first i + 1 operations, from the depth of the first i
 depth_more : (kind : Kind) (ops : List Placed) (len i d : ℕ) (h : StackState) (x : Placed) → slice_get ops i ≡ Some x
     → Reaches kind ops len x.0 h → ((g : StackState) → Reaches kind ops len x.0 g → g ≡ h) → DepthBelow kind ops len i d
     → DepthBelow kind ops len (i + 1) (max (max d h.height) (height_after (effect_of x.1) h))
@@ -287,7 +289,7 @@ depth_more kind ops len i d h x s r one below = record { touched = touched; grea
           ]
         ]
 
--- one more operation, of which the test says whether it names a piece
+-- the number of pieces with one more operation; b tells whether that operation is a piece
 pub count_more : (ops : List Placed) (i pieces : ℕ) (x : Placed) (b : Bool) → slice_get ops i ≡ Some x → b ≡ is_piece (effect_of x.1).role
     → pieces ≡ pieces_before ops i → (pieces + cond b 1 0) ≡ pieces_before ops (i + 1)
 count_more ops i pieces x true s is counted =
@@ -307,7 +309,7 @@ few_more pieces true c is few le = let lt = few (sym is) in omega (arith, lt)
 few_more pieces false c is few le = omega (arith, le)
 
 module _ (kind : Kind) (ops : List Placed) (len : ℕ) (laid : IsLaidOut ops len) (given : Option (List State)) where
-  -- nothing has been judged yet
+  -- what holds before any operation is checked
   pub walked_start : (in_states : List InState) → length in_states ≡ length ops + 1 → get_or in_states 0 Unreached ≡ Known (start_of kind)
       → ((j : ℕ) → 0 < j → j ≤ length ops → get_or in_states j Unreached ≡ Unreached)
       → Walked kind ops len given 0 [] in_states (start_of kind).height 0
@@ -351,7 +353,7 @@ module _ (kind : Kind) (ops : List Placed) (len : ℕ) (laid : IsLaidOut ops len
       described : (j : ℕ) → 0 ≤ j → j ≤ length ops → Describes (get_or in_states j Unreached) (Comes kind ops len 0 (place ops len j))
       described j low le = elim (cases_lt 0 j) [ inl pos ↦ at_other j pos le | inr low_end ↦ at_first j (omega arith) ]
 
-  -- the one state at an operation, as paths have it
+  -- a known in-state is the one state that paths have at the operation
   pub one_state : (i : ℕ) (s : StackState) (a : InState) → i ≤ length ops → a ≡ Known s
       → Describes a (Comes kind ops len i (place ops len i)) → Reaches kind ops len (place ops len i) s
       × ((t : StackState) → Reaches kind ops len (place ops len i) t → t ≡ s)
@@ -360,7 +362,7 @@ module _ (kind : Kind) (ops : List Placed) (len : ℕ) (laid : IsLaidOut ops len
       describes_is a (Known s) (Comes kind ops len i (place ops len i)) e d in
       (reaches_from_comes kind ops len laid i (place ops len i) s d'.0, λ t r. d'.1 t (comes_from_reaches kind ops len laid i t le r))
 
-  -- one operation more
+  -- what holds after one more operation is checked
   pub walked_step : (i : ℕ) (states : List State) (old new : List InState) (depth pieces : ℕ) (done : Done) → i < length ops
       → Walked kind ops len given i states old depth pieces → Stepped kind ops len given i pieces old done new
       → Walked kind ops len given (i + 1) (states ++ at_offset (place ops len i) done.state ∷ []) new

@@ -19,13 +19,13 @@ use Rattle.dw_stack.proofs.Verdicts.{good_refuses}
 use Rattle.dw_stack.proofs.Runs.{good_runs}
 use Rattle.dw_stack.proofs.Encoded.{laid_out, encoded_of, read_of, laid_if_read}
 
--- the counts are the same
+-- if the given states are as many as the operations, there is no fault of their number
 pub same_count : (target : Target) (bytes : List ℕ) (given : Option (Bor (List State))) (n : ℕ) → n ≡ length (operations_in target bytes)
     → IfSome given (λ states. length states.now ≡ n) → IsOtherCount target bytes (given_of given) → ⊥
 same_count target bytes None n is same other = other
 same_count target bytes (Some states) n is same other = other (same ∙ is)
 
--- the operations that were read are those of the bytes
+-- facts for operations and a length that are equal to those of the bytes
 module _ (kind : Kind) (target : Target) (bytes : List ℕ) (ops : List Placed) (len : ℕ) (read : reading_fault target bytes ≡ None)
     (are : ops ≡ operations_in target bytes) (long : len ≡ length bytes) where
   pub laid_for : IsLaidOut ops len
@@ -57,7 +57,7 @@ module _ (kind : Kind) (target : Target) (bytes : List ℕ) (ops : List Placed) 
         )))
   ]
 
--- the given states are the right ones
+-- if the given states are those that the paths have, they are the states of the operations
 pub states_known : (kind : Kind) (ops : List Placed) (len : ℕ) (given : List State) → length given ≡ length ops
     → KnowsOnly kind ops len (Some given) → AreStates kind ops len given
 states_known kind ops len given long knows = record {
@@ -73,14 +73,14 @@ knows_for kind target bytes ops len (Some states) n are long count same knows =
     subst (λ (xs : List Placed). AreStates kind xs (length bytes) states.now) are
     (subst (λ (m : ℕ). AreStates kind ops m states.now) long (states_known kind ops len states.now (same ∙ count) knows))
 
--- every run of a good expression
+-- all runs of a good expression go well (`RunsWellWithin`)
 pub good_expressions_run_well : (kind : Kind) (target : Target) (bytes : List ℕ) (depth : ℕ) → IsGoodExpression kind target bytes
     → IsDepthOf kind target bytes depth → RunsWellWithin kind target bytes depth
 good_expressions_run_well kind target bytes depth good deepest =
     good_runs kind (operations_in target bytes) (length bytes)
     (laid_out target bytes (operations_in target bytes) good.encoded) good.good depth deepest
 
--- every run of what was checked
+-- all runs of a checked expression go well (`RunsWellWithin`)
 pub runs_for : (kind : Kind) (target : Target) (bytes : List ℕ) (c : Checked) → IsChecked c → IsOf kind target bytes c
     → RunsWellWithin kind target bytes c.depth
 runs_for kind target bytes c checked is =
@@ -89,7 +89,7 @@ runs_for kind target bytes c checked is =
     (subst (λ (t : Target). RunsWellWithin c.kind t bytes c.depth) is.target_is
     (subst (λ (b : List ℕ). RunsWellWithin c.kind c.target b c.depth) is.bytes_are runs))
 
--- a good expression has no fault, if the given states are right
+-- a good expression has no fault, as long as the given states, if there are any, are right
 pub good_faultless : (kind : Kind) (target : Target) (bytes : List ℕ) (given : Option (List State)) (f : Fault)
     → Knows kind target bytes given → IsGoodExpression kind target bytes → IsFaultOf kind target bytes given f → ⊥
 good_faultless kind target bytes given f right good fault = elim fault [

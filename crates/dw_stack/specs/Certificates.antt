@@ -1,4 +1,4 @@
--- What certificates and checked expressions are to a caller.
+-- What certificates and checked expressions of the code mean to a caller.
 use Rattle.std.specs.Prelude.{List}
 use Rattle.dw_stack.specs.declared.state.State.{State}
 use Rattle.dw_stack.specs.declared.checked.CheckedExpression.{CheckedExpression}

@@ -1,4 +1,4 @@
--- Expressions by their bytes.
+-- What a good expression, its states, its depth and its first fault are, given its bytes.
 use Rattle.std.specs.Prelude.{◌≡◌, ℕ, ◌⊎◌, List, length, Option, Some, None}
 use Rattle.dw_bytes.specs.declared.target.Target.{Target}
 use Rattle.dw_bytes.specs.declared.fault.Fault.{Fault}
@@ -12,40 +12,44 @@ use Rattle.dw_stack.specs.Paths.{Placed, IsGood, AreStates, IsDepth}
 use Rattle.dw_stack.specs.Faults.{IsFirstFault}
 use Rattle.dw_stack.specs.Machine.{RunsWell}
 
--- bytes from one of their offsets on
+-- the reading position at offset `at` of the bytes
 abbrev pub reading_at : Target → List ℕ → ℕ → ReadPosition
 reading_at target bytes at = section_from target bytes at
 
--- the operations that bytes encode, up to the first that can't be read, and that one's fault
+-- the operations that bytes encode, up to the first that can't be read; below, that operation's
+-- fault, if there is one
 abbrev pub operations_in : Target → List ℕ → List Placed
 operations_in target bytes = values_in (operations_of (record { target = target; position = 0; rest = bytes }))
 
 abbrev pub reading_fault : Target → List ℕ → Option Fault
 reading_fault target bytes = fault_in (operations_of (record { target = target; position = 0; rest = bytes }))
 
--- a good expression: its bytes are the encodings of its operations, and these are good over all paths
+-- a good expression: its bytes are the encodings of its operations, and the operations are good on
+-- all paths
 pub record IsGoodExpression (kind : Kind) (target : Target) (bytes : List ℕ) : Type 0 where
   pub encoded : AreOperations target 0 bytes (operations_in target bytes)
   pub good : IsGood kind (operations_in target bytes) (length bytes)
 
--- the state before each of its operations, as paths have it
+-- the states are those that the expression's paths have before its operations, in order
 abbrev pub AreStatesOf : Kind → Target → List ℕ → List State → Type 0
 AreStatesOf kind target bytes states = AreStates kind (operations_in target bytes) (length bytes) states
 
--- the greatest height on any path
+-- `depth` is the greatest stack height on any path of the expression
 abbrev pub IsDepthOf : Kind → Target → List ℕ → ℕ → Type 0
 IsDepthOf kind target bytes depth = IsDepth kind (operations_in target bytes) (length bytes) depth
 
--- every run of it follows a path, is as the states there say, stays within the depth, and is never stuck
+-- every run of the expression follows a path, agrees with the states on that path, stays within
+-- `depth`, and never gets stuck
 abbrev pub RunsWellWithin : Kind → Target → List ℕ → ℕ → Type 0
 RunsWellWithin kind target bytes depth = RunsWell kind (operations_in target bytes) (length bytes) depth
 
--- the number of given states, if there are some, differs from that of the operations
+-- states are given, and their number isn't the number of operations
 abbrev pub IsOtherCount : Target → List ℕ → Option (List State) → Type 0
 IsOtherCount target bytes None = ⊥
 IsOtherCount target bytes (Some given) = ¬ (length given ≡ length (operations_in target bytes))
 
--- Its first fault. Reading comes first, then the number of states if some are given, then each operation and the end.
+-- The first fault of an expression. Faults of reading come first, then a wrong number of given
+-- states, then the faults of each operation and of the end.
 abbrev pub IsFaultOf : Kind → Target → List ℕ → Option (List State) → Fault → Type 0
 IsFaultOf kind target bytes given f =
     (reading_fault target bytes ≡ Some f)
@@ -53,7 +57,7 @@ IsFaultOf kind target bytes given f =
     ⊎ ((reading_fault target bytes ≡ None) × ¬ IsOtherCount target bytes given × IsFirstFault kind (operations_in target bytes)
     (length bytes) given f.kind f.at)
 
--- what a checked expression is to a caller
+-- what a caller knows of a checked expression
 pub record Checked : Type 0 where
   pub kind : Kind
   pub target : Target
@@ -61,19 +65,19 @@ pub record Checked : Type 0 where
   pub depth : ℕ
   pub count : ℕ
 
--- it is good, and its numbers are right
+-- the expression is good, and its depth and its number of operations are right
 pub record IsChecked (c : Checked) : Type 0 where
   pub good : IsGoodExpression c.kind c.target c.bytes
   pub depth : IsDepthOf c.kind c.target c.bytes c.depth
   pub count : c.count ≡ length (operations_in c.target c.bytes)
 
--- it is of this kind, this target and these bytes
+-- the checked expression has this kind, this target and these bytes
 pub record IsOf (kind : Kind) (target : Target) (bytes : List ℕ) (c : Checked) : Type 0 where
   pub kind_is : c.kind ≡ kind
   pub target_is : c.target ≡ target
   pub bytes_are : c.bytes ≡ bytes
 
--- the given states, if there are some, are the right ones
+-- the given states, if there are any, are the states of the expression
 abbrev pub Knows : Kind → Target → List ℕ → Option (List State) → Type 0
 Knows kind target bytes None = Unit {0}
 Knows kind target bytes (Some given) = AreStatesOf kind target bytes given

@@ -1,4 +1,5 @@
--- What the judgements of an expression's operations refuse, and their order.
+-- What the checks of an expression's operations refuse, and the order of the checks. Each check is
+-- named by its fault.
 use Rattle.std.specs.Prelude.{◌≡◌, ◌≢◌, ℕ, ℤ, ◌+◌, ◌==◌, nat_lt, nat_le, ◌||◌, ◌<◌, ◌⊎◌, Bool, true, false, not, is_some, List, [], ◌∷◌}
 use Rattle.std.specs.Prelude.{length, find, Option, Some, None, slice_get}
 use Rattle.std.specs.List.{list_any}
@@ -13,34 +14,34 @@ use Rattle.dw_stack.specs.Effects.{effect_of}
 use Rattle.dw_stack.specs.States.{stands_alone, height_after, HasResult, at_offset}
 use Rattle.dw_stack.specs.Paths.{Placed, place, branch_target, branch_target_of, Reaches, has_operation, is_piece, pieces_before}
 
--- the states at hand, if there are any, have this one at k
+-- if states are given, the one at index k is t
 abbrev pub Keeps : Option (List State) → ℕ → State → Type 0
 Keeps None k t = Unit {0}
 Keeps (Some given) k t = slice_get given k ≡ Some t
 
--- the given states, if there are any, have this one at the operation numbered k, with its offset
+-- if states are given, the one for the operation numbered k is s with the operation's offset
 abbrev pub Given : List Placed → ℕ → Option (List State) → ℕ → StackState → Type 0
 Given ops len given k s = Keeps given k (at_offset (place ops len k) s)
 
--- ---- the judgements of one operation
+-- ---- the checks of one operation
 
--- in their order, where paths reach it with one state
+-- the checks of an operation that paths reach with one state, in order
 abbrev pub judgements : List FaultKind
 judgements = fault.NotInFrame ∷ fault.NotAlone ∷ fault.Underflow ∷ fault.TooDeep ∷ fault.TooManyPieces ∷ fault.Backward
     ∷ fault.TargetNotStart ∷ []
 
--- the jump, if there is one, isn't backward
+-- the operation isn't a backward branch
 abbrev pub is_ahead : ℕ → Option ℤ → Bool
 is_ahead next None = true
 is_ahead next (Some z) = is_some (branch_target next z)
 
--- some operation begins at the target, or it is the end
+-- the branch target, if there is one, is the start of an operation, or the end
 abbrev pub is_start : List Placed → ℕ → Option ℕ → Bool
 is_start ops len None = true
 is_start ops len (Some t) = (len == t) || list_any (λ (x : Placed). x.0 == t) ops
 
--- whether the kind has an operation of this effect, and the state s allows it after this number of pieces, by the
--- judgement of a kind
+-- whether an operation with effect e passes the check named by the fault, in state s, after this
+-- number of pieces; the checks of branch targets aren't among these
 abbrev pub suits : Kind → ℕ → StackEffect → StackState → FaultKind → Bool
 suits kind pieces e s fault.NotInFrame = has_operation kind e
 suits kind pieces e s fault.NotAlone = stands_alone e.role s.mode s.height
@@ -49,23 +50,24 @@ suits kind pieces e s fault.TooDeep = nat_le (height_after e s) MAX_HEIGHT
 suits kind pieces e s fault.TooManyPieces = not (is_piece e.role) || nat_lt pieces MAX_PIECES
 suits kind pieces e s _ = true
 
--- and whether it may branch where it does, if its number is k
+-- whether the operation numbered k, with effect e, passes the check named by the fault; the checks
+-- of branch targets are among these
 abbrev pub passes : Kind → List Placed → ℕ → ℕ → ℕ → StackEffect → StackState → FaultKind → Bool
 passes kind ops len k pieces e s fault.Backward = is_ahead (place ops len (k + 1)) e.jump
 passes kind ops len k pieces e s fault.TargetNotStart = is_start ops len (branch_target_of ops len k e)
 passes kind ops len k pieces e s f = suits kind pieces e s f
 
--- the first judgement that isn't passed, if there is one
+-- the first check that fails, if there is one
 abbrev pub first_failed : (FaultKind → Bool) → Option FaultKind
 first_failed passed = find (λ f. not (passed f)) judgements
 
--- ---- the judgements of all operations and of the end
+-- ---- the checks of all operations and of the end
 
--- the operation x, numbered k, doesn't pass the judgement of this kind
+-- the operation x, numbered k, fails the check f in state s
 abbrev pub Objection : Kind → List Placed → ℕ → ℕ → ℕ → Placed → StackState → FaultKind → Type 0
 Objection kind ops len k pieces x s f = passes kind ops len k pieces (effect_of x.1) s f ≡ false
 
--- the judgement of this kind refuses at this offset
+-- the check named by the fault f refuses at offset `at`
 abbrev pub Refuses : Kind → List Placed → ℕ → Option (List State) → FaultKind → ℕ → Type 0
 Refuses kind ops len given fault.Unreachable at =
     (k : ℕ) × (x : Placed) × (slice_get ops k ≡ Some x) × (x.0 ≡ at) × ((s : StackState) → ¬ Reaches kind ops len at s)
@@ -80,7 +82,7 @@ Refuses kind ops len given f at =
     (k : ℕ) × (x : Placed) × (s : StackState) × (slice_get ops k ≡ Some x) × (x.0 ≡ at) × Reaches kind ops len at s
     × Objection kind ops len k (pieces_before ops k) x s f
 
--- the order of judgement at one offset
+-- the order of the checks at one offset
 abbrev pub rank : FaultKind → ℕ
 rank fault.Unreachable = 0
 rank fault.Mismatch = 1
@@ -98,11 +100,11 @@ rank _ = 11
 abbrev pub Precedes : ℕ → FaultKind → ℕ → FaultKind → Type 0
 Precedes a f b g = (a < b) ⊎ ((a ≡ b) × (rank f < rank g))
 
--- of all judgements, this one is the first that refuses
+-- of all checks that refuse, f at offset `at` is the first
 pub record IsFirstFault (kind : Kind) (ops : List Placed) (len : ℕ) (given : Option (List State)) (f : FaultKind) (at : ℕ) : Type 0 where
   pub refuses : Refuses kind ops len given f at
   pub first : (g : FaultKind) (a : ℕ) → Precedes a g at f → ¬ Refuses kind ops len given g a
 
--- the given states, if there are some, are those on paths
+-- the given states, if there are any, are those that the paths have
 pub record KnowsOnly (kind : Kind) (ops : List Placed) (len : ℕ) (given : Option (List State)) : Type 0 where
   pub each : (k : ℕ) (x : Placed) (s : StackState) → slice_get ops k ≡ Some x → Reaches kind ops len x.0 s → Given ops len given k s

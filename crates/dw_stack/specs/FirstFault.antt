@@ -1,7 +1,8 @@
--- The first fault of an expression as a function of its bytes. First all is read. Then the operations are judged in order
--- of offset, and last the end, each by questions in a fixed order; the first that isn't answered with yes names the
--- fault. The questions ask what DWARF 5, sections 2.5 and 2.6, and this checker's rule on paths require; their order is
--- this checker's.
+-- The first fault of an expression as a function of its bytes. First the whole expression is read.
+-- Then the operations are checked in order of offset, and the end last. Each is checked by
+-- yes-or-no questions in a fixed order; the first no is the fault. The questions ask what DWARF 5,
+-- sections 2.5 and 2.6, and this checker's rules on paths require; their order is this checker's
+-- own.
 use Rattle.std.specs.Prelude.{ℕ, zero, suc, ◌+◌, ◌==◌, ◌&&◌, Bool, true, false, not, if◌then◌else◌, List, [], ◌∷◌, ◌++◌, length, map}
 use Rattle.std.specs.Prelude.{Option, Some, None, slice_get}
 use Rattle.std.specs.Option.{option_or}
@@ -21,34 +22,36 @@ use Rattle.dw_stack.specs.Paths.{Placed, place, branch_target_of, pieces_before}
 use Rattle.dw_stack.specs.Faults.{judgements, passes}
 use Rattle.dw_stack.specs.Expressions.{operations_in, reading_fault}
 
--- ---- what reaches an offset
+-- ---- the states with which paths reach an offset
 
 abbrev pub offsets_to : Option ℕ → List ℕ
 offsets_to None = []
 offsets_to (Some t) = t ∷ []
 
--- the offsets that may come after the operation numbered k, of this effect: the next one, and where it branches to
+-- the offsets that a path may go to from the operation numbered k, whose effect is e: the next
+-- operation's, and the branch target
 abbrev pub offsets_after : List Placed → ℕ → ℕ → StackEffect → List ℕ
 offsets_after ops len k e = (if e.falls_through then place ops len (k + 1) ∷ [] else []) ++ offsets_to (branch_target_of ops len k e)
 
--- of offsets with states, the states at this offset
+-- from a list of offsets with states: the states at offset `at`
 abbrev pub states_at : ℕ → List (ℕ × StackState) → List StackState
 states_at at [] = []
 states_at at (c ∷ come) = if c.0 == at then c.1 ∷ states_at at come else states_at at come
 
--- the offsets to which the operation numbered k leads from these states, with the states there
+-- the offsets that a path may go to from the operation numbered k, each with the state there, if
+-- paths reach that operation with these states
 abbrev pub onward : List Placed → ℕ → ℕ → Option Placed → List StackState → List (ℕ × StackState)
 onward ops len k None states = []
 onward ops len k (Some x) states =
     flat_map (λ s. map (λ b. (b, state_after (effect_of x.1) s)) (offsets_after ops len k (effect_of x.1))) states
 
--- the offsets that paths over the first k operations reach, with the states there
+-- the offsets that paths through the first k operations reach, each with the state there
 abbrev pub arrivals : Kind → List Placed → ℕ → ℕ → List (ℕ × StackState)
 arrivals kind ops len zero = (0, start_of kind) ∷ []
 arrivals kind ops len (suc k) =
     arrivals kind ops len k ++ onward ops len k (slice_get ops k) (states_at (place ops len k) (arrivals kind ops len k))
 
--- the states of the paths that reach the operation numbered k, or the end
+-- the states with which paths reach the operation numbered k, or the end
 abbrev pub states_to : Kind → List Placed → ℕ → ℕ → List StackState
 states_to kind ops len k = states_at (place ops len k) (arrivals kind ops len k)
 
@@ -60,38 +63,39 @@ number_of mode.Register = 1
 number_of mode.Value = 2
 number_of mode.AfterPiece = 3
 
--- two paths that meet here have the same height and mode, and both a piece before them, or neither
+-- whether two states have the same height and mode, and both have pieces or neither has
 abbrev pub same_state : StackState → StackState → Bool
 same_state s t =
     (s.height == t.height) && (number_of s.mode == number_of t.mode) && (if s.pieced then t.pieced else not t.pieced)
 
--- ---- the questions, each with the fault where the answer is no
+-- ---- the questions, each with the fault that a no gives
 
 abbrev pub Question : Type 0
 Question = Bool × Fault
 
--- it is so, or else this is the fault
+-- the question whether b is true; if it isn't, this is the fault
 abbrev pub else_fault : Bool → FaultKind → ℕ → Question
 else_fault b kind at = (b, record { kind = kind; at = at })
 
--- the fault of the first question that isn't answered with yes
+-- the fault of the first question whose answer is no
 abbrev pub first_no : List Question → Option Fault
 first_no [] = None
 first_no ((true, f) ∷ asked) = first_no asked
 first_no ((false, f) ∷ asked) = Some f
 
--- about an operation, numbered k, of this effect and at this offset, which paths reach with the state s
+-- the questions about an operation that paths reach with state s: it has the number k, this effect
+-- and this offset
 abbrev pub asked_at : Kind → List Placed → ℕ → ℕ → StackEffect → StackState → ℕ → List Question
 asked_at kind ops len k e s at =
     map (λ f. else_fault (passes kind ops len k (pieces_before ops k) e s f) f at) judgements
 
--- about the operation x, numbered k, by the states with which paths reach it
+-- the questions about the operation x, numbered k, which paths reach with these states
 abbrev pub asked_of : Kind → List Placed → ℕ → ℕ → Placed → List StackState → List Question
 asked_of kind ops len k x [] = else_fault false fault.Unreachable x.0 ∷ []
 asked_of kind ops len k x (s ∷ others) =
     else_fault (list_all (same_state s) others) fault.Mismatch x.0 ∷ asked_at kind ops len k (effect_of x.1) s x.0
 
--- about the end, by the states with which paths reach it
+-- the questions about the end, which paths reach with these states
 abbrev pub asked_last : Kind → List Placed → ℕ → List StackState → List Question
 asked_last kind ops len [] = []
 asked_last kind ops len (s ∷ others) =
@@ -99,18 +103,18 @@ asked_last kind ops len (s ∷ others) =
     ∷ else_fault (has_result kind s.mode (length ops == 0) s.pieced s.height) fault.EndsEmpty len
     ∷ []
 
--- about the operations that are left, from the one numbered k on, and then the end
+-- the questions about the operations from the one numbered k on, and then about the end
 abbrev pub asked_from : Kind → List Placed → ℕ → ℕ → List Placed → List Question
 asked_from kind ops len k [] = asked_last kind ops len (states_to kind ops len k)
 asked_from kind ops len k (x ∷ left) =
     asked_of kind ops len k x (states_to kind ops len k) ++ asked_from kind ops len (k + 1) left
 
--- the first fault of operations that follow each other up to the length
+-- the first fault of operations that are laid out in order up to the length
 unfoldable pub first_fault : Kind → List Placed → ℕ → Option Fault
 first_fault kind ops len = first_no (asked_from kind ops len 0 ops)
 
--- The first fault of an expression: none exactly for a good one, and f exactly if the relation `IsFaultOf` has f (the law
--- `the_fault_is_the_first`).
+-- The first fault of an expression: none exactly if the expression is good, and f exactly if the
+-- relation `IsFaultOf` holds for f (law `the_fault_is_the_first`).
 unfoldable pub expression_fault : Kind → Target → List ℕ → Option Fault
 expression_fault kind target bytes =
     option_or (reading_fault target bytes) (first_fault kind (operations_in target bytes) (length bytes))

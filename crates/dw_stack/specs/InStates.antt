@@ -1,4 +1,5 @@
--- What the table of in-states stores, and one step over it.
+-- The table of in-states, which has what is known of the state before each operation, and how one
+-- step of the pass changes it.
 use Rattle.std.specs.Prelude.{◌≡◌, ◌≢◌, ℕ, ◌+◌, ◌⊎◌, Bool, true, false, List, Option, Some, None, Result, Ok, Err, slice_set}
 use Rattle.std.specs.Prelude.{slice_index_or}
 use Rattle.std.specs.Borrow.{Bor}
@@ -15,7 +16,7 @@ use Rattle.dw_stack.specs.Paths.{Placed}
 use Rattle.dw_stack.specs.Faults.{Given}
 use Rattle.dw_stack.specs.Judge.{Judged, Objects}
 
--- the states that a borrowed list has, if there is one
+-- the given states of the code as a list, if there are any
 abbrev pub given_of : Option (Bor (List State)) → Option (List State)
 given_of None = None
 given_of (Some states) = Some states.now
@@ -38,7 +39,7 @@ abbrev pub ReceivesAt : Option ℕ → List InState → StackState → List InSt
 ReceivesAt None old s new = new ≡ old
 ReceivesAt (Some j) old s new = Receives old j s new
 
--- the state after the operation numbered i goes on to those that may follow it
+-- the state after the operation numbered i is passed on to the operations that may run next
 pub record PassesOn (old : List InState) (i : ℕ) (out : OutState) (new : List InState) : Type 0 where
   pub mid : List InState
   pub next : ReceivesIf out.falls_through old (i + 1) out.state mid

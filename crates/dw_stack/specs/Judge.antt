@@ -1,4 +1,4 @@
--- The result of judging one operation at one state.
+-- The result of checking one operation in one state.
 use Rattle.std.specs.Prelude.{◌≡◌, ◌≢◌, ℕ, ℤ, ◌+◌, ◌<◌, ◌≤◌, true, List, length, Option, Some, None, slice_get}
 use Rattle.dw_bytes.specs.declared.fault.FaultKind.{FaultKind}
 use Rattle.dw_bytes.specs.declared.fault.FaultKind.TheVariants as fault
@@ -12,13 +12,14 @@ use Rattle.dw_stack.specs.States.{StandsAlone, height_after, state_after}
 use Rattle.dw_stack.specs.Paths.{Placed, place, branch_target, IsAllowed, is_piece}
 use Rattle.dw_stack.specs.Faults.{passes, first_failed}
 
--- e is what the operation numbered k does
+-- e is the effect of the operation numbered k
 pub record IsEffectAt (ops : List Placed) (k : ℕ) (e : StackEffect) : Type 0 where
   pub placed : Placed
   pub stands : slice_get ops k ≡ Some placed
   pub is : e ≡ effect_of placed.1
 
--- an operation of this effect, at this state and after this number of pieces, is one that the kind has and the stack allows
+-- an operation with effect e is allowed in state s, after this number of pieces, and the stack
+-- height after it is `height`
 pub record Suits (kind : Kind) (e : StackEffect) (pieces : ℕ) (s : StackState) (height : ℕ) : Type 0 where
   pub allowed : IsAllowed kind e
   pub alone : StandsAlone e.role s.mode s.height
@@ -27,7 +28,8 @@ pub record Suits (kind : Kind) (e : StackEffect) (pieces : ℕ) (s : StackState)
   pub few : is_piece e.role ≡ true → pieces < MAX_PIECES
   pub height_is : height ≡ height_after e s
 
--- j is the number of the operation after the one numbered k that its jump leads to, or of the end
+-- the operation numbered k branches by z bytes to the operation numbered j; if j is the number of
+-- all operations, to the end
 pub record TargetPlace (ops : List Placed) (len k : ℕ) (z : ℤ) (j : ℕ) : Type 0 where
   pub later : k < j
   pub within : j ≤ length ops
@@ -45,7 +47,7 @@ TargetIs ops len k (Some z) (Some j) = TargetPlace ops len k z j
 TargetIs ops len k None (Some j) = ⊥
 TargetIs ops len k (Some z) None = ⊥
 
--- the operation passed all judgements, and out is what it passes on
+-- the operation numbered k passes all checks in state s, and `out` is what it passes on
 pub record Judged (kind : Kind) (ops : List Placed) (len k pieces : ℕ) (s : StackState) (out : OutState) : Type 0 where
   pub placed : Placed
   pub stands : slice_get ops k ≡ Some placed
@@ -60,7 +62,7 @@ pub record Judged (kind : Kind) (ops : List Placed) (len k pieces : ℕ) (s : St
   pub falls_through : out.falls_through ≡ (effect_of placed.1).falls_through
   pub target : TargetIs ops len k (effect_of placed.1).jump out.target
 
--- or this is the first judgement that it doesn't pass
+-- the operation numbered k fails a check in state s, and the first check that it fails is f
 pub record Objects (kind : Kind) (ops : List Placed) (len k pieces : ℕ) (s : StackState) (f : FaultKind) : Type 0 where
   pub placed : Placed
   pub stands : slice_get ops k ≡ Some placed

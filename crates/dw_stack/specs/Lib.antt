@@ -1,28 +1,29 @@
--- ---- To be believed: the standard's words. To check the headline against DWARF 5, read these.
--- what each operation needs, takes and adds, where it leads, and whether a frame's expression may have it (2.5, 2.6, 6.4.2)
+-- ---- Trusted: what DWARF 5 says. To check the headline against the standard, read these.
+-- what each operation needs, takes and pushes, where it leads, and whether call frame information
+-- may have it (2.5, 2.6, 6.4.2)
 pub mod Effects
--- height, mode and pieces on a path
+-- the state of the stack on a path: height, mode and pieces
 pub mod States
--- all paths, and what makes an expression good
+-- the paths through an expression, and what makes an expression good
 pub mod Paths
--- runs, value by value, whatever registers and memory answer (2.5, 2.6)
+-- runs with actual values, whatever the registers and memory are (2.5, 2.6)
 pub mod Machine
--- an expression by its bytes: whether it is good, its states, its depth, its first fault
+-- whether an expression, given as bytes, is good, its states, its depth, its first fault
 pub mod Expressions
--- an expression in a section
+-- an expression with its offset in a section
 pub mod Located
--- ---- The first fault, as a function of the bytes. Laws tie it to what is to be believed.
--- what each judgement refuses, and their order
+-- ---- The first fault, computed from the bytes. Laws tie it to the trusted definitions.
+-- what each check refuses, and the order of the checks
 pub mod Faults
--- the first fault from the bytes
+-- the first fault, computed from the bytes
 pub mod FirstFault
--- ---- What the code's own values stand for, and what its calls return.
--- what certificates and checked expressions are
+-- ---- What the code's values mean, and what its calls return.
+-- what certificates and checked expressions mean
 pub mod Certificates
--- operations of the code, with their offsets
+-- the code's operations, with their offsets
 pub mod Views
--- ---- Internal: no contract of a public call mentions these.
--- one operation at one state
+-- ---- Internal: no contract of a public call uses these.
+-- the check of one operation in one state
 pub mod Judge
--- the table of in-states of the one pass
+-- the table of in-states, by which one pass checks all paths
 pub mod InStates

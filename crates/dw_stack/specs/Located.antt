@@ -1,4 +1,4 @@
--- Expressions at their offsets in a section.
+-- Expressions with their offsets in a section.
 use Rattle.std.specs.Prelude.{ℕ, ◌+◌, List, map, Option, Some, None}
 use Rattle.dw_bytes.specs.declared.target.Target.{Target}
 use Rattle.dw_bytes.specs.declared.fault.Fault.{Fault}
@@ -8,15 +8,15 @@ use Rattle.dw_stack.specs.declared.checked.CheckedExpression.{CheckedExpression}
 use Rattle.dw_stack.specs.Certificates.{checked_of}
 use Rattle.dw_stack.specs.FirstFault.{expression_fault}
 
--- An expression in its section: the offset of its first byte, the kind that it is judged as, the target that it is read
--- with, and its bytes.
+-- An expression in its section: the offset of its first byte, the kind that it is checked as, the
+-- target that it is read with, and its bytes.
 pub record LocatedExpression : Type 0 where
   pub offset : ℕ
   pub kind : Kind
   pub target : Target
   pub bytes : List ℕ
 
--- a block as an expression of a kind
+-- a block of a section as an expression of the given kind
 abbrev pub located_as : Kind → Block → LocatedExpression
 located_as kind e = record { offset = e.offset; kind = kind; target = e.target; bytes = e.bytes }
 
@@ -27,14 +27,15 @@ located_of x = record { offset = x.0; kind = (checked_of x.1).kind; target = (ch
 abbrev pub all_located : List (ℕ × CheckedExpression) → List LocatedExpression
 all_located xs = map located_of xs
 
--- ---- why one is refused
+-- ---- why an expression is refused
 
--- a fault of an expression, whose offset counts from the expression's first byte, as one of the section
+-- a fault of the expression at offset `from` of a section: the fault's offset is changed to count
+-- from the section's first byte instead of the expression's
 abbrev pub moved_by : ℕ → Option Fault → Option Fault
 moved_by from None = None
 moved_by from (Some f) = Some (record { kind = f.kind; at = from + f.at })
 
--- the first fault of an expression, if there is one
+-- the first fault of an expression, with its offset in the section; none if there is no expression
 abbrev pub located_fault : Option LocatedExpression → Option Fault
 located_fault None = None
 located_fault (Some e) = moved_by e.offset (expression_fault e.kind e.target e.bytes)

@@ -1,5 +1,6 @@
--- The states of the stack: the height, the mode, and whether a piece came before. What they allow, and what follows
--- (DWARF 5, section 2.6; that paths which meet agree is a rule of this checker).
+-- The state of the stack: its height, what has been named (the mode), and whether there was a
+-- piece. Which operations a state allows, and the state after an operation (DWARF 5, section 2.6).
+-- That two paths to an operation must have the same state is a rule of this checker.
 use Rattle.std.specs.Prelude.{ℕ, ◌+◌, ◌-◌, ◌==◌, nat_le, ◌&&◌, ◌||◌, Bool, true, false, not, IsTrue}
 use Rattle.dw_stack.specs.declared.effect.Role.{Role}
 use Rattle.dw_stack.specs.declared.effect.Role.TheVariants as role
@@ -11,15 +12,16 @@ use Rattle.dw_stack.specs.declared.state.Kind.TheVariants.{FrameCfa, FrameRegist
 use Rattle.dw_stack.specs.declared.state.State.{State}
 use Rattle.dw_stack.specs.declared.state.StackState.{StackState}
 
--- A register's rule starts with the CFA on the stack, all else with nothing.
+-- A register rule starts with the CFA on the stack, the other kinds with an empty stack.
 abbrev pub start_of : Kind → StackState
 start_of FrameCfa = record { height = 0; mode = mode.Stack; pieced = false }
 start_of FrameRegister = record { height = 1; mode = mode.Stack; pieced = false }
 start_of Location = record { height = 0; mode = mode.Stack; pieced = false }
 
--- After a register or a value only a piece may follow. An operation that names a register or bytes needs an empty stack;
--- stack_value takes the top, whatever lies below. A piece needs one thing alone: the register or value, an address, or
--- nothing.
+-- After an operation that names a register or a value, only a piece may follow. An operation that
+-- names a register or bytes needs an empty stack; stack_value takes the top, whatever is below. A
+-- piece needs exactly what it ends, and nothing else: a register or value that was named, one
+-- address on the stack, or nothing.
 abbrev pub stands_alone : Role → Mode → ℕ → Bool
 stands_alone role.Piece mode.AfterPiece h = true
 stands_alone role.Piece mode.Stack h = nat_le h 1
@@ -48,7 +50,8 @@ height_after e s = s.height - e.takes + e.adds
 abbrev pub state_after : StackEffect → StackState → StackState
 state_after e s = next_mode e.role (height_after e s) s.pieced
 
--- The end of an expression, with or without operations, gives a result.
+-- An expression that ends in this mode and at this height has a result. The flags tell whether it
+-- has no operations, and whether it has pieces.
 abbrev pub has_result : Kind → Mode → Bool → Bool → ℕ → Bool
 has_result Location mode.AfterPiece empty pieced h = true
 has_result Location mode.Stack empty pieced h = empty || (not pieced && nat_le 1 h)
@@ -59,6 +62,6 @@ has_result _ _ empty pieced h = false
 abbrev pub HasResult : Kind → Bool → StackState → Type 0
 HasResult kind empty s = IsTrue (has_result kind s.mode empty s.pieced s.height)
 
--- a state at an offset
+-- a state with the offset of its operation
 abbrev pub at_offset : ℕ → StackState → State
 at_offset at s = record { offset = at; height = s.height; mode = s.mode; pieced = s.pieced }

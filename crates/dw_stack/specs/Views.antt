@@ -1,4 +1,4 @@
--- What the types of the code stand for.
+-- What the code's lists of operations stand for.
 use Rattle.std.specs.Prelude.{ℕ, List, map}
 use Rattle.dw_ops.specs.declared.operation.Operation as coded
 use Rattle.dw_ops.specs.Views.{located_of}

@@ -6,11 +6,11 @@ use crate::checked::CheckedExpression;
 use crate::state::State;
 use smallvec::SmallVec;
 
-/// An expression that was certified, with the state before each of its operations.
+/// A checked expression with the state before each of its operations.
 ///
 /// ```rust
 /// let certificate = certify(alloc, expression, Kind::Location)?;
-/// // Whoever is handed the states asks for one pass that compares with them.
+/// // Someone who receives the states can verify them in one pass.
 /// let again = recheck(alloc, expression, Kind::Location, certificate.states());
 /// assert!(rt; again.is_ok());
 /// ```
@@ -26,7 +26,8 @@ impl<'a> Certificate<'a> {
     ghost use Rattle.std.specs.Prelude.{◌≡◌};
     ghost use Rattle.dw_stack.specs.Certificates.{checked_of, checked_in, states_in};
 
-    /// The state before each operation, in their order: the one that every path to it has.
+    /// The state before each operation, in order of the operations. All paths to an operation have
+    /// this same state.
     pub fn states(&self) -> &[State]
         ensures value { result.now ≡ states_in self.now }
         ensures states { AreStatesOf (checked_in self.now).kind (checked_in self.now).target

@@ -9,8 +9,9 @@ use crate::state::Kind;
 use dw_bytes::Target;
 use dw_ops::Expression;
 
-/// An expression that was found good over all paths (`certify`, `recheck`), with what was learned about it. It owns no
-/// memory: the expression's bytes are borrowed.
+/// An expression that passed the check on all paths (`check_expression`, `certify`, `recheck`),
+/// with its kind, its depth and the number of its operations. It owns no memory: the bytes are
+/// borrowed.
 ///
 /// ```rust
 /// // DW_OP_lit2, DW_OP_lit3, DW_OP_plus
@@ -18,7 +19,7 @@ use dw_ops::Expression;
 /// let checked = check_expression(alloc, sum, Kind::Location)?;
 /// assert_eq!(rt; (checked.operation_count(), checked.depth()), (3, 2));
 ///
-/// // DW_OP_dup has nothing to double.
+/// // DW_OP_dup on an empty stack
 /// let dup = Expression::new(&[0x12], target);
 /// let fault = check_expression(alloc, dup, Kind::Location).err();
 /// assert_eq!(rt; fault, Some(Fault { kind: FaultKind::Underflow, at: 0 }));
@@ -46,8 +47,9 @@ impl<'a> CheckedExpression<'a> {
     ghost use Rattle.dw_stack.specs.Expressions.{IsGoodExpression, IsDepthOf, RunsWellWithin, operations_in};
     ghost use Rattle.dw_stack.specs.Certificates.{checked_of};
 
-    /// An expression that is known to be good as this kind, with its depth and the number of its operations. A caller
-    /// that stored these proves that they are right, and nothing is checked again.
+    /// Makes a checked expression without checking it again. The caller, who stored `depth` and
+    /// `count`, proves that the expression passes the check as `kind` and that both numbers are
+    /// right.
     pub fn new(expression: Expression<'a>, kind: Kind, depth: u8, count: u32) -> Self
         requires { IsChecked (record {
           kind = kind;
@@ -73,7 +75,7 @@ impl<'a> CheckedExpression<'a> {
         }
     }
 
-    /// The expression that was passed in. Every path of it is fine, under its kind.
+    /// The expression that was checked. It passed on every path, under its kind.
     pub fn expression(&self) -> Expression<'a>
         ensures bytes { bytes_of result ≡ (checked_of self.now).bytes }
         ensures target { target_of result ≡ (checked_of self.now).target }
@@ -83,15 +85,15 @@ impl<'a> CheckedExpression<'a> {
         Expression::new(self.bytes, self.target)
     }
 
-    /// The kind that was passed in.
+    /// The kind that the expression was checked as.
     pub fn kind(&self) -> Kind
         ensures { result ≡ (checked_of self.now).kind }
     {
         self.kind
     }
 
-    /// The greatest stack height on any path, the start included, at most `MAX_HEIGHT`. No run of the expression has more
-    /// entries.
+    /// The greatest stack height on any path, including the start; at most `MAX_HEIGHT`. No run of
+    /// the expression ever has more entries on its stack.
     pub fn depth(&self) -> u8
         ensures value { result ≡ (checked_of self.now).depth }
         ensures depth { IsDepthOf (checked_of self.now).kind (checked_of self.now).target
@@ -103,7 +105,8 @@ impl<'a> CheckedExpression<'a> {
         self.depth
     }
 
-    /// The number of operations that the bytes encode. `depth` promises that no run takes more steps (`runs`).
+    /// The number of operations in the expression. By the contract of `depth` (`runs`), no run
+    /// takes more steps.
     pub fn operation_count(&self) -> u32
         ensures value { result ≡ (checked_of self.now).count }
         ensures count { result ≡ length

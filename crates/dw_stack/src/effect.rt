@@ -1,4 +1,4 @@
-//! What each operation needs and does.
+//! What each operation needs on the stack and does to it.
 
 ghost use Rattle.std.specs.Prelude.{◌≡◌, ◌≤◌, true, false};
 ghost use Rattle.dw_ops.specs.Views.{operation_of};
@@ -6,36 +6,38 @@ ghost use Rattle.dw_stack.specs.Effects.{plain_effect, context_effect, naming_ef
 
 use dw_ops::Operation;
 
-/// What an operation does to the mode.
+/// What an operation names, if anything; this decides the mode after it.
 #[derive(Clone, Copy)]
 pub enum Role {
-    /// It computes.
+    /// It names nothing: it works on the stack, branches, or does nothing.
     Plain,
     /// It names a register.
     Register,
-    /// It names bytes.
+    /// It gives the object's bytes (`DW_OP_implicit_value`).
     Bytes,
-    /// It names the top as a value.
+    /// It makes the top of the stack the object's value (`DW_OP_stack_value`).
     Top,
-    /// It ends a piece.
+    /// It ends a piece (`DW_OP_piece`, `DW_OP_bit_piece`).
     Piece,
 }
 
-/// What an operation needs and does, and where it may lead.
+/// What an operation needs on the stack, what it does to it, and where it may lead.
 #[derive(Clone, Copy)]
 pub struct StackEffect {
-    /// The least stack height.
+    /// How many entries must be on the stack before the operation.
     pub needs: u16,
-    /// How many entries it takes off the top of the stack.
+    /// How many entries the operation takes off the top of the stack.
     pub takes: u16,
-    /// How many entries it pushes.
+    /// How many entries the operation pushes.
     pub adds: u16,
     pub role: Role,
-    /// Whether an expression of a frame may contain it (DWARF 5, section 6.4.2).
+    /// Whether an expression in call frame information may have the operation (DWARF 5, section
+    /// 6.4.2).
     pub allowed_in_cfi: bool,
-    /// Whether the next operation may follow.
+    /// Whether the run may go on to the next operation.
     pub falls_through: bool,
-    /// Where it may branch to, counted from the next operation.
+    /// The branch's operand: the target in bytes from the next operation's first byte. `None` if
+    /// the operation isn't a branch.
     pub jump: Option<i16>,
 }
 

@@ -1,4 +1,4 @@
-//! What arrives at each operation, and at the end, from those before.
+//! The state that earlier operations pass on to each operation, and to the end.
 
 ghost use Rattle.std.specs.Prelude.{◌≡◌, ◌+◌, ◌<◌, length, slice_index_or, IfSome};
 ghost use Rattle.dw_stack.specs.InStates.{Merges, Receives, PassesOn, known_state};
@@ -7,7 +7,8 @@ use crate::judge::OutState;
 use crate::state::StackState;
 use dw_bytes::FaultKind;
 
-/// The states with which an operation is reached over the edges seen so far.
+/// What the operations checked so far say about the state before an operation: none of them leads
+/// to the operation, or all that do give the same state, or two give different states.
 #[derive(Clone, Copy)]
 pub enum InState {
     Unreached,
@@ -15,7 +16,7 @@ pub enum InState {
     Conflict,
 }
 
-/// Fills the unused slots of a list.
+/// Fills the unused slots of a `SmallVec`.
 impl Default for InState {
     fn default() -> Self
         ensures { result ≡ InState.Unreached }
@@ -49,7 +50,7 @@ fn receive(in_states: &mut [InState], j: usize, state: StackState)
     in_states[j] = merge(in_states[j], state);
 }
 
-/// Passes the state after an operation on to those that may follow it.
+/// Passes the state after operation `i` on to the operations that may run next.
 #[inline(always)]
 pub fn pass_on(in_states: &mut [InState], i: usize, out: &OutState)
     requires next { i + 1 < length in_states.old }
@@ -64,7 +65,8 @@ pub fn pass_on(in_states: &mut [InState], i: usize, out: &OutState)
     }
 }
 
-/// The single state with which an operation is reached.
+/// The state before operation `i` on every path to it. `Unreachable` if there is no path,
+/// `Mismatch` if two paths come with different states.
 #[inline(always)]
 pub fn in_state_at(in_states: &[InState], i: usize) -> Result<StackState, FaultKind>
     requires { i < length in_states.now }

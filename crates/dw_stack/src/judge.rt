@@ -1,4 +1,4 @@
-//! Judging one operation.
+//! Checks one operation.
 
 ghost use Rattle.std.specs.Prelude.{◌≡◌, ◌<◌, ◌≤◌, length, Some, IfOk, IfErr};
 ghost use Rattle.dw_stack.specs.Paths.{IsLaidOut};
@@ -12,28 +12,29 @@ use crate::target::place_of_jump;
 use dw_bytes::FaultKind;
 use dw_ops::Operation;
 
-/// The greatest height of a stack.
+/// The greatest stack height that an expression may reach.
 pub const MAX_HEIGHT: u16 = 128;
 
-/// The greatest number of piece operations.
+/// The greatest number of piece operations that an expression may have.
 pub const MAX_PIECES: usize = 32;
 
-/// What an operation that was judged passes on.
+/// The result of checking an operation: what it passes on to the operations that may run next.
 #[derive(Clone, Copy)]
 pub struct OutState {
-    /// The state after it.
+    /// The state after the operation.
     pub state: StackState,
-    /// The height after it, before a piece clears the stack.
+    /// The stack height after the operation, before a piece clears the stack.
     pub height: u8,
-    /// Whether it names a piece.
+    /// Whether the operation is a piece operation.
     pub piece: bool,
-    /// Whether the next operation may follow.
+    /// Whether the run may go on to the next operation.
     pub falls_through: bool,
-    /// The number of the operation that it may branch to; for the end, the number of all operations.
+    /// The index of the operation that this one may branch to, or the number of all operations if
+    /// it may branch to the end. `None` if it isn't a branch.
     pub target: Option<usize>,
 }
 
-/// What the operation numbered `i` does.
+/// The effect of operation `i`.
 #[tactic(auto, using(crate::proofs::Lists::reads))]
 #[inline(always)]
 fn effect_at(operations: &[(u32, Operation<'_>)], i: usize) -> StackEffect
@@ -45,8 +46,8 @@ fn effect_at(operations: &[(u32, Operation<'_>)], i: usize) -> StackEffect
     effect(&operations[i].1)
 }
 
-/// The height after an operation of this effect, before a piece clears the stack, if the operation is allowed at this
-/// state and after this number of pieces.
+/// Checks whether an operation with effect `effect` is allowed in state `state`, after `pieces`
+/// piece operations. Returns the stack height after the operation, before a piece clears the stack.
 #[inline(always)]
 pub fn suits(
     kind: Kind,
@@ -79,7 +80,8 @@ pub fn suits(
     Ok(height as u8)
 }
 
-/// Judges the operation numbered `i` at this state and after this number of pieces.
+/// Checks operation `i` in state `state`, after `pieces` piece operations: whether it is allowed
+/// there, and whether it branches forward to the start of an operation, or to the end.
 #[inline(always)]
 pub fn judge(
     kind: Kind,

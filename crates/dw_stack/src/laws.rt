@@ -1,4 +1,5 @@
-//! Laws of expressions: functions that do nothing. The contract of each is a law.
+//! Laws of expressions: functions that do nothing. The contract of each is a law. A good expression
+//! is one that `IsGoodExpression` defines as fine on all paths.
 
 ghost use Rattle.std.specs.Prelude.{◌≡◌, ◌+◌, ◌<◌, ◌≤◌, ◌⊎◌, ◌↔◌, ℕ, suc, ℤ, pos, List, length, slice_get, Option, Some, None, Ok};
 ghost use Rattle.dw_bytes.specs.declared.target.Target.{Target};
@@ -17,17 +18,17 @@ ghost use Rattle.dw_stack.specs.FirstFault.{expression_fault};
 
 use crate::judge::{MAX_HEIGHT, MAX_PIECES};
 
-/// Every run of a good expression, whatever the registers, the memory and the context, follows a path, agrees with the
-/// state there, goes forward, never has more entries than the depth, takes no more steps than there are operations, and
-/// is never stuck.
+/// Every run of a good expression, whatever the registers, the memory and the context are, follows
+/// a path, agrees with the states on that path, only moves forward, never has more stack entries
+/// than the depth, takes no more steps than there are operations, and never gets stuck.
 pub fn good_expressions_run_well()
     ensures { (kind : Kind) (target : Target) (bytes : List ℕ) (depth : ℕ)
         → IsGoodExpression kind target bytes → IsDepthOf kind target bytes depth
         → RunsWellWithin kind target bytes depth }
 {}
 
-/// Whenever a run of a good expression is at an operation, its height, its mode and whether a piece came before are those
-/// of the certificate's state there.
+/// Whenever a run of a good expression is at an operation, the run's stack height, its mode, and
+/// whether it has pieces are as the certificate's state for that operation says.
 pub fn runs_are_as_certified()
     ensures { (kind : Kind) (target : Target) (bytes : List ℕ) (states : List State)
         → IsGoodExpression kind target bytes → AreStatesOf kind target bytes states
@@ -38,7 +39,8 @@ pub fn runs_are_as_certified()
         → (s : StackState) × (slice_get states k ≡ Some (at_offset d.offset s)) × Agrees s d }
 {}
 
-/// A run of a good expression is where an operation begins, or at the end, and never inside an operation.
+/// At each step, a run of a good expression is at the first byte of an operation or at the end,
+/// never inside an operation.
 pub fn runs_stand_on_operations()
     ensures { (kind : Kind) (target : Target) (bytes : List ℕ) → IsGoodExpression kind target bytes
         → (m : Meaning) (c d : Configuration) (n : ℕ) → Starts kind c
@@ -46,8 +48,9 @@ pub fn runs_stand_on_operations()
         → IsStart (operations_in target bytes) (length bytes) d.offset }
 {}
 
-/// A run of a good expression has one end: for the same registers, memory and context, and from the same start, any two
-/// that are over took as many steps and are in the same configuration.
+/// A run of a good expression has only one outcome: from the same start, with the same registers,
+/// memory and context, any two finished runs took the same number of steps and are in the same
+/// configuration.
 pub fn runs_are_determined()
     ensures { (kind : Kind) (target : Target) (bytes : List ℕ) → IsGoodExpression kind target bytes
         → (m : Meaning) (n k : ℕ) (c d e : Configuration)
@@ -57,13 +60,14 @@ pub fn runs_are_determined()
         → IsOver kind m (operations_in target bytes) (length bytes) e → (n ≡ k) × (d ≡ e) }
 {}
 
-/// The numbers of this checker's two limits.
+/// The values of this checker's two limits.
 pub fn expression_limits()
     ensures height { MAX_HEIGHT ≡ 128 }
     ensures pieces { MAX_PIECES ≡ 32 }
 {}
 
-/// A good expression has no fault, and none either if the given states are its own.
+/// A good expression has no fault. If states are given, there is still no fault as long as they are
+/// the states of the expression.
 pub fn good_expressions_have_no_fault()
     ensures alone { (kind : Kind) (target : Target) (bytes : List ℕ) (f : Fault)
         → IsGoodExpression kind target bytes → ¬ IsFaultOf kind target bytes None f }
@@ -72,8 +76,8 @@ pub fn good_expressions_have_no_fault()
         → ¬ IsFaultOf kind target bytes given f }
 {}
 
-/// Every expression is good or has a first fault. If states are given, it is good and they are its states, or it has a
-/// first fault.
+/// Every expression is good or has a first fault. If states are given, either the expression is
+/// good and they are its states, or there is a first fault.
 pub fn every_expression_has_a_verdict()
     ensures alone { (kind : Kind) (target : Target) (bytes : List ℕ)
         → IsGoodExpression kind target bytes ⊎ ((f : Fault) × IsFaultOf kind target bytes None f) }
@@ -82,8 +86,8 @@ pub fn every_expression_has_a_verdict()
         ⊎ ((f : Fault) × IsFaultOf kind target bytes given f) }
 {}
 
-/// The fault that a function of the bytes names is the first fault: none exactly if the expression is good, and f exactly
-/// if f is its first fault.
+/// `expression_fault`, a function of the bytes, gives the first fault as `IsFaultOf` defines it:
+/// `None` exactly if the expression is good, and `f` exactly if `f` is the first fault.
 pub fn the_fault_is_the_first()
     ensures none { (kind : Kind) (target : Target) (bytes : List ℕ)
         → (expression_fault kind target bytes ≡ None) ↔ IsGoodExpression kind target bytes }
@@ -91,13 +95,13 @@ pub fn the_fault_is_the_first()
         → (expression_fault kind target bytes ≡ Some f) ↔ IsFaultOf kind target bytes None f }
 {}
 
-/// The first fault of an expression is inside it, or at its end.
+/// The first fault of an expression is at an offset inside the expression, or at its end.
 pub fn expression_faults_stand_inside()
     ensures { (kind : Kind) (target : Target) (bytes : List ℕ) (f : Fault)
         → expression_fault kind target bytes ≡ Some f → f.at ≤ length bytes }
 {}
 
-/// There is only one first fault.
+/// An expression has at most one first fault, with or without given states.
 pub fn first_faults_are_unique()
     ensures { (kind : Kind) (target : Target) (bytes : List ℕ) (given : Option (List State))
         (f g : Fault) → IsFaultOf kind target bytes given f → IsFaultOf kind target bytes given g
@@ -110,26 +114,27 @@ pub fn each_has_a_depth()
         → (d : ℕ) × IsDepthOf kind target bytes d }
 {}
 
-/// There is only one depth.
+/// An expression has at most one depth.
 pub fn depths_are_unique()
     ensures { (kind : Kind) (target : Target) (bytes : List ℕ) (d e : ℕ)
         → IsDepthOf kind target bytes d → IsDepthOf kind target bytes e → d ≡ e }
 {}
 
-/// A good expression has a list of states.
+/// A good expression has a certificate: a list of the states before its operations.
 pub fn each_has_a_certificate()
     ensures { (kind : Kind) (target : Target) (bytes : List ℕ) → IsGoodExpression kind target bytes
         → (s : List State) × AreStatesOf kind target bytes s }
 {}
 
-/// A good expression has only one list of states.
+/// A good expression has only one certificate.
 pub fn certificates_are_unique()
     ensures { (kind : Kind) (target : Target) (bytes : List ℕ) (s t : List State)
         → IsGoodExpression kind target bytes → AreStatesOf kind target bytes s
         → AreStatesOf kind target bytes t → s ≡ t }
 {}
 
-/// The operations of a good expression follow each other from its first byte to its end, and each is read at its offset.
+/// The operations of a good expression are laid out without gaps from its first byte to its end,
+/// and reading the bytes at an operation's offset gives that operation.
 pub fn operations_stand_in_the_bytes()
     ensures laid { (kind : Kind) (target : Target) (bytes : List ℕ)
         → IsGoodExpression kind target bytes
@@ -141,7 +146,8 @@ pub fn operations_stand_in_the_bytes()
         (x.1, reading_at target bytes (place (operations_in target bytes) (length bytes) (k + 1))) }
 {}
 
-/// Operations that follow each other begin one after another, and the end is after them all.
+/// If operations are laid out without gaps, each begins at a higher offset than the one before, and
+/// the end is above them all.
 pub fn places_ascend()
     ensures begins { (ops : List Placed) (len k : ℕ) (x : Placed) → slice_get ops k ≡ Some x
         → place ops len k ≡ x.0 }
@@ -153,8 +159,8 @@ pub fn places_ascend()
     ensures few { (ops : List Placed) (len : ℕ) → IsLaidOut ops len → length ops ≤ len }
 {}
 
-/// Operations that bytes encode, one after another, follow each other from the first byte to the end, and each is read at
-/// its offset.
+/// Operations that are encoded one after another are laid out without gaps from the first byte to
+/// the end, and reading the bytes at an operation's offset gives that operation.
 pub fn encoded_operations_stand_in_the_bytes()
     ensures laid { (target : Target) (bytes : List ℕ) (ops : List Placed)
         → AreOperations target 0 bytes ops → IsLaidOut ops (length bytes) }
@@ -165,13 +171,14 @@ pub fn encoded_operations_stand_in_the_bytes()
         (x.1, reading_at target bytes (place (operations_in target bytes) (length bytes) (k + 1))) }
 {}
 
-/// A run and one more step are a run.
+/// A run of n steps followed by one more step is a run of n + 1 steps.
 pub fn runs_go_on()
     ensures { (m : Meaning) (ops : List Placed) (len n : ℕ) (c d e : Configuration)
         → Run m ops len n c d → Step m ops len d e → Run m ops len (suc n) c e }
 {}
 
-/// Over operations that follow each other a run has one end, and stops for one reason. No operation begins at the end.
+/// If operations are laid out without gaps, a run of them has only one outcome, and a step can fail
+/// for only one reason. At the end, no operation can run.
 pub fn runs_over_operations_are_determined()
     ensures run { (m : Meaning) (ops : List Placed) (len : ℕ) → IsLaidOut ops len
         → (kind : Kind) (n k : ℕ) (c d e : Configuration) → Run m ops len n c d
@@ -183,19 +190,21 @@ pub fn runs_over_operations_are_determined()
         → (kind : Kind) (c : Configuration) → Ended kind ops len c → ¬ Meets ops c }
 {}
 
-/// A branch in operations that are good over all paths leads forward.
+/// A branch in operations that are good on all paths has an operand of 0 or more.
 pub fn branches_lead_ahead()
     ensures { (kind : Kind) (ops : List Placed) (len : ℕ) → IsLaidOut ops len → IsGood kind ops len
         → (k : ℕ) (x : Placed) (z : ℤ) → slice_get ops k ≡ Some x
         → (effect_of x.1).jump ≡ Some z → (n : ℕ) × (z ≡ pos n) }
 {}
 
-/// If it is known that an expression is checked, but not how, then it is checked: the check can be repeated.
+/// If it is known only that a proof of `IsChecked` exists (`∥ .. ∥₁`), the proof itself can be had,
+/// because the check can be repeated.
 pub fn checked_expressions_are_known()
     ensures { (c : Checked) → ∥ IsChecked c ∥₁ → IsChecked c }
 {}
 
-/// Where a path reaches an operation of a good expression, everything that the operation needs is there.
+/// If a path reaches an operation of a good expression, a configuration that agrees with the state
+/// there has everything that the operation needs.
 pub fn needs_are_met()
     ensures { (kind : Kind) (target : Target) (bytes : List ℕ) → IsGoodExpression kind target bytes
         → (c : Configuration) (s : StackState)

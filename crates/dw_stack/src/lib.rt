@@ -1,5 +1,5 @@
-//! The certificate of expressions over all paths (DWARF 5, sections 2.5 and 2.6): their stacks are never too low or too
-//! high, whatever the branches do.
+//! Checks DWARF expressions on all paths at once (DWARF 5, sections 2.5 and 2.6): whichever way the
+//! branches go, the stack never has too few or too many entries.
 #![tactic(auto)]
 
 mod certificate;

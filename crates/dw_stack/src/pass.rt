@@ -16,12 +16,12 @@ use dw_ops::Operation;
 use smallvec::SmallVec;
 use std::alloc::Global;
 
-/// The result of a pass over good operations.
+/// The result of a pass that found no fault.
 #[derive(Drop)]
 pub struct Passed {
     /// The state before each operation.
     pub states: SmallVec<State, 16>,
-    /// The greatest height on any path.
+    /// The greatest stack height on any path.
     pub depth: u8,
 }
 
@@ -31,7 +31,8 @@ fn refusal(kind: FaultKind, at: u32) -> Fault
     Fault { kind, at }
 }
 
-/// What arrives before any operation was judged: the start's state, in the first slot.
+/// The table of in-states before the pass: the start state in slot 0, and `Unreached` in the slots
+/// of all other operations and of the end.
 fn first_arrivals(
     alloc: Global,
     count: usize,
@@ -47,8 +48,9 @@ fn first_arrivals(
     Ok(in_states)
 }
 
-/// One pass over the operations in order, which compares with the given states if there are some. Each branch finds its
-/// target by binary search: n operations with b branches take time n + b log n. Up to 16 operations take no memory.
+/// Checks all operations in one pass, in order. If states are given, each must be the one that the
+/// pass finds. Each branch finds its target by binary search, so n operations with b branches take
+/// O(n + b log n) time. Doesn't allocate for up to 16 operations.
 #[tactic(auto, using(crate::proofs::Places::count_le))]
 pub fn pass(
     alloc: Global,

@@ -1,4 +1,4 @@
-//! Locations that are a register.
+//! A shortcut for locations that are a single register.
 
 ghost use Rattle.std.specs.Prelude.{◌≡◌, IfSome, None};
 ghost use Rattle.dw_ops.specs.Views.{bytes_of, target_of};
@@ -11,9 +11,9 @@ use crate::checked::CheckedExpression;
 use crate::state::Kind;
 use dw_ops::Expression;
 
-/// Checks a location that is a single byte which names a register, DW_OP_reg0 to DW_OP_reg31; `None` for any other, good
-/// or not. Of the expressions of real location lists 97 of 100 are such a byte. This is a shortcut: on `None`, call
-/// `check_expression`.
+/// Checks a location that is one byte, DW_OP_reg0 to DW_OP_reg31. `None` for any other expression,
+/// valid or not: call `check_expression` then. This is a shortcut, because 97% of the expressions
+/// in real location lists are such a byte.
 #[inline(always)]
 pub fn check_register<'a>(expression: Expression<'a>) -> Option<CheckedExpression<'a>>
     ensures checked { IfSome result (λ c. IsChecked (checked_of c)) }

@@ -1,31 +1,35 @@
-//! The states of the stack.
+//! What the checker tracks at each operation: the stack height, what has been named, and whether
+//! there was a piece.
 
 ghost use Rattle.std.specs.Prelude.{◌≡◌, ◌↔◌, IsTrue, true, false};
 ghost use Rattle.dw_stack.specs.States.{start_of, stands_alone, has_result, next_mode, at_offset};
 
 use crate::effect::Role;
 
-/// What an expression is for. It decides what the expression starts with, what it may contain and what it must give.
+/// What an expression is for. The kind decides what is on the stack at the start, which operations
+/// are allowed, and what the result is.
 #[derive(Clone, Copy, Debug, PartialEq, Eq)]
 pub enum Kind {
-    /// The CFA's rule (DWARF 5, section 6.4.2.2). It starts with an empty stack and gives its top.
+    /// A CFA rule (DWARF 5, section 6.4.2.2). The stack is empty at the start; the result is the
+    /// top of the stack.
     FrameCfa,
-    /// A register's rule (DWARF 5, section 6.4.2.3). It starts with the CFA on the stack and gives its top.
+    /// A register rule (DWARF 5, section 6.4.2.3). The CFA is on the stack at the start; the result
+    /// is the top of the stack.
     FrameRegister,
-    /// A location description (DWARF 5, section 2.6). It starts with an empty stack.
+    /// A location description (DWARF 5, section 2.6). The stack is empty at the start.
     Location,
 }
 
-/// What a path has named so far.
+/// What the operations of a path have named, if anything, since the last piece.
 #[derive(Clone, Copy, Debug, PartialEq, Eq)]
 pub enum Mode {
-    /// Nothing but what is on the stack.
+    /// Nothing: there are only stack entries, if any.
     Stack,
     /// A register.
     Register,
-    /// A value.
+    /// A value (`DW_OP_stack_value` or `DW_OP_implicit_value`).
     Value,
-    /// The piece before.
+    /// Nothing: the operation just before is a piece, and the stack is empty.
     AfterPiece,
 }
 
@@ -34,15 +38,15 @@ pub enum Mode {
 pub struct State {
     /// The operation's offset, in bytes from the expression's first byte.
     pub offset: u32,
-    /// The number of entries on the stack, including the CFA of a register's rule.
+    /// The number of entries on the stack, including the CFA with which a register rule starts.
     pub height: u8,
-    /// What a piece or the end would find there.
+    /// What the path has named since its last piece.
     pub mode: Mode,
-    /// Whether a piece came before.
+    /// Whether the path already has a piece operation.
     pub pieced: bool,
 }
 
-/// Fills the unused slots of a list.
+/// Fills the unused slots of a `SmallVec`.
 impl Default for State {
     fn default() -> Self
         ensures { result ≡ at_offset 0 (start_of Kind.Location) }
@@ -56,7 +60,7 @@ impl Default for State {
     }
 }
 
-/// A state without the offset of its operation.
+/// A `State` without its offset.
 #[derive(Clone, Copy, PartialEq, Eq)]
 pub struct StackState {
     pub height: u8,
@@ -65,7 +69,7 @@ pub struct StackState {
 }
 
 impl StackState {
-    /// The same state at an offset.
+    /// Adds an offset to the state.
     #[inline(always)]
     pub fn at(self, offset: u32) -> State
         ensures { result ≡ at_offset offset self }
@@ -78,7 +82,7 @@ impl StackState {
         }
     }
 
-    /// Whether it is the same as another.
+    /// Whether two states are equal.
     #[inline(always)]
     pub fn is(self, other: StackState) -> bool
         ensures { IsTrue result ↔ (self ≡ other) }
@@ -87,7 +91,7 @@ impl StackState {
     }
 }
 
-/// The state before an expression.
+/// The state at the start of an expression of kind `kind`.
 pub fn start_state(kind: Kind) -> StackState
     ensures { result ≡ start_of kind }
 {
@@ -102,7 +106,7 @@ pub fn start_state(kind: Kind) -> StackState
     }
 }
 
-/// Whether an operation of this role is allowed at this state.
+/// Whether an operation with role `role` is allowed in state `state`.
 #[inline(always)]
 pub fn may_stand_at_state(role: Role, state: StackState) -> bool
     ensures { result ≡ stands_alone role state.mode state.height }
@@ -124,7 +128,8 @@ pub fn may_stand_at_state(role: Role, state: StackState) -> bool
     }
 }
 
-/// The state after an operation of this role that leaves this height.
+/// The state after an operation with role `role`. `height` is the stack height after the operation,
+/// before a piece clears the stack; `pieced` tells whether there was a piece before the operation.
 #[inline(always)]
 pub fn next_state(role: Role, height: u8, pieced: bool) -> StackState
     ensures { result ≡ next_mode role height pieced }
@@ -142,7 +147,8 @@ pub fn next_state(role: Role, height: u8, pieced: bool) -> StackState
     }
 }
 
-/// Whether an expression, with or without operations, has a result if it ends at this state.
+/// Whether an expression of kind `kind` that ends in state `state` has a result. `is_empty` tells
+/// whether it has no operations.
 pub fn has_result(kind: Kind, is_empty: bool, state: StackState) -> bool
     ensures { result ≡ has_result kind state.mode is_empty state.pieced state.height }
 {

@@ -13,7 +13,8 @@ use crate::target::place_of_operation;
 use dw_bytes::FaultKind;
 use dw_ops::Operation;
 
-/// What one step learned about its operation.
+/// What one step reports about its operation: the state before the operation, the height after it
+/// (before a piece clears the stack), and whether it is a piece operation.
 #[derive(Clone, Copy)]
 pub struct Done {
     pub state: StackState,
@@ -21,7 +22,7 @@ pub struct Done {
     pub piece: bool,
 }
 
-/// Whether the given states, if there are any, have this one at `i`.
+/// Whether `state` is the given state at index `i`; true if no states are given.
 #[inline(always)]
 fn is_given(given: Option<&[State]>, i: usize, state: State) -> bool
     requires { IfSome given (λ states. i < length states.now) }
@@ -33,7 +34,8 @@ fn is_given(given: Option<&[State]>, i: usize, state: State) -> bool
     }
 }
 
-/// Judges one operation and passes its state on.
+/// Checks operation `i` and passes the state after it on to the operations that may run next. If
+/// states are given, the state before the operation must be the given one.
 #[inline(always)]
 pub fn step_of_pass(
     kind: Kind,

@@ -1,4 +1,4 @@
-//! Expressions in which nothing branches.
+//! A faster check for expressions without branches.
 
 ghost use Rattle.std.specs.Prelude.{◌≡◌, IfSome, None};
 ghost use Rattle.dw_ops.specs.Views.{bytes_of, target_of, operation_of};
@@ -18,19 +18,19 @@ use dw_ops::{Expression, Operation, decode_one};
 use smallvec::SmallVec;
 use std::alloc::Global;
 
-/// What an operation that doesn't branch leaves.
+/// The result of checking an operation that isn't a branch.
 #[derive(Clone, Copy)]
 struct Left {
-    /// The state after it.
+    /// The state after the operation.
     state: StackState,
-    /// The height after it, before a piece clears it.
+    /// The stack height after the operation, before a piece clears the stack.
     height: u8,
-    /// Whether it names a piece.
+    /// Whether the operation is a piece operation.
     piece: bool,
 }
 
-/// Judges an operation at this state, after this number of pieces, if it doesn't branch; nothing if it branches, or isn't
-/// allowed there.
+/// Checks an operation in state `state`, after `pieces` piece operations. `None` if the operation
+/// is a branch or isn't allowed there.
 #[inline(always)]
 fn judge_straight(
     kind: Kind,
@@ -57,9 +57,9 @@ fn judge_straight(
     }
 }
 
-/// Checks an expression in which nothing branches, in one pass over its bytes; nothing if something does, or if it has a
-/// fault. Nearly all real expressions have one to four operations and no branch: one state at a time is enough for them, and
-/// no list of operations or states is made.
+/// Checks an expression without branches in one pass over its bytes. `None` if the expression has a
+/// branch or a fault. Nearly all real expressions have one to four operations and no branch; for
+/// them it is enough to track one state, so no list of operations or states is made.
 pub fn check_straight<'a>(expression: Expression<'a>, kind: Kind) -> Option<CheckedExpression<'a>>
     ensures checked { IfSome result (λ c. IsChecked (checked_of c)) }
     ensures same { IfSome result (λ c. IsOf kind (target_of expression.entry)
@@ -88,9 +88,10 @@ pub fn check_straight<'a>(expression: Expression<'a>, kind: Kind) -> Option<Chec
     Some(CheckedExpression::new(expression, kind, depth, count))
 }
 
-/// Certifies an expression in which nothing branches, in one pass over its bytes; nothing if something does, if it has a
-/// fault, or if there is no memory for its states. Making lists of operations and in-states takes most of the time that
-/// `check_with_states` takes for a few operations; here each state is written once, and that is all that is kept.
+/// Certifies an expression without branches in one pass over its bytes. `None` if the expression
+/// has a branch or a fault, or if there is no memory for its states. For a few operations
+/// `check_with_states` spends most of its time making lists of operations and in-states; this makes
+/// only the list of states.
 pub fn certify_straight<'a>(
     alloc: Global,
     expression: Expression<'a>,

@@ -1,4 +1,4 @@
-//! Where operations begin, and where branches lead.
+//! Offsets of operations, and branch targets.
 
 ghost use Rattle.std.specs.Prelude.{◌≡◌, ◌≢◌, ◌+◌, ◌<◌, ◌≤◌, ℕ, length, IfOk, IfErr};
 ghost use Rattle.dw_bytes.specs.declared.fault.FaultKind.{FaultKind};
@@ -9,7 +9,7 @@ ghost use Rattle.dw_stack.specs.Views.{placed_in};
 use dw_bytes::FaultKind;
 use dw_ops::Operation;
 
-/// Where the operation numbered `i` begins, or the end.
+/// The offset of operation `i`, or `end` if there is no such operation.
 #[tactic(auto, using(crate::proofs::Lists::places))]
 #[inline(always)]
 pub fn place_of_operation(operations: &[(u32, Operation<'_>)], end: u32, i: usize) -> u32
@@ -22,7 +22,8 @@ pub fn place_of_operation(operations: &[(u32, Operation<'_>)], end: u32, i: usiz
     }
 }
 
-/// Where a jump leads, counted from the next operation; `None` for a backward jump.
+/// The offset that a branch leads to: `jump` bytes after `next`, the offset of the next operation.
+/// `None` for a backward branch.
 #[inline(always)]
 fn jump_target(next: u32, jump: i16) -> Option<u64>
     ensures { result ≡ branch_target next jump }
@@ -33,7 +34,8 @@ fn jump_target(next: u32, jump: i16) -> Option<u64>
     Some(u64::from(next) + jump as u64)
 }
 
-/// The number of the operation after `from` that begins at the target, or of the end, by binary search.
+/// The index of the operation after `from` that begins at offset `target`, or the number of all
+/// operations if `target` is `end`; otherwise `TargetNotStart`. Binary search.
 #[tactic(auto, using(crate::proofs::Lists::places))]
 fn place_at_target(
     operations: &[(u32, Operation<'_>)],
@@ -66,7 +68,9 @@ fn place_at_target(
     }
 }
 
-/// The number of the operation after `from` that a jump leads to, or of the end.
+/// The index of the operation that operation `from` branches to by `jump` bytes, or the number of
+/// all operations if it branches to `end`. `Backward` if `jump` is negative, `TargetNotStart` if no
+/// operation begins at the target.
 #[tactic(auto, using(crate::proofs::Lists::places))]
 #[inline(always)]
 pub fn place_of_jump(

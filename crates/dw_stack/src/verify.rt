@@ -1,4 +1,4 @@
-//! Certifying expressions.
+//! Checks and certifies expressions.
 
 ghost use Rattle.std.specs.Prelude.{◌≡◌, ◌⊎◌, ◌≤◌, ◌↔◌, IsTrue, IfSome, length, OnOk, IfOk, IfErr, None, Some};
 ghost use Rattle.dw_bytes.specs.Answers.{memory, Answers};
@@ -17,10 +17,10 @@ use dw_bytes::{Fault, FaultKind};
 use dw_ops::{Expression, operations};
 use std::alloc::Global;
 
-/// Why states are refused: as `Fault`.
+/// Why `recheck` refuses: the same type as `Fault`.
 pub type CertFault = Fault;
 
-/// Whether the given states, if there are some, are `count`.
+/// Whether there are exactly `count` given states; true if no states are given.
 fn are_as_many_states(given: Option<&[State]>, count: usize) -> bool
     ensures { IsTrue result ↔ IfSome given.entry (λ states. length states.now ≡ count) }
 {
@@ -30,7 +30,8 @@ fn are_as_many_states(given: Option<&[State]>, count: usize) -> bool
     }
 }
 
-/// Reads the operations and passes over them once, with the given states if there are some.
+/// Reads the operations, then checks them in one pass. If states are given, they must be the ones
+/// that the pass finds.
 fn check_with_states<'a>(
     alloc: Global,
     expression: Expression<'a>,
@@ -64,7 +65,8 @@ fn check_with_states<'a>(
     })
 }
 
-/// As `certify`, over all paths at once: for what its short way doesn't answer.
+/// Certifies an expression that `certify_straight` or `check_straight` didn't accept, by a pass
+/// over all paths at once.
 fn certify_all_paths<'a>(
     alloc: Global,
     expression: Expression<'a>,
@@ -82,18 +84,22 @@ fn certify_all_paths<'a>(
     check_with_states(alloc, expression, kind, None)
 }
 
-/// Certifies an expression: it is good over all paths, and these are the states on them.
+/// Checks an expression on all paths, and returns it with the state before each operation.
 ///
-/// A refusal is the first fault. The whole expression is read first (`dw_ops::operations`). Then the operations are
-/// judged in order of offset. Each is refused if no path leads to it (38), paths come with two states (37), the kind
-/// doesn't have it (31), it is next to a location that must be alone (39), the stack is too low (35) or gets too high
-/// (36), it is the 33rd piece (41), or it branches back (33) or to where no operation begins (34). Last comes the end:
-/// two states (37), no result (40). Each fault is at its operation, those of the end at the expression's length; offsets
-/// count from the expression's first byte. `Memory` is at 0. For n operations with b branches it takes time n + b log n,
-/// and for up to 16 no memory.
+/// An error is the first fault. The whole expression is read first (`dw_ops::operations`). Then the
+/// operations are checked in order of offset. An operation is refused if no path leads to it (38),
+/// two paths reach it with different states (37), `kind` doesn't allow it (31), something is next
+/// to a location that must be alone (39), the stack has too few entries (35) or would get too many
+/// (36), it is the 33rd piece operation (41), or it branches backward (33) or to an offset where no
+/// operation begins (34). The end is checked last: two paths with different states (37), or no
+/// result (40). A fault in an operation is at the operation's offset, a fault of the end at the
+/// expression's length; offsets count from the expression's first byte. `Memory` is at 0. For n
+/// operations with b branches this takes O(n + b log n) time, and doesn't allocate for up to 16
+/// operations.
 ///
-/// Laws say the rest: no fault is the first exactly where the expression is good (`the_fault_is_the_first`), and every run
-/// of a good one is well (`good_expressions_run_well`).
+/// There is no first fault exactly if the expression is good by the definition in `specs/` (law
+/// `the_fault_is_the_first`), and no run of a good expression goes wrong (law
+/// `good_expressions_run_well`).
 pub fn certify<'a>(
     alloc: Global,
     expression: Expression<'a>,
@@ -114,8 +120,9 @@ pub fn certify<'a>(
     certify_all_paths(alloc, expression, kind)
 }
 
-/// Checks an expression: as `certify` and then `Certificate::into_checked`, but no state is kept. Where nothing branches and
-/// nothing is wrong, it is one pass over the bytes and takes no memory; else it takes what `certify` takes.
+/// Checks an expression as `certify` does, but returns no states. If the expression has no branch
+/// and no fault, this is one pass over the bytes and doesn't allocate; otherwise it costs as much
+/// as `certify`.
 pub fn check_expression<'a>(
     alloc: Global,
     expression: Expression<'a>,
@@ -135,14 +142,16 @@ pub fn check_expression<'a>(
     Ok(certificate.into_checked())
 }
 
-/// Takes states that anyone made: they are accepted exactly where the expression is good and they are the states on its
-/// paths, their offsets included.
+/// Checks an expression together with states from any source, such as `Certificate::states`.
+/// Accepts exactly if the expression passes the check and `states` are the states on its paths,
+/// including their offsets.
 ///
-/// A refusal is the first fault. The whole expression is read first; then there must be as many states as operations (70,
-/// at 0); then all is judged as by `certify`, with one more question after 37: the given state is the one that paths have
-/// (71, at the operation). Time and memory as `certify`. Laws say that there is one first fault, none where all is good
-/// and right, and one where it isn't (`first_faults_are_unique`, `good_expressions_have_no_fault`,
-/// `every_expression_has_a_verdict`).
+/// An error is the first fault. The whole expression is read first. Then there must be as many
+/// states as operations (70, at 0). Then everything is checked as in `certify`, with one more check
+/// after 37: the given state must be the one that the paths have (71, at the operation). Time and
+/// memory are as for `certify`. Laws say that there is at most one first fault
+/// (`first_faults_are_unique`), none if the expression is good and the states are right
+/// (`good_expressions_have_no_fault`), and one otherwise (`every_expression_has_a_verdict`).
 pub fn recheck<'a>(
     alloc: Global,
     expression: Expression<'a>,

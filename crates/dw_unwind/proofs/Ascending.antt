@@ -9,13 +9,13 @@ use Rattle.dw_unwind.specs.CallerViews.{answer_in, found_in}
 use Rattle.dw_unwind.specs.FrameRegisters.{Ascends}
 use Rattle.dw_unwind.specs.Walks.{content_of, contents_of}
 
--- one more, at or above the bound
+-- a register whose number is at or above the bound can be appended
 pub ascends-push : (n : ℕ) (xs : List (ℕ × declared.Answer)) (bound : ℕ) (x : ℕ × declared.Answer) → Ascends n xs bound → bound ≤ x.0
     → Ascends n (xs ++ x ∷ []) (suc x.0)
 ascends-push n [] bound x h le = (omega (arith, h, le), omega arith)
 ascends-push n (y ∷ xs) bound x h le = (h.0, ascends-push (suc y.0) xs bound x h.1 le)
 
--- the one at an index is at or above the first number
+-- the register at any index has the number `n` or a greater one
 from_first : (n : ℕ) (xs : List (ℕ × declared.Answer)) (bound p : ℕ) (x : ℕ × Answer) → Ascends n xs bound
     → slice_get (map found_in xs) p ≡ Some x → n ≤ x.0
 from_first n [] bound p x h is = absurd (cc)
@@ -24,7 +24,7 @@ from_first n (y ∷ xs) bound zero x h is =
 from_first n (y ∷ xs) bound (suc p) x h is =
     let more : suc y.0 ≤ x.0 = from_first (suc y.0) xs bound p x h.1 is in omega (arith, more, h.0)
 
--- and is the only one with its number
+-- the register at any index is the only one with its number
 pub content_at_place : (n : ℕ) (xs : List (ℕ × declared.Answer)) (bound p : ℕ) (x : ℕ × Answer) → Ascends n xs bound
     → slice_get (map found_in xs) p ≡ Some x → contents_of (map found_in xs) x.0 ≡ content_of x.1
 content_at_place n [] bound p x h is = absurd (cc)

@@ -22,7 +22,7 @@ as_many e cfa [] (x ∷ xs) h = absurd h
 as_many e cfa (x ∷ rules) [] h = absurd h
 as_many e cfa (x ∷ rules) (y ∷ answers) h = ap suc (as_many e cfa rules answers h.2)
 
--- the next one too
+-- one more rule with its answer can be appended
 pub one_more : (e : World) (cfa : Answer) (rules : List (ℕ × Rule)) (answers : List (ℕ × Answer)) (r : ℕ) (rule : Rule) (answer : Answer)
     → AreRegisters e cfa rules answers → IsRegister e cfa r rule answer
     → AreRegisters e cfa (rules ++ (r, rule) ∷ []) (answers ++ (r, answer) ∷ [])
@@ -31,7 +31,7 @@ one_more e cfa [] (x ∷ xs) r rule answer h is = absurd h
 one_more e cfa (x ∷ rules) [] r rule answer h is = absurd h
 one_more e cfa (x ∷ rules) (y ∷ answers) r rule answer h is = (h.0, h.1, one_more e cfa rules answers r rule answer h.2 is)
 
--- there is room for the next one
+-- there is room for the next answer
 pub has_room : (e : World) (cfa : Answer) (came left rest all : List (ℕ × Rule)) (answers : List (ℕ × Answer)) (x : ℕ × Rule) (most : ℕ)
     → AreRegisters e cfa came answers → came ++ left ≡ all → left ≡ x ∷ rest → length all ≤ most → length answers < most
 has_room e cfa came left rest all answers x most h whole next few =
@@ -67,7 +67,7 @@ as_kind e kind x answer is gives = subst (λ k. Gives e k x answer) is gives
 
 -- ---- the caller by the row of an address
 
--- a register without a rule is undefined
+-- the rule `default` has the answer of the rule `undefined`
 pub by_default : (e : World) (cfa : Answer) (r : ℕ) (x : Rule) (answer : Answer) → IsRegister e cfa r (or_rule x undefined) answer
     → IsRegister e cfa r x answer
 by_default e cfa r default answer h = h
@@ -124,8 +124,8 @@ by_rules e abi number row rule rules cfa returned answers cfa_is has_cfa rules_a
   return_address = returns;
 }
 
--- if each of the answers for these rules is that of its register, one found there is that of the
--- register looked up
+-- if these answers are right for these rules, the answer at any index is right for the rule of the
+-- register at that index
 pub found_register : (e : World) (cfa : Answer) (of : ℕ → Rule) (rules : List (ℕ × Rule)) (answers : List (ℕ × Answer)) (k r : ℕ)
     (a : Answer) → AllByRecursion (λ (entry : ℕ × Rule). entry.1 ≡ of entry.0) rules → AreRegisters e cfa rules answers
     → slice_get answers k ≡ Some (r, a) → IsRegister e cfa r (of r) a

@@ -63,7 +63,7 @@ needs_fit m division_by_zero Is a each h = subst (AnswerFits m) (sym h) tt
 
 -- ---- expressions whose numbers are below the modulus of an address
 
--- the numbers of its runs are those of addresses of this size
+-- numbers that fit the address size of the expression fit `size`
 abbrev IsWithin : AddressSize → LocatedExpression → Type 0
 IsWithin size x = (n : ℕ) → n < 2 ^ width_of x.target.address_size → n < 2 ^ width_of size
 
@@ -99,7 +99,7 @@ or_within size (register r) role h = h
 or_within size (expression x) role h = h
 or_within size (val_expression x) role h = h
 
--- the rule of a register under an ABI, and all of them
+-- the rule of a register under an ABI
 one_under : (size : AddressSize) (abi : Abi) (rules : List (ℕ × Rule)) (r : ℕ) → RulesWithin size rules
     → RuleWithin size (rule_under abi rules r)
 one_under size abi rules r h = or_within size (rule_in rules r) (abi r) (one_within size rules r h)

@@ -1,4 +1,4 @@
--- What a walk has given, frame by frame, and the walk with a limit that begins so.
+-- The frames that a walk has given so far, and the walk with a limit that begins with these frames.
 use Rattle.std.proofs.Common.{◌≡◌, ℕ, zero, suc, ◌+◌, ◌-◌, ◌<◌, ◌≤◌, List, [], ◌∷◌, ◌++◌, length, Option, None, Some, inl, inr}
 use Rattle.std.proofs.Common.{refl, sym, subst, arith, append-nil, append_assoc, length-append}
 use Rattle.std.specs.Prelude.{◌⊎◌, option_map}
@@ -11,10 +11,10 @@ use Rattle.dw_unwind.specs.WalkSteps.{Progress, about_to_give, has_given, GivesF
 use Rattle.dw_unwind.proofs.OneWalk.{some_frame_at}
 use Rattle.dw_unwind.proofs.Walking.{UnderWay, begins, goes_on, ends, fills}
 
--- ---- the frames that are left
+-- ---- from the frames given so far to a walk with a limit
 
 module _ (u : CallerRelation) (first : Place) where
-  -- after frames that are given
+  -- a walk that gives more frames is still under way after them
   further : (front : List WalkedFrame) (p : Progress) (frames : List WalkedFrame) → UnderWay u first front p → GivesFrames u p frames
       → UnderWay u first (front ++ frames) (after p frames)
   further front p [] h given = subst (λ (l : List WalkedFrame). UnderWay u first l p) (sym (append-nil front)) h
@@ -26,7 +26,8 @@ module _ (u : CallerRelation) (first : Place) where
       → UnderWay u first frames (after (about_to_give begin) frames)
   given_so_far begin frames at given = further [] (about_to_give begin) frames (begins u first begin at) given
 
-  -- they are a walk if none is given next, and if their number is its limit
+  -- the frames given so far are a whole walk if no frame is given next, or if their number is the
+  -- limit
   pub given_and_ended : (begin : WalkedFrame) (limit : ℕ) (frames : List WalkedFrame) (stop : Stop) → IsFrameAt u first begin
       → GivesFrames u (about_to_give begin) frames → stop_of (after (about_to_give begin) frames) ≡ Some stop → length frames < limit
       → Walks u first limit frames stop
@@ -59,7 +60,7 @@ module _ (u : CallerRelation) (first : Place) where
     goes_or_ends (about_to_give f) = inr (f, refl)
     goes_or_ends (has_given last) = by_caller last.caller
 
-    -- a whole walk with a limit begins with what a walk has given
+    -- some whole walk with this limit begins with these frames
     abbrev Whole : ℕ → List WalkedFrame → Type 0
     Whole limit frames = (more : List WalkedFrame) × (stop : Stop) × Walks u first limit (frames ++ more) stop
 

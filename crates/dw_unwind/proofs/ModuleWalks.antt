@@ -18,13 +18,13 @@ use Rattle.dw_unwind.specs.Walks.{CallerRelation, Place, WalkedFrame, Walks, add
 use Rattle.dw_unwind.specs.declared.frames.Stop.{Stop}
 use Rattle.dw_unwind.proofs.WalksOver.{walk_where}
 
--- ---- a module has one caller, or some: so have all of them
+-- ---- if each module has at most one answer, or some answer, so have all modules together
 
--- it has one caller
+-- there is at most one answer: a caller, or none
 abbrev pub HasOne : CallerRelation → Type 0
 HasOne u = (registers : ℕ → Option ℕ) (a : ℕ) (c d : Option Caller) → u registers a c → u registers a d → c ≡ d
 
--- it has some caller, or none
+-- there is some answer: a caller, or none
 abbrev pub HasSome : CallerRelation → Type 0
 HasSome u = (registers : ℕ → Option ℕ) (a : ℕ) → (c : Option Caller) × u registers a c
 
@@ -55,7 +55,7 @@ module _ {T : Type 0} (target_of : T → Target) (over : T → CallerRelation) w
       let found = some_else own.0 (over_modules target_of over modules registers a) (some_through modules each.1 registers a) in
       (found.0, (own.0, own.1, found.1))
 
--- what holds of one answer can be weakened
+-- what the other modules give can be replaced by a weaker statement
 else_goes : (own : Option Caller) (A B : Option Caller → Type 0) (c : Option Caller) → ((x : Option Caller) → A x → B x)
     → OrElse own A c → OrElse own B c
 else_goes None A B c goes h = goes c h
@@ -100,12 +100,12 @@ module _ {S T : Type 0} (target_of : S → Target) (over : S → CallerRelation)
         (λ t s is r n x. (each s t is r n x).1) others modules (others_like Is modules others are) registers a c,
   )
 
--- each is like itself
+-- modules are like themselves
 themselves : {T : Type 0} (modules : List (Module T)) → AreLike (λ s t. s ≡ t) modules modules
 themselves [] = tt
 themselves (m ∷ modules) = (refl, refl, themselves modules)
 
--- each is like what its rows are borrowed from
+-- modules with borrowed rows are like modules with the rows themselves
 borrowed : {T : Type 0} (modules : List (Module (Bor T))) → AreLike (λ b t. b.now ≡ t) modules (unborrowed modules)
 borrowed [] = tt
 borrowed (m ∷ modules) = (refl, refl, borrowed modules)

@@ -27,7 +27,7 @@ if_good : (es : List LocatedExpression) (b : Bool) (x y : Rule) → IsGoodRule e
 if_good es true x y g h = g
 if_good es false x y g h = h
 
--- each of them, one after the other
+-- all rules of a list are good (`IsGoodEntry`)
 abbrev AreGood : List LocatedExpression → List (ℕ × Rule) → Type 0
 AreGood es rules = AllByRecursion (IsGoodEntry es) rules
 
@@ -36,7 +36,7 @@ rule_good es [] r good = tt
 rule_good es (entry ∷ rules) r good =
     if_good es (entry.0 == r) entry.1 (rule_in rules r) good.0 (rule_good es rules r good.1)
 
--- ---- and so are those under an ABI, whose own rules name no expression
+-- ---- rules under an ABI are good too: the ABI's own rules name no expression
 
 or_good : (es : List LocatedExpression) (x : Rule) (role : Role) → IsGoodRule es x → IsGoodRule es (or_rule x (rule_of_role role))
 or_good es default unnamed good = tt
@@ -61,24 +61,24 @@ under_good es each abi rules good =
     recursion_from_All (IsGoodEntry es) (rules_under abi rules)
     (λ k d lt. subst (IsGoodRule es) (sym (each abi rules k d lt)) (rule_under_good es abi rules _ good))
 
--- a good expression with its depth and its number of operations
+-- an expression as a checked one, with this depth and with its number of operations
 abbrev pub known : Kind → Target → List ℕ → ℕ → Checked
 known kind target bytes depth =
     record { kind = kind; target = target; bytes = bytes; depth = depth; count = length (operations_in target bytes) }
 
--- a good expression is good as one of its rule
+-- an expression of a checked section passes the check as one of its rule's kind
 good_as : (es : List LocatedExpression) (kind : Kind) (x : LocatedExpression) → IsGoodAmong es kind x
     → IsGoodExpression kind x.target x.bytes
 good_as es kind x good = subst (λ k. IsGoodExpression k x.target x.bytes) good.of_kind good.good
 
--- callers are the same by their parts
+-- callers with the same parts are the same
 abbrev made : Answer → List (ℕ × Answer) → Answer → Caller
 made cfa registers returned = record { cfa = cfa; registers = registers; return_address = returned }
 
 same_parts : (a b : Answer) (xs ys : List (ℕ × Answer)) (v w : Answer) → a ≡ b → xs ≡ ys → v ≡ w → made a xs v ≡ made b ys w
 same_parts a b xs ys v w x y z = rw (x, y, z) refl
 
--- ---- one
+-- ---- there is at most one caller
 
 module _ (es : List LocatedExpression)
     (each : (abi : Abi) (rules : List (ℕ × Rule)) → All (λ entry. entry.1 ≡ rule_under abi rules entry.0) (rules_under abi rules))
@@ -163,7 +163,7 @@ module _ (es : List LocatedExpression)
       let here = subst (λ (x : Cie). IsCaller e abi x.return_address_register h.row c) cie moved_row in
       ap (λ x. Some x) (caller_one e abi h.cie.return_address_register h.row c d (good h.row h.row_is) here h.is)
 
--- ---- some
+-- ---- there is a caller
 
 module _ (es : List LocatedExpression)
     (each : (abi : Abi) (rules : List (ℕ × Rule)) → All (λ entry. entry.1 ≡ rule_under abi rules entry.0) (rules_under abi rules))

@@ -1,5 +1,5 @@
--- There is one walk from a position with a limit, given what is known of callers, and a longer one begins
--- with it.
+-- From each position there is one walk with each limit, given what is known of callers. A walk with
+-- a greater limit begins with the one with a smaller limit.
 use Rattle.std.proofs.Common.{◌≡◌, ℕ, zero, suc, ◌≤◌, ◌==◌, List, [], ◌∷◌, length, Option, None, Some, true, false, inl, inr}
 use Rattle.std.proofs.Common.{refl, sym, ap, subst, ◌∙◌, arith, take}
 use Rattle.std.proofs.lemmas.Bool.{cases_lt}
@@ -18,7 +18,7 @@ use Rattle.dw_unwind.specs.Walks.{content_of, stop_of_return, stop_of_caller, st
 ends : ℕ → List WalkedFrame → Option Stop
 ends limit frames = if length frames == limit then Some Limit else stop_after frames
 
--- After a frame with this caller, these are all frames, or their number is the limit.
+-- These frames come after a frame with this caller. No frame follows them, or their number is `n`.
 Ended : ℕ → Option Caller → List WalkedFrame → Type 0
 Ended n caller [] = (n ≡ 0) ⊎ ((stop : Stop) × (stop_of_caller caller ≡ Some stop))
 Ended zero caller (f ∷ frames) = ⊥
@@ -37,13 +37,13 @@ ended_after (suc n) f (g ∷ frames) stop few is = ended_after n g frames stop (
         → (if k == m then Some Limit else stop_after (g ∷ frames)) ≡ Some stop
     same k m h = let one : (suc k == suc m) ≡ (k == m) = grind (arith, nat_tests) in rw one at h
 
--- an empty list of frames has no end
+-- an empty list of frames doesn't end a walk, unless the limit is 0
 none_ends : (n : ℕ) (stop : Stop) → (if 0 == suc n then Some Limit else None) ≡ Some stop → ⊥
 none_ends n stop is =
     let other : (0 == suc n) ≡ false = grind (arith, nat_tests) in
     let no : ◌≡◌ {A = Option Stop} None (Some stop) = rw other at is in cc
 
--- after an end there is no next position
+-- if a walk ends with a frame, there is no next position
 no_place : (c : Option Caller) (stop : Stop) → stop_of_caller c ≡ Some stop → next_place c ≡ None
 no_place None stop is = refl
 no_place (Some caller) stop is = go caller.return_address is
@@ -54,7 +54,7 @@ no_place (Some caller) stop is = go caller.return_address is
     go unreadable h = refl
     go division_by_zero h = refl
 
--- and without a next position there is an end
+-- if there is no next position, the walk ends with this frame
 some_end : (c : Option Caller) → next_place c ≡ None → (stop : Stop) × (stop_of_caller c ≡ Some stop)
 some_end None is = (NotCovered, refl)
 some_end (Some caller) is = go caller.return_address is
@@ -65,7 +65,7 @@ some_end (Some caller) is = go caller.return_address is
     go unreadable h = (ReturnUnreadable, refl)
     go division_by_zero h = (ReturnDivisionByZero, refl)
 
--- ---- one
+-- ---- there is at most one walk
 
 module _ (u : CallerRelation)
     (one : (registers : ℕ → Option ℕ) (a : ℕ) (c d : Option Caller) → u registers a c
@@ -129,7 +129,7 @@ module _ (u : CallerRelation)
       let stop : a ≡ b = cc in
       (same, stop)
 
--- ---- some
+-- ---- there is a walk
 
 module _ (u : CallerRelation)
     (some : (registers : ℕ → Option ℕ) (a : ℕ)

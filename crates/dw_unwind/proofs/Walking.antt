@@ -11,7 +11,7 @@ use Rattle.dw_unwind.specs.Walks.{CallerRelation, Place, WalkedFrame, AreFrames,
 use Rattle.dw_unwind.specs.Walks.{address_before, stop_after, stop_of_caller}
 use Rattle.dw_unwind.specs.WalkSteps.{Progress, about_to_give, has_given, GivesFrame, stop_of}
 
--- after the last of frames comes the next one
+-- if `g` is the frame after `f`, it can be appended to frames that end with `f`
 pub one_more_frame : (u : CallerRelation) (p : Option Place) (frames : List WalkedFrame) (f g : WalkedFrame)
     → AreFrames u p (frames ++ f ∷ []) → AreFrames u (next_place f.caller) (g ∷ []) → AreFrames u p ((frames ++ f ∷ []) ++ g ∷ [])
 one_more_frame u None [] f g h next = absurd h
@@ -19,13 +19,13 @@ one_more_frame u (Some p) [] f g h next = (h.0, next)
 one_more_frame u None (x ∷ frames) f g h next = absurd h
 one_more_frame u (Some p) (x ∷ frames) f g h next = (h.0, one_more_frame u (next_place x.caller) frames f g h.1 next)
 
--- why there is none after the last
+-- why no frame follows frames that end with `f` depends only on `f`
 pub stop_after_last : (frames : List WalkedFrame) (f : WalkedFrame) → stop_after (frames ++ f ∷ []) ≡ stop_of_caller f.caller
 stop_after_last [] f = refl
 stop_after_last (x ∷ []) f = refl
 stop_after_last (x ∷ y ∷ frames) f = stop_after_last (y ∷ frames) f
 
--- the address before one
+-- the address minus 1
 pub before_is : (a b : ℕ) → 1 ≤ a → b ≡ a - 1 → address_before a ≡ Some b
 before_is zero b some is = absurd (omega (arith, some))
 before_is (suc n) b some is = let same : n ≡ b = omega (arith, is) in ap Some same
@@ -36,7 +36,8 @@ none_before (suc n) none = absurd (none (omega arith))
 
 -- ---- a walk under way
 
--- These frames were given. Any frame given next comes after them; if none is given, that is why they end.
+-- A walk has given these frames. Any frame that it gives next comes after them. If it gives none,
+-- its reason is the reason why these frames end.
 pub record UnderWay (u : CallerRelation) (first : Place) (frames : List WalkedFrame) (p : Progress) : Type 0 where
   pub are : AreFrames u (Some first) frames
   pub next : (f : WalkedFrame) → GivesFrame u p f → AreFrames u (Some first) (frames ++ f ∷ [])
@@ -69,7 +70,7 @@ fills u first limit frames p h many =
     let full : (length frames == limit) ≡ true = grind (arith, nat_tests, many) in
     record { are = h.are; few = omega (arith, many); ends = rw full refl }
 
--- ---- their numbers
+-- ---- a property of all frames, with one more frame
 
 pub one_more_holds : {X Y : Type 0} (P : Y → Type 0) (view : X → Y) (xs : List X) (x : X) → All P (map view xs) → P (view x)
     → All P (map view (xs ++ x ∷ []))

@@ -1,4 +1,4 @@
--- What holds of one way to unwind holds of another that has all its callers.
+-- A walk with one unwinder is a walk with another that gives the same callers.
 use Rattle.std.proofs.Common.{◌≡◌, ℕ, List, [], ◌∷◌, Option, None, Some, refl, subst, sym}
 use Rattle.std.specs.Prelude.{◌↔◌, IfSome, option_map}
 use Rattle.dw_rows.specs.Abi.{Abi}
@@ -11,8 +11,8 @@ use Rattle.dw_unwind.specs.Walks.{CallerRelation, Place, WalkedFrame, AreFrames,
 use Rattle.dw_unwind.specs.Walks.{address_before, content_of, place_of_caller}
 use Rattle.dw_unwind.proofs.Callers.{found-unwinds, unwinds-found}
 
--- What holds at each address that a walk looks up, since it holds at the first and carries over from a frame to the
--- next.
+-- If the first address that a walk looks up has the property `P`, so has each later one (`next`).
+-- At such addresses `v` has all callers of `u` (`each`), so a walk with `u` is a walk with `v`.
 module _ (u v : CallerRelation) (P : ℕ → Type 0)
     (each : (registers : ℕ → Option ℕ) (address : ℕ) (caller : Option Caller) → P address → u registers address caller
     → v registers address caller)
@@ -59,7 +59,7 @@ always_next : (o : Option ℕ) → IfSome o (λ (n : ℕ). IfSome (address_befor
 always_next None = tt
 always_next (Some n) = always (address_before n)
 
--- what holds everywhere
+-- if `v` has all callers of `u` at every address, a walk with `u` is a walk with `v`
 pub walk_over : (u v : CallerRelation) → ((registers : ℕ → Option ℕ) (address : ℕ) (caller : Option Caller) → u registers address caller
     → v registers address caller) → (first : Place) (limit : ℕ) (frames : List WalkedFrame) (stop : Stop)
     → Walks u first limit frames stop → Walks v first limit frames stop
@@ -67,7 +67,7 @@ walk_over u v each first limit frames stop h =
     walk_where u v (λ (a : ℕ). Unit {0}) (λ registers address caller there. each registers address caller)
     (λ registers address caller there h. always_next (content_of caller.return_address)) first limit frames stop (always first.looked_up) h
 
--- two ways with the same callers give the same walks
+-- two unwinders with the same callers give the same walks
 pub walks_same : (u v : CallerRelation)
     → ((registers : ℕ → Option ℕ) (address : ℕ) (caller : Option Caller) → u registers address caller ↔ v registers address caller)
     → (first : Place) (limit : ℕ) (frames : List WalkedFrame) (stop : Stop) → Walks u first limit frames stop ↔ Walks v first limit frames stop

@@ -16,9 +16,10 @@ use Rattle.dw_eval.specs.World.{World, width, number_at}
 use Rattle.dw_eval.specs.Results as results
 use Rattle.dw_eval.specs.Results.{Outcome, IsRun}
 
--- What is known of a number: its value; that it isn't available; that it, or the CFA that it needs, requires a register
--- or memory that isn't given, or a read goes past 2^w - 1; or that its expression, or that of the CFA that it needs,
--- divides by zero.
+-- What is known of a caller's CFA, register or return address: its value; undefined, if it isn't
+-- available; unreadable, if it, or the CFA that it needs, requires a register or memory that isn't
+-- given, or a read past 2^w - 1; division by zero, if its expression, or the expression of the CFA
+-- that it needs, divides by zero.
 pub data Answer : Type 0 where
   value : ℕ → Answer
   undefined : Answer
@@ -27,17 +28,17 @@ pub data Answer : Type 0 where
 
 -- ---- the inputs
 
--- only registers and memory, under a target
+-- a world with a target, registers and memory; no CFA, no frame base and no object
 abbrev pub machine : Target → (ℕ → Option ℕ) → (ℕ → Option ℕ) → World
 machine target registers memory =
     record { target = target; registers = registers; memory = memory; cfa = None; frame_base = None; object = None }
 
--- the same with a CFA
+-- the target, registers and memory of `e`, with the CFA `c`; no frame base and no object
 abbrev pub with_cfa : World → ℕ → World
 with_cfa e c =
     record { target = e.target; registers = e.registers; memory = e.memory; cfa = Some c; frame_base = None; object = None }
 
--- the same under a target: an expression's target is its section's
+-- the world `e` with another target: an expression runs under the target of its section
 abbrev pub under : Target → World → World
 under target e = record {
   target = target;
@@ -48,54 +49,58 @@ under target e = record {
   object = e.object;
 }
 
--- a number and an offset, modulo 2^w
+-- the sum of the number `n` and the offset `by`, modulo 2^w
 abbrev pub number_plus : World → ℤ → ℕ → ℕ
 number_plus e by n = wrap (width e) (pos n +ℤ by)
 
--- a content and an offset, modulo 2^w
+-- the sum of a content and the offset `by`, modulo 2^w; unreadable if the content isn't given
 abbrev pub content_plus : World → ℤ → Option ℕ → Answer
 content_plus e by (Some n) = value (number_plus e by n)
 content_plus e by None = unreadable
 
--- what a register has now
+-- the content of the register `r` in the present frame, modulo 2^w
 abbrev pub content : World → ℕ → Answer
 content e r = content_plus e (pos 0) (e.registers r)
 
--- the address-sized word at an address, whose last byte is at 2^w - 1 or below
+-- the address-sized word at the address `a`; unreadable if one of its bytes isn't given or lies
+-- past 2^w - 1
 abbrev pub word : World → ℕ → Answer
 word e a = if nat_le (a + bytes_of_address e.target.address_size) (2 ^ width e)
     then content_plus e (pos 0) (number_at e.memory e.target.order a (bytes_of_address e.target.address_size)) else unreadable
 
--- the result for a value; without one, the same answer
+-- what `f` makes of an answer's value; an answer without a value stays as it is
 abbrev pub if_value : Answer → (ℕ → Answer) → Answer
 if_value (value n) f = f n
 if_value other f = other
 
--- The result of an expression of a frame, run as one of a kind: that of a CFA begins with an empty stack, that of a
--- register with the CFA.
+-- the answer that the outcome of a frame's expression gives
 abbrev pub answer_of : Outcome → Answer
 answer_of (results.value n) = value n
 answer_of (results.division_by_zero at) = division_by_zero
 answer_of _ = unreadable
 
+-- Running the expression `x` as one of this kind gives `answer`. A CFA's expression starts with an
+-- empty stack, a register's with the CFA on the stack.
 abbrev pub Gives : World → Kind → LocatedExpression → Answer → Type 0
 Gives e kind x answer = (outcome : Outcome) × (steps : ℕ)
     × IsRun (under x.target e) kind (operations_in x.target x.bytes) (length x.bytes) outcome steps × (answer ≡ answer_of outcome)
 
 -- ---- the CFA, and each register, by its rule
 
--- A row that covers an address has a rule for the CFA. A CFA expression runs with nothing pushed.
+-- The CFA by its rule. A row that covers an address always has such a rule. A CFA expression starts
+-- with an empty stack.
 abbrev pub IsCfa : World → Option Cfa → Answer → Type 0
 IsCfa e (Some (register_and_offset r n)) answer = answer ≡ content_plus e n (e.registers r)
 IsCfa e (Some (cfa_expression x)) answer = Gives e FrameCfa x answer
 IsCfa e None answer = answer ≡ unreadable
 
--- if the CFA has no value, a rule that needs it has the CFA's answer (own)
+-- the answer of a rule that needs the CFA: if the CFA has no value, it is the CFA's answer (own)
 abbrev pub NeedsCfa : Answer → (ℕ → Answer → Type 0) → Answer → Type 0
 NeedsCfa (value c) Is answer = Is c answer
 NeedsCfa other Is answer = answer ≡ other
 
--- The value of a caller's register, by its rule and the CFA. The CFA is pushed before the expression of a register.
+-- What is known of the caller's register `r`, by its rule and the CFA. A register's expression
+-- starts with the CFA on the stack.
 abbrev pub IsRegister : World → Answer → ℕ → Rule → Answer → Type 0
 IsRegister e cfa r default answer = answer ≡ undefined
 IsRegister e cfa r RuleOver.undefined answer = answer ≡ undefined
@@ -107,7 +112,7 @@ IsRegister e cfa r (expression x) answer =
     NeedsCfa cfa (λ c a. (address : Answer) × Gives (with_cfa e c) FrameRegister x address × (a ≡ if_value address (word e))) answer
 IsRegister e cfa r (val_expression x) answer = NeedsCfa cfa (λ c a. Gives (with_cfa e c) FrameRegister x a) answer
 
--- the registers of these rules, in their order
+-- the answers for the registers that have these rules, in the order of the rules
 abbrev pub AreRegisters : World → Answer → List (ℕ × Rule) → List (ℕ × Answer) → Type 0
 AreRegisters e cfa [] [] = Unit {0}
 AreRegisters e cfa (entry ∷ rules) (found ∷ answers) =
@@ -116,20 +121,23 @@ AreRegisters e cfa _ _ = ⊥
 
 -- ---- the caller
 
--- Its CFA; each register that has a rule, from the row or from the ABI, by ascending numbers; and its return address.
+-- What is known of a caller: its CFA; each register that has a rule, from the row or from the ABI,
+-- in ascending order; and its return address.
 pub record Caller : Type 0 where
   pub cfa : Answer
   pub registers : List (ℕ × Answer)
   pub return_address : Answer
 
--- The caller by a row, with given registers, memory and an ABI, whose rules apply if the row has none. The return address
--- is the value of the column's register, which the CIE names.
+-- The caller by a row, given the registers and memory of a frame. A register to which the row gives
+-- no rule has the ABI's rule. The return address is the answer for the register `column`, which the
+-- CIE names.
 pub record IsCaller (e : World) (abi : Abi) (column : ℕ) (row : Row) (caller : Caller) : Type 0 where
   pub cfa : IsCfa e row.cfa caller.cfa
   pub registers : AreRegisters e caller.cfa (rules_under abi row.rules) caller.registers
   pub return_address : IsRegister e caller.cfa column (rule_under abi row.rules column) caller.return_address
 
--- The caller at an address: by the FDE that covers it, that FDE's CIE, and the row of the address.
+-- The caller of a frame at an address, by the FDE that covers the address, the CIE of that FDE, and
+-- the row of the address.
 pub record IsCallerAt (e : World) (abi : Abi) (frame : FrameSection) (address : ℕ) (caller : Caller) : Type 0 where
   pub fde : Fde
   pub covers : IsCoverOf frame.fdes address (Some fde)
@@ -139,14 +147,15 @@ pub record IsCallerAt (e : World) (abi : Abi) (frame : FrameSection) (address : 
   pub row_is : row_of frame address ≡ Some row
   pub is : IsCaller e abi cie.return_address_register row caller
 
--- The caller at an address, or that no FDE covers it.
+-- Unwinding at an address gives the caller, or none if no FDE covers the address.
 abbrev pub Unwinds : World → Abi → FrameSection → ℕ → Option Caller → Type 0
 Unwinds e abi frame address (Some caller) = IsCallerAt e abi frame address caller
 Unwinds e abi frame address None = (f : Fde) → Contains frame.fdes f → ¬ Covers f address
 
 -- ---- by what is found
 
--- The caller by what is found at an address: a row with the return address register, or none.
+-- Unwinding by what a look-up found: a row with its return address register gives a caller, and
+-- nothing found gives none.
 abbrev pub UnwindsBy : World → Abi → Option (Row × ℕ) → Option Caller → Type 0
 UnwindsBy e abi (Some found) (Some caller) = IsCaller e abi found.1 found.0 caller
 UnwindsBy e abi None None = Unit {0}

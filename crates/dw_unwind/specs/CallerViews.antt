@@ -1,4 +1,4 @@
--- What the types of an unwinding mean.
+-- What the code's types of answers and callers mean in terms of these definitions.
 use Rattle.std.specs.Prelude.{ℕ, map, Option, None}
 use Rattle.dw_eval.specs.World.{World}
 use Rattle.dw_unwind.specs.declared.unwinding.Answer as declared_answer
@@ -24,11 +24,11 @@ caller_in c = record {
   return_address = answer_in c.return_address;
 }
 
--- the inputs
+-- the world of a `Present`: its target, registers and memory
 abbrev pub machine_in : {R M : Type 0} → (R → ℕ → Option ℕ) → (M → ℕ → Option ℕ) → Present R M → World
 machine_in contents bytes m = machine m.target (contents m.registers.now) (bytes m.memory.now)
 
--- the same with a CFA, if there is one
+-- the target, registers and memory of `e`, with this CFA or with none; no frame base and no object
 abbrev pub with_optional_cfa : World → Option ℕ → World
 with_optional_cfa e cfa =
     record { target = e.target; registers = e.registers; memory = e.memory; cfa = cfa; frame_base = None; object = None }

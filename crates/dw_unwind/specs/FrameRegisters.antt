@@ -1,13 +1,14 @@
--- The registers of a frame inside a walk.
+-- The lists of registers inside a walk.
 use Rattle.std.specs.Prelude.{◌≡◌, ℕ, suc, ◌≤◌, Bool, true, List, [], ◌∷◌, length, take}
 use Rattle.dw_unwind.specs.declared.unwinding.Answer.{Answer}
 
--- their numbers ascend, the first from a number on, and all are below a bound
+-- the register numbers ascend, are `n` or more, and are below `bound`
 abbrev pub Ascends : ℕ → List (ℕ × Answer) → ℕ → Type 0
 Ascends n [] bound = n ≤ bound
 Ascends n (x ∷ xs) bound = (n ≤ x.0) × Ascends (suc x.0) xs bound
 
--- slots for registers, the first `count` of which are in use, with guesses of their indices
+-- `most` slots for registers, the first `count` of which are in use, with guesses of the index of a
+-- register in `places`; if `is_ascending`, the numbers in use ascend and are below `bound`
 pub record IsRoom (most guesses : ℕ) (found : List (ℕ × Answer)) (count : ℕ) (places : List ℕ) (is_ascending : Bool) (bound : ℕ) : Type 0 where
   pub few : count ≤ most
   pub room : length found ≡ most

@@ -1,4 +1,4 @@
--- ---- To be believed: the standard's words. Read these to check callers and walks against DWARF 5.
+-- ---- Trusted: what DWARF 5 says. To check callers and walks against the standard, read these.
 -- the calling frame (6.4.1)
 pub mod Caller
 -- frames, each the caller of the one before (6.4.1, 6.4.4)
@@ -9,12 +9,12 @@ pub mod Modules
 pub mod WalkSteps
 -- which callers and frames have only numbers below a bound
 pub mod CallerFits
--- ---- What the code's own values mean.
+-- ---- What the code's values mean.
 -- answers and callers of the code
 pub mod CallerViews
--- a caller whose registers are in a list
+-- a caller whose registers are in a list of their own
 pub mod UnwoundViews
--- the registers of a frame inside a walk
+-- the lists of registers inside a walk
 pub mod FrameRegisters
--- frames of the code
+-- frames and walks of the code
 pub mod WalkViews

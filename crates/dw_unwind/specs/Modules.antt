@@ -21,8 +21,8 @@ abbrev pub OrElse : Option Caller → (Option Caller → Type 0) → Option Call
 OrElse (Some found) Others caller = caller ≡ Some found
 OrElse None Others caller = Others caller
 
--- The caller by the first module that has one at the address as linked there, or none. A module has one exactly if it has
--- a row.
+-- The caller by the first module that gives one for the address as linked in that module, or none.
+-- A module gives a caller exactly if it has a row for the address.
 abbrev pub over_modules : {T : Type 0} → (T → Target) → (T → CallerRelation) → List (Module T) → CallerRelation
 over_modules target_of over [] registers address caller = caller ≡ None
 over_modules target_of over (m ∷ modules) registers address caller = (own : Option Caller)
@@ -31,38 +31,39 @@ over_modules target_of over (m ∷ modules) registers address caller = (own : Op
 
 -- ---- any supplier of a module's rows
 
--- with a supplier of rows
+-- unwinding through modules whose rows come from any supplier
 abbrev pub over_modules_of_rows : {T : Type 0} → (T → Target) → (T → ℕ → Option (Row × ℕ) → Type 0) → Abi → (ℕ → Option ℕ)
     → List (Module T) → CallerRelation
 over_modules_of_rows target_of finds abi memory =
     over_modules target_of (λ rows. over_rows (target_of rows) (finds rows) abi memory)
 
--- with checked sections
+-- unwinding through modules with checked sections
 abbrev pub over_sections : Abi → (ℕ → Option ℕ) → List (Module FrameSection) → CallerRelation
 over_sections abi memory = over_modules (λ (s : FrameSection). s.target) (λ s. over_section s abi memory)
 
--- with tables of rows
+-- unwinding through modules with tables of rows
 abbrev pub over_tables : Abi → (ℕ → Option ℕ) → List (Module RowTable) → CallerRelation
 over_tables abi memory = over_modules (λ (t : RowTable). t.target) (λ t. over_table t abi memory)
 
--- the same modules, each with what its rows are borrowed from
+-- the modules with each borrow of rows replaced by the rows themselves
 abbrev pub unborrowed : {T : Type 0} → List (Module (Bor T)) → List (Module T)
 unborrowed modules = map (λ m. record { rows = m.rows.now; load_address = m.load_address }) modules
 
--- one module that is loaded where it is linked
+-- a list of one module, which is loaded where it is linked
 abbrev pub where_linked : {T : Type 0} → T → List (Module T)
 where_linked rows = record { rows = rows; load_address = 0 } ∷ []
 
--- modules and others with the same load addresses, whose rows are related one by one
+-- two lists of equally many modules: those at the same index have the same load address, and their
+-- rows are related by `Is`
 abbrev pub AreLike : {S T : Type 0} → (S → T → Type 0) → List (Module S) → List (Module T) → Type 0
 AreLike Is [] [] = Unit {0}
 AreLike Is (s ∷ modules) (t ∷ others) = (t.load_address ≡ s.load_address) × Is s.rows t.rows × AreLike Is modules others
 AreLike Is _ _ = ⊥
 
--- tables of these sections, each with the load address of its section
+-- the second list has a table of each section of the first, with that section's load address
 abbrev pub AreTablesOf : List (Module FrameSection) → List (Module RowTable) → Type 0
 AreTablesOf = AreLike IsTableOf
 
--- a bound of the addresses of each module
+-- `bound` is 2^w or more for each module, w being the size of the module's addresses in bits
 abbrev pub AreBelow : {T : Type 0} → (T → Target) → List (Module T) → ℕ → Type 0
 AreBelow target_of modules bound = All (λ m. 2 ^ width_of (target_of m.rows).address_size ≤ bound) modules

@@ -1,4 +1,5 @@
--- What an unwinding into a list of registers means.
+-- What the code's `Unwound` means, together with the list that the caller's registers were written
+-- to.
 use Rattle.std.specs.Prelude.{ℕ, List, Option, Some, None}
 use Rattle.dw_unwind.specs.declared.unwinding.Unwound.{Unwound}
 use Rattle.dw_unwind.specs.Caller.{Answer, Caller}
@@ -7,11 +8,11 @@ use Rattle.dw_unwind.specs.Walks.{stop_of_return}
 use Rattle.dw_unwind.specs.declared.frames.Stop.{Stop}
 use Rattle.dw_unwind.specs.declared.frames.Stop.TheVariants.{NotCovered}
 
--- the caller with these registers
+-- the caller that an `Unwound` describes, with these registers
 abbrev pub caller_with : List (ℕ × Answer) → Unwound → Caller
 caller_with registers u = record { cfa = answer_in u.cfa; registers = registers; return_address = answer_in u.return_address }
 
--- why there is no frame after one with this unwinding
+-- why a frame with this unwinding is the last one of a walk; none if another frame follows
 abbrev pub stop_of_unwound : Option Unwound → Option Stop
 stop_of_unwound None = Some NotCovered
 stop_of_unwound (Some u) = stop_of_return (answer_in u.return_address)

@@ -1,4 +1,4 @@
--- What the types of a walk mean.
+-- What the code's types of frames and walks mean in terms of these definitions.
 use Rattle.std.specs.Prelude.{◌≡◌, ℕ, Bool, true, false, if◌then◌else◌, IfSome, List, MatchOption, Some, map, Option, option_map}
 use Rattle.dw_unwind.specs.declared.frames.BriefFrame.{BriefFrame}
 use Rattle.dw_unwind.specs.declared.frames.Frame as declared
@@ -17,7 +17,7 @@ frame_in f = record { address = f.address; caller = option_map caller_in f.calle
 abbrev pub frames_in : List declared.Frame → List WalkedFrame
 frames_in frames = map frame_in frames
 
--- a frame in brief
+-- a frame in brief: its address and its CFA
 abbrev pub brief_in : BriefFrame → ℕ × Option Answer
 brief_in f = (f.address, option_map answer_in f.cfa)
 
@@ -26,7 +26,8 @@ brief_of frame = (frame.address, cfa_of frame)
 
 -- ---- a walk's fields
 
--- the frame at an address, with the registers of its caller in one of two lists
+-- the frame at `address`; the registers of its caller are in the list `other` if `is_other`, else
+-- in `one`
 abbrev pub frame_with : ℕ → Bool → List (ℕ × Answer) → List (ℕ × Answer) → Option Unwound → WalkedFrame
 frame_with address is_other one other unwound =
     record { address = address; caller = option_map (caller_with (if is_other then other else one)) unwound }
@@ -37,8 +38,9 @@ progress_with true frame = has_given frame
 
 -- ---- a call of `next`
 
--- It gives the next frame, in brief; or none, for a reason, and then nothing changes. Numbers stay below a bound of
--- addresses.
+-- A call gives the next frame, in brief, or gives none, if there is a reason, and leaves the walk
+-- as it is. If the numbers of the current frame are below a bound of addresses, so are those of the
+-- next.
 pub record NextFrame {U M : Type 0} (u : CallerRelation) (IsBound : ℕ → Type 0) (old : WalkState U M) (given : Option BriefFrame)
     (new : WalkState U M) : Type 0 where
   pub gives : MatchOption given (((stop : Stop) × (stop_of old.progress ≡ Some stop)) × (new ≡ old)) (λ _. GivesNext u old new)

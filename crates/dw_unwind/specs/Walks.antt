@@ -1,6 +1,7 @@
--- A walk up the stack, each frame the caller of the one before it. DWARF 5, section 6.4.1, defines one caller. Section
--- 6.4.4 states that a walk is complete where the return address is undefined, and that the call is looked for at the
--- return address less 1. Which registers have a content, the limit and the other ends are the profile's own.
+-- A walk up the stack, each frame the caller of the frame before it. DWARF 5, section 6.4.1,
+-- defines a single caller. Section 6.4.4 states that a walk is complete if the return address is
+-- undefined, and that the call is looked up at the return address minus 1. The profile itself
+-- defines which registers have a content, the limit, and the other reasons why a walk ends.
 use Rattle.std.specs.Prelude.{◌≡◌, ℕ, zero, suc, ◌≤◌, ◌==◌, if◌then◌else◌, List, [], ◌∷◌, length, Option, Some, None, option_map}
 use Rattle.dw_bytes.specs.declared.target.Target.{Target}
 use Rattle.dw_rows.specs.Abi.{Abi}
@@ -18,30 +19,32 @@ use Rattle.dw_unwind.specs.declared.frames.Stop.TheVariants.{Limit, NotCovered, 
 abbrev pub CallerRelation : Type 1
 CallerRelation = (ℕ → Option ℕ) → ℕ → Option Caller → Type 0
 
--- with a checked section, under an ABI and with memory, which stay the same on a walk
+-- unwinding with a checked section; the ABI and the memory stay the same during a walk
 abbrev pub over_section : FrameSection → Abi → (ℕ → Option ℕ) → CallerRelation
 over_section frame abi memory = λ registers address caller. Unwinds (machine frame.target registers memory) abi frame address caller
 
--- with a table of rows
+-- unwinding with a table of rows
 abbrev pub over_table : RowTable → Abi → (ℕ → Option ℕ) → CallerRelation
 over_table table abi memory =
     λ registers address caller. UnwindsBy (machine table.target registers memory) abi (row_at table address) caller
 
--- with any supplier of rows: at an address it finds a row with its return address register, or none
+-- unwinding with any supplier of rows; `Finds` says what it finds at an address: a row with its
+-- return address register, or none
 abbrev pub over_rows : Target → (ℕ → Option (Row × ℕ) → Type 0) → Abi → (ℕ → Option ℕ) → CallerRelation
 over_rows target Finds abi memory = λ registers address caller. (found : Option (Row × ℕ)) × Finds address found
     × UnwindsBy (machine target registers memory) abi found caller
 
 -- ---- places and frames
 
--- The current position of a walk: the address of a frame, the address that its FDE is looked up at, if there is one, and
--- its registers.
+-- The current position of a walk: the address of a frame, the address that is looked up for the
+-- frame (none for a caller at address 0), and the frame's registers.
 pub record Place : Type 0 where
   pub address : ℕ
   pub looked_up : Option ℕ
   pub registers : ℕ → Option ℕ
 
--- A frame: its address, and its caller, none if no FDE covers the address that is looked up.
+-- A frame: its address, and its caller, none if no FDE covers the address that is looked up for the
+-- frame.
 pub record WalkedFrame : Type 0 where
   pub address : ℕ
   pub caller : Option Caller
@@ -57,21 +60,23 @@ abbrev pub contents_of : List (ℕ × Answer) → ℕ → Option ℕ
 contents_of [] r = None
 contents_of (found ∷ registers) r = if found.0 == r then content_of found.1 else contents_of registers r
 
--- the address before one, if there is one
+-- the address minus 1; none for the address 0
 abbrev pub address_before : ℕ → Option ℕ
 address_before zero = None
 address_before (suc a) = Some a
 
--- the first position: a frame is looked up at its own address
+-- the position at the start of a walk: the first frame is looked up at its own address
 abbrev pub first_place : ℕ → (ℕ → Option ℕ) → Place
 first_place address registers = record { address = address; looked_up = Some address; registers = registers }
 
--- The position of a caller at an address. Its call lies before the address, so its frame is looked up there.
+-- The position of a caller whose frame is at `address`, the return address. The call lies just
+-- before that address, so the frame is looked up at `address` minus 1.
 abbrev pub place_of_caller : Caller → ℕ → Place
 place_of_caller caller address =
     record { address = address; looked_up = address_before address; registers = contents_of caller.registers }
 
--- the position after a frame: that of its caller, if there is one and its return address has a value
+-- the position after a frame: that of its caller, if the frame has a caller and the return address
+-- has a value
 abbrev pub next_place : Option Caller → Option Place
 next_place None = None
 next_place (Some caller) = option_map (place_of_caller caller) (content_of caller.return_address)
@@ -81,19 +86,21 @@ abbrev pub UnwindsAt : CallerRelation → (ℕ → Option ℕ) → Option ℕ �
 UnwindsAt u registers None caller = caller ≡ None
 UnwindsAt u registers (Some a) caller = u registers a caller
 
--- a frame at a position
+-- `f` is the frame at the position `p`
 abbrev pub IsFrameAt : CallerRelation → Place → WalkedFrame → Type 0
 IsFrameAt u p f = (f.address ≡ p.address) × UnwindsAt u p.registers p.looked_up f.caller
 
 -- ---- the frames of a walk
 
--- Frames from a position on, each the caller of the one before it. There may be more after the last one.
+-- Frames from a position on, each the caller of the frame before it. The walk may have more frames
+-- after these.
 abbrev pub AreFrames : CallerRelation → Option Place → List WalkedFrame → Type 0
 AreFrames u p [] = Unit {0}
 AreFrames u None (f ∷ frames) = ⊥
 AreFrames u (Some p) (f ∷ frames) = IsFrameAt u p f × AreFrames u (next_place f.caller) frames
 
--- why there is no frame after one, if there is none
+-- why a frame with this return address, or with this caller, is the last one; none if another frame
+-- follows
 abbrev pub stop_of_return : Answer → Option Stop
 stop_of_return (value a) = None
 stop_of_return undefined = Some ReturnUndefined
@@ -104,19 +111,19 @@ abbrev pub stop_of_caller : Option Caller → Option Stop
 stop_of_caller None = Some NotCovered
 stop_of_caller (Some caller) = stop_of_return caller.return_address
 
--- why there is none after the last of these frames
+-- why no frame follows the last of these frames; none if one follows
 abbrev pub stop_after : List WalkedFrame → Option Stop
 stop_after [] = None
 stop_after (f ∷ []) = stop_of_caller f.caller
 stop_after (f ∷ g ∷ frames) = stop_after (g ∷ frames)
 
--- The result of a walk: its first frames, as many as the limit allows, and why it ends with these. The reason is the
--- limit whenever the number of frames reaches it.
+-- The result of a walk: its first frames, at most `limit` of them, and why it ends with these. If
+-- there are `limit` frames, the reason is `Limit`, even if no other frame follows.
 pub record Walks (u : CallerRelation) (first : Place) (limit : ℕ) (frames : List WalkedFrame) (stop : Stop) : Type 0 where
   pub are : AreFrames u (Some first) frames
   pub few : length frames ≤ limit
   pub ends : (if length frames == limit then Some Limit else stop_after frames) ≡ Some stop
 
--- every address has an answer, whatever the registers: a caller, or that there is none
+-- with any registers, unwinding has an answer at every address: a caller, or none
 abbrev pub AlwaysUnwinds : CallerRelation → Type 0
 AlwaysUnwinds u = (registers : ℕ → Option ℕ) (address : ℕ) → (caller : Option Caller) × u registers address caller

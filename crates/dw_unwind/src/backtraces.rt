@@ -1,4 +1,4 @@
-//! Walks up the stack, collected.
+//! Walks up the stack that collect their frames in a list.
 
 ghost use Rattle.std.specs.Prelude.{◌≡◌, ◌<◌, ◌^◌, ℕ, All, IfErr, IfOk, IsOk};
 ghost use Rattle.dw_bytes.specs.Answers.{memory as want_of_memory};
@@ -52,15 +52,16 @@ fn backtrace_over<U: Unwinder + Drop, R: Registers, M: Memory>(
     })
 }
 
-/// Walks up the stack through the modules of a process: from a frame, given its address as loaded, its registers and
-/// memory, to its caller, that frame's caller and so on. Gives at most `limit` frames, and why there are no more (DWARF
-/// 5, sections 6.4.1 and 6.4.4).
+/// Walks up the stack through the modules of a process: from the first frame, whose address as
+/// loaded, registers and memory are given, to its caller, the caller's caller and so on. Gives at
+/// most `limit` frames, and why there are no more (DWARF 5, sections 6.4.1 and 6.4.4).
 ///
-/// Frame 0 is looked up at its own address, each later frame at its address minus 1; the module of an address is the
-/// first that has a row for it. Addresses of frames are as loaded. After frame 0 a register has a value only if the
-/// answer for it was one. Each frame costs what `unwind_in` costs, and takes some 6 KB, since a caller has room for all
-/// registers that a row and an ABI can name; `Walk` gives the same frames one by one and allocates nothing. The only
-/// fault is `Memory`, with offset 0.
+/// Frame 0 is looked up at its own address, each later frame at its address minus 1, in the first
+/// module that has a row for the address looked up. Addresses of frames are as loaded. After frame
+/// 0, a register has a value only if unwinding found a value for it. Each frame costs what
+/// `unwind_in` costs, and takes some 6 KB, since a caller has room for all registers that a row and
+/// an ABI can name. `Walk` gives the same frames one by one and allocates nothing. The only fault
+/// is `Memory`, with offset 0.
 pub fn backtrace_in<T: UnwindRows, R: Registers, M: Memory>(
     alloc: Global,
     modules: &[Module<T>],
@@ -77,21 +78,23 @@ pub fn backtrace_in<T: UnwindRows, R: Registers, M: Memory>(
     ensures lacks { IfErr result (λ fault. fault ≡ want_of_memory) }
     ensures none { limit ≡ 0 → IsOk result }
 
-    // All numbers are below 2^w for the widest module's w, if the first frame's address is.
+    // All numbers are below 2^w, w being the greatest address size of a module in bits, if the
+    // first frame's address is.
     ensures fits { IfOk result (λ walk. (bound : ℕ) → AreBelow T.target_of modules.now bound
         → address < bound → All (FrameFits bound) (frames_in walk.frames.items)) }
 {
     backtrace_over(alloc, modules, abi, address, registers, memory, limit)
 }
 
-/// Walks up the stack with a checked section or a compiled table: from a frame, given its address, registers and memory,
-/// to its caller, that frame's caller and so on. Gives at most `limit` frames, and why there are no more (DWARF 5,
-/// sections 6.4.1 and 6.4.4).
+/// Walks up the stack with a checked section or a compiled table: from the first frame, whose
+/// address, registers and memory are given, to its caller, the caller's caller and so on. Gives at
+/// most `limit` frames, and why there are no more (DWARF 5, sections 6.4.1 and 6.4.4).
 ///
-/// Frame 0 is looked up at its own address, each later frame at its address minus 1. After frame 0 a register has a value
-/// only if the answer for it was one. Each frame costs what `unwind_by` costs, and takes some 6 KB, since a caller has
-/// room for all registers that a row and an ABI can name; `Walk` gives the same frames one by one and allocates nothing.
-/// The only fault is `Memory`, with offset 0.
+/// Frame 0 is looked up at its own address, each later frame at its address minus 1. After frame 0,
+/// a register has a value only if unwinding found a value for it. Each frame costs what `unwind_by`
+/// costs, and takes some 6 KB, since a caller has room for all registers that a row and an ABI can
+/// name. `Walk` gives the same frames one by one and allocates nothing. The only fault is `Memory`,
+/// with offset 0.
 pub fn backtrace_by<T: UnwindRows, R: Registers, M: Memory>(
     alloc: Global,
     rows: &T,
@@ -118,7 +121,8 @@ pub fn backtrace_by<T: UnwindRows, R: Registers, M: Memory>(
     backtrace_over(alloc, rows, abi, address, registers, memory, limit)
 }
 
-/// Walks up the stack with a checked frame section: `backtrace_by` for a caller that has no location lists.
+/// Walks up the stack with a checked frame section alone: `backtrace_by` for programs that check no
+/// location lists.
 pub fn backtrace_by_section<R: Registers, M: Memory>(
     alloc: Global,
     frame: &CheckedFrame<'_>,

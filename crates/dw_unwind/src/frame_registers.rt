@@ -10,23 +10,26 @@ use crate::unwinding::{Answer, FoundRegisters, MAX_FOUND};
 use dw_eval::Registers;
 use std::marker::Model;
 
-/// The size of the table of guesses where a register is: one for each number modulo this.
+/// The size of the table that guesses the index of a register: one guess for each register number
+/// modulo `GUESSES`.
 const GUESSES: usize = 64;
 
-/// The registers of a caller with their answers. As registers of a frame, they have a content if the answer is a value.
+/// The registers of a caller with their answers. Used as the `Registers` of a frame, a register has
+/// a content if its answer is a value.
 ///
-/// There is room for all that a row and an ABI can name, but emptying the list writes only its count, so a frame costs
-/// only what its own registers cost.
+/// There is room for all registers that a row and an ABI can name, but emptying the list doesn't
+/// write their slots, so a frame costs only what its own registers cost.
 #[derive(Drop)]
 pub struct FrameRegisters {
-    /// The first `count` are the registers; those after them are left over from earlier frames.
+    /// The first `count` slots hold the registers; the slots after them are left over from earlier
+    /// frames.
     found: [(u16, Answer); MAX_FOUND],
     count: usize,
-    /// The index where a register was put last, by its number modulo `GUESSES`. It may be left over from an earlier
-    /// frame: a guess is used only after a check.
+    /// For each register number modulo `GUESSES`, the index where such a register was put last. The
+    /// index may be left over from an earlier frame, so it is checked before it is used.
     places: [u8; GUESSES],
-    /// Whether each number is above those before it, and all of them are below `bound`. A register is then at one index
-    /// at most.
+    /// Whether each register number is above those before it, and all are below `bound`. If so, no
+    /// register is there twice.
     is_ascending: bool,
     bound: u32,
 }
@@ -48,7 +51,8 @@ impl Model for FrameRegisters {
     ghost invariant = { λ r. IsRoom MAX_FOUND GUESSES r.found r.count r.places r.is_ascending r.bound };
 }
 
-/// The content of a register, from what was found of a caller.
+/// The content of the register `number`, by a search of `found`. None if `found` has no value for
+/// it.
 fn content_among(found: &[(u16, Answer)], number: u16) -> Option<u64>
     ensures { result ≡ contents_of (map found_in found.now) number }
 {
@@ -63,7 +67,7 @@ fn content_among(found: &[(u16, Answer)], number: u16) -> Option<u64>
     None
 }
 
-/// The answer for a register, if it is at this index.
+/// The answer for the register `number`, if that register is at the index `place`.
 #[inline(always)]
 fn answer_at(found: &[(u16, Answer)], place: usize, number: u16) -> Option<Answer>
     ensures { IfSome result (λ answer. (k : ℕ)
@@ -80,8 +84,8 @@ fn answer_at(found: &[(u16, Answer)], place: usize, number: u16) -> Option<Answe
     }
 }
 
-/// The content of a register among those with ascending numbers, if the register is at this index. It is then at no
-/// other.
+/// The content of the register `number`, if that register is at the index `place`; none otherwise.
+/// Numbers in `found` ascend, so the register is at no other index.
 #[inline(always)]
 fn content_at(found: &[(u16, Answer)], place: usize, number: u16) -> Option<Option<u64>>
     requires { (bound : ℕ) × Ascends 0 found.now bound }
@@ -93,7 +97,7 @@ fn content_at(found: &[(u16, Answer)], place: usize, number: u16) -> Option<Opti
     }
 }
 
-/// Whether numbers below a bound still ascend with one more at the end.
+/// Whether register numbers below `bound` still ascend with `number` at the end.
 #[inline(always)]
 fn stays_ascending(is_ascending: bool, bound: u32, number: u16) -> bool
     ensures { result ≡ true → (is_ascending ≡ true) × (bound ≤ number) }
@@ -123,7 +127,7 @@ impl FrameRegisters {
         &self.found[..self.count]
     }
 
-    /// A copy, in the form that a caller has them.
+    /// A copy of the registers, as the list that a `Caller` has.
     pub fn to_list(&self) -> FoundRegisters
         ensures { map found_in result.items ≡ self.now }
     {

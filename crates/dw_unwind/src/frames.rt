@@ -5,11 +5,13 @@ use crate::unwinding::{Answer, Caller};
 /// A frame of a walk up the stack.
 #[derive(Clone, Debug, Drop, PartialEq, Eq)]
 pub struct Frame {
-    /// Its address. Frame 0's is given; that of each later frame is the return address of the frame before it.
+    /// Its address. The address of frame 0 is given; the address of each later frame is the return
+    /// address of the frame before it.
     pub address: u64,
-    /// Its caller, none exactly if no FDE covers the address that is looked up. Frame 0 looks up its address, later
-    /// frames their address minus 1, since a call may be the last instruction that an FDE covers (DWARF 5, section
-    /// 6.4.4). A later frame at 0 is never covered.
+    /// Its caller, none if and only if no FDE covers the address that is looked up. For frame 0
+    /// that is its own address; for each later frame it is the frame's address minus 1, since a
+    /// call may be the last instruction that an FDE covers (DWARF 5, section 6.4.4). A later frame
+    /// at 0 is never covered.
     pub caller: Option<Caller>,
 }
 
@@ -18,17 +20,18 @@ pub struct Frame {
 pub struct BriefFrame {
     /// Its address, as in `Frame`.
     pub address: u64,
-    /// Its canonical frame address, none exactly if no FDE covers the address that is looked up.
+    /// Its canonical frame address, none if and only if no FDE covers the address that is looked
+    /// up.
     pub cfa: Option<Answer>,
 }
 
 /// Why a walk ends.
 #[derive(Clone, Copy, Debug, PartialEq, Eq)]
 pub enum Stop {
-    /// The limit on frames was reached, whatever the last one contains. Only a `Backtrace` has this: a `Walk` has no
-    /// limit.
+    /// The limit on frames was reached, whether or not another frame follows. Only a `Backtrace`
+    /// has this reason: a `Walk` has no limit.
     Limit,
-    /// No FDE of any module covers the address where the last frame is looked up.
+    /// No FDE, of any module, covers the address that is looked up for the last frame.
     NotCovered,
     /// The last frame's return address is undefined: the walk is complete (DWARF 5, section 6.4.4).
     ReturnUndefined,

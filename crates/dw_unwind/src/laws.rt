@@ -20,7 +20,7 @@ ghost use Rattle.dw_unwind.specs.declared.unwinding.TheConstants.{MAX_FOUND};
 
 use crate::unwinder::Unwinder;
 
-/// With an accepted section, unwinding has at most one answer: none, or one caller.
+/// With an accepted section, unwinding at an address has at most one answer: a caller, or none.
 pub fn one_caller()
     ensures { (e : World) (abi : Abi) (frame : FrameSection) (address : ℕ) (c d : Option Caller)
         → IsChecked frame → Unwinds e abi frame address c
@@ -31,7 +31,7 @@ pub fn one_caller()
     dw_eval::laws::evaluations_are_determined();
 }
 
-/// With each row of an accepted section there is a caller.
+/// Each row of an accepted section gives a caller.
 pub fn each_row_has_a_caller()
     ensures { (e : World) (abi : Abi) (column : ℕ) (frame : FrameSection) (fde : Fde) (row : Row)
         → IsChecked frame → Contains frame.fdes fde
@@ -44,7 +44,7 @@ pub fn each_row_has_a_caller()
     dw_eval::laws::each_has_an_evaluation();
 }
 
-/// At each address, unwinding with an accepted section has an answer.
+/// With an accepted section, unwinding at each address has an answer: a caller, or none.
 pub fn each_address_has_an_unwinding()
     ensures { (e : World) (abi : Abi) (frame : FrameSection) (address : ℕ) → IsChecked frame
         → (c : Option Caller) × Unwinds e abi frame address c }
@@ -53,8 +53,8 @@ pub fn each_address_has_an_unwinding()
     each_row_has_a_caller();
 }
 
-/// Unwinding by what is found at an address of a section is equivalent to unwinding with the section. So is unwinding
-/// with a table of the section.
+/// Unwinding by the row that a section has at an address, or by none, is equivalent to unwinding
+/// with the section. So is unwinding with a compiled table of the section.
 pub fn unwinding_by_what_is_found()
     ensures found { (e : World) (abi : Abi) (frame : FrameSection) (address : ℕ)
         (found : Option (Row × ℕ)) (c : Option Caller) → IsFoundAt frame address found
@@ -74,7 +74,7 @@ pub fn one_walk()
     one_caller();
 }
 
-/// And such a walk exists.
+/// With an accepted section, there is a walk from each position with each limit.
 pub fn each_has_a_walk()
     ensures { (frame : FrameSection) (abi : Abi) (memory : ℕ → Option ℕ) (first : Place) (limit : ℕ)
         → IsChecked frame → (xs : List WalkedFrame) × (stop : Stop)
@@ -83,7 +83,8 @@ pub fn each_has_a_walk()
     each_address_has_an_unwinding();
 }
 
-/// A walk with a smaller limit is a prefix of the one with a greater limit.
+/// With an accepted section, a walk with a smaller limit is a prefix of the walk from the same
+/// position with a greater limit.
 pub fn longer_walks_begin_so()
     ensures { (frame : FrameSection) (abi : Abi) (memory : ℕ → Option ℕ) (first : Place) (m n : ℕ)
         (xs ys : List WalkedFrame) (a b : Stop) → IsChecked frame
@@ -93,8 +94,9 @@ pub fn longer_walks_begin_so()
     one_walk();
 }
 
-/// These are equivalent: a walk by what is found at addresses of a section and a walk with the section; a walk by what a
-/// table gives and a walk with the table; a walk with a table of the section and a walk with the section.
+/// A walk by the rows that are found in a section is equivalent to a walk with the section. A walk
+/// by the rows that are found in a table is equivalent to a walk with the table. A walk with a
+/// table of a section is equivalent to a walk with the section.
 pub fn walks_over_what_is_found()
     ensures found { (frame : FrameSection) (abi : Abi) (memory : ℕ → Option ℕ) (first : Place)
         (limit : ℕ) (xs : List WalkedFrame) (stop : Stop)
@@ -111,7 +113,8 @@ pub fn walks_over_what_is_found()
         ↔ Walks (over_section frame abi memory) first limit xs stop }
 {}
 
-/// Through the modules of a process whose sections are accepted, unwinding has at most one answer: none, or one caller.
+/// Through modules with accepted sections, unwinding at an address has at most one answer: a
+/// caller, or none.
 pub fn one_caller_through_modules()
     ensures { (sections : List (Module FrameSection)) (abi : Abi) (memory registers : ℕ → Option ℕ)
         (address : ℕ) (c d : Option Caller) → All (λ m. IsChecked m.rows) sections
@@ -121,7 +124,8 @@ pub fn one_caller_through_modules()
     one_caller();
 }
 
-/// And it has one.
+/// Through modules with accepted sections, unwinding at each address has an answer: a caller, or
+/// none.
 pub fn each_address_has_an_unwinding_through_modules()
     ensures { (sections : List (Module FrameSection)) (abi : Abi) (memory registers : ℕ → Option ℕ)
         (address : ℕ) → All (λ m. IsChecked m.rows) sections
@@ -130,7 +134,8 @@ pub fn each_address_has_an_unwinding_through_modules()
     each_address_has_an_unwinding();
 }
 
-/// Through such modules, a walk is determined by where it begins and by its limit.
+/// Through modules with accepted sections, a walk is determined by where it begins and by its
+/// limit.
 pub fn one_walk_through_modules()
     ensures { (sections : List (Module FrameSection)) (abi : Abi) (memory : ℕ → Option ℕ)
         (first : Place) (limit : ℕ) (xs ys : List WalkedFrame) (a b : Stop)
@@ -141,7 +146,7 @@ pub fn one_walk_through_modules()
     one_caller_through_modules();
 }
 
-/// And such a walk exists.
+/// Through modules with accepted sections, there is a walk from each position with each limit.
 pub fn each_has_a_walk_through_modules()
     ensures { (sections : List (Module FrameSection)) (abi : Abi) (memory : ℕ → Option ℕ)
         (first : Place) (limit : ℕ) → All (λ m. IsChecked m.rows) sections
@@ -151,7 +156,8 @@ pub fn each_has_a_walk_through_modules()
     each_address_has_an_unwinding_through_modules();
 }
 
-/// A walk through modules with a smaller limit is a prefix of the one with a greater limit.
+/// Through modules with accepted sections, a walk with a smaller limit is a prefix of the walk from
+/// the same position with a greater limit.
 pub fn longer_walks_through_modules_begin_so()
     ensures { (sections : List (Module FrameSection)) (abi : Abi) (memory : ℕ → Option ℕ)
         (first : Place) (m n : ℕ) (xs ys : List WalkedFrame) (a b : Stop)
@@ -162,8 +168,9 @@ pub fn longer_walks_through_modules_begin_so()
     one_walk_through_modules();
 }
 
-/// These are equivalent: unwinding through modules by what is found in each, and through their sections or through their
-/// tables; unwinding through tables of sections, and through the sections.
+/// Unwinding through modules by the rows that are found in each is equivalent to unwinding through
+/// their sections or their tables. Unwinding through tables of sections is equivalent to unwinding
+/// through the sections.
 pub fn unwindings_through_what_is_found()
     ensures found { (modules : List (Module (Bor FrameSection))) (abi : Abi)
         (memory registers : ℕ → Option ℕ) (address : ℕ) (c : Option Caller)
@@ -187,7 +194,9 @@ pub fn unwindings_through_what_is_found()
         ↔ over_sections abi memory sections registers address c }
 {}
 
-/// The same holds of walks.
+/// A walk through modules by the rows that are found in each is equivalent to a walk through their
+/// sections or their tables. A walk through tables of sections is equivalent to a walk through the
+/// sections.
 pub fn walks_through_what_is_found()
     ensures found { (modules : List (Module (Bor FrameSection))) (abi : Abi)
         (memory : ℕ → Option ℕ) (first : Place) (limit : ℕ) (xs : List WalkedFrame) (stop : Stop)
@@ -213,8 +222,9 @@ pub fn walks_through_what_is_found()
     unwindings_through_what_is_found();
 }
 
-/// One module that is loaded where it is linked is equivalent to its section: unwinding or walking through it is the same
-/// as with the section, at addresses below 2^w, w being the size of an address in bits.
+/// Unwinding through one module that is loaded where it is linked is equivalent to unwinding with
+/// the module's section, at addresses below 2^w, w being the size of an address in bits. If the
+/// section is accepted, the same is true of walks that begin at such addresses.
 pub fn one_module_is_its_section()
     ensures unwindings { (frame : FrameSection) (abi : Abi) (memory registers : ℕ → Option ℕ)
         (address : ℕ) (c : Option Caller) → address < 2 ^ width_of frame.target.address_size
@@ -232,9 +242,10 @@ pub fn one_module_is_its_section()
     dw_eval::laws::numbers_of_evaluations_fit();
 }
 
-/// What a `Walk` gives, frame by frame, is a walk with a limit, whatever it unwinds with. If no further frame is given,
-/// the frames are the walk with any limit above their number; with their number as the limit they are the walk in any
-/// case. If every address has an answer, they are a prefix of a walk with any limit that is at least their number.
+/// The frames that a `Walk` gives are those of a walk with a limit, whatever the unwinder. If the
+/// `Walk` gives no further frame, they are the whole walk with any limit above their number. With
+/// their number as the limit, they are the whole walk in any case. If unwinding has an answer at
+/// every address, they are a prefix of a walk with any limit that is at least their number.
 pub fn frames_that_are_given_are_a_walk<U: Unwinder>()
     ensures more { (unwinder : U) (abi : Abi) (memory : ℕ → Option ℕ) (from : Progress)
         (xs : List WalkedFrame) (next : WalkedFrame)
@@ -262,7 +273,7 @@ pub fn frames_that_are_given_are_a_walk<U: Unwinder>()
         × Walks (U.unwinds unwinder abi memory) first limit (xs ++ others) stop }
 {}
 
-/// The most registers of a caller that are named.
+/// The greatest number of registers that a caller can have.
 pub fn walk_limits()
     ensures { MAX_FOUND ≡ 256 }
 {}

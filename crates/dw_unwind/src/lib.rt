@@ -1,5 +1,5 @@
-//! Finds the calling frame, and walks up the stack, by the rows of checked sections and compiled tables: with one of
-//! these, or through the modules of a process.
+//! Finds the caller of a frame, and walks up the stack, with the rows of checked sections or
+//! compiled tables: with a single section or table, or through the modules of a process.
 #![tactic(auto)]
 
 mod backtraces;

@@ -15,8 +15,9 @@ use dw_bytes::Target;
 use dw_eval::{Memory, Registers, Width};
 use dw_rows::{Abi, UnwindRows};
 
-/// A module of a process, its executable or a library: what supplies its rows, a checked section or a compiled table, and
-/// its load address. All modules of one process have the address size of the process.
+/// A module of a process, which is the executable or a library: the supplier of the module's rows
+/// (a checked section or a compiled table), and the module's load address. All modules of one
+/// process have the address size of the process.
 ///
 /// ```rust
 /// let sections = [Module::new(&program, 0x5555_5555_4000), Module::new(&library, 0x7fff_f7dc_3000)];
@@ -26,9 +27,10 @@ use dw_rows::{Abi, UnwindRows};
 pub struct Module<T> {
     /// What supplies its rows: `&CheckedFrame`, `UnwindTable` or `&UnwindTable`.
     pub rows: T,
-    /// What is added to an address as linked, modulo 2^w, w being the size of an address in bits, to get the address as
-    /// loaded. For a position-independent module, which is linked at 0, that is the beginning shown in /proc/PID/maps;
-    /// for a program that is loaded where it is linked it is 0, even if it is mapped at 0x400000.
+    /// What is added to an address as linked, modulo 2^w, w being the size of an address in bits,
+    /// to get the address as loaded. For a position-independent module, which is linked at 0, that
+    /// is the beginning of the module in /proc/PID/maps. For a program that is loaded where it is
+    /// linked, the load address is 0, even if the program is mapped at 0x400000.
     pub load_address: u64,
 }
 
@@ -53,7 +55,8 @@ pub fn as_linked(target: Target, load_address: u64, address: u64) -> u64
     width.minus(address, load_address)
 }
 
-/// The modules of a process. The module of an address is the first in which an FDE covers the address as linked there.
+/// The modules of a process. The module of an address is the first with an FDE that covers the
+/// address as linked in that module.
 impl<'m, T: UnwindRows> Unwinder for &'m [Module<T>] {
     ghost use Rattle.dw_unwind.specs.Modules.{AreBelow, over_modules_of_rows};
 
@@ -84,8 +87,8 @@ impl<'m, T: UnwindRows> Unwinder for &'m [Module<T>] {
 /// The caller of the frame at an address as loaded, given the frame's registers and memory. Uses the first module that
 /// has a row for the address; none if no module has one (DWARF 5, section 6.4.1).
 ///
-/// The result is that of `unwind_by` at the address less the module's load address, modulo 2^w. A module that doesn't
-/// cover the address costs one look-up.
+/// The result is that of `unwind_by` at the address minus the module's load address, modulo 2^w, w
+/// being the size of an address in bits. A module that doesn't cover the address costs one look-up.
 ///
 /// ```rust
 /// let modules = [Module::new(program, 0x5555_5555_4000), Module::new(library, 0x7fff_f7dc_3000)];
@@ -102,7 +105,8 @@ pub fn unwind_in<T: UnwindRows, R: Registers, M: Memory>(
         (M.bytes memory.now) modules.now (R.contents registers.now) address
         (option_map caller_in result) }
 
-    // All its numbers are below 2^w for the widest module's w.
+    // All numbers of the caller are below 2^w, w being the greatest address size of a module in
+    // bits.
     ensures fits { (bound : ℕ) → AreBelow T.target_of modules.now bound
         → IfSome (option_map caller_in result) (CallerFits bound) }
 {

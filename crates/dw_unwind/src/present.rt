@@ -15,7 +15,7 @@ use dw_eval::{Context, Memory, Outcome, Registers, Width, evaluate};
 use dw_rows::{CfaRule, RegisterRule, RegisterRules};
 use dw_stack::CheckedExpression;
 
-/// The registers and the memory of a frame, under the target of its section.
+/// The registers and the memory of a frame, with the target of its section.
 #[derive(Drop)]
 pub(crate) struct Present<'m, R: Registers, M: Memory> {
     pub target: Target,
@@ -24,7 +24,7 @@ pub(crate) struct Present<'m, R: Registers, M: Memory> {
 }
 
 impl<'m, R: Registers, M: Memory> Present<'m, R, M> {
-    /// A number and an offset, modulo 2^w.
+    /// `number` plus `offset`, modulo 2^w.
     #[inline(always)]
     fn number_plus(&self, number: u64, offset: i64) -> u64
         ensures { result ≡ number_plus (machine_in R.contents M.bytes self.now) offset number }
@@ -35,7 +35,7 @@ impl<'m, R: Registers, M: Memory> Present<'m, R, M> {
         width.offset(number, offset)
     }
 
-    /// A content and an offset, modulo 2^w.
+    /// `content` plus `offset`, modulo 2^w. Unreadable if there is no content.
     #[inline(always)]
     fn content_plus(&self, content: Option<u64>, offset: i64) -> Answer
         ensures { answer_in result
@@ -47,7 +47,7 @@ impl<'m, R: Registers, M: Memory> Present<'m, R, M> {
         }
     }
 
-    /// The content of a register, modulo 2^w.
+    /// The content of the register `number`, modulo 2^w. Unreadable if it isn't given.
     #[inline(always)]
     fn content(&self, number: u16) -> Answer
         ensures { answer_in result ≡ content (machine_in R.contents M.bytes self.now) number }
@@ -55,7 +55,8 @@ impl<'m, R: Registers, M: Memory> Present<'m, R, M> {
         self.content_plus(self.registers.register(number), 0)
     }
 
-    /// The address-sized word at an address.
+    /// The address-sized word at `address`. Unreadable if one of its bytes isn't given or lies past
+    /// the greatest address.
     #[inline(always)]
     fn word(&self, address: u64) -> Answer
         ensures { answer_in result ≡ word (machine_in R.contents M.bytes self.now) address }
@@ -67,8 +68,9 @@ impl<'m, R: Registers, M: Memory> Present<'m, R, M> {
         self.content_plus(self.memory.read(address, size, self.target.order), 0)
     }
 
-    /// The result of an expression of a row, which begins with the CFA if that is given. It isn't inlined: few rules have
-    /// an expression, and an evaluation amid the others would slow them down.
+    /// The result of an expression of a row. `cfa` is given for a register's expression, which
+    /// starts with the CFA on the stack. This function isn't inlined: few rules have an expression,
+    /// and inlined it would slow down the other rules.
     #[inline(never)]
     fn outcome(&self, expression: &CheckedExpression<'_>, cfa: Option<u64>) -> Answer
         ensures { (at : ℕ) → Gives (with_optional_cfa (machine_in R.contents M.bytes self.now) cfa)
@@ -102,7 +104,7 @@ impl<'m, R: Registers, M: Memory> Present<'m, R, M> {
         }
     }
 
-    /// A register of the caller by its rule and the CFA.
+    /// What is known of the caller's register `number`, by the register's rule and the CFA.
     #[inline(always)]
     pub fn register(&self, cfa: Answer, number: u16, rule: RegisterRule<'_>) -> Answer
         requires { IsRuleOfKind (rule_of rule) }
@@ -136,7 +138,8 @@ impl<'m, R: Registers, M: Memory> Present<'m, R, M> {
         }
     }
 
-    /// Replaces the contents of a list by the registers of these rules, in their order.
+    /// Replaces the contents of the list `registers` by the caller's registers that have these
+    /// rules, in the order of the rules.
     #[inline(always)]
     pub fn registers_into<L: RegisterList>(
         &self,

@@ -5,8 +5,8 @@ ghost use Rattle.dw_unwind.specs.CallerViews.{answer_in, found_in};
 
 use crate::unwinding::{Answer, FoundRegisters, MAX_FOUND};
 
-/// Where the registers of a caller are written, in the order of their rules: a list that is part of the caller, or one
-/// inside a walk.
+/// A list that the registers of a caller are written to, in the order of their rules: the list in a
+/// `Caller`, or one of the two in a `Walk`.
 pub trait RegisterList {
     ghost use Rattle.std.specs.Prelude.{ℕ, List};
     ghost use Rattle.dw_unwind.specs.Caller.{Answer};
@@ -18,7 +18,7 @@ pub trait RegisterList {
     fn clear(&mut self)
         ensures { registers self.new ≡ [] };
 
-    /// Appends a register.
+    /// Appends a register with its answer.
     fn push(&mut self, number: u16, answer: Answer)
         requires { length (registers self.old) < MAX_FOUND }
         ensures { registers self.new ≡ registers self.old ++ (number, answer_in answer) ∷ [] };

@@ -10,9 +10,10 @@ use crate::unwinding::{Unwound, unwind_into};
 use dw_eval::{Memory, Registers};
 use dw_rows::{Abi, UnwindRows};
 
-/// What finds the caller of a frame, for `Walk`: a checked section or a compiled table, as `&&CheckedFrame` or
-/// `&UnwindTable`, or the modules of a process, as `&[Module<T>]`. Other crates can't implement it: its registers go to a
-/// list that is private here.
+/// What finds the caller of a frame, for `Walk`: a checked section or a compiled table, as
+/// `&&CheckedFrame` or `&UnwindTable`, or the modules of a process, as `&[Module<T>]`. Other crates
+/// can't implement this trait: it writes registers to a `RegisterList`, which is private to this
+/// crate.
 pub trait Unwinder {
     ghost use Rattle.std.specs.Prelude.{ℕ, Option};
     ghost use Rattle.dw_rows.specs.Abi.{Abi};
@@ -22,12 +23,12 @@ pub trait Unwinder {
     /// address looked up for it, and the caller, none if nothing covers the address.
     ghost unwinds: { Self → Abi → (ℕ → Option ℕ) → CallerRelation };
 
-    /// A bound of addresses: 2^w or more, w being the size of an address in bits. If there is one, the numbers of callers
-    /// are below it.
+    /// Which numbers are bounds of addresses: 2^w or more, w being the size of an address in bits.
+    /// All numbers of callers are below each bound.
     ghost is_bound: { Self → ℕ → Type 0 };
 
-    /// Finds the caller of the frame at an address, and replaces the contents of a list by its registers. If there is no
-    /// caller, the list's contents are unspecified.
+    /// Finds the caller of the frame at `address`, and replaces the contents of `into` by the
+    /// caller's registers. If there is no caller, the contents of `into` are unspecified.
     fn unwind_into<R: Registers, M: Memory, L: RegisterList>(
         &self,
         abi: &Abi,

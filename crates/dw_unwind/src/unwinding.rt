@@ -19,10 +19,10 @@ use arrayvec::ArrayVec;
 use dw_eval::{Memory, Registers};
 use dw_rows::{Abi, CheckedFrame, MAX_RULES, UnwindRow, UnwindRows};
 
-/// What is known of a register of the caller, its CFA or its return address.
+/// What is known of a caller's register, CFA or return address.
 #[derive(Clone, Copy, Debug, PartialEq, Eq)]
 pub enum Answer {
-    /// It is this number, below 2^w, w being the size of an address in bits.
+    /// Its value, which is below 2^w, w being the size of an address in bits.
     Value(u64),
     /// It isn't available: no instruction gave the register a rule and the ABI doesn't name it, or the rule is
     /// `undefined`.
@@ -34,7 +34,7 @@ pub enum Answer {
     DivisionByZero,
 }
 
-/// Fills the unused slots of a list.
+/// The default value fills the unused slots of a list.
 impl Default for Answer {
     fn default() -> Self
         ensures { result ≡ Answer.Undefined }
@@ -54,7 +54,8 @@ pub type FoundRegisters = ArrayVec<(u16, Answer), MAX_FOUND>;
 pub struct Caller {
     /// The canonical frame address.
     pub cfa: Answer,
-    /// Each register that has a rule other than `Default`, or that the ABI names, ascending.
+    /// Each register that has a rule other than `Default`, or that the ABI names, in ascending
+    /// order.
     pub registers: FoundRegisters,
     /// The return address: the value of the CIE's return_address_register.
     pub return_address: Answer,
@@ -69,7 +70,8 @@ pub struct Unwound {
     pub return_address: Answer,
 }
 
-/// The return address, which may be that of one of the caller's registers.
+/// The return address: the answer for the register `number`. Taken from `found`, the caller's
+/// registers, if they can tell without a search, else computed by the register's rule.
 #[inline(always)]
 fn return_address<R: Registers, M: Memory, L: RegisterList>(
     present: &Present<'_, R, M>,
@@ -91,8 +93,8 @@ fn return_address<R: Registers, M: Memory, L: RegisterList>(
     }
 }
 
-/// Unwinds as `unwind_by` does, and replaces the contents of a list by the caller's registers. If there is no caller, the
-/// list's contents are unspecified.
+/// Unwinds as `unwind_by` does, and replaces the contents of `into` by the caller's registers. If
+/// there is no caller, the contents of `into` are unspecified.
 #[inline(always)]
 pub(crate) fn unwind_into<T: UnwindRows, R: Registers, M: Memory, L: RegisterList>(
     rows: &T,
@@ -152,12 +154,14 @@ pub(crate) fn unwind_over<U: Unwinder, R: Registers, M: Memory>(
     Some(caller)
 }
 
-/// The caller of the frame at an address, given the frame's registers and memory. Uses the row of a checked section or a
-/// compiled table; none if that has no row at the address (DWARF 5, section 6.4.1). The ABI gives the rule of a register
-/// to which no instruction has given one.
+/// The caller of the frame at an address, given the frame's registers and memory. Uses the row of a
+/// checked section or a compiled table; none if the section or table has no row at the address
+/// (DWARF 5, section 6.4.1). A register to which no instruction gives a rule has the rule of the
+/// ABI.
 ///
-/// Contents and sums are taken modulo 2^w, and a saved value is an address-sized word. If the CFA has no value, a rule
-/// that needs it has the CFA's answer. The cost is the look-up and one evaluation for each expression of the row.
+/// Contents and sums are taken modulo 2^w, w being the size of an address in bits, and a saved
+/// value is an address-sized word. If the CFA has no value, the answer of a rule that needs the CFA
+/// is the CFA's answer. The cost is the look-up and one evaluation for each expression of the row.
 ///
 /// ```rust
 /// let Some(table) = frame.compile(alloc, 1 << 20)? else {
@@ -176,14 +180,15 @@ pub fn unwind_by<T: UnwindRows, R: Registers, M: Memory>(
         × UnwindsBy (machine (T.target_of rows.now) (R.contents registers.now) (M.bytes memory.now))
         (roles_of abi.now) found (option_map caller_in result) }
 
-    // All its numbers are below 2^w, w being the size of an address in bits.
+    // All numbers of the caller are below 2^w, w being the size of an address in bits.
     ensures fits { IfSome (option_map caller_in result)
         (CallerFits (2 ^ width_of (T.target_of rows.now).address_size)) }
 {
     unwind_over(&rows, abi, address, registers, memory)
 }
 
-/// The same for a checked frame section, if the caller has no location lists.
+/// Unwinds with a checked frame section alone: `unwind_by` for programs that check no location
+/// lists.
 pub fn unwind_by_section<R: Registers, M: Memory>(
     frame: &CheckedFrame<'_>,
     abi: &Abi,
@@ -195,7 +200,7 @@ pub fn unwind_by_section<R: Registers, M: Memory>(
         (machine frame.now.target (R.contents registers.now) (M.bytes memory.now))
         (roles_of abi.now) frame.now address (option_map caller_in result) }
 
-    // All its numbers are below 2^w, w being the size of an address in bits.
+    // All numbers of the caller are below 2^w, w being the size of an address in bits.
     ensures fits { IfSome (option_map caller_in result)
         (CallerFits (2 ^ width_of frame.now.target.address_size)) }
 {

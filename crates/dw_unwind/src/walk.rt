@@ -19,15 +19,16 @@ use dw_eval::{Memory, Registers};
 use dw_rows::Abi;
 use std::marker::Model;
 
-/// A walk up the stack, frame by frame: from a frame, given its address, registers and memory, to its caller, that
-/// frame's caller and so on (DWARF 5, sections 6.4.1 and 6.4.4). It unwinds with a checked section, a compiled table, or
-/// the modules of a process.
+/// A walk up the stack, frame by frame: from the first frame, whose address, registers and memory
+/// are given, to its caller, the caller's caller and so on (DWARF 5, sections 6.4.1 and 6.4.4). It
+/// unwinds with a checked section, a compiled table, or the modules of a process.
 ///
-/// It allocates nothing. It contains the registers of two frames, some 12 KB: a step reads one set and writes the other,
-/// and writes only what a frame's rules and the ABI name. A move copies all of that, so keep the walk in one location.
+/// A walk allocates nothing. It contains the registers of two frames, some 12 KB: a step reads one
+/// set and writes the other, and writes only the registers that a frame's rules and the ABI name.
+/// Moving a `Walk` copies all 12 KB, so keep it in one variable.
 ///
-/// Take only as many frames as you need: a stack whose frames call each other in a circle never ends. `backtrace_in` and
-/// its kin take a limit for that reason.
+/// Take only as many frames as you need: if the frames of a stack form a cycle, the walk never
+/// ends. For that reason `backtrace_in`, `backtrace_by` and `backtrace_by_section` take a limit.
 ///
 /// ```rust
 /// let mut walk = Walk::new(modules.as_slice(), &abi, address, &registers, &memory);
@@ -43,11 +44,12 @@ pub struct Walk<'w, U: Unwinder, M: Memory> {
     unwinder: U,
     abi: &'w Abi,
     memory: &'w M,
-    /// The current frame, and whether it has been given.
+    /// The current frame: its address, what unwinding gave for it, and whether the frame has been
+    /// given.
     address: u64,
     unwound: Option<Unwound>,
     is_given: bool,
-    /// Which of the two holds the registers of the frame's caller.
+    /// Whether `other` holds the registers of the current frame's caller; if not, `one` does.
     is_other: bool,
     one: FrameRegisters,
     other: FrameRegisters,
@@ -68,8 +70,8 @@ impl<'w, U: Unwinder, M: Memory> Model for Walk<'w, U, M> {
     } };
 }
 
-/// The caller of a frame at an address that is itself a caller, given its registers. The look-up uses the address before,
-/// which is inside the call.
+/// The caller of a frame at `address` that is itself a caller, given that frame's registers. Looks
+/// up `address` minus 1, which is inside the call. None if `address` is 0.
 #[inline(always)]
 fn unwind_caller<U: Unwinder, M: Memory>(
     unwinder: &U,
@@ -91,7 +93,7 @@ fn unwind_caller<U: Unwinder, M: Memory>(
     }
 }
 
-/// The return address, or why it isn't known.
+/// The return address that unwinding a frame gave, or why the walk ends with that frame.
 #[inline(always)]
 fn return_address(unwound: Option<Unwound>) -> Result<u64, Stop>
     ensures { MatchResult result
@@ -110,8 +112,8 @@ fn return_address(unwound: Option<Unwound>) -> Result<u64, Stop>
 }
 
 impl<'w, U: Unwinder, M: Memory> Walk<'w, U, M> {
-    /// A walk that begins at the frame at an address, with its registers, and has given no frame yet. That frame is
-    /// looked up at its own address.
+    /// A walk that begins at the frame at `address`, with that frame's registers, and has given no
+    /// frame yet. The first frame is looked up at its own address.
     pub fn new<R: Registers>(
         unwinder: U,
         abi: &'w Abi,
@@ -143,7 +145,7 @@ impl<'w, U: Unwinder, M: Memory> Walk<'w, U, M> {
         }
     }
 
-    /// Moves to the caller of the frame that was given last. This is the caller's address.
+    /// Moves to the caller of the frame that was given last. `address` is the caller's address.
     #[inline(always)]
     fn go_to(&mut self, address: u64)
         requires { self.old.progress ≡ has_given (frame_at self.old.progress) }
@@ -181,7 +183,8 @@ impl<'w, U: Unwinder, M: Memory> Walk<'w, U, M> {
         }
     }
 
-    /// Gives the next frame, or the reason why there is none.
+    /// Moves to the next frame, which on the first call is the first one, and marks it as given. If
+    /// there is no next frame, returns the reason and changes nothing.
     #[inline(always)]
     pub(crate) fn advance(&mut self) -> Result<(), Stop>
         ensures gives { MatchResult result
@@ -200,8 +203,8 @@ impl<'w, U: Unwinder, M: Memory> Walk<'w, U, M> {
         Ok(())
     }
 
-    /// Why the frame that was given last is the last one. None if another one follows, and before the first is given.
-    /// Never `Limit`, since a walk has no limit.
+    /// Why the frame that was given last is the last frame. None if another frame follows, or if no
+    /// frame has been given yet. Never `Limit`, since a walk has no limit.
     #[inline(always)]
     pub fn stop(&self) -> Option<Stop>
         ensures { result ≡ stop_of self.now.progress }
@@ -213,8 +216,9 @@ impl<'w, U: Unwinder, M: Memory> Walk<'w, U, M> {
         }
     }
 
-    /// The registers of the caller of the frame that was given last, or of the first frame before that is given: each
-    /// register that has a rule, with what is known of it. None if no FDE covers the address that is looked up.
+    /// The registers of the caller of the frame that was given last: each register that has a rule,
+    /// with what is known of it. None if no FDE covers the address that is looked up for the frame.
+    /// If no frame has been given yet, this is about the first frame.
     pub fn caller_registers(&self) -> Option<&FrameRegisters>
         ensures { option_map (λ r. r.now) result
             ≡ option_map (λ c. c.registers) (frame_at self.now.progress).caller }
@@ -226,7 +230,8 @@ impl<'w, U: Unwinder, M: Memory> Walk<'w, U, M> {
         }
     }
 
-    /// The caller of the frame that was given last, or of the first frame before that is given.
+    /// The caller of the frame that was given last. If no frame has been given yet, the caller of
+    /// the first frame.
     pub fn caller(&self) -> Option<Caller>
         ensures { option_map caller_in result ≡ (frame_at self.now.progress).caller }
     {
@@ -240,8 +245,8 @@ impl<'w, U: Unwinder, M: Memory> Walk<'w, U, M> {
         })
     }
 
-    /// The frame that was given last, or the first frame before that is given, with all that is known of its caller: some
-    /// 6 KB.
+    /// The frame that was given last, with all that is known of its caller: some 6 KB. If no frame
+    /// has been given yet, the first frame.
     pub fn frame(&self) -> Frame
         ensures { frame_in result ≡ frame_at self.now.progress }
     {
@@ -258,13 +263,14 @@ impl<'w, U: Unwinder + Drop, M: Memory> Iterator for Walk<'w, U, M> {
     ghost use Rattle.dw_rows.specs.AbiViews.{roles_of};
     ghost use Rattle.dw_unwind.specs.WalkViews.{NextFrame};
 
-    /// The next frame or none, and the walk after it.
+    /// The next frame or none, and the walk after the call.
     ghost next_gives = { λ old frame new. NextFrame
         (U.unwinds old.unwinder (roles_of old.abi) (M.bytes old.memory)) (U.is_bound old.unwinder)
         old frame new };
 
-    /// The next frame: first the one that the walk begins at, then each time the caller of the one before. Once there is
-    /// none (`stop` gives the reason), it gives none from then on.
+    /// The next frame: first the frame that the walk begins at, then each time the caller of the
+    /// frame before. When there is no next frame, `stop` gives the reason, and each later call
+    /// gives none too.
     #[inline(always)]
     fn next(&mut self) -> Option<BriefFrame> {
         match self.advance() {

@@ -1,4 +1,5 @@
-//! The program: its words and files, standard output and standard error, and its exit status.
+//! The `dwcheck` program: reads its arguments and files, writes to standard output and standard
+//! error, and sets the exit status.
 #![tactic(auto)]
 
 ghost use Rattle.std.specs.Prelude.{◌≡◌, length, vec_len, IfOk};
@@ -14,15 +15,15 @@ use std::{env, fs, io};
 /// How the program ends.
 #[derive(Debug, Drop)]
 enum Ending {
-    /// The words give no request.
+    /// No request could be made from the arguments.
     Usage(Usage),
-    /// A word isn't UTF-8.
+    /// An argument isn't UTF-8.
     NotUtf8,
     /// This file can't be read.
     CannotRead(String),
     /// This file must be hex text and isn't.
     NotHex(String),
-    /// The run ended in another way.
+    /// The run ended in any other way, or memory ran out.
     Run(End),
 }
 
@@ -56,13 +57,13 @@ impl<T: Drop> From<AllocFailed<T>> for Ending {
     }
 }
 
-/// Whether this program ran out of memory. An out-of-memory error of the operating system has an error
-/// number.
+/// Whether this program's allocator ran out of memory. If the operating system did, the error has
+/// an OS error number.
 fn is_want_of_memory(error: &io::Error) -> bool {
     error.kind() == ErrorKind::OutOfMemory && error.raw_os_error().is_none()
 }
 
-/// The words of the command line, or only the program's name if the system passes none.
+/// The arguments, the program's name first. If the system passes none, only the program's name.
 fn words_of(rt: &(impl Env + AllocGlobal)) -> Result<Vec<String>, Ending> {
     let mut words: Vec<String> = match env::args(rt) {
         Ok(given) => given.collect(rt.alloc())?,
@@ -75,7 +76,7 @@ fn words_of(rt: &(impl Env + AllocGlobal)) -> Result<Vec<String>, Ending> {
     Ok(words)
 }
 
-/// The first bytes of a file, at most this many.
+/// The first bytes of a file, at most `most` of them.
 fn file_content(
     rt: &(impl Files + AllocGlobal),
     name: &String,
@@ -93,7 +94,7 @@ fn file_content(
     }
 }
 
-/// The needed bytes of each file.
+/// The contents of each file of a request, up to `Request::needed_length`.
 fn file_contents(rt: &(impl Files + AllocGlobal), request: &Request) -> Result<Vec<Vec<u8>>, Ending>
     ensures { IfOk result (λ contents. vec_len contents ≡ length request.now.files) }
 {
@@ -122,7 +123,7 @@ fn run_to_output(rt: &(impl Print + AllocGlobal), request: &Request, files: &[Ve
     }
 }
 
-/// Does what the words request.
+/// Does what the arguments ask for.
 fn do_words(rt: &(impl Env + Files + Print + AllocGlobal)) -> Result<Ending, Ending> {
     let request = dw_check::request(rt.alloc(), words_of(rt)?)?;
     let files = file_contents(rt, &request)?;
@@ -132,7 +133,7 @@ fn do_words(rt: &(impl Env + Files + Print + AllocGlobal)) -> Result<Ending, End
     }
 }
 
-/// The line on standard error.
+/// Prints the line for an ending on standard error, if it has one.
 fn print_ending(rt: &impl Eprint, ending: &Ending) -> io::Result<()> {
     match ending {
         Ending::Usage(Usage::Line(text)) => eprint!(rt; "{text}"),

@@ -1,4 +1,4 @@
--- What is held, and its parts, own what a box of a checked section owns.
+-- `Held` and `Parts` own what a box of a process owns.
 use mir.Syntax.{impl, tnil, dnil}
 use mathlib.Core.List.{[]}
 use denote.Signature.{Slot, plain}

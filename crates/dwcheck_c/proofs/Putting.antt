@@ -13,14 +13,15 @@ puts_next [] (s ∷ slots) x = refl
 puts_next (y ∷ xs) [] x = refl
 puts_next (y ∷ xs) (s ∷ slots) x = ap (λ l. y ∷ l) (puts_next xs slots x)
 
--- the same for elements in another form, this many of which came before
+-- writing f x to the slot after those of xs puts xs and x into slots, each in the form that f gives
 pub puts_shown : {X Y : Type 0} (f : X → Y) (xs : List X) (slots : List Y) (count : ℕ) (x : X) → count ≡ length (map f xs)
     → slice_set (put_into (map f xs) slots) count (f x) ≡ put_into (map f (xs ++ x ∷ [])) slots
 puts_shown f xs slots count x many =
     ap (λ n. slice_set (put_into (map f xs) slots) n (f x)) many ∙ puts_next (map f xs) slots (f x)
     ∙ ap (λ l. put_into l slots) (sym (map-append f xs (x ∷ [])))
 
--- the same for the elements of a list up to an index
+-- writing the element at i puts the first i + 1 elements of a list into slots, in the form that f
+-- and g give
 pub puts_at : {X Y Z : Type 0} (f : X → Y) (g : Y → Z) (xs : List X) (slots : List Z) (i : ℕ) (d : X) → i < length xs
     → slice_set (put_into (map g (map f (take i xs))) slots) i (g (f (get_or xs i d))) ≡ put_into (map g (map f (take (i + 1) xs))) slots
 puts_at f g xs slots i d room =
@@ -29,7 +30,7 @@ puts_at f g xs slots i d room =
     puts_shown g (map f (take i xs)) slots i (f (get_or xs i d)) many
     ∙ ap (λ l. put_into (map g l) slots) (sym (map-append f (take i xs) (get_or xs i d ∷ [])) ∙ ap (map f) (sym next))
 
--- the same for a list itself
+-- writing the element at i puts the first i + 1 elements of a list into slots
 pub puts_from : {X : Type 0} (xs slots : List X) (i : ℕ) (d : X) → i < length xs
     → slice_set (put_into (take i xs) slots) i (get_or xs i d) ≡ put_into (take (i + 1) xs) slots
 puts_from xs slots i d room =
@@ -38,7 +39,7 @@ puts_from xs slots i d room =
     ap (λ n. slice_set (put_into (take i xs) slots) n (get_or xs i d)) many ∙ puts_next (take i xs) slots (get_or xs i d)
     ∙ ap (λ l. put_into l slots) (sym next)
 
--- the next one was visited
+-- the next element moves from those left to those visited
 pub comes : {X Y : Type 0} (view : X → Y) (came : List X) (x : X) (left rest all : List Y) → map view came ++ left ≡ all
     → left ≡ view x ∷ rest → map view (came ++ x ∷ []) ++ rest ≡ all
 comes view came x left rest all whole next =

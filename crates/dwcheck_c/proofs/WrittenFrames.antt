@@ -10,13 +10,13 @@ use Rattle.dwcheck_c.specs.Slots.{put_into}
 use Rattle.dwcheck_c.proofs.Putting.{puts_shown}
 use Rattle.dwcheck_c.specs.Frames.{AreWritten, cframe_of, stop_number}
 
--- after frames that were given comes the next one
+-- assumed: given frames, and the frame that is given next, are given frames
 abbrev pub GoesOn : CallerRelation → Type 0
 GoesOn u = (from : Progress) (frames : List WalkedFrame) (next : WalkedFrame) → GivesFrames u from frames
     → GivesFrame u (after from frames) next
     → GivesFrames u from (frames ++ next ∷ []) × (after from (frames ++ next ∷ []) ≡ has_given next)
 
--- this many frames were given and written
+-- `count` frames were given and are written
 pub record UnderWay (u : CallerRelation) (begin : WalkedFrame) (p : Progress) (old new : List CFrame) (count : ℕ) : Type 0 where
   pub frames : List WalkedFrame
   pub given : GivesFrames u (about_to_give begin) frames

@@ -12,18 +12,19 @@ use Rattle.dwcheck_c.specs.declared.callers.CCaller.{CCaller}
 abbrev pub cregister_of : ℕ × Answer → CRegister
 cregister_of found = record { value = (canswer_of found.1).value; kind = (canswer_of found.1).kind; number = found.0 }
 
--- a caller, and its registers, as many of them in the slots as fit
+-- `out` is the caller in C's form, and its registers are in the slots, as many as fit
 pub record ShowsCaller (caller : Caller) (out : CCaller) (old new : List CRegister) : Type 0 where
   pub cfa : out.cfa ≡ canswer_of caller.cfa
   pub return_address : out.return_address ≡ canswer_of caller.return_address
   pub count : out.count ≡ length caller.registers
   pub registers : new ≡ put_into (map cregister_of caller.registers) old
 
--- the caller through the modules of a process, or that no module has a row for the address
+-- the caller of the frame at an address, by the modules of a process; none if no module has a row
+-- for the address
 pub record Unwinds (modules : Modules) (abi : Abi) (memory registers : ℕ → Option ℕ) (address : ℕ) (caller : Option Caller) : Type 0 where
   pub is : over_tables abi memory modules registers address caller
 
--- there is a caller, and this is it in C's form
+-- there is a caller, and `out` and the slots have it in C's form
 pub record IsCaller (modules : Modules) (abi : Abi) (memory registers : ℕ → Option ℕ) (address : ℕ) (out : CCaller)
     (old new : List CRegister) : Type 0 where
   pub caller : Caller

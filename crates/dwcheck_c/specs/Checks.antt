@@ -7,12 +7,12 @@ use Rattle.dwcheck_c.specs.declared.fault.CFault.{CFault}
 use Rattle.dwcheck_c.specs.declared.fault.TheConstants.{IN_FRAME, IN_LISTS, IN_EXPRESSION}
 use Rattle.dwcheck_c.specs.Faults.{cfault_of}
 
--- what a fault's offset counts in
+-- C's number for the input that a fault's offset refers to
 abbrev pub section_number : Section → ℕ
 section_number Frame = IN_FRAME
 section_number Lists = IN_LISTS
 section_number Expression = IN_EXPRESSION
 
--- there is a first fault, and this is it in C's form
+-- there is a first fault, and `report` is that fault in C's form
 abbrev pub ReportsOf : Option CheckFault → CFault → Type 0
 ReportsOf first report = (found : CheckFault) × (first ≡ Some found) × (report ≡ cfault_of (section_number found.section) found.fault)

@@ -1,4 +1,4 @@
--- What C passes to an evaluation, and what it gets.
+-- What C passes to an evaluation, and the results that it gets.
 use Rattle.std.specs.Prelude.{◌≡◌, ◌==◌, if◌then◌else◌, ℕ, List, [], length, map, slice_get, Option, Some, None}
 use Rattle.dw_bytes.specs.declared.target.Target.{Target}
 use Rattle.dw_stack.specs.declared.state.Kind.{Kind}
@@ -16,7 +16,7 @@ use Rattle.dwcheck_c.specs.Slots.{put_into}
 
 -- ---- the inputs
 
--- the rule of a CFA, that of a register, and a location
+-- the kind of an expression by C's number: the rule of a CFA, the rule of a register, or a location
 abbrev pub kind_by : ℕ → Option Kind
 kind_by n = if n == 0 then Some FrameCfa else if n == 1 then Some FrameRegister else if n == 2 then Some Location else None
 
@@ -43,7 +43,7 @@ kind_of_location (InRegister r) = 5
 kind_of_location (HasValue v) = 6
 kind_of_location (HasBytes bs) = 7
 
--- an address, a register, a value, or the number of bytes
+-- what C gets as the `value` of a location: its address, register or value, or its number of bytes
 abbrev pub number_of_location : LocationDescription → ℕ
 number_of_location Nowhere = 0
 number_of_location (AtAddress a) = a
@@ -64,7 +64,7 @@ abbrev pub bytes_of_piece : Option Piece → List ℕ
 bytes_of_piece None = []
 bytes_of_piece (Some p) = bytes_of_location p.location
 
--- the bytes of a location, or of one of its pieces
+-- the bytes of a location, or of piece n of a location in pieces
 abbrev pub bytes_of_outcome : ℕ → Outcome → List ℕ
 bytes_of_outcome n (single l) = bytes_of_location l
 bytes_of_outcome n (pieces ps) = bytes_of_piece (slice_get ps n)
@@ -87,7 +87,7 @@ offset_of_outcome (unreadable at) = at
 offset_of_outcome (division_by_zero at) = at
 offset_of_outcome _ = 0
 
--- an outcome after a number of steps
+-- an outcome after `steps` operations, in C's form
 abbrev pub cvalue_of : Outcome → ℕ → CValue
 cvalue_of outcome steps = record {
   value = number_of_outcome outcome;
@@ -97,7 +97,7 @@ cvalue_of outcome steps = record {
   count = length (pieces_of outcome);
 }
 
--- the number of bytes or bits of a piece, the first bit, and whether it is bits
+-- a piece in C's form, with its size in bytes, or its size and first bit in bits
 abbrev pub cpiece_by : LocationDescription → PieceExtent → CPiece
 cpiece_by l (bytes n) =
     record { value = number_of_location l; kind = kind_of_location l; size = n; bit_offset = 0; is_bits = 0 }
@@ -107,21 +107,22 @@ cpiece_by l (bits n offset) =
 abbrev pub cpiece_of : Piece → CPiece
 cpiece_of p = cpiece_by p.location p.size
 
--- The outcome in C's form, its pieces, and the bytes of the location, or of the n-th piece: as many as fit.
+-- `out` is the outcome in C's form. Its pieces, and the bytes of the location or of piece n, are in
+-- the slots, as many as fit.
 pub record ShowsOutcome (outcome : Outcome) (steps n : ℕ) (out : CValue) (old_pieces new_pieces : List CPiece)
     (old_bytes new_bytes : List ℕ) : Type 0 where
   pub value : out ≡ cvalue_of outcome steps
   pub pieces : new_pieces ≡ put_into (map cpiece_of (pieces_of outcome)) old_pieces
   pub bytes : new_bytes ≡ put_into (bytes_of_outcome n outcome) old_bytes
 
--- the run of an expression, as one of a kind, has this outcome
+-- the expression, run as one of `kind`, has an outcome, and `out` and the slots show it
 pub record IsRunOf (kind : Kind) (target : Target) (expression : List ℕ) (state : CState) (context : CContext) (n : ℕ) (out : CValue)
     (old_pieces new_pieces : List CPiece) (old_bytes new_bytes : List ℕ) : Type 0 where
   pub outcome : Outcome
   pub run : IsRun (world_by target state context) kind (operations_in target expression) (length expression) outcome out.steps
   pub shows : ShowsOutcome outcome out.steps n out old_pieces new_pieces old_bytes new_bytes
 
--- C's numbers name a kind and a target, of which this holds
+-- C's numbers name a kind and a target, and P holds for them
 abbrev pub WithBoth : Option Kind → Option Target → (Kind → Target → Type 0) → Type 0
 WithBoth (Some kind) (Some target) P = P kind target
 WithBoth _ _ P = ⊥

@@ -21,7 +21,8 @@ canswer_of undefined = canswer_by 2 0
 canswer_of unreadable = canswer_by 3 0
 canswer_of division_by_zero = canswer_by 4 0
 
--- of kind 0 if no FDE covers the address that is looked up
+-- an answer in C's form; its kind is 0 if there is none, since no FDE covers the address that is
+-- looked up
 abbrev pub optional_canswer : Option Answer → CAnswer
 optional_canswer None = canswer_by 0 0
 optional_canswer (Some answer) = canswer_of answer
@@ -29,7 +30,7 @@ optional_canswer (Some answer) = canswer_of answer
 abbrev pub cframe_by : ℕ × Option Answer → CFrame
 cframe_by brief = record { address = brief.0; cfa = optional_canswer brief.1 }
 
--- a frame's address and its CFA
+-- a frame of a walk in C's form: its address and its CFA
 abbrev pub cframe_of : WalkedFrame → CFrame
 cframe_of frame = cframe_by (brief_of frame)
 
@@ -40,8 +41,8 @@ stop_number ReturnUndefined = 2
 stop_number ReturnUnreadable = 3
 stop_number ReturnDivisionByZero = 4
 
--- The frames of a walk whose limit is the number of slots are at the front of the slots, with their number and why there
--- are no more. The other slots are unchanged.
+-- The frames of a walk are at the front of the slots; the number of slots is the walk's limit.
+-- `count` is the number of frames, `stop` why there are no more. The other slots are unchanged.
 pub record AreWritten (u : CallerRelation) (first : Place) (old new : List CFrame) (count stop : ℕ) : Type 0 where
   pub frames : List WalkedFrame
   pub why : Stop
@@ -50,7 +51,8 @@ pub record AreWritten (u : CallerRelation) (first : Place) (old new : List CFram
   pub count_is : count ≡ length frames
   pub stop_is : stop ≡ stop_number why
 
--- Through the modules of a process, under an ABI, with given memory, from the frame at an address with its registers.
+-- `AreWritten` for the walk by the modules of a process, an ABI and known memory. It starts from
+-- the frame at `address`, with its registers.
 pub record IsBacktrace (modules : Modules) (abi : Abi) (memory registers : ℕ → Option ℕ) (address : ℕ) (old new : List CFrame)
     (count stop : ℕ) : Type 0 where
   pub frames : AreWritten (over_tables abi memory modules) (first_place address registers) old new count stop

@@ -10,6 +10,6 @@ abbrev pub modules_or_none : Option Modules → Modules
 modules_or_none None = []
 modules_or_none (Some modules) = modules
 
--- a closed one has none
+-- the modules of a process; a closed process has none
 abbrev pub modules_of : CProcess → Modules
 modules_of p = modules_or_none (held_in p)

@@ -1,4 +1,4 @@
--- What C's pointer points to.
+-- What the pointer in C's process points to.
 use Rattle.std.specs.Prelude.{Option, None, Some}
 use Rattle.std.specs.Coded.{coded_option}
 use base.Fml.{Fml, ftrue}
@@ -11,7 +11,7 @@ use Rattle.std.specs.contracts.impls.GlobalAllocator.TheImpl.{ghosts}
 use Rattle.dw_process.specs.Processes.{Modules}
 use Rattle.dw_process.specs.contracts.process.Process as process
 
--- modules as laid out in memory
+-- how the modules of a process are laid out in memory
 abbrev pub the_process : RattleType
 the_process = process.the_row
 

@@ -10,8 +10,8 @@ use Rattle.dwcheck_c.specs.declared.location.CLocation.{CLocation}
 abbrev pub clocation_of : LocatedExpression → CLocation
 clocation_of e = record { offset = e.offset; length = length e.bytes }
 
--- A list begins at the offset, and its expressions that hold at the address are in the slots, as many as fit, with their
--- number.
+-- A list begins at `offset`. Its expressions that apply at `address` are in the slots, as many as
+-- fit, and `count` is the number of those.
 pub record AreLocated (s : ListSection) (offset base address : ℕ) (old new : List CLocation) (count : ℕ) : Type 0 where
   pub begins : Contains (starts_of (lists_in s)) offset
   pub locations : (list : Loclist) → Contains (lists_in s) list → list.offset ≡ offset

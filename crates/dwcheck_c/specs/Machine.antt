@@ -15,7 +15,7 @@ bit_of (Some byte) n = byte / 2 ^ n % 2 == 1
 abbrev pub is_known : List ℕ → ℕ → Bool
 is_known known n = bit_of (slice_get known (n / 8)) (n % 8)
 
--- register n has the n-th content, if its bit is set
+-- the content of register n: the n-th of `contents`, if its bit in `known` is set
 abbrev pub register_in : List ℕ → List ℕ → ℕ → Option ℕ
 register_in contents known n = if is_known known n then slice_get contents n else None
 
@@ -32,7 +32,7 @@ registers_of s = register_in s.contents.now s.known.now
 abbrev pub memory_of : CState → ℕ → Option ℕ
 memory_of s = byte_in s.blocks.now
 
--- the stack pointer of its ABI, unless the flag is 0
+-- the number of the stack pointer register, unless its flag is 0
 abbrev pub pointer_by : ℕ → ℕ → Option ℕ
 pointer_by flag n = if flag == 0 then None else Some n
 

@@ -7,7 +7,8 @@ use Rattle.dwcheck_c.specs.Slots.{put_into}
 use Rattle.dwcheck_c.specs.declared.row.CRule.{CRule}
 use Rattle.dwcheck_c.specs.declared.row.CRow.{CRow}
 
--- a register with its rule; of an expression, its offset in the section and its length
+-- the rule of register r in C's form; an expression is given by its offset in the section and its
+-- length
 abbrev pub coded : ℕ → Rule → CRule
 coded r default = record { offset = pos 0; length = 0; register = r; source = 0; kind = 0 }
 coded r undefined = record { offset = pos 0; length = 0; register = r; source = 0; kind = 1 }
@@ -21,12 +22,12 @@ coded r (val_expression e) = record { offset = pos e.offset; length = length e.b
 abbrev pub crule_of : ℕ × Rule → CRule
 crule_of x = coded x.0 x.1
 
--- the CFA's rule, as if it were that of a register
+-- the rule of the CFA in C's form, as if it were the rule of a register
 abbrev pub cfa_coded : Cfa → CRule
 cfa_coded (register_and_offset r n) = record { offset = n; length = 0; register = r; source = 0; kind = 4 }
 cfa_coded (cfa_expression e) = record { offset = pos e.offset; length = length e.bytes; register = 0; source = 0; kind = 7 }
 
--- a row that was found, and its rules, as many of them in the slots as fit
+-- `row` is the found row in C's form, and its rules are in the slots, as many as fit
 pub record IsRowOf (found : FoundRow) (row : CRow) (old new : List CRule) : Type 0 where
   pub load_address : row.load_address ≡ found.load_address
   pub start : row.start ≡ found.row.start

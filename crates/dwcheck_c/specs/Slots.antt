@@ -1,7 +1,7 @@
 -- What is written to C's slots.
 use Rattle.std.specs.Prelude.{List, [], ◌∷◌}
 
--- slots with these at the front, as many as fit; the others are unchanged
+-- the slots after elements are written to the front, as many as fit; the other slots are unchanged
 abbrev pub put_into : {X : Type 0} → List X → List X → List X
 put_into [] slots = slots
 put_into (x ∷ xs) [] = []

@@ -6,11 +6,11 @@ use Rattle.dw_bytes.specs.declared.target.Order.TheVariants.{Little, Big}
 use Rattle.dw_bytes.specs.declared.target.AddressSize.{AddressSize}
 use Rattle.dw_bytes.specs.declared.target.AddressSize.TheVariants.{Four, Eight}
 
--- 0 is little, 1 is big
+-- a byte order by C's number: 0 is little, 1 is big
 abbrev pub order_by : ℕ → Option Order
 order_by n = if n == 0 then Some Little else if n == 1 then Some Big else None
 
--- in bytes
+-- an address size by its number of bytes
 abbrev pub size_by : ℕ → Option AddressSize
 size_by n = if n == 4 then Some Four else if n == 8 then Some Eight else None
 

@@ -1,4 +1,4 @@
-//! What is known of numbers, in C's form.
+//! Answers and frames in C's form.
 
 ghost use Rattle.std.specs.Prelude.{◌≡◌, option_map};
 ghost use Rattle.dw_unwind.specs.CallerViews.{answer_in};
@@ -7,9 +7,10 @@ ghost use Rattle.dwcheck_c.specs.Frames.{canswer_of, cframe_by, optional_canswer
 
 use dw_unwind::{Answer, BriefFrame, Stop};
 
-/// What is known of a number. Kind 0: no FDE covers the address that is looked up; 1: it is the value; 2: it is
-/// undefined; 3: it requires something that isn't given; 4: its expression divides by zero. The value is 0 unless the
-/// kind is 1.
+/// What is known of a number, by `kind`. 0: no FDE covers the address that is looked up. 1: the
+/// number is `value`. 2: the number is undefined. 3: it requires a register or memory that isn't
+/// given, or memory past the greatest address. 4: its expression divides by zero. `value` is 0
+/// unless `kind` is 1.
 #[repr(C)]
 #[derive(Clone, Copy, Debug)]
 pub struct CAnswer {
@@ -18,7 +19,7 @@ pub struct CAnswer {
     pub reserved: u32,
 }
 
-/// A frame: its address and its canonical frame address.
+/// A frame: its address and its canonical frame address (CFA).
 #[repr(C)]
 #[derive(Clone, Copy, Debug)]
 pub struct CFrame {
@@ -61,7 +62,7 @@ pub(crate) fn shown_frame(frame: BriefFrame) -> CFrame
     }
 }
 
-/// The number of the reason why a walk ends.
+/// C's number for the reason why a walk ends.
 pub(crate) fn stop_code(stop: Stop) -> u32
     ensures { result ≡ stop_number stop }
 {

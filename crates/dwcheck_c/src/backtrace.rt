@@ -1,4 +1,4 @@
-//! Frames of a stack, in C's slots.
+//! Writes the frames of a stack to C's slots.
 
 ghost use Rattle.std.specs.Prelude.{◌≡◌};
 ghost use Rattle.dw_rows.specs.AbiViews.{roles_of};
@@ -12,7 +12,8 @@ use dw_rows::Abi;
 use dw_unwind::laws::{frames_that_are_given_are_a_walk, walks_through_what_is_found};
 use dw_unwind::{Module, Stop, Unwinder, Walk};
 
-/// Walks up a stack, and writes its frames to slots. Gives the number of frames, and why there are no more.
+/// Walks up a stack, and writes its frames to `slots`, as many as fit. Returns the number of frames
+/// written, and why there are no more.
 fn write_frames<U: Unwinder + Drop, R: Registers, M: Memory>(
     unwinder: U,
     abi: &Abi,
@@ -41,7 +42,7 @@ fn write_frames<U: Unwinder + Drop, R: Registers, M: Memory>(
     (count, Stop::Limit)
 }
 
-/// The same through the modules of a process.
+/// `write_frames` with the modules of a process.
 pub(crate) fn write_backtrace<R: Registers, M: Memory>(
     modules: &[Module<SharedTable>],
     abi: &Abi,

@@ -14,7 +14,8 @@ use dw_rows::Abi;
 use dw_unwind::laws::unwindings_through_what_is_found;
 use dw_unwind::{Answer, Caller, MAX_FOUND, Module, unwind_in};
 
-/// A register of a caller: its number, with what is known of it, by the kinds of `CAnswer`.
+/// A register of a caller: its number, and what is known of its content. `kind` and `value` are
+/// those of `CAnswer`.
 #[repr(C)]
 #[derive(Clone, Copy, Debug)]
 pub struct CRegister {
@@ -23,8 +24,8 @@ pub struct CRegister {
     pub number: u32,
 }
 
-/// A caller: its canonical frame address, its return address, and the number of registers that have
-/// a rule.
+/// A caller: its canonical frame address (CFA), its return address, and the number of registers
+/// that have a rule, from the row or from the ABI.
 #[repr(C)]
 #[derive(Clone, Copy, Debug)]
 pub struct CCaller {
@@ -45,7 +46,7 @@ fn shown_register(number: u16, answer: Answer) -> CRegister
     }
 }
 
-/// Writes registers to slots.
+/// Writes registers to `slots`, as many as fit.
 fn write_registers(found: &[(u16, Answer)], slots: &mut [CRegister])
     ensures { slots.new ≡ put_into (map cregister_of (map found_in found.now)) slots.old }
 {
@@ -54,7 +55,7 @@ fn write_registers(found: &[(u16, Answer)], slots: &mut [CRegister])
     }
 }
 
-/// Writes a caller, and its registers to slots.
+/// Writes a caller to `out`, and its registers to `slots`, as many as fit.
 pub(crate) fn write_caller(caller: &Caller, out: &mut CCaller, slots: &mut [CRegister])
     ensures caller { ShowsCaller (caller_in caller.now) out.new slots.old slots.new }
     ensures few { out.new.count ≤ MAX_FOUND }
@@ -68,7 +69,7 @@ pub(crate) fn write_caller(caller: &Caller, out: &mut CCaller, slots: &mut [CReg
     };
 }
 
-/// The caller through the modules of a process.
+/// The caller of the frame at `address`, by the first module that has a row for `address`.
 pub(crate) fn caller_through<R: Registers, M: Memory>(
     modules: &[Module<SharedTable>],
     abi: &Abi,

@@ -1,4 +1,4 @@
-//! The values that the point in the program supplies to an expression, as passed by C.
+//! The context of an expression and its kind, as passed by C.
 
 ghost use Rattle.std.specs.Prelude.{◌≡◌};
 ghost use Rattle.dwcheck_c.specs.Evaluated.{given_by, kind_by};
@@ -6,7 +6,8 @@ ghost use Rattle.dwcheck_c.specs.Evaluated.{given_by, kind_by};
 use dw_eval::Context;
 use dw_stack::Kind;
 
-/// The values that the point in the program supplies, each if its flag isn't 0.
+/// The context of an expression: the values that depend on the point in the program. Each value is
+/// given if its `has_` flag isn't 0.
 #[repr(C)]
 #[derive(Clone, Copy, Debug)]
 pub struct CContext {
@@ -19,14 +20,14 @@ pub struct CContext {
     pub reserved: u32,
 }
 
-/// A number, unless its flag is 0.
+/// `number`, unless `flag` is 0.
 fn given(flag: u32, number: u64) -> Option<u64>
     ensures { result ≡ given_by flag number }
 {
     if flag == 0 { None } else { Some(number) }
 }
 
-/// The given values.
+/// The context in the library's form.
 pub(crate) fn context(c: &CContext) -> Context
     ensures cfa { result.cfa ≡ given_by c.now.has_cfa c.now.cfa }
     ensures frame_base { result.frame_base ≡ given_by c.now.has_frame_base c.now.frame_base }
@@ -39,7 +40,7 @@ pub(crate) fn context(c: &CContext) -> Context
     }
 }
 
-/// The kind of an expression by its number.
+/// The kind of an expression by C's number, or none if the number is invalid.
 pub(crate) fn kind(number: u32) -> Option<Kind>
     ensures { result ≡ kind_by number }
 {

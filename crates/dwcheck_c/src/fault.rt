@@ -5,7 +5,8 @@ ghost use Rattle.dwcheck_c.specs.Faults.{cfault_of};
 
 use dw_bytes::Fault;
 
-/// What a fault's offset counts in: a frame section, location lists, an expression, or the registers that an ABI names.
+/// Which input a fault's offset refers to: the frame section, the location lists, the expression,
+/// or the list of registers that the ABI names.
 pub const IN_FRAME: u32 = 0;
 
 pub const IN_LISTS: u32 = 1;
@@ -14,7 +15,8 @@ pub const IN_EXPRESSION: u32 = 2;
 
 pub const IN_ABI: u32 = 3;
 
-/// Why an input is refused: the fault's number, its offset, and what that counts in.
+/// Why an input is refused: the fault's number, its offset, and in `within` which input the offset
+/// refers to.
 #[repr(C)]
 #[derive(Clone, Copy, Debug)]
 pub struct CFault {

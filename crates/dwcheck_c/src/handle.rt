@@ -7,7 +7,7 @@ use dw_process::Process;
 use std::alloc::Global;
 use std::mem::replace;
 
-/// A process that is open or closed: one pointer and a flag. If all of it is 0, it is closed.
+/// A process that is open or closed: one pointer and a flag. If all its bytes are 0, it is closed.
 #[repr(C)]
 pub struct CProcess {
     pub(crate) held: Held,
@@ -48,7 +48,7 @@ impl CProcess {
         }
     }
 
-    /// Takes the process that is held, and leaves this one closed.
+    /// Takes the process out of `self`, which is closed then. None if `self` was closed.
     pub(crate) fn take(&mut self, alloc: Global) -> Option<Box<Process>>
         ensures taken { MatchOption result (held_in self.old ≡ None)
             (λ b. held_in self.old ≡ Some b.value) }

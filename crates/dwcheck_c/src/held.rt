@@ -12,7 +12,7 @@ use std::alloc::Global;
 use std::marker::{Model, Send};
 use std::ptr::null_mut;
 
-/// A box of a process, or none, without its type, which C can't have.
+/// A `Box<Process>`, or none, as a pointer without its type, since C doesn't know the type.
 #[repr(C)]
 #[derive(Drop)]
 pub struct Held {
@@ -36,14 +36,14 @@ impl Held {
         }
     }
 
-    /// Holds the process of a box.
+    /// Holds `process`.
     pub fn of(process: Box<Process>) -> Held
         ensures { result.modules ≡ Some process.value }
     {
         Held::of_parts(Parts::of(process))
     }
 
-    /// The box again.
+    /// Gives back the box that was passed to `of`.
     pub fn into_box(self) -> Box<Process>
         requires { IsSome self.modules }
         ensures { self.modules ≡ Some result.value }

@@ -1,4 +1,4 @@
-//! The libraries for C: each export is one of their calls.
+//! The C interface to the libraries.
 #![tactic(auto)]
 
 mod answer;

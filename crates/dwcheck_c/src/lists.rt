@@ -15,7 +15,8 @@ use dw_bytes::FaultKind;
 use dw_loclists::{CheckedLists, check_lists};
 use std::alloc::Global;
 
-/// A look-up: the list whose first byte is at an offset, with a unit's base, at an address.
+/// A look-up of `address` in the list whose first byte is at offset `list`. `base` is the base
+/// address of the unit.
 #[repr(C)]
 #[derive(Clone, Copy, Debug)]
 pub struct CLookup {
@@ -25,7 +26,8 @@ pub struct CLookup {
     pub reserved: u32,
 }
 
-/// Writes the expressions of a list that hold at an address. Gives the number written, or none if there is no such list.
+/// Writes the expressions of a list that apply at an address, as many as fit. Returns the number
+/// written, or none if no list begins at the offset.
 fn look_up(lists: &CheckedLists<'_>, lookup: &CLookup, slots: &mut [CLocation]) -> Option<usize>
     ensures { HasLocations lists.now lookup.now.list lookup.now.base lookup.now.address slots.old
         slots.new result }
@@ -39,7 +41,8 @@ fn look_up(lists: &CheckedLists<'_>, lookup: &CLookup, slots: &mut [CLocation]) 
     }
 }
 
-/// Checks location lists, and writes the expressions of a list that hold at an address.
+/// Checks location lists, and writes the expressions of a list that apply at an address, as many as
+/// fit.
 #[unsafe(no_mangle)]
 pub extern "C" fn dwcheck_locations(
     alloc: Global,

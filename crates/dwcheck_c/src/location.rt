@@ -26,7 +26,7 @@ fn shown_location(offset: u32, checked: &CheckedExpression<'_>) -> CLocation
     }
 }
 
-/// Writes expressions to slots, and gives the number written.
+/// Writes expressions to `slots`, as many as fit. Returns the number written.
 pub(crate) fn write_locations(found: LocationsAt<'_, '_>, slots: &mut [CLocation]) -> usize
     ensures written { slots.new ≡ put_into (map clocation_of found.entry) slots.old }
     ensures count { result ≡ min (length found.entry) (length slots.old) }

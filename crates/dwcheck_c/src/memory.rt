@@ -4,7 +4,7 @@ use byteorder::{BigEndian, ByteOrder, LittleEndian};
 use dw_bytes::Order;
 use dw_eval::{Memory, MemoryBlock};
 
-/// The bytes from an address on.
+/// Known bytes of memory; the first is at address `base`.
 #[repr(C)]
 #[derive(Drop)]
 pub struct CBlock<'a> {
@@ -27,7 +27,8 @@ impl<'a> CBlock<'a> {
     }
 }
 
-/// Memory with several known blocks. If two blocks have an address, the first one's byte counts.
+/// Memory of which some blocks are known. If two blocks contain an address, the byte of the first
+/// one counts.
 #[derive(Drop)]
 pub(crate) struct Blocks<'m, 'a> {
     pub blocks: &'m [CBlock<'a>],
@@ -49,8 +50,8 @@ impl<'m, 'a> Blocks<'m, 'a> {
         None
     }
 
-    /// The result of `read`, if all bytes are in the first block. They nearly always are, since that
-    /// is a stack.
+    /// The result of `read` if all bytes are in the first block, else none. Nearly all reads are of
+    /// the first block, since it is usually the stack.
     #[inline(always)]
     fn read_first(&self, address: u64, size: u8, order: Order) -> Option<u64>
         requires size { IsSize size }

@@ -11,8 +11,8 @@ use crate::slots::write_all;
 use crate::status::{DONE, NONE};
 use dw_bytes::FaultKind;
 
-/// The version of this interface: 65536 times the first number, plus the second. As long as the first number stays the
-/// same, existing programs keep working.
+/// The version of this interface: 65536 times the major version, plus the minor version. As long as
+/// the major version stays the same, existing programs keep working.
 const VERSION: u32 = 0x1_0000;
 
 /// All kinds of faults.
@@ -66,7 +66,7 @@ const KINDS: [FaultKind; 47] = [
     FaultKind::CertState,
 ];
 
-/// The first of these kinds that has this number.
+/// The first of `kinds` whose number is `number`.
 fn kind_among(kinds: &[FaultKind], number: u32) -> Option<FaultKind>
     ensures first { result ≡ find (λ k. number_of k == number) kinds.now }
     ensures numbered { IfSome result (λ kind. number_of kind ≡ number) }
@@ -79,7 +79,7 @@ fn kind_among(kinds: &[FaultKind], number: u32) -> Option<FaultKind>
     None
 }
 
-/// The kind with a number.
+/// The kind whose number is `number`.
 fn kind_with(number: u32) -> Option<FaultKind>
     ensures first { result ≡ find (λ k. number_of k == number) KINDS }
     ensures numbered { IfSome result (λ kind. number_of kind ≡ number) }
@@ -87,7 +87,8 @@ fn kind_with(number: u32) -> Option<FaultKind>
     kind_among(&KINDS, number)
 }
 
-/// Writes the name of the fault with a number to slots, and gives the name's length.
+/// Writes the name of the fault whose number is `number` to `text`, as much as fits, and the length
+/// of the whole name to `size`.
 #[tactic(auto, using(crate::proofs::NameLengths::name_is_short))]
 #[unsafe(no_mangle)]
 pub extern "C" fn dwcheck_fault_name(number: u32, text: &mut [u8], size: &mut usize) -> u32

@@ -19,7 +19,8 @@ use dw_bytes::{FaultKind, OUT_OF_MEMORY, Target};
 use dw_process::{Process, Refusal};
 use std::alloc::Global;
 
-/// Adds a module to a process that may be closed. A closed one is opened only if the module is added.
+/// Adds a module to a process, which may be closed. A closed process is opened only if the module
+/// is added.
 fn add(
     alloc: Global,
     process: &mut CProcess,
@@ -97,7 +98,7 @@ pub extern "C" fn dwcheck_process_add(
     }
 }
 
-/// Removes the first module with a load address from a process.
+/// Removes the first module that is loaded at `load_address` from a process.
 #[unsafe(no_mangle)]
 pub extern "C" fn dwcheck_process_remove(
     alloc: Global,
@@ -120,7 +121,7 @@ pub extern "C" fn dwcheck_process_remove(
     if found { DONE } else { NONE }
 }
 
-/// The same modules in another process. None if there isn't enough memory.
+/// Another process with the modules of `held`, or none if there isn't enough memory.
 fn shared(alloc: Global, held: &Process) -> Option<CProcess>
     ensures { IfSome result (λ other. held_in other ≡ Some held.now) }
 {
@@ -131,7 +132,7 @@ fn shared(alloc: Global, held: &Process) -> Option<CProcess>
     }
 }
 
-/// Replaces a process by another of the same modules.
+/// Replaces `other` by a process with the modules of `process`. They share the compiled tables.
 #[unsafe(no_mangle)]
 pub extern "C" fn dwcheck_process_share(
     alloc: Global,
@@ -158,7 +159,7 @@ pub extern "C" fn dwcheck_process_share(
     }
 }
 
-/// Releases all modules of a process, which is closed then.
+/// Releases all modules of a process, and closes it.
 #[unsafe(no_mangle)]
 pub extern "C" fn dwcheck_process_close(alloc: Global, process: &mut CProcess)
     ensures { held_in process.new ≡ None }

@@ -11,9 +11,10 @@ use dw_process::FoundRow;
 use dw_rows::{CfaRule, MAX_RULES, RegisterRule, RegisterRules};
 use dw_stack::CheckedExpression;
 
-/// A register's rule. Kind 1 is undefined; 2 the same value; 3 saved at the CFA plus the offset; 4 the CFA plus the
-/// offset; 5 in the register `source`; 6 saved at the address that an expression gives; 7 the value that an expression
-/// gives. The expression begins at the offset in the section and has this length.
+/// The rule of a register, by `kind`. 1: undefined. 2: same value. 3: saved at the CFA plus
+/// `offset`. 4: the CFA plus `offset`. 5: in register `source`. 6: saved at the address that an
+/// expression gives. 7: the value that an expression gives. The expression begins at `offset` in
+/// the section and has `length` bytes.
 #[repr(C)]
 #[derive(Clone, Copy, Debug)]
 pub struct CRule {
@@ -24,7 +25,8 @@ pub struct CRule {
     pub kind: u32,
 }
 
-/// A row. The CFA's rule is of kind 4, a register plus the offset, or 7.
+/// A row. `cfa.kind` is 4 or 7, where 4 means the content of register `cfa.register` plus
+/// `cfa.offset`.
 #[repr(C)]
 #[derive(Clone, Copy, Debug)]
 pub struct CRow {
@@ -82,7 +84,7 @@ fn with_expression(register: u16, kind: u32, at: u32, e: &CheckedExpression<'_>)
     }
 }
 
-/// A register with its rule in C's form.
+/// The rule of `register` in C's form.
 fn shown_rule(register: u16, rule: RegisterRule<'_>) -> CRule
     ensures { result ≡ coded register (rule_of rule.entry) }
 {
@@ -114,7 +116,7 @@ fn shown_cfa(rule: CfaRule<'_>) -> CRule
     }
 }
 
-/// Writes rules to slots, and gives the number of rules.
+/// Writes rules to `slots`, as many as fit. Returns the number of rules, which may be more.
 fn write_rules(rules: RegisterRules<'_, '_>, slots: &mut [CRule]) -> u32
     requires { length rules ≤ MAX_RULES }
     ensures written { slots.new ≡ put_into (map crule_of rules.entry) slots.old }
@@ -128,7 +130,7 @@ fn write_rules(rules: RegisterRules<'_, '_>, slots: &mut [CRule]) -> u32
     count
 }
 
-/// Writes a row, and its rules to slots.
+/// Writes a row to `row`, and its rules to `rules`, as many as fit.
 pub(crate) fn write_row(found: &FoundRow<'_>, row: &mut CRow, rules: &mut [CRule])
     ensures row { IsRowOf found.now row.new rules.old rules.new }
     ensures few { row.new.count ≤ MAX_RULES }

@@ -1,9 +1,9 @@
-//! C's slots, filled from the front.
+//! Fills slots, which are the elements of an array that C passes, from the front.
 
 ghost use Rattle.std.specs.Prelude.{◌≡◌, slice_set};
 ghost use Rattle.dwcheck_c.specs.Slots.{put_into};
 
-/// Writes to the slot at an index, if there is one.
+/// Writes `x` to the slot at `index`, if there is one.
 pub(crate) fn put<X: Copy>(slots: &mut [X], index: usize, x: X)
     ensures { slots.new ≡ slice_set slots.old index x }
 {
@@ -12,7 +12,7 @@ pub(crate) fn put<X: Copy>(slots: &mut [X], index: usize, x: X)
     }
 }
 
-/// Writes bytes to slots.
+/// Writes `bytes` to `slots`, as many as fit.
 pub(crate) fn write_all(bytes: &[u8], slots: &mut [u8])
     ensures { slots.new ≡ put_into bytes.now slots.old }
 {

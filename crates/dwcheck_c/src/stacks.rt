@@ -25,7 +25,7 @@ use dw_rows::Abi;
 use dw_unwind::{Caller, Module, Stop};
 use std::alloc::Global;
 
-/// The row of an address as loaded, and its rules in slots.
+/// Writes the row of an address as loaded to `row`, and its rules to `rules`, as many as fit.
 #[unsafe(no_mangle)]
 pub extern "C" fn dwcheck_row_at(
     alloc: Global,
@@ -56,7 +56,7 @@ pub extern "C" fn dwcheck_row_at(
     status
 }
 
-/// The caller of a frame, from C's input.
+/// The caller of the frame at `address`, with the registers and memory that C passes.
 fn caller_of(
     modules: &[Module<SharedTable>],
     abi: &Abi,
@@ -69,7 +69,7 @@ fn caller_of(
     caller_through(modules, abi, address, &state.registers(), &state.memory())
 }
 
-/// The same through the modules of a process.
+/// `caller_of` with the modules of a process. A closed process has no modules.
 fn caller_within(
     alloc: Global,
     process: &mut CProcess,
@@ -91,7 +91,8 @@ fn caller_within(
     }
 }
 
-/// The caller of the frame at an address as loaded, and its registers in slots.
+/// Writes the caller of the frame at an address as loaded to `caller`, and its registers to
+/// `registers`, as many as fit.
 #[unsafe(no_mangle)]
 pub extern "C" fn dwcheck_unwind(
     alloc: Global,
@@ -132,7 +133,8 @@ pub extern "C" fn dwcheck_unwind(
     }
 }
 
-/// The frames of a stack, from C's input.
+/// Writes the frames of a stack to `frames`, with the registers and memory that C passes. Returns
+/// the number of frames, and why there are no more.
 fn frames_of(
     modules: &[Module<SharedTable>],
     abi: &Abi,
@@ -153,7 +155,7 @@ fn frames_of(
     )
 }
 
-/// The same through the modules of a process.
+/// `frames_of` with the modules of a process. A closed process has no modules.
 fn frames_in(
     alloc: Global,
     process: &mut CProcess,
@@ -176,7 +178,7 @@ fn frames_in(
     }
 }
 
-/// Walks up a stack, and writes its frames to slots.
+/// Walks up a stack, and writes its frames to `frames`, as many as fit.
 #[unsafe(no_mangle)]
 pub extern "C" fn dwcheck_backtrace(
     alloc: Global,

@@ -3,7 +3,7 @@
 use crate::memory::{Blocks, CBlock};
 use dw_eval::Registers;
 
-/// The content of register n is the n-th, if bit n of the flags is set.
+/// The known registers: register n has `contents[n]`, if bit n % 8 of `known[n / 8]` is set.
 #[derive(Drop)]
 pub(crate) struct Contents<'a> {
     pub contents: &'a [u64],
@@ -42,14 +42,15 @@ impl<'a> Registers for Contents<'a> {
 #[repr(C)]
 #[derive(Drop)]
 pub struct CState<'a> {
-    /// The content of register n is the n-th, if bit n % 8 of byte n / 8 of `known` is set.
+    /// Register n has `contents[n]`, if bit n % 8 of `known[n / 8]` is set.
     pub contents: &'a [u64],
     pub known: &'a [u8],
     /// The memory that is known.
     pub blocks: &'a [CBlock<'a>],
     /// The callee-saved registers.
     pub kept: &'a [u16],
-    /// The stack pointer, whose value in a caller is the CFA, if `has_stack_pointer` isn't 0.
+    /// The stack pointer register, if `has_stack_pointer` isn't 0. If a row gives it no rule, its
+    /// value in the caller is the CFA.
     pub stack_pointer: u16,
     pub has_stack_pointer: u16,
     pub reserved: u32,

@@ -9,7 +9,7 @@ pub const REFUSED: u32 = 1;
 /// Memory ran out.
 pub const NO_MEMORY: u32 = 2;
 
-/// The rows of a section take more than the given room.
+/// The rows of a section may need more than `room` bytes.
 pub const NO_ROOM: u32 = 3;
 
 /// The byte order or the address size is invalid.

@@ -1,4 +1,4 @@
-//! Targets by C's numbers.
+//! Targets by the numbers that C passes.
 
 ghost use Rattle.std.specs.Prelude.{◌≡◌};
 ghost use Rattle.dwcheck_c.specs.Targets.{order_by, size_by, target_by};
@@ -25,7 +25,8 @@ fn address_size(bytes: u32) -> Option<AddressSize>
     }
 }
 
-/// The target of a byte order, 0 for little and 1 for big, and an address size of 4 or 8 bytes.
+/// The target with a byte order (0 for little, 1 for big) and an address size in bytes (4 or 8), or
+/// none if a number is invalid.
 pub(crate) fn target(order_number: u32, address_bytes: u32) -> Option<Target>
     ensures { result ≡ target_by order_number address_bytes }
 {

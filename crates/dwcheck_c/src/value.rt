@@ -8,9 +8,10 @@ ghost use Rattle.dwcheck_c.specs.Slots.{put_into};
 use crate::slots::{put, write_all};
 use dw_eval::{Evaluation, Location, Outcome, Piece, PieceSize};
 
-/// The outcome of an expression. Kind 0 is a value; 1 unreadable and 2 a division by zero, both at the offset; a location
-/// is 3 nowhere, 4 at an address, 5 in a register, 6 a value, 7 bytes, `value` being their number, and 8 pieces, `count`
-/// being their number.
+/// The outcome of an expression, by `kind`. 0: the value `value`. 1: unreadable at the operation at
+/// `offset`. 2: a division by zero at the operation at `offset`. The other kinds are locations of
+/// an object. 3: nowhere. 4: at the address `value`. 5: in register `value`. 6: nowhere, but its
+/// value is `value`. 7: nowhere, but its value is bytes, `value` of them. 8: `count` pieces.
 #[repr(C)]
 #[derive(Clone, Copy, Debug)]
 pub struct CValue {
@@ -23,7 +24,8 @@ pub struct CValue {
     pub count: u32,
 }
 
-/// A piece: where it is, as in `CValue`, and its number of bytes, or of bits from an offset on.
+/// A piece of an object. `kind` and `value` are those of a location in `CValue`. The piece has
+/// `size` bytes, or, if `is_bits` isn't 0, `size` bits from `bit_offset` on.
 #[repr(C)]
 #[derive(Clone, Copy, Debug)]
 pub struct CPiece {
@@ -58,7 +60,7 @@ fn location_number(location: &Location<'_>) -> u64
     }
 }
 
-/// Writes the bytes of a location, if it is bytes.
+/// Writes the bytes of a location to `slots`, as many as fit, if the location is bytes.
 fn write_location(location: &Location<'_>, slots: &mut [u8])
     ensures { slots.new
         ≡ put_into (bytes_of_location (location_description_of location.now)) slots.old }
@@ -92,7 +94,7 @@ fn shown_piece(piece: &Piece<'_>) -> CPiece
     }
 }
 
-/// Writes pieces to slots.
+/// Writes pieces to `slots`, as many as fit.
 fn write_pieces(pieces: &[Piece<'_>], slots: &mut [CPiece])
     ensures { slots.new ≡ put_into (map cpiece_of (map piece_in pieces.now)) slots.old }
 {
@@ -119,7 +121,8 @@ fn without_location(kind: u32, value: u64, offset: u32, steps: u32) -> CValue
     }
 }
 
-/// Writes an outcome, its pieces, and the bytes of the location or of the n-th piece.
+/// Writes an outcome to `out`, its pieces to `pieces`, and the bytes of the location, or of piece
+/// `n` counted from 0, to `bytes`. Pieces and bytes are written as many as fit.
 pub(crate) fn write_outcome(
     evaluation: &Evaluation<'_>,
     n: u32,

@@ -3,7 +3,7 @@ use Rattle.std.specs.Prelude.{option_map}
 use Rattle.dw_check.specs.NamedModules.{modules_of}
 use Rattle.dw_check.proofs.named_modules.parse_modules.Given as goal
 
--- the modules so far and those of the remaining texts are all of them
+-- the modules so far, followed by the modules of the remaining texts, are all modules
 abbrev pub invariant-loop-text : goal.invariant-loop-text
 invariant-loop-text l =
     modules_of l.target (map (λ t. t.now) l.texts)

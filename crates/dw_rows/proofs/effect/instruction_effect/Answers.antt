@@ -1,5 +1,5 @@
--- The offset that is stored is the product, since it fits. The factors of the code and of the definitions have one name:
--- the search takes one for the other here.
+-- The stored offset is the product itself, since the product fits. The code's and the definitions'
+-- factors have the same names, so the search takes one for the other.
 use Rattle.std.proofs.Common.{rules, ◌≡◌, ◌∙◌, ap, to_z, of_z}
 use Rattle.std.specs.Int.{w128}
 use Rattle.dw_rows.specs.Effects.{sets}

@@ -70,7 +70,7 @@ loop-entry-preserved c =
       room = omega (arith, c.loop-entry.invariant.room, c.in_ok-fill.ensures.room);
     }
 
--- what is known when all FDEs are done
+-- after all FDEs, the entries are those of a table, and their rows are the section's
 both : (c : goal.In_ok-finish) → AreEntries c.finish.new.self c.close.new.self.numbers.sets
     × ArePlacedRows c.args.frame.now (rows_to c.close.new.self.numbers.sets c.finish.new.self 0)
 both c =

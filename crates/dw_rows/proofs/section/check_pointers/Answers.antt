@@ -9,7 +9,7 @@ use Rattle.dw_rows.proofs.Elements.{read-map, some-element}
 use Rattle.dw_rows.proofs.Faults.{passed}
 use Rattle.dw_rows.proofs.section.check_pointers.Goals as goal
 
--- an FDE whose CIE has an index
+-- an FDE whose CIE was found at an index has no CIE_pointer fault
 pointed : (cies : List CommonInformationEntry) (f : Fde) (place : ℕ) → place < length cies
     → cie_at (map cie_of cies) f.cie_pointer ≡ slice_get (map cie_of cies) place → pointer_fault (map cie_of cies) f ≡ None
 pointed cies f place lt is =

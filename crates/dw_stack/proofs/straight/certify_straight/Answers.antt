@@ -11,7 +11,7 @@ use Rattle.dw_stack.proofs.Unbranched.{JudgedSoFar, begun, further, judged, stat
 use Rattle.dw_stack.proofs.straight.certify_straight.Goals.{then-left, else-left}
 use Rattle.dw_stack.proofs.straight.certify_straight.Goals as goal
 
--- the same by other names
+-- `JudgedSoFar` still holds if equal values replace its arguments
 renamed : (kind : Kind) (e : Expression) (at count : ℕ) (s t : StackState) (d f p q : ℕ) (xs ys : List State) → t ≡ s → f ≡ d → q ≡ p
     → ys ≡ xs → JudgedSoFar kind e at count s d p xs → JudgedSoFar kind e at count t f q ys
 renamed kind e at count s t d f p q xs ys state depth pieces states j =

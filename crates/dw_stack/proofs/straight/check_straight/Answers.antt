@@ -9,7 +9,7 @@ use Rattle.dw_stack.proofs.Unbranched.{JudgedAlone, begun, further, judged}
 use Rattle.dw_stack.proofs.straight.check_straight.Goals.{then-left, else-left}
 use Rattle.dw_stack.proofs.straight.check_straight.Goals as goal
 
--- the same under other names
+-- `JudgedAlone` still holds if equal values replace its arguments
 renamed : (kind : Kind) (e : Expression) (at count : ℕ) (s t : StackState) (d f p q : ℕ) → t ≡ s → f ≡ d → q ≡ p
     → JudgedAlone kind e at count s d p → JudgedAlone kind e at count t f q
 renamed kind e at count s t d f p q state depth pieces j =

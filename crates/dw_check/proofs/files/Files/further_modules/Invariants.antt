@@ -4,7 +4,7 @@ use Rattle.dw_check.specs.Files.{further_modules}
 use Rattle.dw_check.proofs.FurtherModules.{joined}
 use Rattle.dw_check.proofs.files.Files.further_modules.Given as goal
 
--- the modules so far and the remaining ones are all of them
+-- the modules so far, followed by the remaining modules, are all modules
 abbrev pub invariant-loop-index : goal.invariant-loop-index
 invariant-loop-index l =
     let files = map (λ file. file.items) l.self.contents.now in

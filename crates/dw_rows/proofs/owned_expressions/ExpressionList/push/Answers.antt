@@ -17,7 +17,7 @@ invariant_of-self-in_err-push c =
     let kept : c.push.new.self.items ≡ c.self.inside.kept.items = c.in_err-push.ensures.items in
     rw (more, kept) (are-grown c.self.inside.bytes.items c.bytes-bytes.result.now c.self.inside.kept.items c.self.invariant)
 
--- what is stored
+-- the entry that is added
 abbrev one : goal.In_ok-push → OwnedExpression
 one c = record {
   offset = c.args.offset;
@@ -39,7 +39,7 @@ behind : (c : goal.In_ok-push) → take c.in-Ok-try_from.length (drop c.in-Ok.st
     ≡ c.bytes-bytes.result.now
 behind c = bytes-behind c.self.inside.bytes.items c.bytes-bytes.result.now c.in-Ok.start c.in-Ok-try_from.length (begins c) (long c)
 
--- its bytes are the expression's
+-- the bytes that are added are those of the expression
 same : (c : goal.In_ok-push) → c.bytes-bytes.result.now ≡ (checked_of c.args.checked.now).bytes
 same c = c.bytes-bytes.ensures ∙ c.expression.ensures.bytes
 

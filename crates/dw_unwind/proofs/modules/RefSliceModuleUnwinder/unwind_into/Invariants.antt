@@ -4,7 +4,7 @@ use Rattle.dw_unwind.specs.Caller.{Caller}
 use Rattle.dw_unwind.specs.Modules.{over_modules_of_rows}
 use Rattle.dw_unwind.proofs.modules.RefSliceModuleUnwinder.unwind_into.Given as goal
 
--- what the remaining modules give is what all give
+-- an answer of the remaining modules is an answer of all modules
 abbrev pub invariant-loop-module : goal.invariant-loop-module
 invariant-loop-module g l =
     (caller : Option Caller)
