@@ -1,4 +1,4 @@
-//! Finds the library: in the folders of DWCHECK_LIB_DIR, or by pkg-config.
+//! Finds the library: in the folders of DWCHECK_LIB_DIR, or else with pkg-config.
 
 use std::env;
 use std::ffi::{OsStr, OsString};
@@ -8,7 +8,8 @@ use std::process::{exit, Command};
 const DIRS: &str = "DWCHECK_LIB_DIR";
 const NAMES: &str = "DWCHECK_LIBS";
 
-/// What to link where no names are given: the whole library, or its part and that of the allocator.
+/// The libraries to link if DWCHECK_LIBS isn't set: all in one, or the C interface and its
+/// allocator.
 const KNOWN: [&[&str]; 2] = [&["dwcheck"], &["dwcheck_c", "libc_c"]];
 
 fn main() {

@@ -1,6 +1,6 @@
 #!/bin/sh
-# Builds the wrapper against the static library (crates/dwcheck_c, by `rt lib`), and runs its tests and examples. Valgrind
-# looks on in a second run of the tests, if it is there.
+# Builds the wrapper against the static library (crates/dwcheck_c, built by `rt lib`), and runs its
+# tests and examples. If valgrind is installed, the tests run a second time under it.
 set -eu
 here=$(cd "$(dirname "$0")" && pwd)
 top=$(dirname "$(dirname "$here")")

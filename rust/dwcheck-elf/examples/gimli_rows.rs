@@ -1,5 +1,5 @@
-//! Runs all rows of the frame sections of ELF files by gimli, on all processors, and counts them: what a survey's time is
-//! compared with.
+//! Reads all rows of the frame sections of ELF files with gimli, on all processors, and counts
+//! them. The time of a survey is compared with the time of this.
 //!
 //!     gimli_rows [JOBS]       names of files from standard input, one a line
 
@@ -18,7 +18,7 @@ fn main() {
     println!("files {} rows {}", names.len(), rows);
 }
 
-/// Counts the rows of both sections of a file. What gimli can't read counts for nothing.
+/// Counts the rows of both frame sections of a file. Rows that gimli can't read aren't counted.
 fn rows_of_file(name: &str) -> usize {
     let data = match std::fs::read(name) {
         Ok(data) => data,

@@ -1,4 +1,4 @@
-//! What calls keep, by architecture.
+//! Calling conventions, by architecture.
 
 use crate::target::AddressSize;
 use object::elf;
@@ -12,12 +12,12 @@ pub struct Abi {
     pub machine: u16,
     /// The size of an address.
     pub address_size: AddressSize,
-    /// The registers that a call keeps, ascending. The stack pointer isn't among them.
+    /// The callee-saved registers, ascending. The stack pointer isn't among them.
     ///
-    /// Where a call leaves the return address in a register, that register is among them, because a function that
-    /// calls no other keeps it.
+    /// If calls leave the return address in a register, that register is among them, because a leaf
+    /// function doesn't change it.
     pub kept: &'static [u16],
-    /// The stack pointer. The caller's is the CFA.
+    /// The stack pointer. Its value in the caller is the CFA.
     pub stack_pointer: u16,
     /// The number of the instruction pointer.
     pub program_counter: u16,

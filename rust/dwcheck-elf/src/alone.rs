@@ -1,4 +1,4 @@
-//! Judges the records of a section one by one, where the section is refused.
+//! Checks the records of a refused section one by one.
 
 use crate::bridge::RecordKind;
 use crate::debug_frame::{records, Kind, Record};
@@ -7,10 +7,11 @@ use crate::target::Target;
 use dwcheck::{Fault, FaultKind, Section};
 use std::collections::{BTreeMap, HashMap, HashSet};
 
-/// Every fault of a section that is refused: of each CIE alone, of each FDE alone with its CIE, and of those that share
-/// addresses, by their offsets in the bytes that `dwcheck` takes.
+/// Every fault of a refused section. Each CIE is checked alone, and each FDE alone with its CIE;
+/// then FDEs that share addresses are looked for. The faults' offsets are relative to
+/// [`Frames::bytes`].
 ///
-/// An FDE whose CIE is refused isn't judged. `first` is the fault of the whole section.
+/// An FDE whose CIE is refused isn't checked. `first` is the fault of the whole section.
 pub fn every_fault(frames: &Frames<'_>, first: Fault) -> Vec<Fault> {
     let records = records(frames.bytes(), frames.target());
     let judge = Alone { bytes: frames.bytes(), target: frames.target() };
@@ -36,17 +37,17 @@ pub fn every_fault(frames: &Frames<'_>, first: Fault) -> Vec<Fault> {
     faults
 }
 
-/// What is left of a section without the records that are refused.
+/// A section without its refused records.
 #[derive(Clone, Debug)]
 pub struct AcceptedPart {
-    /// The bytes, with a CIE that no FDE uses in the place of each of these records.
+    /// The section's bytes. In place of each refused record there is a CIE that no FDE uses.
     pub bytes: Vec<u8>,
     /// How many records are left out: those with faults, and FDEs whose CIE has one.
     pub left_out: usize,
 }
 
-/// A section without the records that are refused, for those who walk: the other FDEs are as good as those of a section
-/// without faults. `first` is the fault of the whole section.
+/// Makes a section without the refused records, for walks: the remaining FDEs unwind like those of
+/// an accepted section. `first` is the fault of the whole section.
 pub fn accepted_part(frames: &Frames<'_>, first: Fault) -> AcceptedPart {
     let all = records(frames.bytes(), frames.target());
     let mut refused: HashSet<usize> = HashSet::new();
@@ -81,7 +82,7 @@ pub fn accepted_part(frames: &Frames<'_>, first: Fault) -> AcceptedPart {
     AcceptedPart { bytes, left_out }
 }
 
-/// Judges records one by one.
+/// Checks records one by one.
 struct Alone<'a> {
     bytes: &'a [u8],
     target: Target,
@@ -100,7 +101,7 @@ impl Alone<'_> {
         self.fault(self.part(cie)).map(|fault| moved(fault, 0, cie.offset))
     }
 
-    /// The section of a CIE and one FDE.
+    /// The fault of a section of only this CIE and this FDE.
     fn fde(&self, cie: &Record, fde: &Record) -> Option<Fault> {
         let mut section = self.part(cie).to_vec();
         let start = section.len();
@@ -110,13 +111,13 @@ impl Alone<'_> {
         self.fault(&section).map(|fault| moved(fault, start, fde.offset))
     }
 
-    /// An FDE without a CIE.
+    /// The fault of an FDE alone, if its CIE pointer leads to no CIE.
     fn orphan(&self, fde: &Record) -> Option<Fault> {
         self.fault(self.part(fde)).map(|fault| moved(fault, 0, fde.offset))
     }
 }
 
-/// A fault of a section where a record is at `from`, in one where it is at `to`.
+/// Moves a fault's offset from a section that has the record at `from` to one that has it at `to`.
 fn moved(fault: Fault, from: usize, to: usize) -> Fault {
     Fault { offset: (fault.offset as usize).saturating_sub(from).saturating_add(to) as u32, ..fault }
 }
@@ -140,7 +141,7 @@ fn overlaps(frames: &Frames<'_>) -> Vec<Fault> {
     found
 }
 
-/// Adds a range to ranges that have no address in common, and makes one of those that meet.
+/// Adds a range to ranges that share no address, and merges it with those that it touches.
 fn insert(taken: &mut BTreeMap<u64, u64>, mut begin: u64, mut end: u64) {
     while let Some((start, stop)) = taken.range(..=end).next_back().map(|(start, stop)| (*start, *stop)) {
         if stop < begin {

@@ -3,15 +3,16 @@
 //! The two formats differ in their headers, in augmentation data and in how addresses are written. The call frame
 //! instructions are the same bytes, but for these:
 //!
-//! - `DW_CFA_GNU_args_size` says nothing of registers. It is dropped.
+//! - `DW_CFA_GNU_args_size` says nothing about registers. It is dropped.
 //! - `DW_CFA_set_loc` has an encoded address. It is decoded.
-//! - `DW_CFA_def_cfa_register` before any other rule for the CFA becomes `DW_CFA_def_cfa` with the offset 0, unless
-//!   [`Options::strict`] is set. GNU as opens CIEs for alpha, mips and riscv with it.
+//! - `DW_CFA_def_cfa_register` before any other rule for the CFA becomes `DW_CFA_def_cfa` with the
+//!   offset 0, unless [`Options::strict`] is set. GNU as opens CIEs for alpha, mips and riscv with
+//!   this instruction.
 //!
-//! An instruction that isn't known is copied with all that follows it in its record. It is left to `dwcheck` to
-//! refuse it.
+//! An unknown instruction is copied, with all that follows it in its record, and left to `dwcheck`
+//! to refuse.
 //!
-//! [`crate::validate`] compares the two sections.
+//! [`crate::validate`] compares the original section with the result.
 
 mod error;
 pub(crate) mod instructions;
@@ -27,7 +28,7 @@ pub use plain::without_empty_records;
 use crate::target::Target;
 use places::Places;
 
-/// An `.eh_frame` section and what its pointers are relative to.
+/// An `.eh_frame` section, with the addresses that its pointers are relative to.
 #[derive(Clone, Copy, Debug)]
 pub struct EhFrame<'a> {
     /// The bytes of the section.
@@ -44,10 +45,11 @@ pub struct EhFrame<'a> {
     pub unresolved: &'a [u64],
 }
 
-/// How to bridge.
+/// How to rewrite a section.
 #[derive(Clone, Copy, Debug, Default)]
 pub struct Options {
-    /// Leaves `DW_CFA_def_cfa_register` as it is where the CFA has no rule yet. `dwcheck` refuses it.
+    /// Copies `DW_CFA_def_cfa_register` unchanged where the CFA has no rule yet. `dwcheck` refuses
+    /// such a section.
     pub strict: bool,
 }
 
@@ -74,7 +76,7 @@ pub struct Counts {
     pub set_locs: usize,
 }
 
-/// The `.debug_frame` section that has the rows of an `.eh_frame` section.
+/// A `.debug_frame` section that has the rows of the section that it was made from.
 #[derive(Clone, Debug)]
 pub struct Bridged {
     bytes: Vec<u8>,
@@ -83,7 +85,7 @@ pub struct Bridged {
     mended: Vec<u64>,
 }
 
-/// Rewrites a section. The error is that of the first record that has no counterpart.
+/// Rewrites a section. The error is for the first record that has no counterpart in `.debug_frame`.
 ///
 /// The result has at most a few times the bytes of the section.
 pub fn bridge(section: &EhFrame<'_>, options: Options) -> Result<Bridged, BridgeError> {
@@ -106,14 +108,15 @@ impl Bridged {
         &self.mended
     }
 
-    /// All records, in the order of both sections.
+    /// All records, in their order, which is the same in both sections.
     pub fn records(&self) -> &[Record] {
         &self.places.records
     }
 
-    /// The place in `.eh_frame` that an offset of the bridged bytes comes from.
+    /// Where an offset of the bridged bytes comes from in the original section.
     ///
-    /// An offset where a record begins is also where the one before it ends. `edge` says which is meant.
+    /// An offset can be both the end of one record and the beginning of the next. `edge` says which
+    /// of these records is meant.
     pub fn place(&self, offset: u64, edge: Edge) -> Option<Place> {
         if offset > self.bytes.len() as u64 {
             return None;

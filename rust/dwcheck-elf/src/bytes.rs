@@ -11,7 +11,7 @@ pub(crate) enum ReadError {
     LebRange,
 }
 
-/// A place in a section, from which numbers are read.
+/// An offset in a section, at which numbers are read.
 #[derive(Clone, Debug)]
 pub(crate) struct Cursor<'a> {
     bytes: &'a [u8],
@@ -20,12 +20,12 @@ pub(crate) struct Cursor<'a> {
 }
 
 impl<'a> Cursor<'a> {
-    /// The beginning of a section.
+    /// A cursor at the beginning of a section.
     pub fn new(bytes: &'a [u8], target: Target) -> Self {
         Cursor { bytes, at: 0, target }
     }
 
-    /// The offset in the section of what is read next.
+    /// The offset in the section of the next byte to read.
     pub fn at(&self) -> usize {
         self.at
     }
@@ -40,17 +40,18 @@ impl<'a> Cursor<'a> {
         self.at >= self.bytes.len()
     }
 
-    /// What is left.
+    /// The bytes that aren't read yet.
     pub fn rest(&self) -> &'a [u8] {
         self.bytes.get(self.at..).unwrap_or(&[])
     }
 
-    /// The bytes from an offset to this place.
+    /// The bytes from `start` to the cursor's offset.
     pub fn since(&self, start: usize) -> &'a [u8] {
         self.bytes.get(start..self.at).unwrap_or(&[])
     }
 
-    /// A cursor over the next `length` bytes, with the offsets of the section. This one moves past them.
+    /// A cursor over the next `length` bytes, which `self` moves past. Its offsets still count from
+    /// the beginning of the section.
     pub fn split(&mut self, length: u64) -> Result<Cursor<'a>, ReadError> {
         let start = self.at;
         let end = self.end_of(length)?;

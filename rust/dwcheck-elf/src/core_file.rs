@@ -34,16 +34,16 @@ pub struct CoreFile<'data> {
     segments: Vec<CoreSegment<'data>>,
 }
 
-/// A part of the memory, and those of its bytes that the core has.
+/// A part of the process's memory, with the bytes of it that the core has.
 #[derive(Clone, Copy, Debug)]
 struct CoreSegment<'data> {
     address: u64,
     bytes: &'data [u8],
-    /// How many bytes of memory it stands for, with those that the core left out.
+    /// The part's size in memory, including bytes that the core left out.
     size: u64,
-    /// Whether the process could execute it.
+    /// Whether the process could execute the part.
     is_executable: bool,
-    /// The core says that it has more bytes than the file holds.
+    /// Whether the core's headers give the part more bytes than the file has.
     is_cut: bool,
 }
 
@@ -54,9 +54,9 @@ pub enum CoreError {
     Elf(String),
     /// It is an ELF file of another type (`e_type`).
     NotCore(u16),
-    /// The layout of its registers isn't known, for this machine (`e_machine`).
+    /// The register layout of this machine (`e_machine`) isn't known.
     Machine(u16),
-    /// A note of this type ends before what it has to hold.
+    /// A note of this type is too short.
     Note(u32),
 }
 
@@ -107,7 +107,7 @@ impl<'data> CoreFile<'data> {
         self.target
     }
 
-    /// What calls keep.
+    /// The calling convention of the core's machine.
     pub fn abi(&self) -> &'static Abi {
         self.abi
     }
@@ -127,12 +127,12 @@ impl<'data> CoreFile<'data> {
         &self.mappings
     }
 
-    /// Whether the core file ends before the memory that it should hold.
+    /// Whether the core file ends before all the memory that its headers list.
     pub fn is_cut(&self) -> bool {
         self.segments.iter().any(|segment| segment.is_cut)
     }
 
-    /// Whether the process could execute code at an address. Where the core doesn't say it, it is taken to be so.
+    /// Whether the process could execute code at an address. True if the core doesn't say.
     fn may_execute(&self, address: u64) -> bool {
         let holds =
             |segment: &&CoreSegment<'_>| address.checked_sub(segment.address).map_or(false, |past| past < segment.size);

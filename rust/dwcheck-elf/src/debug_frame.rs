@@ -1,7 +1,7 @@
 //! The records of a `.debug_frame` section.
 //!
-//! `dwcheck` judges them. What is read here is for those who show its answers: where a record, a program or an
-//! instruction begins.
+//! `dwcheck` checks the records. This module only finds where records, programs and instructions
+//! begin, so that `dwcheck`'s answers can be shown.
 
 use crate::bridge::instructions::{name_of, operands, skip};
 use crate::bytes::Cursor;
@@ -22,22 +22,22 @@ use std::ops::Range;
 /// ```
 #[derive(Clone, Debug, PartialEq, Eq)]
 pub struct Record {
-    /// The offset of its length.
+    /// The offset of the record's first byte, where its length field is.
     pub offset: usize,
     /// The offset of its body, which begins with its CIE id or CIE pointer.
     pub body: usize,
     /// The offset after its last byte.
     pub end: usize,
-    /// What it is.
+    /// Whether it is a CIE or an FDE, and some of its fields.
     pub kind: Kind,
     /// Where its instructions are, if its header can be read.
     pub program: Option<Range<usize>>,
 }
 
-/// What a record is.
+/// The kind of a record, and some of its fields.
 #[derive(Clone, Copy, Debug, PartialEq, Eq)]
 pub enum Kind {
-    /// A record without a body. Linkers leave some; DWARF has none.
+    /// A record of length 0. DWARF has no such records, but some linkers leave them.
     Empty,
     /// A common information entry.
     Cie {
@@ -46,15 +46,15 @@ pub enum Kind {
     },
     /// A frame description entry.
     Fde {
-        /// The offset of its CIE.
+        /// The CIE pointer: the offset of its CIE.
         cie: u64,
-        /// The first address, and how many there are, if the header can be read.
+        /// The first address and the number of addresses, if the header can be read.
         range: Option<(u64, u64)>,
     },
 }
 
 impl Record {
-    /// The size of an offset in the record: 4 or 8 bytes.
+    /// The size of the record's offsets: 4 or 8 bytes.
     pub fn offset_size(&self) -> u8 {
         if self.body - self.offset == 4 {
             4
@@ -64,7 +64,8 @@ impl Record {
     }
 }
 
-/// All records up to the first whose length can't be read, or whose body isn't there. Time in proportion to the section.
+/// All records before the first one whose length can't be read or whose body isn't all there. This
+/// takes time in proportion to the section.
 pub fn records(section: &[u8], target: Target) -> Vec<Record> {
     let mut cursor = Cursor::new(section, target);
     let mut all = Vec::new();
@@ -102,7 +103,7 @@ fn record(cursor: &mut Cursor<'_>) -> Option<Record> {
     Some(Record { offset, body, end, kind, program })
 }
 
-/// Reads a CIE from its version on.
+/// Reads a CIE from its version to its return address register.
 fn return_register(record: &mut Cursor<'_>) -> Option<u64> {
     let version = record.byte().ok()?;
     while record.byte().ok()? != 0 {}
@@ -118,7 +119,7 @@ fn return_register(record: &mut Cursor<'_>) -> Option<u64> {
     }
 }
 
-/// Reads the range of an FDE.
+/// Reads an FDE's first address and number of addresses.
 fn range(record: &mut Cursor<'_>, target: Target) -> Option<(u64, u64)> {
     let size = target.address_size.bytes();
     Some((record.number(size).ok()?, record.number(size).ok()?))
@@ -127,22 +128,23 @@ fn range(record: &mut Cursor<'_>, target: Target) -> Option<(u64, u64)> {
 /// An instruction of a program.
 #[derive(Clone, Copy, Debug, PartialEq, Eq)]
 pub struct Instruction {
-    /// The offset in the section of its first byte.
+    /// The offset of its first byte in the section.
     pub offset: usize,
     /// Its code.
     pub code: u8,
-    /// The expression that it ends with, by its offset and length.
+    /// The offset and the length of the expression that it ends with, if there is one.
     pub expression: Option<(usize, usize)>,
 }
 
 impl Instruction {
-    /// Its name, as `def_cfa_register`, or `instruction 0x3f`. Machines have codes of their own.
+    /// Its name, such as `def_cfa_register`; or `instruction 0x3f` if the code has none. The name
+    /// of a vendor's code can depend on the machine.
     pub fn name(&self, machine: u16) -> String {
         name_of(self.code, machine).map_or_else(|| format!("instruction {:#04x}", self.code), str::to_string)
     }
 }
 
-/// The instructions of a program, up to the first that can't be read, which is the last.
+/// The instructions of a program. If one can't be read, it is the last of the list.
 pub fn instructions(section: &[u8], program: Range<usize>, target: Target) -> Vec<Instruction> {
     let mut cursor = Cursor::new(section.get(..program.end).unwrap_or(section), target);
     let mut all = Vec::new();

@@ -1,6 +1,7 @@
-//! What expressions hold: operations by name, their count, and the depth of the stack.
+//! Names and counts the operations of expressions, and measures the depth of their stacks.
 //!
-//! `dwcheck` judges expressions. What is here is for those who show one that it has accepted, or where it refuses one.
+//! `dwcheck` checks expressions. This module only helps to show an expression that `dwcheck` has
+//! accepted, or where `dwcheck` refuses one.
 
 use crate::bytes::{Cursor, ReadError};
 use crate::target::Target;
@@ -17,22 +18,23 @@ use crate::target::Target;
 /// ```
 #[derive(Clone, Copy, Debug, Default, PartialEq, Eq)]
 pub struct Measure {
-    /// How many operations it has.
+    /// The number of operations.
     pub operations: usize,
     /// The greatest height of the stack before or after any operation.
     pub depth: u64,
 }
 
-/// How the height of the stack changes.
+/// How an operation changes the height of the stack.
 #[derive(Clone, Copy, Debug, PartialEq, Eq)]
 enum Change {
     By(i64),
-    /// A piece takes all that there is.
+    /// A piece leaves the stack empty.
     Empty,
 }
 
 impl Measure {
-    /// Measures an expression that `dwcheck` has accepted, whose run begins with `height` entries.
+    /// Measures an expression that `dwcheck` has accepted. `height` is the number of entries that
+    /// its stack begins with.
     ///
     /// Branches go forward, and paths that meet agree in height, so one pass is enough.
     pub fn of(expression: &[u8], height: u64, target: Target) -> Self {
@@ -69,13 +71,13 @@ impl Measure {
 /// An operation and where it is.
 #[derive(Clone, Copy, Debug, PartialEq, Eq)]
 pub struct Operation {
-    /// The offset in the expression of its first byte.
+    /// The offset of its first byte in the expression.
     pub offset: usize,
-    /// Its code.
+    /// Its opcode.
     pub code: u8,
 }
 
-/// The operations of an expression, up to the first that can't be read, which is the last.
+/// The operations of an expression. If one can't be read, it is the last of the list.
 pub fn operations(expression: &[u8], target: Target) -> Vec<Operation> {
     let mut cursor = Cursor::new(expression, target);
     let mut all = Vec::new();
@@ -93,7 +95,8 @@ pub fn operations(expression: &[u8], target: Target) -> Vec<Operation> {
 const BRA: u8 = 0x28;
 const SKIP: u8 = 0x2f;
 
-/// Moves past the operands of an operation. Gives the distance of a branch.
+/// Moves past the operands of an operation. Returns the distance if the operation is a branch, else
+/// 0.
 fn skip(cursor: &mut Cursor<'_>, code: u8) -> Result<u64, ReadError> {
     let size = cursor.target().address_size.bytes();
     match code {
@@ -115,7 +118,7 @@ fn skip(cursor: &mut Cursor<'_>, code: u8) -> Result<u64, ReadError> {
     }
 }
 
-/// What an operation does to the height of the stack.
+/// How an operation changes the height of the stack.
 fn change(code: u8) -> Change {
     match code {
         0x93 | 0x9d => Change::Empty,
@@ -125,7 +128,7 @@ fn change(code: u8) -> Change {
     }
 }
 
-/// Operations that have an opcode for each, by code.
+/// The names of opcodes below 0x97 that aren't in one of the ranges lit, reg and breg.
 const NAMES: [(u8, &str); 49] = [
     (0x03, "addr"),
     (0x06, "deref"),
@@ -178,7 +181,7 @@ const NAMES: [(u8, &str); 49] = [
     (0x96, "nop"),
 ];
 
-/// Operations from 0x97 on.
+/// The names of the opcodes from 0x97 on.
 const LATER: [&str; 19] = [
     "push_object_address",
     "call2",
@@ -201,7 +204,8 @@ const LATER: [&str; 19] = [
     "reinterpret",
 ];
 
-/// The name of an operation by its code, as DWARF 5 has it in section 7.7.1, with `DW_OP_`.
+/// The name of an operation by its opcode, with `DW_OP_`, as in DWARF 5, section 7.7.1; or
+/// `operation 0xe0` if the opcode has none there.
 pub fn name_of(code: u8) -> String {
     match code {
         0x30..=0x4f => format!("DW_OP_lit{}", code - 0x30),

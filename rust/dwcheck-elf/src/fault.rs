@@ -1,4 +1,4 @@
-//! Faults in the terms of the file that they are in.
+//! Describes faults in terms of the file that has them.
 
 use crate::bridge::{BridgeError, Edge, RecordKind};
 use crate::debug_frame::{self, Instruction, Record};
@@ -12,42 +12,44 @@ use dwcheck::{Fault, FaultKind};
 use std::fmt;
 use std::ops::Range;
 
-/// A fault of a section, where it is in the file.
+/// A fault of a section, described in terms of the file.
 ///
-/// As text it is one line without its end, with the offset of the record, as
-/// `.eh_frame+0xeb30: CfaNotRegister: def_cfa_register, FDE 0xcb480..0xccad1 (name of the function)`.
+/// Its text is one line without a line feed, with the offset of the record, such as
+/// `.eh_frame+0xeb30: CfaNotRegister: def_cfa_register, FDE 0xcb480..0xccad1 (name of the
+/// function)`.
 #[derive(Clone, Debug, PartialEq, Eq)]
 pub struct Defect {
     /// The section.
     pub section: Name,
-    /// The offset of the fault in the section of the file, decompressed.
+    /// The offset of the fault in the file's section, decompressed.
     pub offset: u64,
-    /// The offset of the record that it is in, as readelf shows it; that of the fault itself where there is none.
+    /// In a frame section, the offset of the record with the fault, as readelf shows it. In
+    /// location lists, or if there is no such record, the offset of the fault.
     pub at: u64,
-    /// The fault's name, as `CfaNotRegister`.
+    /// The fault's name, such as `CfaNotRegister`.
     pub fault: &'static str,
-    /// What is there: an instruction, an operation or a field.
+    /// What is at the fault, such as an instruction, an operation or a field.
     pub what: String,
-    /// The record that it is in.
+    /// The record with the fault; in location lists, the table.
     pub record: Option<Within>,
-    /// The function that the record is for.
+    /// The function at the FDE's first address, if the record is an FDE.
     pub function: Option<String>,
-    /// The rule that is broken.
+    /// The rule that the fault breaks.
     pub rule: String,
 }
 
 /// Which record a fault is in.
 #[derive(Clone, Debug, PartialEq, Eq)]
 pub enum Within {
-    /// The CIE at an offset of the section.
+    /// A CIE, by its offset in the section.
     Cie(u64),
-    /// The FDE of a range of addresses.
+    /// An FDE, by its range of addresses.
     Fde(Range<u64>),
-    /// A record at an offset of the section that can't be read.
+    /// A record that can't be read, or a table of location lists, by its offset in the section.
     Record(u64),
 }
 
-/// What faults of a frame section are told by.
+/// What is needed to describe the faults of a frame section.
 pub struct Terms<'a> {
     frames: &'a Frames<'a>,
     functions: &'a Functions<'a>,
@@ -66,7 +68,7 @@ impl<'a> Terms<'a> {
         &self.records
     }
 
-    /// A fault that `dwcheck` found in the bytes that it was given, at an offset of these bytes.
+    /// Describes a fault that `dwcheck` found. Its offset is relative to [`Frames::bytes`].
     pub fn defect(&self, fault: Fault) -> Defect {
         let offset = fault.offset as usize;
         let edge = if fault.kind == FaultKind::Overlap { Edge::Begin } else { Edge::End };
@@ -97,7 +99,7 @@ impl<'a> Terms<'a> {
 }
 
 impl Defect {
-    /// A record of `.eh_frame` that has no counterpart in `.debug_frame`.
+    /// Describes a record of `.eh_frame` that has no counterpart in `.debug_frame`.
     pub fn of_bridge(error: &BridgeError) -> Self {
         Defect {
             section: Name::EhFrame,
@@ -111,7 +113,7 @@ impl Defect {
         }
     }
 
-    /// A fault of location lists.
+    /// Describes a fault of location lists.
     pub fn of_lists(lists: &[u8], fault: Fault, target: Target) -> Self {
         let code = lists.get(fault.offset as usize).copied();
         let what = match (fault.number(), code) {
@@ -136,7 +138,7 @@ impl Defect {
 }
 
 impl Within {
-    /// The function of an FDE's first address.
+    /// The function at an FDE's first address.
     fn function(&self, functions: &Functions<'_>) -> Option<String> {
         match self {
             Within::Fde(range) => Spot::at(functions, range.start).map(|spot| spot.to_string()),
@@ -162,10 +164,11 @@ fn what(frames: &Frames<'_>, fault: &Fault, record: &Record) -> String {
     field.to_string()
 }
 
-/// The instruction or the operation at an offset.
+/// The instruction or operation at the fault's offset.
 fn in_program(frames: &Frames<'_>, fault: &Fault, record: &Record) -> String {
     let offset = fault.offset as usize;
-    // This one is where its expression ends, and the next instruction begins.
+    // `EndsEmpty` is reported where the expression ends, which is where the next instruction
+    // begins.
     let is_end = fault.kind == FaultKind::EndsEmpty;
     let program = match &record.program {
         Some(program) if offset >= program.start => program.clone(),
@@ -183,7 +186,8 @@ fn in_program(frames: &Frames<'_>, fault: &Fault, record: &Record) -> String {
     }
 }
 
-/// The name of an instruction, or of the operation of it that an offset leads to.
+/// The name of an instruction. If `offset` is in its expression, also the name of the operation
+/// there.
 fn named(frames: &Frames<'_>, instruction: &Instruction, offset: usize) -> String {
     let (begin, length) = match instruction.expression {
         Some((begin, length)) if offset > instruction.offset => (begin, length),
@@ -199,7 +203,7 @@ fn named(frames: &Frames<'_>, instruction: &Instruction, offset: usize) -> Strin
     }
 }
 
-/// Which FDE before a record shares an address with it.
+/// Names the first FDE before a record that shares an address with it.
 fn overlap(frames: &Frames<'_>, record: &Record) -> String {
     let range = |kind| match kind {
         RecordKind::Fde { begin, size, .. } => begin..begin.saturating_add(size),

@@ -1,4 +1,4 @@
-//! The frame sections of a program, as `dwcheck` takes them.
+//! The frame sections of a program, in the form that `dwcheck` takes.
 
 use crate::bridge::{bridge, without_empty_records, BridgeError, Bridged, Edge, EhFrame, Options, Place};
 use crate::program::{Program, ProgramError, Section};
@@ -6,16 +6,16 @@ use crate::target::Target;
 use dwcheck::{Error, Process};
 use std::fmt;
 
-/// The rows of a section may take this many times its bytes. Those of compilers take some 1.5 times.
+/// The rows of a section may take this many times its bytes. Compilers' rows take some 1.5 times.
 const ROOM_TIMES: usize = 64;
 
-/// The rows of a short section may take this many bytes.
+/// The rows of any section may take at least this many bytes, however short it is.
 const LEAST_ROOM: usize = 64 << 20;
 
-/// Which section it is.
+/// A section that can be checked.
 #[derive(Clone, Copy, Debug, PartialEq, Eq, PartialOrd, Ord)]
 pub enum Name {
-    /// `.debug_frame`, which `dwcheck` takes as it is, but for records without a body.
+    /// `.debug_frame`, which `dwcheck` takes as it is, except for records of length 0.
     DebugFrame,
     /// `.eh_frame`, which is rewritten as `.debug_frame`.
     EhFrame,
@@ -49,7 +49,7 @@ pub struct Frames<'data> {
     bridged: Bridged,
 }
 
-/// Why a frame section can't be handed to `dwcheck`.
+/// Why a frame section can't be passed to `dwcheck`.
 #[derive(Clone, Debug, PartialEq, Eq)]
 pub enum FramesError {
     /// The section can't be read from the file.
@@ -61,7 +61,8 @@ pub enum FramesError {
 }
 
 impl<'data> Frames<'data> {
-    /// The frame sections of a program that have bytes, `.debug_frame` first. Each is read when it comes.
+    /// The frame sections of a program that have bytes, `.debug_frame` first. Each is read when the
+    /// iterator reaches it.
     pub fn all<'a>(
         program: &'a Program<'data>,
         options: Options,
@@ -71,7 +72,7 @@ impl<'data> Frames<'data> {
             .filter_map(move |name| Frames::read(program, name, options).transpose())
     }
 
-    /// Reads one section, and rewrites it as `dwcheck` needs it.
+    /// Reads one section, and rewrites it for `dwcheck`.
     fn read(program: &Program<'data>, name: Name, options: Options) -> Result<Option<Self>, FramesError> {
         let target = program.target();
         let read = if name == Name::EhFrame { program.eh_frame() } else { program.debug_frame() };
@@ -108,7 +109,7 @@ impl<'data> Frames<'data> {
         &self.source
     }
 
-    /// The section as [`bridge`] takes it.
+    /// The section and its base addresses, as [`bridge`] takes them.
     pub fn eh_frame(&self) -> EhFrame<'_> {
         EhFrame {
             bytes: &self.source.bytes,
@@ -120,7 +121,7 @@ impl<'data> Frames<'data> {
         }
     }
 
-    /// What was dropped and changed, and the records.
+    /// The rewritten section: its records, and what was dropped or changed.
     pub fn bridged(&self) -> &Bridged {
         &self.bridged
     }
@@ -130,32 +131,34 @@ impl<'data> Frames<'data> {
         self.bridged.bytes()
     }
 
-    /// Whether the bytes that `dwcheck` takes are others than the file's.
+    /// Whether the bytes that `dwcheck` takes differ from the file's.
     pub fn is_rewritten(&self) -> bool {
         self.name == Name::EhFrame || self.bridged.counts().terminators > 0
     }
 
-    /// The place in the file's section of an offset of the bytes that `dwcheck` takes.
+    /// Where an offset of [`bytes`](Self::bytes) comes from in the file's section.
     pub fn place(&self, offset: u64, edge: Edge) -> Option<Place> {
         self.bridged.place(offset, edge)
     }
 
-    /// The section as the only module of a process, checked and with all rows compiled.
+    /// Makes a process that has this section as its only module, loaded at `load`. Checks the
+    /// section, and compiles all its rows.
     ///
     /// # Errors
     ///
-    /// The first fault; or [`Error::NoRoom`] where its rows may take 64 times its bytes and more than 64 MiB.
+    /// [`Error::Refused`] with the first fault; [`Error::NoMemory`]; or [`Error::NoRoom`] if the
+    /// rows may take more than 64 times the section's bytes and more than 64 MiB.
     pub fn process(&self, load: u64) -> Result<Process, Error> {
         let mut process = Process::new();
         self.add_to(&mut process, load)?;
         Ok(process)
     }
 
-    /// Adds the section to a process, as a module that is loaded at an address.
+    /// Adds the section to a process, as a module that is loaded at `load`.
     ///
     /// # Errors
     ///
-    /// As for [`process`](Self::process).
+    /// Those of [`process`](Self::process).
     pub fn add_to(&self, process: &mut Process, load: u64) -> Result<(), Error> {
         let room = self.bytes().len().saturating_mul(ROOM_TIMES).max(LEAST_ROOM);
         process.add(self.bytes(), self.target.into(), load, room)

@@ -15,11 +15,11 @@ pub struct Function<'data> {
     pub name: &'data str,
     /// The first address.
     pub begin: u64,
-    /// The count of bytes, 0 if it isn't known.
+    /// The number of bytes, 0 if it isn't known.
     pub size: u64,
-    /// The end of the section that it is in.
+    /// The end of its section if that has code, else the end of the function.
     limit: u64,
-    /// How well the symbol names its address. The best symbol has the highest.
+    /// Which of several symbols to prefer: the one with the highest rank.
     rank: u8,
 }
 
@@ -38,7 +38,7 @@ pub enum NameError {
 #[derive(Clone, Debug, Default)]
 pub struct Functions<'data> {
     functions: Vec<Function<'data>>,
-    /// For each function the highest end of those up to it.
+    /// For each function, the highest end of it and the functions before it.
     ends: Vec<u64>,
 }
 
@@ -50,7 +50,7 @@ impl<'data> Function<'data> {
 }
 
 impl<'data> Functions<'data> {
-    /// Reads both symbol tables. It leaves out names that aren't UTF-8.
+    /// Reads both symbol tables. Leaves out symbols whose names aren't UTF-8.
     pub(crate) fn read(file: &object::File<'data>, layout: &Layout, machine: u16, target: Target) -> Self {
         let code = code_sections(file, layout);
         let mut functions: Vec<_> = file
@@ -73,9 +73,10 @@ impl<'data> Functions<'data> {
         &self.functions
     }
 
-    /// The function that an address is in, and the offset in it.
+    /// The function that contains an address, and the address's offset in it.
     ///
-    /// If no function covers the address, it is the nearest symbol before it in its section, if that has no size.
+    /// If no function covers the address, the answer is the last symbol at or before it, but only
+    /// if that symbol has size 0 and is in the same section.
     pub fn at(&self, address: u64) -> Option<(&Function<'data>, u64)> {
         let count = self.functions.partition_point(|function| function.begin <= address);
         let before = self.functions.get(..count)?.iter().zip(&self.ends).rev();
@@ -88,7 +89,8 @@ impl<'data> Functions<'data> {
         Some((found, address - found.begin))
     }
 
-    /// The address of a function by its exact name. A global function goes before local ones.
+    /// The address of a function by its exact name. If several symbols have the name, functions are
+    /// preferred to labels, then global symbols to weak ones and those to local ones.
     pub fn address_of(&self, name: &str) -> Result<u64, NameError> {
         let named = || self.functions.iter().filter(|function| function.name == name);
         let best = named().map(|function| function.rank).max();
@@ -101,7 +103,8 @@ impl<'data> Functions<'data> {
         }
     }
 
-    /// The address that a text says: a function's name, or a name, a plus sign and a number, as `main+4` or `main+0x4`.
+    /// The address that a text means: a function's name, or a name, a plus sign and a number, such
+    /// as `main+4` or `main+0x4`.
     pub fn parse(&self, text: &str) -> Result<u64, NameError> {
         match (self.address_of(text), text.rsplit_once('+')) {
             (Err(NameError::Unknown(_)), Some((name, offset))) => {
@@ -123,7 +126,7 @@ fn number(text: &str) -> Option<u64> {
     u64::from_str_radix(digits, radix).ok().filter(|_| plain)
 }
 
-/// The end of each section with code, by its index.
+/// The end address of each section that has code, by section index.
 fn code_sections(file: &object::File<'_>, layout: &Layout) -> HashMap<usize, u64> {
     let is_code = |flags| match flags {
         SectionFlags::Elf { sh_flags } => sh_flags & u64::from(elf::SHF_EXECINSTR) != 0,
@@ -133,7 +136,7 @@ fn code_sections(file: &object::File<'_>, layout: &Layout) -> HashMap<usize, u64
     code.map(|section| (section.index().0, layout.address(section.index()).saturating_add(section.size()))).collect()
 }
 
-/// The function that a symbol names, if it names one.
+/// The function or label of a symbol, if it has one.
 fn function<'data>(
     symbol: &object::Symbol<'data, '_>,
     layout: &Layout,

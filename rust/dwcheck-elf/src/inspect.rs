@@ -24,18 +24,18 @@ use std::fmt;
 pub struct Check {
     /// How `.eh_frame` is rewritten.
     pub bridge: Options,
-    /// Goes on after the first fault, with each FDE alone.
+    /// Whether to go on after the first fault, and check each CIE and each FDE alone.
     pub all: bool,
 }
 
-/// What came of a section.
+/// The result of checking a section.
 #[derive(Debug)]
 pub struct Inspected<'data> {
     /// The section.
     pub name: Name,
-    /// How many bytes it has in the file, decompressed.
+    /// Its number of bytes in the file, decompressed. 0 if it couldn't be rewritten.
     pub bytes: usize,
-    /// The frames, where it is a frame section that could be rewritten.
+    /// The frame section, if it is one and could be rewritten.
     pub frames: Option<Frames<'data>>,
     /// Whether it was accepted.
     pub verdict: Verdict,
@@ -44,32 +44,36 @@ pub struct Inspected<'data> {
 /// Whether a section was accepted.
 #[derive(Debug)]
 pub enum Verdict {
-    /// A frame section that is well formed. `dwcheck`'s rows are gimli's, if it was rewritten.
+    /// A well-formed frame section. If it was rewritten, `dwcheck`'s rows are equal to gimli's rows
+    /// of the original.
     Frames(Agreement),
-    /// Location lists that are well formed.
+    /// Well-formed location lists.
     Lists(Contents),
     /// What is wrong: the first fault, or all of them. Never empty.
     Refused(Vec<Defect>),
 }
 
-/// Why a section can't be judged.
+/// Why a section can't be checked.
 #[derive(Clone, Debug, PartialEq, Eq)]
 pub enum InspectError {
     /// It can't be read from the file.
     Program(ProgramError),
-    /// The rows of the section differ from those of what it was rewritten as.
+    /// The rewritten section differs from the original in a row or a record.
     Difference(Difference),
-    /// `dwcheck` gave no verdict: memory or room ran out, say.
+    /// `dwcheck` neither accepted nor refused the section, for example because memory ran out.
     Dwcheck(Name, Error),
 }
 
-/// Checks the sections of a program that have bytes: `.debug_frame`, `.eh_frame`, `.debug_loclists`.
+/// Checks the sections of a program that have bytes: `.debug_frame`, `.eh_frame`,
+/// `.debug_loclists`.
 ///
-/// Time and memory are in proportion to the sections.
+/// Memory is in proportion to the sections, and so is time for sections of compilers. A hostile
+/// file can take longer, because gimli runs a CIE's instructions again for each of its FDEs.
 ///
 /// # Errors
 ///
-/// The first section that can't be judged. A section that is refused is no error.
+/// The first section that can't be checked. A refused section isn't an error: its [`Verdict`] has
+/// the fault.
 pub fn inspect<'data>(program: &Program<'data>, check: Check) -> Result<Vec<Inspected<'data>>, InspectError> {
     let mut all = inspect_frame_sections(program, check)?;
     if let Some(lists) = program.debug_loclists().map_err(InspectError::Program)? {
@@ -83,7 +87,7 @@ pub fn inspect<'data>(program: &Program<'data>, check: Check) -> Result<Vec<Insp
 ///
 /// # Errors
 ///
-/// As for [`inspect`].
+/// Those of [`inspect`].
 pub fn inspect_frame_sections<'data>(
     program: &Program<'data>,
     check: Check,
@@ -95,7 +99,7 @@ pub fn inspect_frame_sections<'data>(
     sections.collect()
 }
 
-/// A section that has no counterpart in `.debug_frame` is refused.
+/// A section that can't be rewritten is refused; one that can't be read is an error.
 fn unread_frames<'data>(error: FramesError) -> Result<Inspected<'data>, InspectError> {
     let (name, defect) = match error {
         FramesError::Program(_, error) => return Err(InspectError::Program(error)),
@@ -130,7 +134,8 @@ fn inspect_frames<'data>(
     Ok(Inspected { name: frames.name(), bytes: frames.source().bytes.len(), frames: Some(frames), verdict })
 }
 
-/// A fault is the section's own if the bridge changed no row. A record that gimli can't read isn't compared.
+/// Makes sure that the bridge didn't cause a fault: gimli's rows of the original and of the
+/// rewritten section have to be equal, up to a record of the original that gimli can't read.
 fn compared_by_gimli(frames: &Frames<'_>) -> Result<(), InspectError> {
     if frames.name() != Name::EhFrame {
         return Ok(());
@@ -141,7 +146,7 @@ fn compared_by_gimli(frames: &Frames<'_>) -> Result<(), InspectError> {
     }
 }
 
-/// Counts the records and rows of a section that `dwcheck` takes as it is.
+/// Counts the records and rows of a section that wasn't rewritten.
 fn counted(frames: &Frames<'_>, process: &Process) -> Agreement {
     let mut agreement = Agreement::default();
     let mut row = Row::default();
@@ -168,7 +173,7 @@ fn inspect_lists(lists: &[u8], target: Target) -> Result<Verdict, InspectError> 
     }
 }
 
-/// The offset in the file's section where a record of the bytes begins that `dwcheck` takes.
+/// Where a record begins in the file's section. `record` is its offset in [`Frames::bytes`].
 pub fn source_offset(frames: &Frames<'_>, record: u64) -> u64 {
     frames.place(record, Edge::Begin).map_or(record, |place| place.offset)
 }

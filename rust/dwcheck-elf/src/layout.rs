@@ -8,8 +8,9 @@ use std::collections::HashMap;
 
 /// The address of each section.
 ///
-/// A linked file has them. An unlinked object doesn't, so each of its sections gets an address of its own here: first the
-/// code, from address 0 on, then the data that the file holds, then the data that starts as zeros.
+/// A linked file has these addresses. In an unlinked object, each section gets an address here:
+/// first the code, from address 0 on, then the data that the file has, then the data that starts as
+/// zeros.
 #[derive(Clone, Debug, Default)]
 pub(crate) struct Layout {
     addresses: HashMap<usize, u64>,
@@ -17,12 +18,12 @@ pub(crate) struct Layout {
     is_object: bool,
 }
 
-/// The sections of an object don't fit the addresses.
+/// The sections of an unlinked object need addresses above the highest one.
 #[derive(Clone, Copy, Debug, PartialEq, Eq)]
 pub(crate) struct TooLarge;
 
 impl Layout {
-    /// The addresses of a file of an ELF type (`e_type`).
+    /// The section addresses of a file with this ELF type (`e_type`).
     pub fn of(file: &object::File<'_>, elf_type: u16, target: Target) -> Result<Self, TooLarge> {
         if elf_type != ET_REL {
             let addresses = file.sections().map(|section| (section.index().0, section.address())).collect();
@@ -72,7 +73,7 @@ pub(crate) fn is_loaded(flags: SectionFlags) -> bool {
     elf_flags(flags) & u64::from(SHF_ALLOC) != 0
 }
 
-/// Code comes first, zeros last.
+/// The order of sections: code first, data that starts as zeros last.
 fn rank(flags: SectionFlags, has_bytes: bool) -> u8 {
     match (elf_flags(flags) & u64::from(SHF_EXECINSTR) != 0, has_bytes) {
         (true, _) => 0,

@@ -1,23 +1,24 @@
 //! The tables, lists and expressions of a `.debug_loclists` section.
 //!
-//! `dwcheck` judges the section. What is here counts what one holds that it has accepted.
+//! `dwcheck` checks the section. This module only counts what an accepted section has.
 
 use crate::bytes::{Cursor, ReadError};
 use crate::target::Target;
 
-/// What an accepted section holds.
+/// The contents of an accepted section.
 #[derive(Clone, Debug, Default, PartialEq, Eq)]
 pub struct Contents {
-    /// How many tables.
+    /// The number of tables.
     pub tables: usize,
-    /// How many lists.
+    /// The number of lists.
     pub lists: usize,
     /// The offset and the length of each expression.
     pub expressions: Vec<(usize, usize)>,
 }
 
 impl Contents {
-    /// Counts what a section holds that `dwcheck` has accepted. Of another it counts what comes before the fault.
+    /// Counts the contents of a section that `dwcheck` has accepted. In any other section, counting
+    /// ends where the section can't be read.
     pub fn of(section: &[u8], target: Target) -> Self {
         let mut contents = Contents::default();
         let mut cursor = Cursor::new(section, target);
@@ -41,7 +42,7 @@ impl Contents {
         Ok(())
     }
 
-    /// Reads an entry. Says whether it is the end of its list.
+    /// Reads an entry. Returns whether the entry ends its list.
     fn entry(&mut self, table: &mut Cursor<'_>) -> Result<bool, ReadError> {
         let address = u64::from(table.target().address_size.bytes());
         let code = table.byte()?;
@@ -71,7 +72,8 @@ fn initial_length(cursor: &mut Cursor<'_>) -> Result<(u64, u64), ReadError> {
     }
 }
 
-/// Where the table begins that an offset of the section is in, or at the end of.
+/// The offset of the table that has `offset` in it or at its end. A table that can't be read is
+/// taken to reach to the section's end.
 pub fn table_of(section: &[u8], target: Target, offset: usize) -> Option<u64> {
     let mut cursor = Cursor::new(section, target);
     while !cursor.is_at_end() {

@@ -5,13 +5,14 @@ use cpp_demangle::{DemangleOptions, ParseOptions, Symbol};
 use std::borrow::Cow;
 use std::fmt::{self, Write};
 
-/// A longer name isn't demangled, and nothing longer is made of one: a short mangled name can stand for a huge one.
+/// The most bytes of a name that is demangled, and of the result. A short mangled name can stand
+/// for a huge one, which then stays mangled.
 const LONGEST: usize = 4096;
 
 /// How deep the parts of a C++ name may be nested.
 const NESTED: u32 = 64;
 
-/// A name of Rust or C++ as its source has it; any other as it is.
+/// Demangles a Rust or C++ name. Returns any other name unchanged.
 ///
 /// ```
 /// use dwcheck_elf::names::demangled;
@@ -42,7 +43,7 @@ fn cpp(name: &str, text: &mut Bounded) -> bool {
     parsed.map_or(false, |symbol| symbol.structured_demangle(text, &options).is_ok())
 }
 
-/// A text that takes no more than [`LONGEST`] bytes.
+/// A string that refuses to get longer than [`LONGEST`] bytes.
 struct Bounded(String);
 
 impl Write for Bounded {
@@ -55,24 +56,25 @@ impl Write for Bounded {
     }
 }
 
-/// Where an address is: in a function, some bytes after its beginning.
+/// An address, as a function and an offset from its first address.
 ///
-/// As text it is `main+0x4`, and `main` at its beginning.
+/// Its text is `main+0x4`, or `main` if the offset is 0.
 #[derive(Clone, Copy, Debug, PartialEq, Eq)]
 pub struct Spot<'a> {
     /// The function's name, as it is in the file.
     pub name: &'a str,
-    /// How many bytes after its beginning.
+    /// The number of bytes from the function's first address.
     pub offset: u64,
 }
 
 impl<'a> Spot<'a> {
-    /// Where an address is, if the file has a name for it.
+    /// The function and offset of an address, if the file has a name for it.
     pub fn at(functions: &Functions<'a>, address: u64) -> Option<Self> {
         functions.at(address).map(|(function, offset)| Spot { name: function.name, offset })
     }
 
-    /// Where an address is that follows a call: the function is that of the call, which may be its last instruction.
+    /// The function and offset of a return address. The function is the one that has the call, even
+    /// if the call is its last instruction.
     pub fn after_call(functions: &Functions<'a>, address: u64) -> Option<Self> {
         let Spot { name, offset } = Spot::at(functions, address.wrapping_sub(1))?;
         Some(Spot { name, offset: offset.saturating_add(1) })
@@ -81,7 +83,7 @@ impl<'a> Spot<'a> {
 
 impl fmt::Display for Spot<'_> {
     fn fmt(&self, f: &mut fmt::Formatter<'_>) -> fmt::Result {
-        // A name with a line feed would begin a line of its own.
+        // A line feed in a name would begin a new line.
         demangled(self.name).chars().filter(|c| !c.is_control()).try_for_each(|c| f.write_char(c))?;
         if self.offset == 0 {
             Ok(())

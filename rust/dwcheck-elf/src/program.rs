@@ -11,10 +11,10 @@ use object::SegmentFlags;
 use std::borrow::Cow;
 use std::fmt;
 
-/// A compressed section may have this many bytes when it is decompressed.
+/// A compressed section may have at most this many bytes when it is decompressed.
 pub const DECOMPRESSED_LIMIT: u64 = 1 << 30;
 
-/// Deflate makes at most this many bytes of one.
+/// Deflate makes at most this many bytes from one compressed byte.
 const DEFLATE_RATIO: u64 = 1032;
 
 /// What an ELF file is.
@@ -48,7 +48,8 @@ pub struct Section<'data> {
     pub bytes: Cow<'data, [u8]>,
     /// The address of the first byte, 0 for a section that isn't loaded.
     pub address: u64,
-    /// Offsets of fields that hold the address of a symbol that an unlinked object doesn't define, ascending.
+    /// Offsets of fields, ascending, whose relocation in an unlinked object names a symbol that the
+    /// object doesn't define.
     pub unresolved: Vec<u64>,
 }
 
@@ -72,15 +73,16 @@ pub struct Segment {
 pub enum ProgramError {
     /// The file isn't an ELF file, or its headers are wrong.
     Elf(String),
-    /// The sections of an unlinked object don't fit the addresses.
+    /// The sections of an unlinked object need addresses above the highest one.
     Layout,
     /// Two sections with bytes have the same name.
     Repeated(&'static str),
     /// A section's bytes aren't in the file, or can't be decompressed.
     Section(&'static str, String),
-    /// A compressed section says that it has more bytes than [`DECOMPRESSED_LIMIT`], or more than its bytes can hold.
+    /// A compressed section claims more decompressed bytes than [`DECOMPRESSED_LIMIT`], or more
+    /// than its compressed bytes can make.
     TooLarge(&'static str, u64),
-    /// A relocation of a section at an offset can't be applied.
+    /// The relocation at this offset of this section can't be applied.
     Relocation(&'static str, u64, RelocationError),
 }
 
@@ -139,7 +141,7 @@ impl<'data> Program<'data> {
         self.section(".eh_frame")
     }
 
-    /// What [`crate::bridge::bridge`] needs of this program and its `.eh_frame`.
+    /// The program's section `.eh_frame`, with the addresses that [`crate::bridge::bridge`] needs.
     pub fn eh_frame_of<'a>(&self, section: &'a Section<'_>) -> EhFrame<'a> {
         let address = |name| {
             let section = self.file.section_by_name(name)?;
@@ -155,12 +157,12 @@ impl<'data> Program<'data> {
         }
     }
 
-    /// The functions of both symbol tables. This takes time; keep it.
+    /// The functions of both symbol tables. This takes time, so keep the result.
     pub fn functions(&self) -> Functions<'data> {
         Functions::read(&self.file, &self.layout, self.machine, self.target)
     }
 
-    /// What is loaded into memory.
+    /// The parts of the file that are loaded into memory.
     pub fn segments(&self) -> Vec<Segment> {
         let segment = |segment: object::Segment<'data, '_>| {
             let (offset, file_size) = segment.file_range();
@@ -176,8 +178,8 @@ impl<'data> Program<'data> {
     fn section(&self, name: &'static str) -> Result<Option<Section<'data>>, ProgramError> {
         let compressed = name.strip_prefix('.').unwrap_or(name);
         let is_named = |found: &str| found == name || found.strip_prefix(".z") == Some(compressed);
-        // In a file with debug information only, the other sections have no bytes. An object can have an empty section
-        // and another one of the same name.
+        // In a separate file of debug information, the other sections have no bytes. An object can
+        // have an empty section and another section with the same name.
         let has_bytes = |section: &object::Section<'data, '_>| section.file_range().map_or(false, |(_, size)| size > 0);
         let named = self.file.sections().filter(|section| section.name().map_or(false, is_named));
         let mut named = named.filter(has_bytes);
@@ -200,7 +202,8 @@ impl<'data> Program<'data> {
     }
 }
 
-/// The bytes of a section. The size that a compressed section claims is judged before any memory is taken.
+/// The bytes of a section. The size that a compressed section claims is checked before any memory
+/// is allocated for it.
 fn uncompressed<'data>(
     section: &object::Section<'data, '_>,
     name: &'static str,

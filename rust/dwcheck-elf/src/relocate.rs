@@ -18,21 +18,21 @@ pub enum RelocationError {
     Symbol,
 }
 
-/// What is done with the number in a field.
+/// What a relocation does to its field.
 #[derive(Clone, Copy, Debug)]
 enum Action {
     Nothing,
-    /// It becomes the symbol's address.
+    /// Sets the field to the symbol's address.
     Absolute,
-    /// It becomes the distance to the symbol's address from the field's own.
+    /// Sets the field to the symbol's address minus the field's address.
     Relative,
-    /// The symbol's address is added to it.
+    /// Adds the symbol's address to the field.
     Add,
-    /// The symbol's address is subtracted from it.
+    /// Subtracts the symbol's address from the field.
     Subtract,
 }
 
-/// An action on a field of some bits.
+/// An action, and the size of its field in bits.
 #[derive(Clone, Copy, Debug)]
 struct Step {
     action: Action,
@@ -49,7 +49,8 @@ pub(crate) struct Object<'file, 'data> {
 }
 
 impl Object<'_, '_> {
-    /// Applies all relocations of a section, and gives the offsets of those whose symbol isn't defined, ascending.
+    /// Applies all relocations of a section. Returns the offsets, ascending, of those whose symbol
+    /// the object doesn't define; their fields stay unchanged.
     pub fn relocate(
         &self,
         section: &object::Section<'_, '_>,
@@ -74,7 +75,7 @@ impl Object<'_, '_> {
         Ok(unresolved)
     }
 
-    /// The address of the symbol that a relocation names, or nothing if the object doesn't define it.
+    /// The address of the symbol that a relocation names. `None` if the object doesn't define it.
     fn symbol(&self, relocation: &Relocation) -> Result<Option<u64>, RelocationError> {
         let index = match relocation.target() {
             RelocationTarget::Symbol(index) => index,
@@ -90,7 +91,7 @@ impl Object<'_, '_> {
         })
     }
 
-    /// Changes a field at an address.
+    /// Changes the field at `address` as a relocation says.
     fn apply(&self, field: &mut [u8], address: u64, symbol: u64, step: Step, relocation: &Relocation) {
         let held = self.target.number(field);
         let implicit = if relocation.has_implicit_addend() { sign_extended(held, step.bits) } else { 0 };
@@ -137,7 +138,7 @@ fn step_of(machine: u16, relocation: &Relocation) -> Result<Step, RelocationErro
 /// `R_MIPS_PC32`, which `object` doesn't name.
 const MIPS_PC32: u32 = 248;
 
-/// The types that `object` leaves to others.
+/// The types of relocations that `object` doesn't decode.
 fn machine_step(machine: u16, code: u32) -> Option<Step> {
     let (action, bits) = match (machine, code) {
         (elf::EM_X86_64, elf::R_X86_64_PC64) => (Action::Relative, 64),
@@ -157,7 +158,8 @@ fn machine_step(machine: u16, code: u32) -> Option<Step> {
     Some(Step { action, bits })
 }
 
-/// A RISC-V assembler leaves distances to the linker: it sets a field to one address, then subtracts another.
+/// A RISC-V assembler leaves the difference of two addresses to the linker: one relocation sets or
+/// adds the first address, another one subtracts the second.
 fn riscv(code: u32) -> Option<(Action, u8)> {
     Some(match code {
         elf::R_RISCV_ADD8 => (Action::Add, 8),

@@ -2,7 +2,7 @@
 
 use std::fmt;
 
-/// What holds at the addresses of a range.
+/// The rules at a range of addresses.
 #[derive(Clone, Debug, PartialEq, Eq)]
 pub struct Row<'a> {
     /// The first address.
@@ -38,15 +38,15 @@ pub enum Rule<'a> {
     SameValue,
     /// In memory, at the CFA plus an offset.
     Offset(i64),
-    /// It is the CFA plus an offset.
+    /// The value is the CFA plus an offset.
     ValOffset(i64),
     /// In another register.
     Register(u16),
     /// In memory, at the address that an expression gives.
     Expression(&'a [u8]),
-    /// It is what an expression gives.
+    /// The value is what an expression gives.
     ValExpression(&'a [u8]),
-    /// The augmentation determines it.
+    /// The augmentation defines the rule.
     Architectural,
 }
 
@@ -96,7 +96,8 @@ impl fmt::Display for Rule<'_> {
     }
 }
 
-/// The row as the program `dwcheck` writes it, without the word `row`.
+/// Like a row that the program `dwcheck` writes, but without the word `row`, and with addresses
+/// that aren't padded with zeros.
 impl fmt::Display for Row<'_> {
     fn fmt(&self, f: &mut fmt::Formatter<'_>) -> fmt::Result {
         write!(f, "{:#x}..{:#x} cfa={}", self.begin, self.end, self.cfa)?;

@@ -1,9 +1,9 @@
-//! What the rules are that faults break, in plain words, with the section of DWARF 5 that has each.
+//! The rule that each fault breaks, in plain words, with its section of DWARF 5.
 
 use dwcheck::FaultKind;
 
-/// The rule that a fault breaks, in one sentence, with its section of DWARF 5 in parentheses, or `profile` where the
-/// standard leaves the point open and `dwcheck` draws the line.
+/// The rule that a fault breaks, in one sentence. In parentheses is its section of DWARF 5, or
+/// `profile` if the standard leaves the point open and `dwcheck` decides it.
 ///
 /// ```
 /// use dwcheck::FaultKind;

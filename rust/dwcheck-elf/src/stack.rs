@@ -13,7 +13,7 @@ use std::fmt;
 use std::ops::Range;
 use std::path::{Path, PathBuf};
 
-/// A longer stack than this goes round, or is no stack.
+/// A limit for [`Stacks::walk`]. A stack with more frames is most likely a loop, or corrupt.
 pub const MOST_FRAMES: usize = 10_000;
 
 /// A module of a process that died, with its unwind tables and the names of its functions.
@@ -43,7 +43,7 @@ pub struct Stacks<'a> {
     memory: Memory<'a>,
     process: Process,
     loaded: Vec<Loaded<'a>>,
-    /// The addresses of signal frames.
+    /// The ranges, as loaded, of the FDEs of signal frames.
     signals: Vec<Range<u64>>,
     missing: Vec<(PathBuf, String)>,
 }
@@ -51,20 +51,22 @@ pub struct Stacks<'a> {
 /// A frame of a stack.
 #[derive(Clone, Copy, Debug, PartialEq, Eq)]
 pub struct Frame {
-    /// Where it goes on: the instruction pointer of a thread, or a return address.
+    /// Where the frame continues: the instruction pointer of a thread, or a return address.
     pub address: u64,
-    /// Whether it goes on after a call. The first frame doesn't, nor does one that a signal interrupted.
+    /// Whether `address` follows a call. It doesn't in the first frame, nor in a frame that a
+    /// signal interrupted.
     pub is_after_call: bool,
 }
 
 impl Frame {
-    /// The address that its row is looked up at.
+    /// The address at which the frame's row is looked up.
     fn looked_up(&self) -> u64 {
         self.address.wrapping_sub(u64::from(self.is_after_call))
     }
 }
 
-/// The frames of a thread, as text a line each after the thread's own, and a line that says why they end.
+/// The frames of a thread. The text has a line for the thread, a line for each frame, and a line
+/// that says why there are no more.
 #[derive(Debug)]
 pub struct Stack<'s, 'a> {
     stacks: &'s Stacks<'a>,
@@ -77,8 +79,8 @@ pub struct Stack<'s, 'a> {
 }
 
 impl<'a> Stacks<'a> {
-    /// Reads the modules of a core file. Records that are refused are left out, and so are files that can't be read;
-    /// [`missing`](Self::missing) says which and why.
+    /// Reads the modules of a core file. Refused records and files that can't be read are left out;
+    /// [`missing`](Self::missing) says for which files, and why.
     pub fn of(core: &'a CoreFile<'a>, files: &'a Files) -> Self {
         let memory = core.memory(files);
         let mut stacks = Stacks {
@@ -96,8 +98,8 @@ impl<'a> Stacks<'a> {
         stacks
     }
 
-    /// Adds the program of a core that doesn't say which files are mapped, as those of qemu. Another core's modules are
-    /// known; then nothing is done.
+    /// Adds the program of a core that doesn't list its mapped files, such as qemu's. Does nothing
+    /// for any other core, whose modules are known.
     pub fn add_program(&mut self, path: &Path, bytes: &'a [u8]) {
         if self.core.mappings().is_empty() {
             if let Some(module) = self.core.program_module(path, bytes) {
@@ -125,7 +127,7 @@ impl<'a> Stacks<'a> {
         self.loaded.push(Loaded { functions: program.functions(), module });
     }
 
-    /// The files whose tables aren't used, or not all of them, and why.
+    /// The files whose unwind tables aren't used, or only in part, and why.
     pub fn missing(&self) -> &[(PathBuf, String)] {
         &self.missing
     }
@@ -137,12 +139,13 @@ impl<'a> Stacks<'a> {
 
     /// The frames of a thread, `limit` at most.
     ///
-    /// A frame is looked up at the byte before its address, where the call is; the first one at its address, and so is the
-    /// caller of a signal frame, which was interrupted.
+    /// A frame is looked up at the byte before its address, where the call is. The first frame and
+    /// the caller of a signal frame are looked up at their addresses, because these don't follow a
+    /// call.
     ///
     /// # Errors
     ///
-    /// Where the thread has no instruction pointer, or memory ran out.
+    /// If the thread has no instruction pointer, or `dwcheck` gives an error.
     pub fn walk<'s>(&'s self, thread: &Thread, limit: usize) -> Result<Stack<'s, 'a>, StackError> {
         let abi = self.core.abi();
         let blocks: Vec<_> = self.memory.blocks().map(|block| Block::new(block.address, block.bytes)).collect();
@@ -175,8 +178,8 @@ impl<'a> Stacks<'a> {
         Ok(Stack { stacks: self, thread: u64::from(thread.id), frames, stop })
     }
 
-    /// Writes an address with the function and the file that it is in. Where a frame goes on after a call, these are the
-    /// call's.
+    /// Writes a frame's address with its function and file. If the address follows a call, these
+    /// are the function and file of the call.
     fn write_place(&self, f: &mut fmt::Formatter<'_>, frame: &Frame) -> fmt::Result {
         let Frame { address, is_after_call } = *frame;
         let inside = frame.looked_up();
@@ -195,7 +198,8 @@ impl<'a> Stacks<'a> {
     }
 }
 
-/// Adds a section of a module to a process. Where it is refused, its other records are used, and the text says so.
+/// Adds a section of a module to a process. If the section is refused, its accepted part is added,
+/// and the error says how many records aren't used.
 fn add_section(process: &mut Process, frames: &Frames<'_>, bias: u64) -> Result<(), String> {
     match frames.add_to(process, bias) {
         Err(dwcheck::Error::Refused(fault)) => {
@@ -209,7 +213,7 @@ fn add_section(process: &mut Process, frames: &Frames<'_>, bias: u64) -> Result<
     }
 }
 
-/// The addresses as loaded of FDEs that are of signal frames.
+/// The ranges, as loaded, of the FDEs of signal frames.
 fn signal_frames<'f>(frames: &'f Frames<'_>, bias: u64) -> impl Iterator<Item = Range<u64>> + 'f {
     let loaded = move |address: u64| frames.target().wrap(address.wrapping_add(bias));
     frames.bridged().records().iter().filter_map(move |record| match record.kind {
@@ -223,7 +227,7 @@ fn signal_frames<'f>(frames: &'f Frames<'_>, bias: u64) -> impl Iterator<Item = 
 pub enum StackError {
     /// Its registers have no instruction pointer.
     NoInstructionPointer,
-    /// `dwcheck` gave no answer.
+    /// `dwcheck` gave an error.
     Dwcheck(dwcheck::Error),
 }
 

@@ -1,15 +1,15 @@
-//! State files: what a stopped thread has, a line for each thing.
+//! State files: the registers and memory of a stopped thread, one item a line.
 //!
-//! They are those of the program `dwcheck`: lines `reg N 0xV`, `mem 0xA HEX`, `cfa 0xV`, `frame 0xV`, `object 0xV`,
-//! `keep N` and `sp N`.
+//! The program `dwcheck` reads the same files. Their lines are `reg N 0xV`, `mem 0xA HEX`, `cfa
+//! 0xV`, `frame 0xV`, `object 0xV`, `keep N` and `sp N`.
 
 use crate::target::Target;
 use dwcheck::{Abi, Block, Context, Registers, State};
 
-/// At most this many registers are kept.
+/// The most callee-saved registers that a state file may name.
 const MOST_KEPT: usize = 127;
 
-/// What a state file says.
+/// The contents of a state file.
 ///
 /// ```
 /// use dwcheck_elf::state_file::StateFile;
@@ -23,13 +23,14 @@ const MOST_KEPT: usize = 127;
 /// ```
 #[derive(Clone, Debug, Default)]
 pub struct StateFile {
-    /// What registers have, by DWARF's numbers.
+    /// The registers with their contents, by DWARF register number.
     pub registers: Registers,
-    /// Bytes of memory, each part with its first address. An address that two parts have is the first one's.
+    /// Bytes of memory, each part with its first address. If two parts have an address, the first
+    /// part's byte counts.
     pub memory: Vec<(u64, Vec<u8>)>,
     /// The CFA, the frame base and the object's address.
     pub context: Context,
-    /// The registers that calls keep.
+    /// The callee-saved registers.
     pub kept: Vec<u16>,
     /// The stack pointer.
     pub stack_pointer: Option<u16>,
@@ -55,13 +56,14 @@ impl StateFile {
         self.memory.iter().map(|(address, bytes)| Block::new(*address, bytes)).collect()
     }
 
-    /// All of it, over the blocks of [`blocks`](Self::blocks).
+    /// The registers, the memory and the ABI, as `dwcheck` takes them. `blocks` has to come from
+    /// [`blocks`](Self::blocks).
     pub fn state<'a>(&'a self, blocks: &'a [Block<'a>]) -> State<'a> {
         let abi = Abi::new(&self.kept, self.stack_pointer);
         State { registers: &self.registers, memory: blocks, abi }
     }
 
-    /// Adds what a line says. `None` where the line is bad.
+    /// Adds what a line says. `None` if the line is bad.
     fn line(&mut self, line: &[u8], target: Target) -> Option<()> {
         if line.is_empty() {
             return Some(());
@@ -120,7 +122,7 @@ impl StateFile {
     }
 }
 
-/// The first line that gives a thing holds.
+/// Sets a value, unless an earlier line has set it.
 fn first(held: &mut Option<u64>, value: u64) {
     *held = held.or(Some(value));
 }

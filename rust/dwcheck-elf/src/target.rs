@@ -78,7 +78,7 @@ impl Target {
     }
 }
 
-/// The same for the crate `dwcheck`.
+/// The same target, as the crate `dwcheck` takes it.
 impl From<Target> for dwcheck::Target {
     fn from(target: Target) -> Self {
         let order = match target.order {

@@ -1,14 +1,14 @@
 //! Text as the program `dwcheck` writes it.
 //!
-//! Every function writes whole lines or the part of one that its name says. Addresses have 8 or 16 digits by the address
-//! size, offsets 8.
+//! Each type's text is whole lines, or the part of a line that the type is named for. Addresses
+//! have 8 or 16 digits, by the address size; offsets have 8.
 
 use crate::row::Row;
 use crate::target::{AddressSize, Target};
 use dwcheck::{Answer, Evaluation, Location, Outcome, PieceSize};
 use std::fmt;
 
-/// An address, as `0x000000000040116b`.
+/// An address, such as `0x000000000040116b`.
 ///
 /// ```
 /// use dwcheck_elf::target::{AddressSize, Order, Target};
@@ -20,7 +20,7 @@ use std::fmt;
 #[derive(Clone, Copy, Debug)]
 pub struct Address(pub Target, pub u64);
 
-/// An offset in a section, as `0x00000018`.
+/// An offset in a section, such as `0x00000018`.
 #[derive(Clone, Copy, Debug)]
 pub struct Offset(pub u64);
 
@@ -28,18 +28,19 @@ pub struct Offset(pub u64);
 #[derive(Clone, Copy, Debug)]
 pub struct RowLine<'a>(pub Target, pub &'a Row<'a>);
 
-/// What is known of a number: `value V`, `undefined`, `unreadable` or `division by zero`.
+/// What is known of a register, a CFA or a return address: `value V`, `undefined`, `unreadable` or
+/// `division by zero`.
 #[derive(Clone, Copy, Debug)]
 pub struct Known(pub Target, pub Answer);
 
-/// What an expression comes to, with a line feed after each line.
+/// The result of an expression, with a line feed after each line.
 #[derive(Clone, Copy, Debug)]
 pub struct Outcomes<'a> {
     /// The target of the expression.
     pub target: Target,
-    /// What it came to.
+    /// The result.
     pub evaluation: &'a Evaluation,
-    /// The depth of its stack.
+    /// The greatest height of the expression's stack.
     pub depth: u64,
 }
 
@@ -75,7 +76,7 @@ impl fmt::Display for Known {
     }
 }
 
-/// A location, as `register 5`.
+/// A location, such as `register 5`.
 struct Place<'a>(Target, &'a Location);
 
 impl fmt::Display for Place<'_> {

@@ -1,9 +1,9 @@
-//! Compares the rows of a section with those of the bytes that it was rewritten as.
+//! Compares a section of a file with the bytes that it was rewritten as.
 //!
-//! [`validate_rows`] compares gimli's rows of the section with `dwcheck`'s rows of the bytes. [`validate`] has gimli
-//! read both, also where `dwcheck` refuses the bytes. The records of the section are found here by their lengths alone,
-//! and nothing is taken from the bridge but its bytes. So a record that the bridge lost, added or changed is a
-//! difference.
+//! [`validate_rows`] compares gimli's rows of the section with `dwcheck`'s rows of the bytes.
+//! [`validate`] compares gimli's rows of both, which also works if `dwcheck` refuses the bytes.
+//! Both find the section's records by their lengths alone, and use nothing of the bridge except the
+//! bytes. So they notice every record that the bridge lost, added or changed.
 
 mod dwcheck_rows;
 mod gimli_rows;
@@ -19,20 +19,20 @@ use std::fmt;
 pub use dwcheck_rows::{validate_rows, DwcheckRows};
 pub use gimli_rows::GimliRows;
 
-/// What was compared.
+/// How much was compared.
 #[derive(Clone, Copy, Debug, Default, PartialEq, Eq)]
 pub struct Agreement {
     /// Common information entries.
     pub cies: usize,
     /// Frame description entries.
     pub fdes: usize,
-    /// Rows that are equal. A row that covers no address isn't counted.
+    /// Rows that are equal. Rows that cover no address aren't counted.
     pub rows: usize,
-    /// FDEs whose rows gimli refuses in both sections for the same reason, after equal rows.
+    /// FDEs that gimli refuses in both sections for the same reason, after equal rows.
     pub refused: usize,
 }
 
-/// The first difference between the two sections.
+/// The first difference between a section and the bytes that it was rewritten as.
 #[derive(Clone, Debug, PartialEq, Eq)]
 pub struct Difference {
     /// The section.
@@ -46,47 +46,49 @@ pub struct Difference {
 /// What differs between a record and its counterpart.
 #[derive(Clone, Debug, PartialEq, Eq)]
 pub enum What {
-    /// gimli can't read the record in `.eh_frame`.
+    /// gimli can't read the record in the section.
     Unreadable(String),
-    /// gimli can't read the counterpart.
+    /// gimli can't read the record's counterpart in the bridged bytes.
     UnreadableBridged(String),
-    /// There is no counterpart.
+    /// The bridged bytes have no counterpart of the record.
     Missing,
     /// The bridged bytes have a record that the section doesn't have.
     Surplus,
     /// One is a CIE and the other an FDE.
     Kind,
-    /// The CIEs have other alignment factors or another return address register.
+    /// The CIEs differ in an alignment factor or in the return address register.
     Numbers,
-    /// The FDEs cover other addresses.
+    /// The FDEs cover different addresses.
     Range {
-        /// First address and count of bytes in `.eh_frame`.
+        /// First address and number of bytes in the section.
         section: (u64, u64),
-        /// First address and count of bytes in the bridged bytes.
+        /// First address and number of bytes in the bridged bytes.
         bridged: (u64, u64),
     },
-    /// A row of the FDE, counted from 0.
+    /// A row of the FDE differs.
     Row {
-        /// Its number.
+        /// The row's number in the FDE, from 0.
         number: usize,
-        /// The row in `.eh_frame`, the end of the rows, or an error.
+        /// The row in the section, the end of the rows, or an error.
         section: String,
         /// The row in the bridged bytes, the end of the rows, or an error.
         bridged: String,
     },
 }
 
-/// Something that gives the rows of an FDE one by one.
+/// Gives the rows of an FDE one by one.
 ///
-/// gimli doesn't tell a register that is undefined from one without a rule. A source that is compared with
-/// [`GimliRows`] has to leave out each [`crate::row::Rule::Undefined`] and each row that covers no address.
+/// gimli doesn't distinguish an undefined register from a register without a rule. So a source that
+/// is compared with [`GimliRows`] has to leave out each [`crate::row::Rule::Undefined`], and each
+/// row that covers no address.
 pub trait RowSource<'a> {
-    /// Writes the next row to `row`. Gives false after the last one, and an error where the rows can't go on.
+    /// Writes the next row to `row`. Returns false after the last row, or an error if no more rows
+    /// can be read.
     fn next_row(&mut self, row: &mut Row<'a>) -> Result<bool, String>;
 }
 
-/// Compares rows one by one, and gives their number and whether both ended with the same error. `rows` is room for one
-/// row of each.
+/// Compares rows one by one. Returns the number of equal rows, and whether both sources ended with
+/// the same error. `rows` is a buffer for one row of each source.
 pub fn compare_rows<'a, 'b>(
     section: &mut impl RowSource<'a>,
     bridged: &mut impl RowSource<'b>,
@@ -154,7 +156,7 @@ pub fn validate(section: &EhFrame<'_>, bridged: &Bridged) -> Result<Agreement, D
     }
 }
 
-/// The offset of the next record that isn't an end mark.
+/// The offset of the next record whose length isn't 0.
 fn next_record(cursor: &mut Cursor<'_>) -> Option<usize> {
     while !cursor.is_at_end() {
         let record = cursor.at();

@@ -1,4 +1,4 @@
-//! Bridged sections against what readelf shows of them and of the sections that they come from.
+//! Compares rewritten sections, and the sections that they were made from, with readelf.
 
 mod common;
 #[path = "common/frames.rs"]
@@ -38,7 +38,8 @@ fn is_signal(shown: &[Shown], cie: u64) -> bool {
     shown.iter().any(|record| record.offset == cie && record.augmentation.contains('S'))
 }
 
-/// Each record leads back to where readelf shows it, and each byte of its instructions to the same byte.
+/// Each record leads back to where readelf shows it, and each byte of its instructions to the same
+/// byte in the original.
 fn placed(folder: &Folder, file: &str, shown: &[Shown], bridged: &dwcheck_elf::bridge::Bridged) {
     let source = folder.section(file, ".eh_frame");
     assert_eq!(bridged.records().len(), shown.len());
@@ -124,7 +125,8 @@ fn other_machines() {
     }
 }
 
-/// A CIE and an FDE by hand, with an encoding of addresses and what stands for the address and the range of `f`.
+/// A CIE and an FDE, for an encoding of addresses. The two texts are the address and the range of
+/// `f`.
 fn by_hand(encoding: u8, address: &str, range: &str) -> String {
     format!(
         "
@@ -183,7 +185,8 @@ fn encodings() {
         let text = if encoding == 0x0a { "0x7000" } else { "0x400020" };
         folder.run(&format!("as a.s -o a.o; ld -Ttext={} a.o -o linked", text));
         let f = common::hex(folder.run("nm linked | grep -w f").split(' ').next().unwrap());
-        // readelf 2.40 reads LEB128 addresses as numbers of 4 bytes; here gimli is the judge alone.
+        // readelf 2.40 reads LEB128 addresses as numbers of 4 bytes, so only gimli's rows are
+        // compared.
         let is_leb = encoding & 0xf == 1 || encoding & 0xf == 9;
         let bridged = if is_leb { validated(&folder).0 } else { compared(&folder, "linked", "objcopy").0 };
         let kind = bridged.records().last().map(|record| record.kind);
@@ -191,7 +194,8 @@ fn encodings() {
     }
 }
 
-/// Relative to the text section and to the global offset table, which readelf doesn't do.
+/// Addresses relative to the text section and to the global offset table, which readelf doesn't
+/// support.
 #[test]
 fn encodings_with_other_bases() {
     let folder = Folder::new("bases");
@@ -206,7 +210,7 @@ fn encodings_with_other_bases() {
     }
 }
 
-/// Bridges the file `linked` and compares gimli's rows alone.
+/// Rewrites the section of the file `linked`, and compares only gimli's rows.
 fn validated(folder: &Folder) -> (dwcheck_elf::bridge::Bridged, dwcheck_elf::validate::Agreement) {
     let bytes = folder.bytes("linked");
     let program = dwcheck_elf::program::Program::read(&bytes).unwrap();

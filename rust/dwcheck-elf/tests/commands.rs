@@ -1,4 +1,5 @@
-//! The commands of `dwcheck`, on programs: what is written is what `dwcheck` writes of the sections, but for the names.
+//! The commands on programs. Except for the names, they write what `dwcheck` writes of the
+//! programs' sections.
 
 mod common;
 
@@ -19,11 +20,12 @@ fn program(folder: &Folder) {
     folder.run(&format!("gcc {} {} a.c aligned.s -o program", flags, plain));
     let dump = "--dump-section .debug_frame=frame --dump-section .debug_loclists=lists";
     folder.run(&format!("objcopy {} program /dev/null", dump));
-    // The objects of the C library have `.eh_frame`.
+    // The C library's objects add `.eh_frame` to the program.
     folder.run("objcopy -R .eh_frame program program");
 }
 
-/// The lines without names of functions, which are in parentheses after a space at the end.
+/// The lines without `section` lines, and without names of functions, which are in parentheses
+/// after a space at the end.
 fn nameless(text: &str) -> String {
     let cut = |line: &str| match line.rfind(" (") {
         Some(at) if line.ends_with(')') => line[..at].to_string(),

@@ -1,4 +1,4 @@
-//! Core files against what gdb and elfutils show of them.
+//! Core files, compared with gdb and elfutils.
 
 mod common;
 
@@ -7,7 +7,8 @@ use dwcheck_elf::core_file::{CoreError, CoreFile, FileError, Files, Image, Memor
 use dwcheck_elf::program::Program;
 use std::path::Path;
 
-/// A program with two threads, one of which aborts below some frames. It reads its own file, too.
+/// A program with two threads, one of which aborts a few frames deep. The program also reads its
+/// own file.
 const CRASH: &str = "
 #include <fcntl.h>
 #include <pthread.h>
@@ -30,7 +31,8 @@ __attribute__((noinline)) int deep(int n) {
 int main(void) { pthread_t t; pthread_create(&t, 0, idle, 0); return deep(5); }
 ";
 
-/// Makes the program `crash` and two core files of it: one by the kernel, if it writes them here, and one by gdb.
+/// Makes the program `crash` and two core files of it: one by gdb, and one by the kernel, if the
+/// kernel writes core files here.
 fn cores(folder: &Folder) -> Vec<&'static str> {
     folder.write("crash.c", CRASH);
     folder.run("gcc -O1 -g crash.c -o crash -lpthread");
@@ -45,7 +47,7 @@ fn cores(folder: &Folder) -> Vec<&'static str> {
     cores
 }
 
-/// Runs a program that dies and takes the core that the kernel writes into the folder, if it does.
+/// Runs a program that dies, and moves the kernel's core file into the folder, if there is one.
 fn kernel_core(folder: &Folder, program: &str, name: &str) -> bool {
     folder.run(&format!("(ulimit -c unlimited; {} >/dev/null 2>&1) || true", program));
     let found = folder.run("ls -d core core.* 2>/dev/null || true");
@@ -66,7 +68,7 @@ fn gdb(folder: &Folder, program: &str, core: &str, commands: &[&str]) -> String 
     folder.run(&format!("gdb --batch -ex 'set pagination off' {} {} {}", commands.join(" "), program, core))
 }
 
-/// The ids of the threads that gdb shows, each with the lines that follow.
+/// The ids of the threads that gdb shows, each with the lines that follow it.
 fn by_thread(shown: &str) -> Vec<(u32, Vec<Vec<&str>>)> {
     let mut threads: Vec<(u32, Vec<Vec<&str>>)> = Vec::new();
     for line in shown.lines() {
@@ -116,7 +118,7 @@ fn shown_bytes(shown: &str) -> Vec<(u64, Vec<u8>)> {
     read.collect()
 }
 
-/// Compares memory with gdb's, and gives the origins of it.
+/// Compares memory with gdb's. Returns where the bytes come from.
 fn compare_memory(memory: &Memory<'_>, shown: &str) -> Vec<Origin> {
     let lines = shown_bytes(shown);
     assert!(!lines.is_empty(), "{}", shown);
@@ -171,7 +173,8 @@ fn memory() {
     }
 }
 
-/// The modules that elfutils finds by build ids, and the addresses that gdb has for functions of them.
+/// Compares the modules with those that elfutils finds by build ids, and functions' addresses with
+/// gdb's.
 #[test]
 fn modules() {
     let folder = Folder::new("core-modules");
@@ -186,7 +189,7 @@ fn modules() {
         let mut begins: Vec<_> = modules.iter().map(|module| module.begin).collect();
         begins.sort_unstable();
         let shown = folder.run(&format!("eu-unstrip -n --core {}", core));
-        // elfutils also finds the file that the program only reads.
+        // elfutils also finds the file that the program only reads, without running it.
         let main = address_by_gdb(&folder, core, "main");
         let mut expected = Vec::new();
         for line in shown.lines() {
@@ -217,7 +220,7 @@ fn address_by_gdb(folder: &Folder, core: &str, name: &str) -> u64 {
     hex(shown.lines().find_map(|line| line.strip_prefix("$1 = ")).unwrap())
 }
 
-/// A program that is loaded where it was linked has no bias.
+/// A program that is loaded at the addresses it was linked for has the bias 0.
 #[test]
 fn fixed_program() {
     let folder = Folder::new("core-fixed");
@@ -234,7 +237,8 @@ fn fixed_program() {
     assert_eq!((module.bias, module.begin), (0, 0x400000));
 }
 
-/// Files below another folder: one that was changed, one that isn't there, one that isn't regular.
+/// Files below another root folder: one that was changed, one that doesn't exist, and one that
+/// isn't regular.
 #[test]
 fn files_that_cannot_be_used() {
     let folder = Folder::new("core-files");
@@ -267,7 +271,7 @@ fn files_that_cannot_be_used() {
     assert!(memory.blocks().all(|block| block.origin == Origin::Core));
 }
 
-/// Names that would lead out of the folder, or to a file whose bytes never end.
+/// Paths that would lead out of the root folder, or to a file whose bytes never end.
 #[test]
 fn names_that_are_wrong() {
     let folder = Folder::new("core-names");
@@ -296,7 +300,7 @@ fn names_that_are_wrong() {
     assert_eq!(error_of("/proc/kmsg"), "NotRegular");
 }
 
-/// A core that ends in the middle keeps its threads, and what memory is there.
+/// A core file that is cut off keeps its threads, and the memory that is there.
 #[test]
 fn core_that_was_cut() {
     let folder = Folder::new("core-cut");
@@ -341,7 +345,7 @@ f: .cfi_startproc
  .cfi_endproc
 ";
 
-/// A 32-bit program, where the kernel runs it.
+/// A 32-bit program, if the kernel can run it.
 #[test]
 fn i386_program() {
     let folder = Folder::new("core-i386");
@@ -380,7 +384,8 @@ begin: .fill 12, 1, 0
  .fill 76, 1, 0
 ";
 
-/// No aarch64 program runs here. elfutils reads the same bytes: a note by hand in a file whose type is that of cores.
+/// No aarch64 kernel writes core files here. So elfutils reads the same bytes: a note made by hand,
+/// in a file with the type of core files.
 #[test]
 fn aarch64_registers() {
     let folder = Folder::new("core-aarch64");

@@ -1,4 +1,5 @@
-//! Files with bytes that were changed at random: they give answers or errors, and never end the process.
+//! Files with bytes that were changed at random. Reading them gives answers or errors, and never
+//! ends the process.
 
 mod common;
 
@@ -10,7 +11,7 @@ use dwcheck_elf::program::Program;
 use dwcheck_elf::validate::{validate, What};
 use std::path::Path;
 
-/// Numbers that look random and are the same on each run (xorshift).
+/// Pseudorandom numbers, the same in each run (xorshift).
 struct Numbers(u64);
 
 impl Numbers {
@@ -21,7 +22,7 @@ impl Numbers {
         (self.0 % below as u64) as usize
     }
 
-    /// Changes some bytes of a range, or cuts the bytes.
+    /// Changes some bytes of a range, and sometimes cuts the bytes off within it.
     fn damage(&mut self, bytes: &mut Vec<u8>, begin: usize, end: usize) {
         const BYTES: [u8; 8] = [0, 1, 0x7f, 0x80, 0xff, 0xfe, 0x10, 0x9b];
         for _ in 0..1 + self.next(4) {
@@ -38,8 +39,8 @@ impl Numbers {
     }
 }
 
-/// Bridges a section, if it can be. The bridge leaves out augmentation data that gimli reads and may refuse; that is the
-/// only difference.
+/// Rewrites a section, if possible. The only allowed difference is a record that gimli can't read
+/// because of its augmentation data, which the bridge leaves out.
 fn frames(section: &EhFrame<'_>) -> bool {
     let bridged = match bridge(section, Options::default()) {
         Ok(bridged) => bridged,
@@ -62,7 +63,7 @@ fn frames(section: &EhFrame<'_>) -> bool {
     true
 }
 
-/// Reads all that a program has.
+/// Reads everything that a program has.
 fn program(bytes: &[u8]) {
     let program = match Program::read(bytes) {
         Ok(program) => program,
@@ -84,7 +85,7 @@ fn program(bytes: &[u8]) {
     }
 }
 
-/// Each fault has a place in the section's bytes.
+/// Each fault has a place in the original section.
 fn told(section: &Inspected<'_>) {
     if let (Verdict::Refused(defects), Some(frames)) = (&section.verdict, &section.frames) {
         let end = frames.source().bytes.len() as u64;
@@ -93,7 +94,7 @@ fn told(section: &Inspected<'_>) {
     }
 }
 
-/// Reads all that a core has.
+/// Reads everything that a core file has.
 fn core(bytes: &[u8]) -> bool {
     let core = match CoreFile::read(bytes) {
         Ok(core) => core,
@@ -114,7 +115,7 @@ fn core(bytes: &[u8]) -> bool {
     true
 }
 
-/// The section alone.
+/// Changes only the section.
 #[test]
 fn sections() {
     let folder = Folder::new("damage-sections");

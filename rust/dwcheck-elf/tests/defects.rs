@@ -1,4 +1,4 @@
-//! Sections with defects: which are mended, which are left to dwcheck, and which can't be bridged.
+//! Sections with defects: some are mended, some are left to `dwcheck`, and some can't be rewritten.
 
 mod common;
 
@@ -31,7 +31,8 @@ fn bridged(folder: &Folder, options: Options) -> (Bridged, Agreement) {
     (bridged, agreement)
 }
 
-/// gimli refuses the instruction in both sections, and its place leads back to the section.
+/// gimli refuses the instruction in both sections, and the instruction's place in the original
+/// section is found.
 #[test]
 fn def_cfa_register_after_an_expression() {
     let folder = Folder::new("expression");
@@ -63,7 +64,7 @@ fn remember_without_restore() {
     assert_eq!((begun.record, begun.offset), (offsets[1], offsets[1]));
 }
 
-/// Instructions that aren't known, or that end too early, are copied with what follows.
+/// Instructions that aren't known, or whose operands are cut off, are copied with all that follows.
 #[test]
 fn instructions_that_are_wrong() {
     for (directive, bytes) in [
@@ -81,7 +82,7 @@ fn instructions_that_are_wrong() {
     }
 }
 
-/// What follows a dropped instruction leads back past it.
+/// After a dropped instruction, offsets lead back to the right place in the original section.
 #[test]
 fn args_size_is_dropped() {
     let folder = Folder::new("args");
@@ -108,7 +109,7 @@ fn cie(augmentation: &[u8], instructions: &[u8]) -> Vec<u8> {
     [&(body.len() as u32).to_le_bytes(), body.as_slice()].concat()
 }
 
-/// An FDE of the CIE at offset 0, with what follows the pointer.
+/// An FDE at offset `at`, whose CIE is at offset 0. `rest` follows the CIE pointer.
 fn fde(at: usize, rest: &[u8]) -> Vec<u8> {
     let length = rest.len() as u32 + 4;
     [&length.to_le_bytes(), &(at as u32 + 4).to_le_bytes(), rest].concat()
@@ -122,7 +123,7 @@ fn error(record: u64, field: u64, reason: Reason) -> BridgeError {
     BridgeError { record, field, reason }
 }
 
-/// GNU as opens the CIEs of some machines with def_cfa_register alone.
+/// For some machines GNU as begins CIEs with def_cfa_register alone.
 #[test]
 fn def_cfa_register_without_a_rule() {
     let cie = cie(b"\0", &[0x0d, 7]);
@@ -142,7 +143,7 @@ fn def_cfa_register_without_a_rule() {
 #[test]
 fn set_loc() {
     let cie = cie(b"zR\0", &[]);
-    // The augmentation data follow the numbers: one byte, pcrel and sdata4.
+    // The augmentation data come after the numbers: one byte, for the encoding pcrel and sdata4.
     let mut cie = [cie, vec![1, 0x1b, 0x0c, 7, 8]].concat();
     cie[0] += 5;
     let at = cie.len();
@@ -175,7 +176,7 @@ fn aligned_personality() {
     assert!(matches!(difference.what, What::Unreadable(_)));
 }
 
-/// End marks in the middle, and records in the 64-bit format.
+/// Records of length 0 in the middle, and records in the 64-bit format.
 #[test]
 fn end_marks_and_long_records() {
     let cie = cie(b"\0", &[0x0c, 7, 8]);
@@ -236,7 +237,8 @@ fn records_that_cannot_be_bridged() {
     assert_eq!(refused(&bytes), error(at as u64, at as u64 + 12, Reason::NegativeRange));
 }
 
-/// Differences of ranges, rows and numbers, a record that was lost and one too many.
+/// The comparison notices changed ranges, rows and CIE fields, a record that was lost, and one too
+/// many.
 #[test]
 fn changes_are_seen() {
     let folder = Folder::new("changes");
@@ -273,7 +275,8 @@ fn changes_are_seen() {
     assert_eq!(lost.counts().fdes, fdes - 1);
 }
 
-/// dwcheck's rows of other bytes than the section's are a difference, which shows both rows.
+/// If `dwcheck` has rows of other bytes than the section's, that is a difference, which shows both
+/// rows.
 #[test]
 fn a_wrong_row_of_dwcheck_is_a_difference() {
     let folder = Folder::new("difference");

@@ -1,4 +1,4 @@
-//! Unlinked objects: relocations, against what readelf and nm say of them.
+//! Unlinked objects: their relocations, compared with readelf and nm.
 
 mod common;
 
@@ -8,7 +8,8 @@ use dwcheck_elf::program::{Program, ProgramError, Section};
 use dwcheck_elf::validate::validate;
 use std::collections::HashMap;
 
-/// What each relocation of an initial location names, in the order of the FDEs, as readelf shows it.
+/// The section and offset that each relocation of an initial location names, in the order of the
+/// FDEs, from readelf.
 fn functions_of_relocations(folder: &Folder, file: &str, section: &str) -> Vec<(String, u64)> {
     let shown = folder.run(&format!("readelf -rW {}", file));
     let title = format!("'.rela{}'", section);
@@ -23,7 +24,7 @@ fn functions_of_relocations(folder: &Folder, file: &str, section: &str) -> Vec<(
     code.collect()
 }
 
-/// The name of the section of code that each function is in, its offset there and its size, as readelf shows them.
+/// The name and size of each function, by its section and its offset there, from readelf.
 fn functions_of_symbols(folder: &Folder, file: &str) -> HashMap<(String, u64), (String, u64)> {
     let mut sections = HashMap::new();
     for line in folder.run(&format!("readelf -SW {} | sed 's/^ *\\[ *//; s/\\]//'", file)).lines() {
@@ -46,7 +47,7 @@ fn functions_of_symbols(folder: &Folder, file: &str) -> HashMap<(String, u64), (
     functions.collect()
 }
 
-/// Each FDE is that of the function that its relocation names, and no two share an address.
+/// Each FDE covers the function that its relocation names, and no two FDEs share an address.
 fn functions_of_frames(folder: &Folder, file: &str, section: &str, ranges: &[(u64, u64)]) {
     let named = functions_of_relocations(folder, file, section);
     let known = functions_of_symbols(folder, file);
@@ -89,7 +90,8 @@ fn eh_frame_of_c() {
     functions_of_frames(&folder, "a.o", ".eh_frame", &ranges_of_eh_frame(&folder, "a.o"));
 }
 
-/// C++ has its inline functions in groups, each with a section of its own, and a personality that isn't defined.
+/// C++ has inline functions in groups, each with its own sections, and a personality that the
+/// object doesn't define.
 #[test]
 fn eh_frame_of_cxx() {
     let folder = Folder::new("objects-cxx");
@@ -100,7 +102,7 @@ fn eh_frame_of_cxx() {
     functions_of_frames(&folder, "fixed.o", ".eh_frame", &ranges_of_eh_frame(&folder, "fixed.o"));
 }
 
-/// The bytes of the section beside those of the program that the linker makes: all but the addresses are equal.
+/// A compressed `.debug_frame` with relocations: each FDE covers its function.
 #[test]
 fn debug_frame_of_c() {
     let folder = Folder::new("objects-debug");
@@ -128,7 +130,7 @@ fn ranges_of_debug_frame(section: &Section<'_>) -> Vec<(u64, u64)> {
     ranges
 }
 
-/// The location lists of an object are those of the program that the linker makes of it, if it gives the same address.
+/// The location lists of an object are the same after `ld -r`.
 #[test]
 fn debug_loclists_of_c() {
     let folder = Folder::new("objects-lists");
@@ -146,7 +148,8 @@ fn debug_loclists_of_c() {
     assert_eq!(lists.bytes, again.bytes);
 }
 
-/// Objects for other machines, whose relocations are theirs alone. The linker's result is the judge.
+/// Objects for other machines, which have their own types of relocations. The ranges have to be
+/// those that the linker makes.
 #[test]
 fn other_machines() {
     let folder = Folder::new("objects-machines");
@@ -164,7 +167,7 @@ g: .cfi_startproc
  .cfi_endproc
 ";
     folder.write("a.s", text);
-    // hppa counts from two instructions on, which isn't done.
+    // hppa's distances count from two instructions later, which isn't supported.
     for machine in MACHINES.into_iter().filter(|machine| !machine.starts_with("hppa")) {
         if has(&format!("{}-as", machine)) {
             folder.run(&format!("{0}-as a.s -o a.o; {0}-ld -e 0 -Ttext=0 a.o -o linked", machine));
@@ -175,7 +178,7 @@ g: .cfi_startproc
     }
 }
 
-/// An initial location that belongs to another object can't be known.
+/// The address of an initial location whose symbol is in another object isn't known.
 #[test]
 fn undefined_symbols() {
     let folder = Folder::new("objects-undefined");
@@ -210,7 +213,7 @@ fde_end:
     assert_eq!(error, BridgeError { record, field: record + 8, reason: Reason::Unresolved });
 }
 
-/// An empty section besides is left out. Two with bytes are refused.
+/// An empty section with the same name is ignored. Two sections with bytes are refused.
 #[test]
 fn sections_that_repeat() {
     let folder = Folder::new("objects-repeat");
@@ -227,7 +230,8 @@ fn sections_that_repeat() {
     assert_eq!(Program::read(&bytes).unwrap().eh_frame(), Err(ProgramError::Repeated(".eh_frame")));
 }
 
-/// A relocation of a type that no frame section has, and one beside the section.
+/// A relocation of a type that no frame section has, and relocations with a field or a symbol that
+/// isn't there.
 #[test]
 fn relocations_that_are_wrong() {
     let folder = Folder::new("objects-wrong");

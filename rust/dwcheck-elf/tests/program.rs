@@ -1,4 +1,4 @@
-//! Programs against what nm, readelf and objcopy say of them.
+//! Programs, compared with nm, readelf and objcopy.
 
 mod common;
 
@@ -72,7 +72,7 @@ fn functions() {
     assert_eq!(functions.at(0), None);
 }
 
-/// Local functions of two files with one name.
+/// Local functions with the same name, from two files.
 #[test]
 fn names_that_repeat() {
     let folder = Folder::new("names");
@@ -115,13 +115,13 @@ fn segments() {
     assert_eq!(found, expected);
 }
 
-/// Sections as objcopy takes them out, plain and in both forms of compression.
+/// Sections compared with objcopy's: uncompressed, and in both compressed formats.
 #[test]
 fn compressed_sections() {
     let folder = Folder::new("compressed");
     folder.write("a.c", C);
     for (form, header) in [("none", ".debug_frame"), ("zlib", ".debug_frame"), ("zlib-gnu", ".zdebug_frame")] {
-        // The linker alone compresses, so that all files have the same section.
+        // Only the linker compresses, so that all files have the same section.
         folder.run(&format!("gcc {} -Wl,--compress-debug-sections={} a.c -o {}", DEBUG_FRAME, form, form));
         let shown = folder.run(&format!("readelf -SW {} | grep -w 'z\\?debug_frame'", form));
         assert!(shown.contains(header), "{}", shown);
@@ -141,7 +141,7 @@ fn compressed_sections() {
     assert_eq!(eh_frame.bytes.as_ref(), folder.section("none", ".eh_frame"));
 }
 
-/// A compressed section that claims more bytes than it can have takes no memory.
+/// For a compressed section that claims more bytes than it can have, no memory is allocated.
 #[test]
 fn sizes_that_lie() {
     let folder = Folder::new("lies");

@@ -1,11 +1,12 @@
-//! Programs with defects: what is written of each.
+//! Programs with defects, and what is written of each.
 
 mod common;
 
 use common::run::dwcheck_elf;
 use common::{has, Folder, MACHINES};
 
-/// A function with a defect: its name, the directives between its instructions, the fault, and what is there.
+/// A function with a defect: its name, the directives between its instructions, the fault, and what
+/// is at the fault.
 const DEFECTS: [(&str, &str, &str, &str); 13] = [
     (
         "after_expression",
@@ -32,7 +33,7 @@ const DEFECTS: [(&str, &str, &str, &str); 13] = [
     ("truncated", ".cfi_escape 0x0f, 0x7f", "Truncated", "def_cfa_expression"),
 ];
 
-/// Links a function for each defect, and one without.
+/// Links a function for each defect, and one without a defect.
 fn all_defects(folder: &Folder) {
     let function = |name: &str, directives: &str| {
         format!(
@@ -74,7 +75,8 @@ fn each_defect_is_listed_in_the_terms_of_the_file() {
     assert_eq!((rows.status, rows.lines()), (1, lines[..2].to_vec()));
 }
 
-/// An FDE that covers what another one does, as linkers leave for functions that they dropped.
+/// An FDE that covers the addresses of another FDE, which linkers leave for functions that they
+/// dropped.
 #[test]
 fn fdes_that_share_addresses() {
     let folder = Folder::new("overlap");
@@ -94,7 +96,8 @@ fn fdes_that_share_addresses() {
     assert_eq!((ran.status, ran.lines().len()), (1, 2));
 }
 
-/// Records of length 0, which some linkers leave in `.debug_frame`, are left out, and CIE pointers follow.
+/// Records of length 0, which some linkers leave in `.debug_frame`, are left out, and CIE pointers
+/// are changed to match.
 #[test]
 fn empty_records_of_debug_frame_are_left_out() {
     let folder = Folder::new("empty-records");
@@ -116,7 +119,8 @@ fn empty_records_of_debug_frame_are_left_out() {
     assert!(rows.lines()[3].starts_with("fde 0x0000003c cie 0x0000002c "), "{}", rows.out);
 }
 
-/// GNU as opens CIEs for these with DW_CFA_def_cfa_register, which has a rule only by a common reading.
+/// GNU as begins CIEs for these machines with DW_CFA_def_cfa_register, before the CFA has a rule.
+/// Most readers accept that.
 #[test]
 fn strict_refuses_a_register_without_an_offset() {
     let folder = Folder::new("strict");
@@ -135,7 +139,7 @@ fn strict_refuses_a_register_without_an_offset() {
     }
 }
 
-/// An instruction that aarch64 has for signed return addresses.
+/// aarch64's instruction for signed return addresses.
 #[test]
 fn a_code_of_a_machine_has_its_name() {
     let folder = Folder::new("signed");
@@ -148,7 +152,7 @@ fn a_code_of_a_machine_has_its_name() {
     assert!(ran.lines()[0].ends_with(": UnknownInstruction: AARCH64_negate_ra_state, FDE 0x0..0x8 (f)"), "{}", ran.out);
 }
 
-/// Unlinked objects of each machine: two sections of code, each at an address of its own.
+/// Unlinked objects of each machine: two sections of code, each with its own address.
 #[test]
 fn objects_of_each_machine() {
     let folder = Folder::new("machines");

@@ -1,4 +1,4 @@
-//! Stacks of core files, beside those of elfutils.
+//! Stacks of core files, compared with those of elfutils.
 
 mod common;
 
@@ -33,7 +33,7 @@ __attribute__((noinline)) static int faulty(volatile int *address) { return *add
 int main(void) { signal(SIGSEGV, handler); return faulty((volatile int *)16) + 1; }
 ";
 
-/// A destructor ends the program while an exception is in flight.
+/// A destructor aborts the program while an exception is in flight.
 const EXCEPTION: &str = "
 #include <cstdlib>
 #include <stdexcept>
@@ -58,7 +58,7 @@ fn addresses(shown: &str) -> Vec<String> {
     lines.collect()
 }
 
-/// Compares the stacks of a program that ends by a signal. Gives what is written of them.
+/// Compares the stacks of a program that a signal ends. Returns the text of ours.
 fn compared(name: &str, compiler: &str, source: &str) -> String {
     let folder = Folder::new(name);
     if !["gdb", "eu-stack"].iter().all(|tool| has(tool)) {
@@ -109,7 +109,7 @@ fn a_program_of_32_bits() {
     compared("stack-i386", "gcc -m32 -O1", SIGNAL);
 }
 
-/// qemu's core files don't say which files are mapped, so the program is what is named.
+/// qemu's core files don't list the mapped files, so the program on the command line is used.
 #[test]
 fn a_program_of_another_machine() {
     let folder = Folder::new("stack-aarch64");
@@ -122,7 +122,8 @@ fn a_program_of_another_machine() {
     let ours = dwcheck_elf(&folder, "stack program core");
     assert_eq!((ours.status, ours.error.as_str()), (0, ""), "{}", ours.out);
     assert!(ours.out.matches(" deep+").count() == 21 && ours.out.contains(" main+"), "{}", ours.out);
-    // elfutils finds no program for the core, and goes by frame pointers. That gives these frames, and others between.
+    // elfutils finds no program for the core, so it uses frame pointers. It shows these frames, and
+    // others between them.
     let theirs = addresses(&folder.run("eu-stack --core core -e program 2> /dev/null || true"));
     let mut left = theirs.iter();
     assert!(addresses(&ours.out).iter().all(|address| left.any(|other| other == address)), "{}{:?}", ours.out, theirs);

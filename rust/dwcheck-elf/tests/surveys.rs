@@ -1,11 +1,11 @@
-//! Surveys: which files are taken, and what is written of them.
+//! Surveys: which files are checked, and what is written.
 
 mod common;
 
 use common::run::dwcheck_elf;
 use common::{Folder, C};
 
-/// A folder with good programs, one that is refused, and things that are no ELF files.
+/// A folder with programs that are accepted, one that is refused, and files that aren't ELF files.
 fn folder(name: &str) -> Folder {
     let folder = Folder::new(name);
     folder.write("a.c", C);

@@ -1,6 +1,8 @@
-//! The frames of a core's threads by the program `dwcheck`, from all that this library reads, against gdb's.
+//! Compares the frames of a core file's threads with gdb's. The program `dwcheck` finds them, from
+//! what this library reads.
 //!
-//! It needs a built `dwcheck`, whose path the variable DWCHECK has. Else it is skipped.
+//! This needs a built `dwcheck`, whose path is in the variable DWCHECK. Otherwise the tests are
+//! skipped.
 
 mod common;
 
@@ -12,7 +14,7 @@ use std::collections::HashMap;
 use std::fmt::Write;
 use std::path::Path;
 
-/// Two threads with a callback of the C library, and a signal handler on the way.
+/// Two threads with a callback from the C library, and a signal handler between the frames.
 const CRASH: &str = "
 #include <pthread.h>
 #include <signal.h>
@@ -49,7 +51,8 @@ for thread in gdb.selected_inferior().threads():
 end
 ";
 
-/// Writes the bridged `.eh_frame` of a module to a file, and gives the module as the program wants it.
+/// Writes the rewritten `.eh_frame` of a module to a file. Returns the module as an argument of
+/// `dwcheck`.
 fn module_word(folder: &Folder, number: usize, module: &Module<'_>) -> Option<String> {
     let program = Program::read(module.image.bytes()).ok()?;
     let section = program.eh_frame().unwrap()?;
@@ -59,7 +62,8 @@ fn module_word(folder: &Folder, number: usize, module: &Module<'_>) -> Option<St
     Some(format!("{:#x}={}", module.bias, name))
 }
 
-/// The state file of a thread: what calls keep, its registers, and its stack from a little below the stack pointer on.
+/// The state file of a thread: the callee-saved registers, its registers, and its stack from a
+/// little below the stack pointer on.
 fn state(core: &CoreFile<'_>, memory: &Memory<'_>, thread: &Thread) -> String {
     let abi = core.abi();
     let mut state = String::new();
@@ -78,8 +82,8 @@ fn state(core: &CoreFile<'_>, memory: &Memory<'_>, thread: &Thread) -> String {
     state
 }
 
-/// The frames of each thread by gdb, without those that only debug information knows: of inlined functions, and of
-/// functions that another one took the place of.
+/// gdb's frames of each thread, without frames that only debug information shows: inlined functions
+/// and tail calls.
 fn frames_by_gdb(folder: &Folder, program: &str) -> HashMap<u32, Vec<u64>> {
     folder.write("frames.gdb", FRAMES);
     let shown = folder.run(&format!("gdb --batch -x frames.gdb {} core | grep ^walk", program));
@@ -99,7 +103,7 @@ fn dwcheck() -> Option<String> {
     dwcheck
 }
 
-/// Compares the frames of all threads of the core that `program` left, and gives the count of modules.
+/// Compares the frames of all threads of the core file of `program`. Returns the number of modules.
 fn compare_walks(folder: &Folder, dwcheck: &str, program: &str) -> usize {
     let bytes = folder.bytes("core");
     let core = CoreFile::read(&bytes).unwrap();
@@ -137,7 +141,8 @@ fn frames_of_a_c_program() {
     }
 }
 
-/// A larger program: the Python of the system, with a thread that waits, deep below calls, and one that aborts.
+/// A larger program: the system's Python, with one thread that waits deep in calls, and one that
+/// aborts.
 const PYTHON: &str = "
 import ctypes, os, re, ssl, threading, time
 def deep(n, last):

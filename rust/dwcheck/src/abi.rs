@@ -1,17 +1,17 @@
-//! What calls leave as it was.
+//! Which registers a call preserves.
 
-/// What an ABI says of registers that an unwind table has no rule for.
+/// What an ABI says about registers for which an unwind table has no rule.
 ///
-/// Calls keep the registers `kept`: a caller has in them what the called function has. The stack
-/// pointer's value in a caller is the CFA. Of any other register without a rule nothing is known.
-/// Registers have DWARF's numbers for the machine.
+/// `kept` are the callee-saved registers: the caller has the same values in them as the function
+/// that it called. The stack pointer's value in the caller is the CFA. Nothing is known of any
+/// other register without a rule. Register numbers are DWARF's for the machine.
 ///
-/// At most 127 registers may be kept, and no number may stand twice, nor be kept and the stack
-/// pointer: else the call that takes the ABI refuses it, by
-/// [`AbiTooLarge`](crate::FaultKind::AbiTooLarge) or [`AbiTwice`](crate::FaultKind::AbiTwice).
+/// `kept` has at most 127 registers, none of them twice, and not the stack pointer. Otherwise the
+/// call that takes the ABI refuses it with [`AbiTooLarge`](crate::FaultKind::AbiTooLarge) or
+/// [`AbiTwice`](crate::FaultKind::AbiTwice).
 ///
-/// The constants cover the general-purpose registers. Where calls leave the return address in a
-/// register, that one is among the kept: a function that calls none has no rule for it.
+/// The constants cover the general-purpose registers. On machines where a call leaves the return
+/// address in a register, that register is in `kept`: leaf functions have no rule for it.
 ///
 /// ```
 /// use dwcheck::Abi;
@@ -20,14 +20,14 @@
 /// ```
 #[derive(Clone, Copy, Debug, Default, PartialEq, Eq, Hash)]
 pub struct Abi<'a> {
-    /// The registers that calls keep.
+    /// The callee-saved registers.
     pub kept: &'a [u16],
-    /// The stack pointer, which is none of these.
+    /// The stack pointer, which isn't one of `kept`.
     pub stack_pointer: Option<u16>,
 }
 
 impl<'a> Abi<'a> {
-    /// An ABI of these registers. It is tested when a call takes it.
+    /// An ABI with these registers. They are checked by the call that takes the ABI.
     pub const fn new(kept: &'a [u16], stack_pointer: Option<u16>) -> Abi<'a> {
         Abi {
             kept,
@@ -37,23 +37,24 @@ impl<'a> Abi<'a> {
 }
 
 impl Abi<'static> {
-    /// Nothing is said of any register.
+    /// Says nothing about any register.
     pub const NONE: Abi<'static> = Abi::new(&[], None);
 
-    /// x86-64: rbx, rbp and r12 to r15, and rsp.
+    /// x86-64: rbx, rbp and r12 to r15. The stack pointer is rsp.
     pub const X86_64: Abi<'static> = Abi::new(&[3, 6, 12, 13, 14, 15], Some(7));
 
-    /// i386: ebx, ebp, esi and edi, and esp. (DWARF's numbers, as ELF systems have them.)
+    /// i386: ebx, ebp, esi and edi. The stack pointer is esp. (DWARF's numbers on ELF systems.)
     pub const I386: Abi<'static> = Abi::new(&[3, 5, 6, 7], Some(4));
 
-    /// aarch64: x19 to x29 and the return address in x30, and sp.
+    /// aarch64: x19 to x29, and x30 for the return address. The stack pointer is sp.
     pub const AARCH64: Abi<'static> =
         Abi::new(&[19, 20, 21, 22, 23, 24, 25, 26, 27, 28, 29, 30], Some(31));
 
-    /// arm: r4 to r11 and the return address in r14, and r13.
+    /// arm: r4 to r11, and r14 for the return address. The stack pointer is r13.
     pub const ARM: Abi<'static> = Abi::new(&[4, 5, 6, 7, 8, 9, 10, 11, 14], Some(13));
 
-    /// powerpc and powerpc64: r14 to r31 and the return address in the link register, 65, and r1.
+    /// powerpc and powerpc64: r14 to r31, and the link register, 65, for the return address. The
+    /// stack pointer is r1.
     pub const POWERPC: Abi<'static> = Abi::new(
         &[
             14, 15, 16, 17, 18, 19, 20, 21, 22, 23, 24, 25, 26, 27, 28, 29, 30, 31, 65,
@@ -61,14 +62,15 @@ impl Abi<'static> {
         Some(1),
     );
 
-    /// s390x: r6 to r13, r15 and the return address in r14. The stack pointer, r15, is kept: a CFA
-    /// is the caller's stack pointer plus 160.
+    /// s390x: r6 to r13, r15, and r14 for the return address. The stack pointer, r15, is among
+    /// `kept` instead: the CFA isn't its value in the caller, but that value plus 160.
     pub const S390X: Abi<'static> = Abi::new(&[6, 7, 8, 9, 10, 11, 12, 13, 15, 14], None);
 
-    /// riscv: s0 to s11, which are 8, 9 and 18 to 27, the return address in 1, and sp, 2.
+    /// riscv: s0 to s11 (8, 9 and 18 to 27), and 1 for the return address. The stack pointer is sp,
+    /// 2.
     pub const RISCV: Abi<'static> =
         Abi::new(&[8, 9, 18, 19, 20, 21, 22, 23, 24, 25, 26, 27, 1], Some(2));
 
-    /// mips: 16 to 23, 30 and the return address in 31, and 29.
+    /// mips: 16 to 23, 30, and 31 for the return address. The stack pointer is 29.
     pub const MIPS: Abi<'static> = Abi::new(&[16, 17, 18, 19, 20, 21, 22, 23, 30, 31], Some(29));
 }

@@ -4,24 +4,24 @@ use crate::ffi;
 use crate::state::Registers;
 use std::fmt;
 
-/// What is known of a number.
+/// What is known of a register, a CFA or a return address.
 #[derive(Clone, Copy, Debug, PartialEq, Eq, Hash)]
 #[non_exhaustive]
 pub enum Answer {
-    /// It is this, below 2^w.
+    /// The value is this number, below 2^w.
     Value(u64),
-    /// It can't be had: the table says so.
+    /// The value isn't available: its rule is undefined, or neither the table nor the ABI has one.
     Undefined,
-    /// It takes a register or memory that isn't handed in, or memory past 2^w - 1.
+    /// The value depends on a register or memory that wasn't passed, or on memory past 2^w - 1.
     Unreadable,
-    /// Its expression divides by zero.
+    /// The expression for the value divides by zero.
     DivisionByZero,
-    /// An answer that this crate doesn't know, by its number: the library is newer.
+    /// The number of an answer that this crate doesn't know, because the library is newer.
     Other(u32),
 }
 
 impl Answer {
-    /// The value, where there is one.
+    /// The value, if there is one.
     pub fn value(self) -> Option<u64> {
         match self {
             Answer::Value(value) => Some(value),
@@ -58,14 +58,14 @@ impl fmt::Display for Answer {
 pub struct Caller {
     /// The canonical frame address (CFA) of the frame that was called.
     pub cfa: Answer,
-    /// Where the caller goes on: the address after the call.
+    /// The address after the call, where the caller continues.
     pub return_address: Answer,
-    /// The registers that have a rule of the row or of the ABI, ascending, 256 at most.
+    /// The registers that have a rule from the row or the ABI, in ascending order, 256 at most.
     pub registers: Vec<(u16, Answer)>,
 }
 
 impl Caller {
-    /// What is known of a register. `None` where neither the row nor the ABI names it.
+    /// What is known of a register. `None` if neither the row nor the ABI names it.
     pub fn register(&self, number: u16) -> Option<Answer> {
         let place = self
             .registers
@@ -74,7 +74,7 @@ impl Caller {
         Some(self.registers[place].1)
     }
 
-    /// The registers that have a value: those of the next step up the stack.
+    /// The registers that have a value, for the next step up the stack.
     pub fn known(&self) -> Registers {
         self.registers
             .iter()
@@ -82,7 +82,7 @@ impl Caller {
             .collect()
     }
 
-    /// What the library wrote.
+    /// Decodes what the library wrote.
     pub(crate) fn of(raw: &ffi::Caller, registers: &[ffi::Register]) -> Caller {
         let count = usize::try_from(raw.count).unwrap_or(usize::MAX);
         Caller {
@@ -96,7 +96,8 @@ impl Caller {
         }
     }
 
-    /// A register that the library wrote. Its number always has 16 bits.
+    /// Decodes one register that the library wrote. The library's register numbers always fit 16
+    /// bits.
     fn register_of(raw: &ffi::Register) -> Option<(u16, Answer)> {
         let number = u16::try_from(raw.number).ok()?;
         Some((number, Answer::of(raw.kind, raw.value)))

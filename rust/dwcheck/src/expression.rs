@@ -1,18 +1,18 @@
-//! Expressions, and what they come to.
+//! Expressions and their results.
 
 use crate::fault::Error;
 use crate::ffi;
 use crate::state::State;
 use crate::target::Target;
 
-/// What an expression is used as.
+/// What an expression is used for. That decides the stack that its evaluation begins with.
 #[derive(Clone, Copy, Debug, PartialEq, Eq, Hash)]
 pub enum ExpressionKind {
-    /// The rule of a CFA. Its run begins with nothing on the stack.
+    /// The rule of a CFA. The stack begins empty.
     FrameCfa,
-    /// The rule of a register. Its run begins with the CFA on the stack.
+    /// The rule of a register. The stack begins with the CFA.
     FrameRegister,
-    /// A location. Its run begins with nothing on the stack.
+    /// The location of an object. The stack begins empty.
     Location,
 }
 
@@ -26,14 +26,14 @@ impl ExpressionKind {
     }
 }
 
-/// What the place in the program gives an expression, where it is known.
+/// Values that depend on where the program stopped, each `None` if it isn't known.
 #[derive(Clone, Copy, Debug, Default, PartialEq, Eq, Hash)]
 pub struct Context {
     /// The canonical frame address.
     pub cfa: Option<u64>,
     /// The frame base.
     pub frame_base: Option<u64>,
-    /// The object's address.
+    /// The object's address, for `DW_OP_push_object_address`.
     pub object: Option<u64>,
 }
 
@@ -57,28 +57,28 @@ impl Context {
 pub enum Location {
     /// Nowhere: it was optimized away.
     Nowhere,
-    /// In memory, from that address on.
+    /// In memory, starting at this address.
     Address(u64),
-    /// In that register.
+    /// In this register.
     Register(u16),
-    /// Nowhere, but this is its value.
+    /// Nowhere, but this is the object's value.
     Value(u64),
-    /// Nowhere, but these bytes are its value.
+    /// Nowhere, but these bytes are the object's value.
     Bytes(Vec<u8>),
-    /// A location that this crate doesn't know, by its number: the library is newer.
+    /// The number of a location kind that this crate doesn't know, because the library is newer.
     Other(u32),
 }
 
-/// How much of an object a piece is.
+/// The size of a piece.
 #[derive(Clone, Copy, Debug, PartialEq, Eq, Hash)]
 pub enum PieceSize {
-    /// So many bytes.
+    /// This many bytes.
     Bytes(u32),
-    /// So many bits, from an offset in bits on.
+    /// `size` bits, starting at bit `offset`.
     Bits {
-        /// How many.
+        /// The number of bits.
         size: u32,
-        /// From where on, in bits.
+        /// The first bit.
         offset: u32,
     },
 }
@@ -86,50 +86,51 @@ pub enum PieceSize {
 /// A piece of an object.
 #[derive(Clone, Debug, PartialEq, Eq, Hash)]
 pub struct Piece {
-    /// Where it is.
+    /// Where the piece is.
     pub location: Location,
-    /// How much it is.
+    /// How large the piece is.
     pub size: PieceSize,
 }
 
-/// What an expression comes to.
+/// The result of an expression, or the operation that has none.
 #[derive(Clone, Debug, PartialEq, Eq, Hash)]
 #[non_exhaustive]
 pub enum Outcome {
-    /// A frame's expression has this value, below 2^w.
+    /// The value of a CFA's or register's expression, below 2^w.
     Value(u64),
     /// A location without pieces.
     Location(Location),
-    /// A location of pieces, 32 at most, in the order of the object.
+    /// A location in pieces, 32 at most, in the object's order.
     Pieces(Vec<Piece>),
-    /// The operation at this offset of the expression takes what isn't handed in, or reads memory past
-    /// 2^w - 1. The rule of a register without the CFA is unreadable at 0 after 0 steps.
+    /// An operation needs a register, memory or a context value that wasn't passed, or reads memory
+    /// past 2^w - 1. A register's rule without a CFA is unreadable at 0 after 0 steps.
     Unreadable {
-        /// The operation's first byte.
+        /// The offset in the expression of the operation's first byte.
         at: u32,
     },
-    /// The operation at this offset of the expression divides by zero.
+    /// An operation divides by zero.
     DivisionByZero {
-        /// The operation's first byte.
+        /// The offset in the expression of the operation's first byte.
         at: u32,
     },
 }
 
-/// What an expression comes to, and in how many steps.
+/// The outcome of an expression, and the number of steps.
 #[derive(Clone, Debug, PartialEq, Eq, Hash)]
 #[non_exhaustive]
 pub struct Evaluation {
-    /// What it comes to.
+    /// The result, or why there is none.
     pub outcome: Outcome,
-    /// How many operations were reached, the one without an answer included.
+    /// The number of operations reached, including one that has no answer.
     pub steps: u32,
 }
 
-/// Checks an expression over all its paths, and runs it over registers and memory.
+/// Checks an expression on all its paths, and evaluates it with registers and memory.
 ///
-/// The ABI of `state` isn't asked. What `DW_OP_addr` pushes is as linked, while registers and memory
-/// are as loaded. The library takes memory only for expressions of more than 16 operations that branch
-/// or are refused, and gives it back. It runs once, and once more for each location that is bytes.
+/// The ABI of `state` isn't used. `DW_OP_addr` pushes an address as linked, while registers and
+/// memory are as loaded. The library allocates only for expressions of more than 16 operations that
+/// branch or are refused, and frees the memory. The expression is run once, and once more for each
+/// location or piece that is bytes.
 ///
 /// # Errors
 ///
@@ -174,7 +175,7 @@ pub fn evaluate(
     })
 }
 
-/// What is run. Runs of the same come to the same.
+/// The arguments of a call. Each run with the same arguments has the same result.
 struct Run<'a> {
     expression: &'a [u8],
     kind: ExpressionKind,
@@ -184,7 +185,7 @@ struct Run<'a> {
 }
 
 impl Run<'_> {
-    /// Runs it. The bytes are those of the location, or of the n-th piece.
+    /// Runs the expression. If the location or the `n`-th piece is bytes, they go into `bytes`.
     fn run(
         &self,
         n: u32,
@@ -193,8 +194,8 @@ impl Run<'_> {
     ) -> Result<ffi::Value, Error> {
         let mut value = ffi::Value::default();
         let mut fault = ffi::Fault::default();
-        // SAFETY: what `self` borrows is only read, the slots are borrowed alone, and the others are
-        // ours.
+        // SAFETY: what `self` borrows is only read, `pieces` and `bytes` are borrowed exclusively,
+        // and the other pointers are to locals.
         let status = unsafe {
             ffi::dwcheck_evaluate(
                 self.expression.as_ptr(),
@@ -246,7 +247,7 @@ impl Run<'_> {
         Ok(Piece { location, size })
     }
 
-    /// A location by its kind and its number: that of the n-th piece, or of all.
+    /// Decodes a location. `n` is the index of its piece, or 0 if there are no pieces.
     fn location(&self, kind: u32, number: u64, n: u32) -> Result<Location, Error> {
         Ok(match kind {
             ffi::LOCATION_NOWHERE => Location::Nowhere,
@@ -261,8 +262,8 @@ impl Run<'_> {
         })
     }
 
-    /// So many bytes of the location or the n-th piece. They are the expression's, so there are no
-    /// more of them than it has.
+    /// The first `length` bytes of the location or of the `n`-th piece. They come from the
+    /// expression, so there can't be more than it has.
     fn bytes(&self, length: u64, n: u32) -> Result<Vec<u8>, Error> {
         let whole = self.expression.len();
         let length = usize::try_from(length).map_or(whole, |length| length.min(whole));

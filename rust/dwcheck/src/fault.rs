@@ -1,20 +1,20 @@
-//! Why something is refused.
+//! Why an input is refused.
 
 use crate::ffi;
 use std::error;
 use std::fmt;
 
-/// Makes `FaultKind` and what goes from kinds to numbers and names and back.
+/// Makes `FaultKind`, and converts between kinds, numbers and names.
 macro_rules! fault_kinds {
     ($($(#[$doc:meta])+ $name:ident = $number:literal,)+) => {
-        /// What is wrong. Each kind says at which byte its [`Fault`] stands.
+        /// What is wrong. The last sentence of each kind says where the [`Fault`]'s offset points.
         ///
-        /// A rule of each is in the project's `docs/PROFILE.md`.
+        /// The rule behind each kind is in the project's `docs/PROFILE.md`.
         #[derive(Clone, Copy, Debug, PartialEq, Eq, Hash)]
         #[non_exhaustive]
         pub enum FaultKind {
             $($(#[$doc])+ $name,)+
-            /// A kind that this crate doesn't know, by its number: the library is newer.
+            /// The number of a kind that this crate doesn't know, because the library is newer.
             Other(u32),
         }
 
@@ -34,7 +34,7 @@ macro_rules! fault_kinds {
                 }
             }
 
-            /// The number that a refusal is shown by. Each kind has its own.
+            /// The kind's number, which is part of a refusal's text. No two kinds share one.
             pub const fn number(self) -> u32 {
                 match self {
                     $(FaultKind::$name => $number,)+
@@ -42,7 +42,7 @@ macro_rules! fault_kinds {
                 }
             }
 
-            /// The kind's name, as `NoSuchCie`; `Unknown` where this crate doesn't know it.
+            /// The kind's name, such as `NoSuchCie`; `Unknown` if this crate doesn't know the kind.
             pub const fn name(self) -> &'static str {
                 match self {
                     $(FaultKind::$name => stringify!($name),)+
@@ -54,16 +54,17 @@ macro_rules! fault_kinds {
 }
 
 fault_kinds! {
-    /// A field runs past its body, program, expression or section. At the field's first byte.
+    /// A field runs past the end of its body, program, expression or section. At the field's first
+    /// byte.
     Truncated = 1,
     /// A LEB128 number has more than ten bytes, or its value doesn't fit 64 bits. At the
     /// field's first byte.
     LebRange = 2,
     /// An initial length from 0xfffffff0 to 0xfffffffe. At its first byte.
     ReservedLength = 3,
-    /// A CIE's version. At that byte.
+    /// A CIE's version isn't 1, 3 or 4. At the version byte.
     Version = 4,
-    /// A CIE's augmentation isn't empty. At its first byte.
+    /// A CIE's augmentation isn't empty. At the augmentation's first byte.
     Augmentation = 5,
     /// A CIE's or list table's address size isn't the target's. At that byte.
     AddressSize = 6,
@@ -71,91 +72,95 @@ fault_kinds! {
     SegmentSize = 7,
     /// A CIE_pointer isn't the offset of a CIE. At that field.
     NoSuchCie = 9,
-    /// A register number above 65535. At the instruction or operation; in a CIE's header at the
-    /// field.
+    /// A register number is above 65535. At the instruction or operation; for the return address
+    /// register of a CIE, at that field.
     RegisterNumber = 10,
-    /// An FDE's range ends above the highest address. At the address_range field.
+    /// An FDE's initial location plus its range is above 2^w - 1. At the address_range field.
     RangePastTop = 11,
-    /// A code that is no instruction's. At the instruction.
+    /// An unknown instruction code. At the instruction.
     UnknownInstruction = 12,
-    /// An instruction that a CIE's program may not have. At the instruction.
+    /// An instruction that isn't allowed in a CIE's program. At the instruction.
     NotInCie = 13,
-    /// A set_loc not above the location. At the instruction.
+    /// A set_loc's address isn't above the current location. At the instruction.
     LocationBack = 14,
-    /// A location above the end of the FDE's range. At the instruction.
+    /// The location moves above the end of the FDE's range. At the instruction.
     LocationPastEnd = 15,
-    /// A restore_state where nothing is remembered. At the instruction.
+    /// A restore_state without a remember_state before it. At the instruction.
     RestoreWithoutRemember = 16,
-    /// Something is still remembered at the end of a program. At the program's end.
+    /// A remember_state has no restore_state by the end of the program. At the program's end.
     Unrestored = 17,
-    /// A remember_state past the limit. At the instruction.
+    /// A remember_state while 16 states are remembered already. At the instruction.
     RememberTooDeep = 18,
-    /// A change of a CFA rule that isn't a register and an offset. At the instruction.
+    /// An instruction changes the register or the offset of a CFA rule that doesn't have these. At
+    /// the instruction.
     CfaNotRegister = 19,
-    /// An offset that doesn't fit 64 signed bits. At the instruction.
+    /// An offset doesn't fit 64 signed bits. At the instruction.
     OffsetRange = 20,
-    /// The 129th rule in a row. At the instruction.
+    /// One row gets a 129th register rule. At the instruction.
     TooManyRules = 21,
-    /// A row that covers an address has no CFA rule. At the instruction that moves on, or the
-    /// program's end.
+    /// A row that covers an address has no CFA rule. At the instruction that advances past the row,
+    /// or at the program's end.
     NoCfa = 22,
-    /// Two FDEs share an address. At the later record's first byte.
+    /// Two FDEs cover the same address. At the first byte of the later FDE.
     Overlap = 23,
-    /// A code that is no operation's. At the operation.
+    /// An unknown opcode. At the operation.
     UnknownOperation = 30,
-    /// An operation that an expression of a frame may not have. At the operation.
+    /// An operation that isn't allowed in a CFA's or register's expression. At the operation.
     NotInFrame = 31,
-    /// The size of a deref_size. At the operation.
+    /// A deref_size's size isn't 1, 2, 4 or 8, or is above the address size. At the operation.
     BadSize = 32,
-    /// A branch to an earlier place. At the branch.
+    /// A branch goes backward. At the branch.
     Backward = 33,
-    /// A branch to a place where no operation begins. At the branch.
+    /// A branch goes to a byte where no operation begins, other than the expression's end. At the
+    /// branch.
     TargetNotStart = 34,
-    /// A stack that is lower than the operation needs. At the operation.
+    /// The stack has fewer entries than the operation needs. At the operation.
     Underflow = 35,
-    /// A stack above the limit. At the operation.
+    /// The stack has more than 128 entries. At the operation.
     TooDeep = 36,
-    /// Paths meet with other heights or phases. At the operation where they meet, or the
-    /// expression's length.
+    /// Paths that meet have different stack heights or phases (`docs/PROFILE.md` defines a phase).
+    /// At the operation where they meet, or the expression's length.
     Mismatch = 37,
     /// No path leads to the operation. At the operation.
     Unreachable = 38,
-    /// Something stands beside a location that has to stand alone. At the operation.
+    /// An operation other than a piece follows a register location or a value; or a register
+    /// location, an implicit value or a piece finds too many stack entries. At the operation.
     NotAlone = 39,
-    /// The end gives no result. At the expression's length.
+    /// The expression ends without a result. At the expression's length.
     EndsEmpty = 40,
-    /// The 33rd piece operation. At that operation.
+    /// A location has a 33rd piece. At that piece's operation.
     TooManyPieces = 41,
-    /// A size or an offset of a piece above 2^32 - 1. At the operation.
+    /// The size or the offset of a piece is above 2^32 - 1. At the operation.
     PieceSize = 42,
-    /// A list table's version. At that field.
+    /// A list table's version isn't 5. At the version field.
     ListVersion = 50,
-    /// A byte that is no list entry's. At the entry.
+    /// An unknown list entry. At the entry.
     UnknownEntry = 51,
-    /// A range that begins above its end. At the entry.
+    /// A range begins above its end. At the entry.
     BackRange = 52,
-    /// A second default in one list. At the second entry.
+    /// A list has a second default entry. At the second entry.
     SecondDefault = 53,
-    /// A table ends inside a list. At the table's end.
+    /// A table ends before its last list has an end_of_list entry. At the table's end.
     NoEnd = 54,
-    /// An offset that no list of the table begins at. At the offset's first byte.
+    /// An offset in a table's offset array isn't where one of its lists begins. At the offset's
+    /// first byte.
     BadOffsetEntry = 55,
-    /// Memory was refused. At 0.
+    /// Memory ran out. At 0.
     Memory = 60,
     /// A section of 2^32 bytes or more. At 0.
     SectionTooLong = 61,
-    /// An ABI that keeps more than 127 registers. At the first number past them.
+    /// An ABI has more than 127 callee-saved registers. At index 127.
     AbiTooLarge = 62,
-    /// An ABI that names a register twice. At the place of the later number; the stack
-    /// pointer's place is after all kept numbers.
+    /// An ABI names a register twice. At the index of the second one among the callee-saved
+    /// registers; the stack pointer's index is their count.
     AbiTwice = 63,
-    /// A certificate has not as many states as the expression has operations. At 0.
+    /// A certificate's number of states isn't the expression's number of operations. At 0.
     CertLength = 70,
-    /// A certificate's state isn't the one demanded. At the operation.
+    /// A certificate's state for an operation isn't the one that the check finds. At the operation.
     CertState = 71,
 }
 
-/// The kind's name. One that this crate doesn't know is asked of the library.
+/// The kind's name. If this crate doesn't know the kind, it asks the library for the name.
 impl fmt::Display for FaultKind {
     fn fmt(&self, f: &mut fmt::Formatter<'_>) -> fmt::Result {
         match self {
@@ -168,10 +173,10 @@ impl fmt::Display for FaultKind {
     }
 }
 
-/// The library's name of the fault with a number: as much of it as `text` has room for.
+/// The library's name for a fault number, cut to the length of `text`.
 pub(crate) fn library_name(number: u32, text: &mut [u8]) -> Option<&str> {
     let mut size = 0;
-    // SAFETY: the pointer and the length are those of one slice, and `size` is another value.
+    // SAFETY: the pointer and the length are those of one slice, and `size` is a local.
     let status =
         unsafe { ffi::dwcheck_fault_name(number, text.as_mut_ptr(), text.len(), &mut size) };
     if status != ffi::DONE {
@@ -181,19 +186,20 @@ pub(crate) fn library_name(number: u32, text: &mut [u8]) -> Option<&str> {
     std::str::from_utf8(&text[..written]).ok()
 }
 
-/// What a fault's offset counts in.
+/// Which input a fault's offset refers to.
 #[derive(Clone, Copy, Debug, PartialEq, Eq, Hash)]
 #[non_exhaustive]
 pub enum Section {
-    /// Bytes of the frame section.
+    /// The offset is a byte of the frame section.
     Frame,
-    /// Bytes of the location lists.
+    /// The offset is a byte of the location lists.
     Lists,
-    /// Bytes of an expression that is handled alone.
+    /// The offset is a byte of the expression that was passed alone, outside a section.
     Expression,
-    /// Places among the registers that an ABI keeps, from 0; the stack pointer is after them.
+    /// The offset is an index into the ABI's callee-saved registers; the stack pointer's is their
+    /// count.
     Abi,
-    /// Something that this crate doesn't know, by its number: the library is newer.
+    /// A number that this crate doesn't know, because the library is newer.
     Other(u32),
 }
 
@@ -223,7 +229,7 @@ impl fmt::Display for Section {
 
 /// The first thing that is wrong, and where it is.
 ///
-/// As text it is the section, the kind's number and name, and the offset:
+/// Its text has the section, the kind's number and name, and the offset:
 ///
 /// ```
 /// let cut = [1, 0, 0, 0];
@@ -234,9 +240,10 @@ impl fmt::Display for Section {
 pub struct Fault {
     /// What is wrong.
     pub kind: FaultKind,
-    /// Where: in bytes from the first byte of the section, or as [`Section::Abi`] says.
+    /// The offset: in bytes from the start of the input that `section` names, or an index as
+    /// [`Section::Abi`] says.
     pub offset: u32,
-    /// What the offset counts in.
+    /// Which input the offset refers to.
     pub section: Section,
 }
 
@@ -246,7 +253,7 @@ impl Fault {
         self.kind.number()
     }
 
-    /// The name of the fault's kind, as `NoSuchCie`.
+    /// The name of the fault's kind, such as `NoSuchCie`.
     pub fn name(&self) -> &'static str {
         self.kind.name()
     }
@@ -280,24 +287,24 @@ impl fmt::Display for Fault {
 
 impl error::Error for Fault {}
 
-/// Why a call does nothing.
+/// Why a call failed. A failed call changes nothing.
 #[derive(Clone, Copy, Debug, PartialEq, Eq, Hash)]
 #[non_exhaustive]
 pub enum Error {
-    /// What was handed in is refused.
+    /// The input is refused, for this fault.
     Refused(Fault),
     /// Memory ran out.
     NoMemory,
-    /// The rows of the section may take more than the room that was given.
+    /// The rows of the section may take more than `room` bytes.
     NoRoom,
     /// The section or the expression has 2^32 bytes or more.
     TooLong,
-    /// A status that this crate doesn't know, by its number: the library is newer.
+    /// The number of a status that this crate doesn't know, because the library is newer.
     Other(u32),
 }
 
 impl Error {
-    /// The fault, where what was handed in is refused.
+    /// The fault, if the input is refused.
     pub fn fault(&self) -> Option<Fault> {
         match self {
             Error::Refused(fault) => Some(*fault),
@@ -305,7 +312,7 @@ impl Error {
         }
     }
 
-    /// What a status says. The fault counts where it is a refusal.
+    /// The result that a status stands for. `fault` is used only if the status is `REFUSED`.
     pub(crate) fn check(status: u32, fault: ffi::Fault) -> Result<(), Error> {
         match status {
             ffi::DONE => Ok(()),

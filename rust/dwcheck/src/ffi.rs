@@ -1,24 +1,27 @@
-//! What `c/include/dwcheck.h` declares, in its order and its words: the same names without `dwcheck_`,
-//! and the same fields. `layout` compares sizes, offsets and numbers with a C compiler's.
+//! The declarations of `c/include/dwcheck.h`, in the same order and words: the same names without
+//! `dwcheck_`, and the same fields. `layout` compares sizes, offsets and numbers with a C
+//! compiler's.
 //!
-//! What a caller owes for every call:
+//! The header's rules for the caller of every call, and why this crate follows them:
 //!
-//! - "A pointer points to a whole, aligned value of its type, which no other thread writes during the
-//!   call. What a pointer without const points to overlaps no other argument; the others may overlap. A
-//!   pointer that comes with a length points to that many elements; for none it may be .. any other
-//!   address. No other pointer may be NULL." Here all come from references and slices. Two that are
-//!   `const` may be one slice: the library takes these as shared references, `&[u8]` or `&CState`.
-//! - "A process is passed to one call at a time, and is moved only by copying it and setting the old one
-//!   to DWCHECK_CLOSED. A process that was added to, or made by dwcheck_process_share from an open one,
-//!   has to be closed, even after its modules are removed. It may go from thread to thread, ordered by a
-//!   lock, an atomic of memory_order_seq_cst, or a thread's start or join." Here `Process` isn't `Sync`,
-//!   Rust doesn't use what it moved from, `Drop` closes each, and whatever safe Rust hands a value over
-//!   by orders what was before with what is after.
-//! - "malloc, realloc and free belong to one allocator and may be called from the thread. So calls that
-//!   allocate or free are not for signal handlers, nor is any call for the forked child of a process
-//!   with threads." Signal handlers and `fork` take `unsafe` of whoever uses them.
-//! - "There is enough stack." The library touches each page of its stack in turn, so a stack that is too
-//!   small ends the program at the guard page that Rust's threads have.
+//! - "A pointer points to a whole, aligned value of its type, which no other thread writes during
+//!   the call. What a pointer without const points to overlaps no other argument; the others may
+//!   overlap. A pointer that comes with a length points to that many elements; for none it may be
+//!   .. any other address. No other pointer may be NULL." Here all pointers come from references
+//!   and slices. Two `const` pointers may be to one slice, because the library takes them as shared
+//!   references, `&[u8]` or `&CState`.
+//! - "A process is passed to one call at a time, and is moved only by copying it and setting the
+//!   old one to DWCHECK_CLOSED. A process that was added to, or made by dwcheck_process_share from
+//!   an open one, has to be closed, even after its modules are removed. It may go from thread to
+//!   thread, ordered by a lock, an atomic of memory_order_seq_cst, or a thread's start or join."
+//!   Here `Process` isn't `Sync`, Rust doesn't use a value that was moved, `Drop` closes each
+//!   process, and every way in which safe Rust passes a value to another thread synchronizes the
+//!   two threads.
+//! - "malloc, realloc and free belong to one allocator and may be called from the thread. So calls
+//!   that allocate or free are not for signal handlers, nor is any call for the forked child of a
+//!   process with threads." In Rust, signal handlers and `fork` need `unsafe` code of the user.
+//! - "There is enough stack." The library touches each page of its stack in turn, so a stack that
+//!   is too small ends the program at the guard page that Rust's threads have.
 //! - "Fields called `reserved` are set to 0."
 //!
 //! No export has a precondition beyond these. "Enumerations may gain values: treat one that you don't
@@ -27,17 +30,17 @@
 use std::mem::MaybeUninit;
 use std::os::raw::c_void;
 
-/// What the call writes is there.
+/// The call's results are written.
 pub const DONE: u32 = 0;
-/// `fault` says why.
+/// `fault` gives the reason.
 pub const REFUSED: u32 = 1;
-/// malloc or realloc gave nothing.
+/// malloc or realloc returned NULL.
 pub const NO_MEMORY: u32 = 2;
-/// The rows of the section may take more than `room`.
+/// The rows of the section can take more than `room`.
 pub const NO_ROOM: u32 = 3;
-/// 2^32 bytes or more. (4 and 6 are for orders, sizes and kinds that this crate never hands in.)
+/// 2^32 bytes or more. (4 and 6 are for orders, sizes and kinds that this crate never passes.)
 pub const TOO_LONG: u32 = 5;
-/// There is none of what was asked for.
+/// What was looked up doesn't exist.
 pub const NONE: u32 = 7;
 
 /// Byte orders.
@@ -48,10 +51,10 @@ pub const BIG: u32 = 1;
 pub const IN_FRAME: u32 = 0;
 pub const IN_LISTS: u32 = 1;
 pub const IN_EXPRESSION: u32 = 2;
-/// Places among the registers that are kept; the stack pointer is after them.
+/// An index into the callee-saved registers; the stack pointer's is after them.
 pub const IN_ABI: u32 = 3;
 
-/// Why something is refused: the number of the fault (docs/PROFILE.md lists them) and its offset.
+/// Why an input is refused: the number of the fault (docs/PROFILE.md lists them) and its offset.
 #[repr(C)]
 #[derive(Clone, Copy, Debug, Default)]
 pub struct Fault {
@@ -62,8 +65,8 @@ pub struct Fault {
 }
 
 /// A process: its modules, each a compiled .debug_frame section with a load address. The fields are
-/// the library's own. Where all of it is 0 it is closed: it has no module, and every call takes it.
-/// The library writes one byte of `opaque_open` and may leave the others without a value.
+/// private. If all of it is 0 it is closed: it has no module, and every call accepts it. The
+/// library writes one byte of `opaque_open` and may leave the other bytes uninitialized.
 #[repr(C)]
 pub struct Process {
     pub opaque: *mut c_void,
@@ -79,12 +82,12 @@ pub const RULE_OFFSET: u32 = 3;
 pub const RULE_VAL_OFFSET: u32 = 4;
 /// The content of register `source`.
 pub const RULE_REGISTER: u32 = 5;
-/// Saved where the expression says.
+/// Saved at the address that the expression gives.
 pub const RULE_EXPRESSION: u32 = 6;
-/// What the expression gives.
+/// The value that the expression gives.
 pub const RULE_VAL_EXPRESSION: u32 = 7;
 
-/// What a register of the caller is. An expression begins at `offset` in the section, and has
+/// The rule of a register of the caller. An expression begins at `offset` in the section, and has
 /// `length` bytes.
 #[repr(C)]
 #[derive(Clone, Copy, Debug, Default)]
@@ -98,10 +101,10 @@ pub struct Rule {
 
 pub const MAX_RULES: usize = 128;
 
-/// The addresses as linked from `start` to before `end`, of the module at a load address. The CFA
-/// is register cfa.reg plus cfa.offset (kind RULE_VAL_OFFSET), or what an expression gives
-/// (RULE_VAL_EXPRESSION). `return_reg` is the register of the return address, `count` how many
-/// registers have a rule, at most MAX_RULES.
+/// The row of the addresses as linked from `start` up to, not including, `end`, in the module at a
+/// load address. The CFA is register cfa.reg plus cfa.offset (kind RULE_VAL_OFFSET), or what an
+/// expression gives (RULE_VAL_EXPRESSION). `return_reg` is the register of the return address,
+/// `count` the number of registers that have a rule, at most MAX_RULES.
 #[repr(C)]
 #[derive(Clone, Copy, Debug, Default)]
 pub struct Row {
@@ -122,12 +125,12 @@ pub struct Block {
     pub length: usize,
 }
 
-/// What a stopped thread has. Register n has contents[n] where bit n % 8 of known[n / 8] is set,
-/// both being there. Memory is the blocks' bytes; an address that two blocks have is that of the
-/// first. `kept` (callee-saved registers, 127 at most) and stack_pointer (if has_stack_pointer isn't
-/// 0) are the ABI. It applies to registers that the row gives no rule: a kept one has its present
-/// value in the caller, the stack pointer is the CFA, and any other register is undefined there. No
-/// register occurs twice among these.
+/// The state of a stopped thread. Register n has contents[n] if bit n % 8 of known[n / 8] is set
+/// and both elements exist. Memory is the blocks' bytes; if two blocks have an address, the first
+/// one's byte counts. `kept` (callee-saved registers, 127 at most) and stack_pointer (if
+/// has_stack_pointer isn't 0) are the ABI. It applies to registers that the row gives no rule: a
+/// kept one has its present value in the caller, the stack pointer is the CFA, and any other
+/// register is undefined there. No register occurs twice among these.
 #[repr(C)]
 pub struct State {
     pub contents: *const u64,
@@ -147,9 +150,9 @@ pub struct State {
 pub const NOT_COVERED: u32 = 0;
 /// It is `value`, below 2^w.
 pub const VALUE: u32 = 1;
-/// It can't be had.
+/// It isn't available.
 pub const UNDEFINED: u32 = 2;
-/// It takes a register or memory that isn't handed in, or memory past 2^w - 1.
+/// It requires a register or memory that isn't given, or memory past 2^w - 1.
 pub const UNREADABLE: u32 = 3;
 /// Its expression divides by zero.
 pub const DIVISION_BY_ZERO: u32 = 4;
@@ -172,8 +175,8 @@ pub struct Register {
     pub number: u32,
 }
 
-/// A caller: its canonical frame address, where it goes on, and how many registers have a rule of
-/// the row or of the ABI, at most MAX_REGISTERS.
+/// A caller: its canonical frame address, its return address, and the number of registers that have
+/// a rule from the row or the ABI, at most MAX_REGISTERS.
 #[repr(C)]
 #[derive(Clone, Copy, Debug, Default)]
 pub struct Caller {
@@ -192,7 +195,7 @@ pub struct Frame {
     pub cfa: Answer,
 }
 
-/// Why a walk ends: there are as many frames as slots.
+/// Why a walk ends: the number of frames reached the number of slots.
 pub const STOP_LIMIT: u32 = 0;
 /// No module has a row for the last frame.
 pub const STOP_NOT_COVERED: u32 = 1;
@@ -202,13 +205,13 @@ pub const STOP_RETURN_UNDEFINED: u32 = 2;
 pub const STOP_RETURN_UNREADABLE: u32 = 3;
 pub const STOP_RETURN_DIVISION_BY_ZERO: u32 = 4;
 
-/// What an expression is used as: the rule of a CFA, ..
+/// The use of an expression: the rule of a CFA, ..
 pub const FRAME_CFA: u32 = 0;
 /// The rule of a register: its run begins with the CFA.
 pub const FRAME_REGISTER: u32 = 1;
 pub const LOCATION: u32 = 2;
 
-/// What the place in the program gives an expression, each where its flag isn't 0.
+/// The values that the point in the program supplies to an expression, each if its flag isn't 0.
 #[repr(C)]
 #[derive(Clone, Copy, Debug, Default)]
 pub struct Context {
@@ -223,8 +226,8 @@ pub struct Context {
 
 /// Of a frame's expression: `value`.
 pub const IS_VALUE: u32 = 0;
-/// The operation at `offset` takes what isn't handed in, or reads memory past 2^w - 1. The rule of a
-/// register without has_cfa is unreadable at 0 after 0 steps.
+/// The operation at `offset` requires something that isn't given, or reads memory past 2^w - 1. The
+/// rule of a register without has_cfa is unreadable at 0 after 0 steps.
 pub const IS_UNREADABLE: u32 = 1;
 /// The operation at `offset` divides by zero.
 pub const IS_DIVISION_BY_ZERO: u32 = 2;
@@ -236,13 +239,13 @@ pub const LOCATION_ADDRESS: u32 = 4;
 pub const LOCATION_REGISTER: u32 = 5;
 /// Nowhere, but its value is `value`.
 pub const LOCATION_VALUE: u32 = 6;
-/// Nowhere, but its value is bytes, of which there are `value`.
+/// Nowhere, but its value is bytes, `value` of them.
 pub const LOCATION_BYTES: u32 = 7;
 /// `count` pieces, 32 at most.
 pub const LOCATION_PIECES: u32 = 8;
 
-/// What an expression comes to. `value` is 0 for the kinds that don't name it. `steps` is the number
-/// of operations reached, the one without an answer included.
+/// The outcome of an expression. `value` is 0 for the kinds that don't name it. `steps` is the
+/// number of operations reached, the one without an answer included.
 #[repr(C)]
 #[derive(Clone, Copy, Debug, Default)]
 pub struct Value {
@@ -253,8 +256,8 @@ pub struct Value {
     pub count: u32,
 }
 
-/// A piece: where it is, and how many bytes it has, or, if is_bits isn't 0, how many bits from
-/// bit_offset on.
+/// A piece: where it is, and its number of bytes, or, if is_bits isn't 0, of bits from bit_offset
+/// on.
 #[repr(C)]
 #[derive(Clone, Copy, Debug, Default)]
 pub struct Piece {
@@ -267,8 +270,8 @@ pub struct Piece {
 
 pub const MAX_PIECES: usize = 32;
 
-/// What is looked up: the list whose first byte is at the offset `list` of the section, over the
-/// base of its unit, at an address as linked.
+/// A look-up: the list whose first byte is at the offset `list` of the section, with the base of
+/// its unit, at an address as linked.
 #[repr(C)]
 #[derive(Clone, Copy, Debug, Default)]
 pub struct Lookup {
@@ -278,7 +281,7 @@ pub struct Lookup {
     pub reserved: u32,
 }
 
-/// An expression of the section: the offset where it begins, and how many bytes it has.
+/// An expression of the section: the offset where it begins, and its length in bytes.
 #[repr(C)]
 #[derive(Clone, Copy, Debug, Default)]
 pub struct Location {
@@ -287,14 +290,14 @@ pub struct Location {
 }
 
 extern "C" {
-    /// The version of this interface: 65536 times the first number, plus the second. Where the
-    /// first numbers are the same, a program goes on to work with a library of a later second
-    /// number.
+    /// The version of this interface: 65536 times the major version, plus the minor version. If the
+    /// major versions are the same, a program keeps working with a library whose minor version is
+    /// later.
     pub fn dwcheck_version() -> u32;
 
-    /// The name of a fault, as "NoSuchCie", without a 0 at its end: as much of it as fits goes into
-    /// `text`, and `size` is how long all of it is, at most 22. DONE, or NONE where no fault has
-    /// the number, and then nothing is written. No memory.
+    /// The name of a fault, such as "NoSuchCie", without a final 0: as much of it as fits goes into
+    /// `text`, and `size` is its whole length, at most 22. DONE, or NONE if no fault has the
+    /// number, and then nothing is written. Neither allocates nor frees.
     pub fn dwcheck_fault_name(
         number: u32,
         text: *mut u8,
@@ -303,10 +306,10 @@ extern "C" {
     ) -> u32;
 
     /// Checks a .debug_frame section and a .debug_loclists section, either of which may be empty.
-    /// DONE where both are well formed; REFUSED with the first fault; NO_MEMORY; BAD_TARGET. A
-    /// section of 2^32 bytes or more is refused with fault 61. The length of the frame section is
-    /// judged first, then that of the lists, then the frame section, then the lists. It takes memory
-    /// in proportion to the sections, and gives it back.
+    /// DONE if both are well formed; REFUSED with the first fault; NO_MEMORY; BAD_TARGET. A section
+    /// of 2^32 bytes or more is refused with fault 61. The length of the frame section is checked
+    /// first, then that of the lists, then the frame section, then the lists. It allocates memory
+    /// in proportion to the sections, and frees it.
     pub fn dwcheck_check(
         frame: *const u8,
         frame_length: usize,
@@ -318,8 +321,8 @@ extern "C" {
     ) -> u32;
 
     /// Checks a .debug_frame section, compiles all its rows, and adds them as the last module.
-    /// Nothing of the section's bytes is needed any more when the call returns. `room` is how many
-    /// bytes the rows may take, SIZE_MAX for no bound; it doesn't bound what the check and the
+    /// The section's bytes aren't needed after the call returns. `room` is the number of bytes that
+    /// the rows may take, SIZE_MAX for no bound; it doesn't bound the memory that the check and the
     /// compiling take meanwhile. NO_ROOM may come although rows that share their rules would fit.
     /// DONE; REFUSED with the first fault of the section; NO_MEMORY; NO_ROOM; BAD_TARGET; TOO_LONG.
     /// Only DONE changes the process, only REFUSED writes `fault`.
@@ -334,22 +337,22 @@ extern "C" {
         fault: *mut Fault,
     ) -> u32;
 
-    /// Removes the first module with a load address, all 64 bits of which are compared: DONE, or NONE
-    /// where no module has it. It takes no memory.
+    /// Removes the first module with a load address, all 64 bits of which are compared: DONE, or
+    /// NONE if no module has it. Doesn't allocate; frees the table if no other process has it.
     pub fn dwcheck_process_remove(process: *mut Process, load_address: u64) -> u32;
 
-    /// Makes `other` a process of the same modules, in the place of what it is, which is closed. It is
-    /// closed if `process` is.
-    /// The tables are shared, not copied, and go with the last process that has them. DONE or
-    /// NO_MEMORY, and then `other` is as it was. `process` is as it was in either case.
+    /// Makes `other` a process of the same modules; what it was before is closed. It is closed if
+    /// `process` is. The tables are shared, not copied, and are freed with the last process that
+    /// has them. DONE, or NO_MEMORY, and then `other` is unchanged. `process` is unchanged in
+    /// either case.
     pub fn dwcheck_process_share(process: *mut Process, other: *mut Process) -> u32;
 
     /// Releases all modules and closes the process. A closed process may be closed again.
     pub fn dwcheck_process_close(process: *mut Process);
 
-    /// The row of an address as loaded, by the first module that has one. The rules of its
+    /// The row of an address as loaded, from the first module that has one. The rules of its
     /// registers go into `rules` by ascending registers, as many as fit. DONE, or NONE, and then
-    /// nothing is written. It takes no memory.
+    /// nothing is written. Neither allocates nor frees.
     pub fn dwcheck_row_at(
         process: *mut Process,
         address: u64,
@@ -360,9 +363,9 @@ extern "C" {
 
     /// The caller of the frame at an address as loaded, by the first module that has a row for it.
     /// The address itself is looked up: to go on from a caller pass its return address minus 1. Its
-    /// registers go into `registers` by ascending numbers, as many as fit. DONE; NONE where no module
-    /// has a row; REFUSED where the ABI names too many registers or one twice. Only DONE writes
-    /// `caller` and `registers`, only REFUSED `fault`. It takes no memory.
+    /// registers go into `registers` by ascending numbers, as many as fit. DONE; NONE if no module
+    /// has a row; REFUSED if the ABI names too many registers or one twice. Only DONE writes
+    /// `caller` and `registers`, only REFUSED `fault`. Neither allocates nor frees.
     pub fn dwcheck_unwind(
         process: *mut Process,
         address: u64,
@@ -373,10 +376,11 @@ extern "C" {
         fault: *mut Fault,
     ) -> u32;
 
-    /// Walks up the stack from the frame at `address`, into `frames`, as many as fit; `count` is
-    /// how many there are, and `stop` why there are no more. The first frame is looked up at its
-    /// address, each other at the address before its own. DONE, or REFUSED as dwcheck_unwind; only
-    /// DONE writes `frames`, `count` and `stop`, only REFUSED `fault`. It takes no memory.
+    /// Walks up the stack from the frame at `address`, and writes the frames to `frames`, as many
+    /// as fit; `count` is their number, and `stop` why there are no more. Frame 0 is looked up at
+    /// its address, each later frame at its address minus 1. DONE, or REFUSED like dwcheck_unwind;
+    /// only DONE writes `frames`, `count` and `stop`, only REFUSED `fault`. Neither allocates nor
+    /// frees.
     pub fn dwcheck_backtrace(
         process: *mut Process,
         address: u64,
@@ -388,13 +392,13 @@ extern "C" {
         fault: *mut Fault,
     ) -> u32;
 
-    /// Checks an expression over all its paths, and runs it over registers and memory; the ABI of
-    /// `state` is not asked. Its pieces go into `pieces`, as many as fit. The bytes of a location
-    /// of bytes, or of the n-th piece if that is bytes, counted from 0, go into `bytes`, as many as
+    /// Checks an expression on all its paths, and runs it with registers and memory; the ABI of
+    /// `state` is not used. Its pieces go into `pieces`, as many as fit. The bytes of a location of
+    /// bytes, or of the n-th piece if that is bytes, counted from 0, go into `bytes`, as many as
     /// fit. DONE; REFUSED with the first fault of the expression; NO_MEMORY; BAD_TARGET; TOO_LONG;
-    /// BAD_KIND. Only DONE writes `value`, `pieces` and `bytes`, only REFUSED `fault`. It takes
-    /// memory only for expressions of more than 16 operations that branch or are refused, and gives
-    /// it back.
+    /// BAD_KIND. Only DONE writes `value`, `pieces` and `bytes`, only REFUSED `fault`. It allocates
+    /// only for expressions of more than 16 operations that branch or are refused, and frees the
+    /// memory.
     pub fn dwcheck_evaluate(
         expression: *const u8,
         expression_length: usize,
@@ -413,11 +417,11 @@ extern "C" {
     ) -> u32;
 
     /// Checks a .debug_loclists section, and writes the expressions of a list that hold at an
-    /// address into `locations`, in their order, as many as fit; `count` is how many were written,
-    /// so where it is `locations_length` there may be more. DONE; NONE where no list begins there;
-    /// REFUSED with the first fault; NO_MEMORY; BAD_TARGET; TOO_LONG. Only DONE writes `locations`
-    /// and `count`, only REFUSED `fault`. It takes time and memory in proportion to the section,
-    /// and gives the memory back.
+    /// address into `locations`, in order, as many as fit; `count` is the number written, so if it
+    /// is `locations_length` there may be more. DONE; NONE if no list begins there; REFUSED with
+    /// the first fault; NO_MEMORY; BAD_TARGET; TOO_LONG. Only DONE writes `locations` and `count`,
+    /// only REFUSED `fault`. It takes time and memory in proportion to the section, and frees the
+    /// memory.
     pub fn dwcheck_locations(
         lists: *const u8,
         lists_length: usize,

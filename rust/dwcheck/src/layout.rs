@@ -1,4 +1,4 @@
-//! Sizes and offsets of what crosses to C, as rustc and a C compiler have them.
+//! Compares the sizes, offsets and constants of `ffi` with a C compiler's.
 
 use crate::ffi;
 use std::env;
@@ -8,8 +8,8 @@ use std::path::{Path, PathBuf};
 use std::process::Command;
 use std::ptr::addr_of;
 
-/// A line of size and alignment, and one of the offset and the size of each field, for a Rust and a C
-/// name; the same as C statements.
+/// For a structure's Rust and C names: lines with its size and alignment and with the offset and
+/// size of each field, and C statements that print the same lines.
 macro_rules! layout {
     ($rust:ident, $c:literal: $($field:ident)*) => {{
         let whole = MaybeUninit::<ffi::$rust>::uninit();
@@ -19,7 +19,7 @@ macro_rules! layout {
             "printf(\"{0} %zu %zu\\n\", sizeof({0}), _Alignof({0}));\n", $c
         );
         $(
-            // SAFETY: it is an address within `whole`, and nothing is read.
+            // SAFETY: the address is within `whole`, and nothing is read.
             let place = unsafe { addr_of!((*at).$field) };
             let offset = place as usize - at as usize;
             lines += &format!("{}.{} {} {}\n", $c, stringify!($field), offset, size_at(place));
@@ -59,7 +59,7 @@ fn layouts() -> (String, String) {
     all.into_iter().unzip()
 }
 
-/// A name of the header and the number that this crate has for it.
+/// Pairs of a constant's name in the header and its value in `ffi`.
 macro_rules! numbers {
     ($($rust:ident $c:literal)*) => {
         [$((concat!("DWCHECK_", $c), ffi::$rust as u64)),*]
@@ -96,7 +96,7 @@ fn constants() -> (String, String) {
         .unzip()
 }
 
-/// The folder of the header: that of the variable, else the repository's.
+/// The folder of the header: `DWCHECK_INCLUDE_DIR`, or else the repository's.
 fn include_folder() -> Option<PathBuf> {
     let folder = match env::var_os("DWCHECK_INCLUDE_DIR") {
         Some(folder) => PathBuf::from(folder),
@@ -105,7 +105,7 @@ fn include_folder() -> Option<PathBuf> {
     folder.join("dwcheck.h").is_file().then_some(folder)
 }
 
-/// What a C program of these statements prints; `None` where there is no C compiler.
+/// What a C program of these statements prints. `None` if there is no C compiler.
 fn run_c(include: &Path, statements: &str) -> Option<String> {
     let folder = env::temp_dir().join(format!("dwcheck-layout-{}", std::process::id()));
     fs::create_dir_all(&folder).unwrap();
@@ -144,7 +144,7 @@ fn c_has_the_same_layouts_and_numbers() {
     };
     let (layout_lines, layout_statements) = layouts();
     let (mut number_lines, mut number_statements) = constants();
-    // the library that is linked has the header's version
+    // the library that is linked has to have the header's version
     let (first, second) = crate::version();
     number_lines += &format!("version {}.{}\n", first, second);
     number_statements +=
@@ -155,7 +155,7 @@ fn c_has_the_same_layouts_and_numbers() {
     }
 }
 
-/// What is cast between this crate's types and those of C.
+/// The types that are cast to each other have the same size and alignment.
 #[test]
 fn casts_are_between_equal_layouts() {
     use crate::{Block, Frame, Span};
@@ -172,7 +172,7 @@ fn casts_are_between_equal_layouts() {
         offset: 1,
         length: 2,
     }];
-    // SAFETY: the slot is there, and any two numbers are a value.
+    // SAFETY: the slot exists, and any two numbers are a valid value.
     let raw = unsafe { *Span::raw_slots(&mut slots) };
     assert_eq!((raw.offset, raw.length), (1, 2));
 }

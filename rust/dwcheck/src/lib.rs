@@ -1,18 +1,18 @@
 //! Checks `.debug_frame` and `.debug_loclists` sections of DWARF 5, and unwinds stacks by them.
 //!
 //! This is a safe wrapper over the C interface of `dwcheck`, a library whose every function is
-//! proved to meet its contract, to end, and to be safe on every input. What is proved is the library,
-//! not this crate: that has `unsafe` in its calls and in one file of declarations.
+//! proved to meet its contract, to end, and to be safe on every input. The proofs cover the
+//! library, not this crate, which has `unsafe` in its calls and in one file of declarations.
 //!
-//! - [`check`] judges a frame section and location lists.
-//! - A [`Process`] has modules, each a section with a load address; it gives the [`Row`] of an
+//! - [`check`] checks a frame section and location lists.
+//! - A [`Process`] has modules, each a section with a load address. It gives the [`Row`] of an
 //!   address, the [`Caller`] of a frame, and the frames of a stack.
 //! - [`locations`] gives the expressions of a location list that hold at an address.
-//! - [`evaluate`] gives what an expression comes to.
+//! - [`evaluate`] gives the result of an expression.
 //!
-//! Sections are bytes, as `objcopy --dump-section` or an ELF reader gives them, of a linked file and
-//! not compressed. No call panics. What is refused, and what isn't read, is in the project's
-//! `docs/PROFILE.md`.
+//! Sections are bytes of a linked file, not compressed, such as `objcopy --dump-section` or an ELF
+//! reader gives them. No call panics. The project's `docs/PROFILE.md` says what is refused and what
+//! isn't read.
 //!
 //! ```
 //! use dwcheck::{check, FaultKind, Target};
@@ -74,16 +74,17 @@ pub use walk::{Backtrace, Frame, Stop};
 
 /// Checks a `.debug_frame` section and a `.debug_loclists` section, either of which may be empty.
 ///
-/// `Ok` says that both are well formed by the rules of `docs/PROFILE.md`, and so are all expressions
-/// in them. It takes memory in proportion to the sections, and gives it back.
+/// `Ok` means that both sections and all expressions in them are well formed by the rules of
+/// `docs/PROFILE.md`. The check allocates memory in proportion to the sections, and frees it.
 ///
 /// # Errors
 ///
 /// [`Error::Refused`] with the first fault, or [`Error::NoMemory`]. A section of 2^32 bytes or more
-/// is refused by [`FaultKind::SectionTooLong`].
+/// is refused with [`FaultKind::SectionTooLong`].
 pub fn check(frame: &[u8], lists: &[u8], target: Target) -> Result<(), Error> {
     let mut fault = ffi::Fault::default();
-    // SAFETY: the pointers and lengths are those of slices that are only read, and the fault is ours.
+    // SAFETY: the pointers and lengths are those of slices that are only read, and `fault` is a
+    // local.
     let status = unsafe {
         ffi::dwcheck_check(
             frame.as_ptr(),
@@ -98,16 +99,16 @@ pub fn check(frame: &[u8], lists: &[u8], target: Target) -> Result<(), Error> {
     Error::check(status, fault)
 }
 
-/// The version of the library's interface. It has a greater second number where only new calls,
-/// fields or values have come.
+/// The version of the library's interface: major, minor. A new minor version only adds calls,
+/// fields or values.
 ///
-/// This crate is for the first number 1.
+/// This crate is for major version 1.
 ///
 /// ```
 /// assert_eq!(dwcheck::version().0, 1);
 /// ```
 pub fn version() -> (u16, u16) {
-    // SAFETY: it takes nothing.
+    // SAFETY: the call has no arguments.
     let version = unsafe { ffi::dwcheck_version() };
     ((version >> 16) as u16, version as u16)
 }

@@ -5,26 +5,27 @@ use crate::ffi;
 use crate::row::Span;
 use crate::target::Target;
 
-/// For how many expressions there is room at first.
+/// How many expressions the first look-up has slots for.
 const FIRST_LOCATIONS: usize = 16;
 
-/// What is looked up in location lists.
+/// A list, and the address to look up in it.
 #[derive(Clone, Copy, Debug, PartialEq, Eq, Hash)]
 pub struct Lookup {
-    /// The offset in the section of the list's first byte.
+    /// The offset of the list's first byte in the section.
     pub list: u32,
     /// The base address of the list's unit.
     pub base: u64,
-    /// The address that is looked up, as linked.
+    /// The address to look up, as linked.
     pub address: u64,
 }
 
 /// Checks a `.debug_loclists` section, and gives the expressions of a list that hold at an address.
 ///
-/// `None` says that no list begins there, an empty `Vec` that none holds. The expressions come in the
-/// list's order; [`evaluate`](crate::evaluate) gives what each comes to. It takes time and memory in
-/// proportion to the section, for each look-up: the section is checked each time, and again with
-/// eight times the room where more than 16 expressions hold.
+/// The result is `None` if no list begins at `lookup.list`, and an empty `Vec` if no expression of
+/// the list holds. The expressions are in the list's order; [`evaluate`](crate::evaluate) gives
+/// their results. Each look-up checks the whole section, which takes time and memory in proportion
+/// to it. If 16 expressions or more hold, the section is checked again, with eight times as many
+/// slots.
 ///
 /// # Errors
 ///
@@ -66,7 +67,7 @@ pub fn locations(
     }
 }
 
-/// How many slots are filled, if there is the list.
+/// The number of slots that were filled. `None` if no list begins at `lookup.list`.
 fn look_up(
     lists: &[u8],
     target: Target,
@@ -82,7 +83,8 @@ fn look_up(
     let length = slots.len();
     let mut count = 0;
     let mut fault = ffi::Fault::default();
-    // SAFETY: the section is only read, the slots are borrowed alone, and the others are ours.
+    // SAFETY: the section is only read, `slots` is borrowed exclusively, and the other pointers are
+    // to locals.
     let status = unsafe {
         ffi::dwcheck_locations(
             lists.as_ptr(),

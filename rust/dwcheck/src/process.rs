@@ -1,4 +1,4 @@
-//! Processes: modules with their unwind tables, and what is looked up in them.
+//! A process: its modules with their unwind tables, and look-ups in them.
 
 use crate::caller::Caller;
 use crate::fault::Error;
@@ -13,19 +13,19 @@ use std::fmt;
 use std::mem::MaybeUninit;
 use std::ptr::null_mut;
 
-/// For how many frames a [`Process::backtrace`] makes room at first.
+/// How many frames the first walk of [`Process::backtrace`] has slots for.
 const FIRST_FRAMES: usize = 64;
 
 /// A process: its modules, each a compiled `.debug_frame` section with a load address.
 ///
-/// An address belongs to the first module that has a row for it. Addresses are as loaded.
+/// A look-up uses the first module that has a row for the address. All addresses are as loaded.
 ///
-/// It may go from thread to thread, and isn't `Sync`: each thread needs one of its own, which
-/// [`share`](Process::share) makes without copying the tables. A look-up or a walk takes no lock.
+/// A `Process` is `Send` but not `Sync`. Each thread needs its own, which [`share`](Process::share)
+/// makes without copying the tables. Look-ups and walks take no lock.
 ///
-/// As measured on x86-64, [`add`](Process::add) takes 82 KB of stack, an unwinding or a walk 61 KB and
-/// up to 14 KB more where a rule is an expression. A thread whose stack is too small ends the program,
-/// as by any overflow.
+/// As measured on x86-64, [`add`](Process::add) takes 82 KB of stack; an unwinding or a walk takes
+/// 61 KB, and up to 14 KB more if a rule is an expression. If a thread's stack is too small, the
+/// program ends, as with any stack overflow.
 ///
 /// ```
 /// # const SECTION: &[u8] = &[
@@ -61,18 +61,19 @@ pub struct Process {
     raw: UnsafeCell<ffi::Process>,
 }
 
-// SAFETY: the library lets a process go from thread to thread where that is ordered, as Rust orders
-// whatever goes from one to the other. It is no `Sync`: each call needs it alone.
+// SAFETY: the library allows a process to go from one thread to another if the threads synchronize,
+// which safe Rust does for every value that changes threads. `Process` isn't `Sync`, because it may
+// be passed to only one call at a time.
 unsafe impl Send for Process {}
 
 impl Process {
-    /// No bound for the bytes that the rows of a section may take.
+    /// No bound on the bytes that the rows of a section may take.
     ///
-    /// Those of compilers take some 1.5 times the section's length, those of a section that is made to
-    /// take memory 700 times its length and more.
+    /// The rows of a compiler's section take some 1.5 times the section's length. Those of a
+    /// hostile section take 700 times its length and more.
     pub const NO_BOUND: usize = usize::MAX;
 
-    /// A process without a module. It takes no memory.
+    /// A process without a module. Allocates nothing.
     pub const fn new() -> Process {
         Process {
             raw: UnsafeCell::new(ffi::Process {
@@ -82,28 +83,29 @@ impl Process {
         }
     }
 
-    /// The process for one call.
+    /// The pointer that a call takes.
     ///
-    /// No reference to what it points to is ever made here, and no call calls back: so it is no
-    /// other call's.
+    /// Only one call uses it at a time: `Process` isn't `Sync`, this crate never makes a reference
+    /// to the `ffi::Process`, and the library never calls back.
     fn raw(&self) -> *mut ffi::Process {
         self.raw.get()
     }
 
     /// Checks a `.debug_frame` section, compiles all its rows, and adds them as the last module.
     ///
-    /// The section isn't needed any more afterwards. `load_address` is what is added to an address
-    /// as linked, modulo 2^w, to have the address as loaded: for a position-independent module what
-    /// `dl_iterate_phdr` gives as `dlpi_addr`, for any other 0. `room` is how many bytes the rows may
-    /// take, [`NO_BOUND`](Process::NO_BOUND) for any number; it doesn't bound what the check and the
-    /// compiling take meanwhile.
+    /// The section's bytes aren't needed after the call. `load_address` is what is added to an
+    /// address as linked, modulo 2^w, to get the address as loaded: for a position-independent
+    /// module what `dl_iterate_phdr` gives as `dlpi_addr`, for any other 0. `room` is how many
+    /// bytes the rows may take, or [`NO_BOUND`](Process::NO_BOUND). It doesn't bound the memory
+    /// that the check and the compiling take meanwhile.
     ///
-    /// Time is n log n for n bytes of programs and rows; a section of n bytes may have n rows.
+    /// This takes O(n log n) time for n bytes of programs and rows; a section of n bytes may have n
+    /// rows.
     ///
     /// # Errors
     ///
     /// [`Error::Refused`] with the first fault of the section, [`Error::NoRoom`],
-    /// [`Error::NoMemory`] or [`Error::TooLong`]. The process is as it was then.
+    /// [`Error::NoMemory`] or [`Error::TooLong`]. The process is then unchanged.
     pub fn add(
         &mut self,
         section: &[u8],
@@ -112,7 +114,8 @@ impl Process {
         room: usize,
     ) -> Result<(), Error> {
         let mut fault = ffi::Fault::default();
-        // SAFETY: the process is borrowed alone, the section for reading, and the fault is ours.
+        // SAFETY: the process is borrowed exclusively, the section is only read, and `fault` is a
+        // local.
         let status = unsafe {
             ffi::dwcheck_process_add(
                 self.raw(),
@@ -128,24 +131,25 @@ impl Process {
         Error::check(status, fault)
     }
 
-    /// Removes the first module with a load address, all 64 bits of which are compared. `false` says
-    /// that no module has it.
+    /// Removes the first module whose load address is `load_address`, in all 64 bits. `false` if
+    /// there is no such module.
     pub fn remove(&mut self, load_address: u64) -> bool {
-        // SAFETY: the process is borrowed alone.
+        // SAFETY: the process is borrowed exclusively.
         let status = unsafe { ffi::dwcheck_process_remove(self.raw(), load_address) };
         status == ffi::DONE
     }
 
-    /// Lets all modules go.
+    /// Removes all modules.
     pub fn clear(&mut self) {
-        // SAFETY: the process is borrowed alone. It may be closed more than once.
+        // SAFETY: the process is borrowed exclusively. A process may be closed more than once.
         unsafe { ffi::dwcheck_process_close(self.raw()) }
     }
 
-    /// Another process of the same modules, for another thread say.
+    /// Makes another process with the same modules, for example for another thread.
     ///
-    /// The tables are shared, not copied, and go with the last process that has them. What is added
-    /// to or removed from one of the two is not so in the other.
+    /// The tables are shared, not copied, and are freed with the last process that has them.
+    /// Modules that are later added to or removed from one of the two processes don't change the
+    /// other.
     ///
     /// # Errors
     ///
@@ -163,16 +167,16 @@ impl Process {
     /// ```
     pub fn share(&self) -> Result<Process, Error> {
         let other = Process::new();
-        // SAFETY: both are this thread's alone, and they are two.
+        // SAFETY: only this thread has either process, and they are different ones.
         let status = unsafe { ffi::dwcheck_process_share(self.raw(), other.raw()) };
         Error::check(status, ffi::Fault::default())?;
         Ok(other)
     }
 
-    /// The row of an address, by the first module that has one.
+    /// The row that covers an address, from the first module that has one.
     ///
-    /// Time is the logarithm of the count of rows, for each module. The library takes no memory; the
-    /// [`Row`] that is made of its answer has a `Vec`.
+    /// This takes O(log n) time per module with n rows. The library allocates nothing; the returned
+    /// [`Row`] has its rules in a `Vec`.
     ///
     /// ```
     /// # const SECTION: &[u8] = &[
@@ -197,12 +201,13 @@ impl Process {
         Some(row)
     }
 
-    /// Looks rows up one after the other, in room that is taken once: for many addresses.
+    /// Looks up the rows of many addresses, one after the other, with buffers that are allocated
+    /// once.
     pub fn rows(&self) -> Rows<'_> {
         Rows::new(self)
     }
 
-    /// Writes the row of an address over another. `None` where no module has one.
+    /// Writes the row that covers `address` into `row`. `None` if no module has one.
     pub(crate) fn row_into(
         &self,
         address: u64,
@@ -210,7 +215,8 @@ impl Process {
         row: &mut Row,
     ) -> Option<()> {
         let mut raw = ffi::Row::default();
-        // SAFETY: the process is this thread's alone, the slots are borrowed alone, and the row is ours.
+        // SAFETY: only this thread has the process, `slots` is borrowed exclusively, and `raw` is a
+        // local.
         let status = unsafe {
             ffi::dwcheck_row_at(
                 self.raw(),
@@ -226,15 +232,16 @@ impl Process {
         row.set(&raw, slots)
     }
 
-    /// The caller of the frame at an address, by the first module that has a row for it.
+    /// The caller of the frame at an address, from the first module that has a row for the address.
     ///
-    /// `None` where no module has one. To go on from a caller, look it up at its return address less
-    /// one, where the call is, with [`Caller::known`] as its registers; or have [`backtrace`] do so.
-    /// The library takes no memory; the [`Caller`] that is made of its answer has a `Vec`.
+    /// The result is `None` if no module has one. To find the caller's own caller, call this again
+    /// with the caller's return address minus one, where its call is, and with [`Caller::known`] as
+    /// registers; or use [`backtrace`]. The library allocates nothing; the returned [`Caller`] has
+    /// its registers in a `Vec`.
     ///
     /// # Errors
     ///
-    /// [`Error::Refused`] where the ABI names too many registers or one twice.
+    /// [`Error::Refused`] if the ABI names too many registers or a register twice.
     ///
     /// [`backtrace`]: Process::backtrace
     ///
@@ -264,8 +271,8 @@ impl Process {
         let mut caller = ffi::Caller::default();
         let mut registers = [ffi::Register::default(); ffi::MAX_REGISTERS];
         let mut fault = ffi::Fault::default();
-        // SAFETY: the process is this thread's alone, what the state borrows is only read, and the
-        // others are ours.
+        // SAFETY: only this thread has the process, what `state` borrows is only read, and the
+        // other pointers are to locals.
         let status = unsafe {
             ffi::dwcheck_unwind(
                 self.raw(),
@@ -284,16 +291,18 @@ impl Process {
         Ok(Some(Caller::of(&caller, &registers)))
     }
 
-    /// Walks up the stack from the frame at an address: its frames, `limit` at most.
+    /// Walks up the stack from the frame at an address, and returns its frames, `limit` at most.
     ///
-    /// The first frame is looked up at its address, each other at its address less one, where the
-    /// call is. A walk of a stack that is astray may go on for ever, so choose a limit; a great one
-    /// takes no more than what the frames take. With more than 64 frames the walk is done again, with
-    /// four times the room each time. [`backtrace_into`](Process::backtrace_into) does it once.
+    /// The first frame is looked up at its address, each later frame at its address minus one,
+    /// where the call is. On a corrupt stack a walk may never end, so choose a limit. A high limit
+    /// costs nothing by itself: if the first 64 slots are all filled, the walk starts over with
+    /// four times as many slots, and so on up to the limit.
+    /// [`backtrace_into`](Process::backtrace_into) walks once.
     ///
     /// # Errors
     ///
-    /// [`Error::Refused`] where the ABI names too many registers or one twice; [`Error::NoMemory`].
+    /// [`Error::Refused`] if the ABI names too many registers or a register twice;
+    /// [`Error::NoMemory`].
     pub fn backtrace(
         &self,
         address: u64,
@@ -317,14 +326,14 @@ impl Process {
         }
     }
 
-    /// Walks up the stack from the frame at an address, into slots: as many frames as fit, and why
-    /// there are no more.
+    /// Walks up the stack from the frame at an address, and writes as many frames as fit into
+    /// `slots`. Also returns why there are no more.
     ///
-    /// It takes no memory.
+    /// Allocates nothing.
     ///
     /// # Errors
     ///
-    /// [`Error::Refused`] where the ABI names too many registers or one twice.
+    /// [`Error::Refused`] if the ABI names too many registers or a register twice.
     ///
     /// ```
     /// use dwcheck::{Abi, Frame, Process, Registers, State, Stop};
@@ -347,7 +356,7 @@ impl Process {
         Ok((&slots[..count], stop))
     }
 
-    /// How many slots are filled, and why the walk ends.
+    /// The number of slots that were filled, and why the walk ended.
     fn walk(
         &self,
         address: u64,
@@ -358,8 +367,8 @@ impl Process {
         let mut count = 0;
         let mut stop = ffi::STOP_LIMIT;
         let mut fault = ffi::Fault::default();
-        // SAFETY: the process is this thread's alone, what the state borrows is only read, the slots
-        // are borrowed alone, and the others are ours.
+        // SAFETY: only this thread has the process, what `state` borrows is only read, `slots` is
+        // borrowed exclusively, and the other pointers are to locals.
         let status = unsafe {
             ffi::dwcheck_backtrace(
                 self.raw(),

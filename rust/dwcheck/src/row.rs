@@ -3,19 +3,19 @@
 use crate::ffi;
 use std::ops::Range;
 
-/// Where an expression is: its bytes in a section. For a row that is the section that the module was
-/// added from, which the [`Process`](crate::Process) doesn't keep.
+/// Where an expression lies in a section. For a row's expressions that is the section that was
+/// passed to [`Process::add`](crate::Process::add); the process doesn't keep its bytes.
 #[derive(Clone, Copy, Debug, Default, PartialEq, Eq, Hash)]
 #[repr(C)]
 pub struct Span {
-    /// The offset of its first byte in the section.
+    /// The offset of the expression's first byte in the section.
     pub offset: u64,
-    /// How many bytes it has.
+    /// The expression's length in bytes.
     pub length: u64,
 }
 
 impl Span {
-    /// The expression's bytes, from that section. `None` where the section is too short.
+    /// The expression's bytes in `section`. `None` if the section is too short.
     ///
     /// ```
     /// let span = dwcheck::Span { offset: 1, length: 2 };
@@ -28,9 +28,9 @@ impl Span {
         section.get(start..start.checked_add(length)?)
     }
 
-    /// Slots as the library takes them.
+    /// A pointer to slots, in the type that the library takes.
     pub(crate) fn raw_slots(slots: &mut [Span]) -> *mut ffi::Location {
-        // a `Span` has the fields of an `ffi::Location`, in C's layout
+        // a `Span` has the fields and the layout of an `ffi::Location`
         slots.as_mut_ptr().cast()
     }
 
@@ -42,25 +42,26 @@ impl Span {
     }
 }
 
-/// What a register of the caller is.
+/// How to find a register's value in the caller.
 #[derive(Clone, Copy, Debug, PartialEq, Eq, Hash)]
 #[non_exhaustive]
 pub enum Rule {
-    /// It can't be had.
+    /// The value isn't available.
     Undefined,
-    /// What the register has now.
+    /// The value that the register has now.
     SameValue,
     /// Saved at the CFA plus this many bytes.
     Offset(i64),
     /// The CFA plus this many bytes.
     ValOffset(i64),
-    /// What that register has now.
+    /// The value that this other register has now.
     Register(u16),
-    /// Saved at the address that an expression gives. The CFA is pushed before it.
+    /// Saved at the address that an expression gives. The CFA is pushed before the expression is
+    /// run.
     Expression(Span),
-    /// What an expression gives. The CFA is pushed before it.
+    /// The value that an expression gives. The CFA is pushed before the expression is run.
     ValExpression(Span),
-    /// A rule that this crate doesn't know, by its number: the library is newer.
+    /// The number of a rule that this crate doesn't know, because the library is newer.
     Other(u32),
 }
 
@@ -80,20 +81,20 @@ impl Rule {
     }
 }
 
-/// What the canonical frame address (CFA) is.
+/// How to find the canonical frame address (CFA).
 #[derive(Clone, Copy, Debug, PartialEq, Eq, Hash)]
 #[non_exhaustive]
 pub enum CfaRule {
-    /// What a register has, plus an offset in bytes.
+    /// A register's value, plus an offset in bytes.
     RegisterAndOffset {
         /// The register.
         register: u16,
-        /// What is added.
+        /// The offset.
         offset: i64,
     },
-    /// What an expression gives. Nothing is pushed before it.
+    /// The value that an expression gives. Its stack begins empty.
     Expression(Span),
-    /// A rule that this crate doesn't know, by its number: the library is newer.
+    /// The number of a rule that this crate doesn't know, because the library is newer.
     Other(u32),
 }
 
@@ -111,19 +112,21 @@ impl CfaRule {
     }
 }
 
-/// A row of an unwind table: what holds at some addresses of a module.
+/// A row of an unwind table: the rules at some addresses of a module.
 #[derive(Clone, Debug, PartialEq, Eq, Hash)]
 #[non_exhaustive]
 pub struct Row {
     /// The load address of the module.
     pub load_address: u64,
-    /// The addresses that the row is for, as linked: the load address is to be added, modulo 2^w.
+    /// The addresses that the row covers, as linked. Add the load address, modulo 2^w, to get them
+    /// as loaded.
     pub addresses: Range<u64>,
     /// The rule of the CFA.
     pub cfa: CfaRule,
     /// The register of the return address.
     pub return_register: u16,
-    /// The registers that have a rule, ascending, 128 at most. Of any other the ABI has the say.
+    /// The registers that have a rule, in ascending order, 128 at most. The ABI decides about all
+    /// others.
     pub rules: Vec<(u16, Rule)>,
 }
 
@@ -137,7 +140,7 @@ impl Row {
         Some(self.rules[place].1)
     }
 
-    /// A row without addresses, to be written over.
+    /// A row without addresses, to be overwritten.
     pub(crate) fn empty() -> Row {
         Row {
             load_address: 0,
@@ -148,8 +151,8 @@ impl Row {
         }
     }
 
-    /// Takes what the library wrote. `None` where a register's number has more than 16 bits, which the
-    /// library never gives.
+    /// Decodes what the library wrote. `None` if the return address register's number has more than
+    /// 16 bits, which never happens.
     pub(crate) fn set(&mut self, raw: &ffi::Row, rules: &[ffi::Rule]) -> Option<()> {
         let count = usize::try_from(raw.count).ok()?.min(rules.len());
         self.load_address = raw.load_address;

@@ -5,9 +5,10 @@ use crate::process::Process;
 use crate::row::Row;
 use std::fmt;
 
-/// Looks rows up one after the other, in room that is taken once: [`Process::rows`] makes it.
+/// Looks up the rows of many addresses, one after the other, with buffers that are allocated once.
+/// [`Process::rows`] makes it.
 ///
-/// [`Process::row`] gives the same rows, and takes memory for each.
+/// [`Process::row`] gives the same rows, but allocates for each.
 ///
 /// ```
 /// # const SECTION: &[u8] = &[
@@ -46,7 +47,8 @@ impl<'p> Rows<'p> {
         }
     }
 
-    /// The row of an address, by the first module that has one. It is there until the next look-up.
+    /// The row that covers an address, from the first module that has one. The next look-up
+    /// overwrites it.
     pub fn row(&mut self, address: u64) -> Option<&Row> {
         self.process
             .row_into(address, &mut self.slots, &mut self.row)?;

@@ -1,4 +1,4 @@
-//! What a stopped thread has: registers and memory.
+//! The state of a stopped thread: registers and memory.
 
 use crate::abi::Abi;
 use crate::ffi;
@@ -6,9 +6,10 @@ use std::fmt;
 use std::marker::PhantomData;
 use std::slice;
 
-/// Registers with their contents, by DWARF's numbers.
+/// Registers with their contents, by DWARF register number.
 ///
-/// A content counts modulo 2^w. It takes 9 bytes for each number up to the greatest that was set.
+/// Contents are taken modulo 2^w. This takes some 8 bytes for each number up to the highest one
+/// that was set.
 ///
 /// ```
 /// use dwcheck::Registers;
@@ -25,13 +26,13 @@ pub struct Registers {
     known: Vec<u8>,
 }
 
-/// The byte and the bit that say whether a register is known.
+/// The index of the byte, and the bit in it, that say whether a register is known.
 fn flag(number: u16) -> (usize, u8) {
     (usize::from(number / 8), 1 << (number % 8))
 }
 
 impl Registers {
-    /// No register.
+    /// No registers.
     pub const fn new() -> Registers {
         Registers {
             contents: Vec::new(),
@@ -39,7 +40,7 @@ impl Registers {
         }
     }
 
-    /// Gives a register a content.
+    /// Sets a register's content.
     pub fn set(&mut self, number: u16, content: u64) {
         let place = usize::from(number);
         let (byte, bit) = flag(number);
@@ -53,7 +54,7 @@ impl Registers {
         self.known[byte] |= bit;
     }
 
-    /// What a register has, if it is known.
+    /// A register's content, if it is known.
     pub fn get(&self, number: u16) -> Option<u64> {
         let (byte, bit) = flag(number);
         if self.known.get(byte)? & bit == 0 {
@@ -62,7 +63,7 @@ impl Registers {
         self.contents.get(usize::from(number)).copied()
     }
 
-    /// Forgets a register, and says what it had.
+    /// Forgets a register, and returns the content that it had.
     pub fn remove(&mut self, number: u16) -> Option<u64> {
         let had = self.get(number)?;
         let (byte, bit) = flag(number);
@@ -70,13 +71,13 @@ impl Registers {
         Some(had)
     }
 
-    /// Forgets all registers, and keeps the memory for others.
+    /// Forgets all registers, but keeps the memory allocated.
     pub fn clear(&mut self) {
         self.contents.clear();
         self.known.clear();
     }
 
-    /// The registers that are known, ascending.
+    /// The registers that are known, in ascending order.
     pub fn iter(&self) -> impl Iterator<Item = (u16, u64)> + '_ {
         (0..=u16::MAX)
             .take(self.contents.len())
@@ -120,9 +121,9 @@ impl<const N: usize> From<[(u16, u64); N]> for Registers {
     }
 }
 
-/// The bytes of memory from an address on, as a copy of the top of a stack.
+/// The bytes of memory from an address on, such as a copy of the top of a stack.
 ///
-/// Bytes that would be past the address 2^64 - 1 are never read.
+/// Bytes that would lie past the address 2^64 - 1 are never read.
 ///
 /// ```
 /// let block = dwcheck::Block::new(0x7f00, &[1, 2, 3]);
@@ -135,13 +136,13 @@ pub struct Block<'a> {
     bytes: PhantomData<&'a [u8]>,
 }
 
-// SAFETY: it is an address and a `&[u8]`.
+// SAFETY: a `Block` is an address and a `&[u8]`.
 unsafe impl Send for Block<'_> {}
 // SAFETY: as above.
 unsafe impl Sync for Block<'_> {}
 
 impl<'a> Block<'a> {
-    /// The bytes from `base` on.
+    /// A block with these bytes at the addresses from `base` on.
     pub const fn new(base: u64, bytes: &'a [u8]) -> Block<'a> {
         Block {
             raw: ffi::Block {
@@ -160,7 +161,7 @@ impl<'a> Block<'a> {
 
     /// The bytes.
     pub fn bytes(&self) -> &'a [u8] {
-        // SAFETY: the pointer and the length are those of a `&'a [u8]`, and nothing changes them.
+        // SAFETY: the pointer and the length come from a `&'a [u8]`, and nothing changes them.
         unsafe { slice::from_raw_parts(self.raw.bytes, self.raw.length) }
     }
 }
@@ -174,26 +175,26 @@ impl fmt::Debug for Block<'_> {
     }
 }
 
-/// What a stopped thread has, and the ABI of its machine.
+/// The registers and memory of a stopped thread, and its ABI.
 #[derive(Clone, Copy, Debug)]
 pub struct State<'a> {
     /// The registers.
     pub registers: &'a Registers,
-    /// The memory that is known. An address that two blocks have is that of the first.
+    /// The memory that is known. If two blocks have an address, the first one's byte counts.
     pub memory: &'a [Block<'a>],
-    /// What calls leave as it was.
+    /// Which registers a call preserves.
     pub abi: Abi<'a>,
 }
 
 impl State<'_> {
-    /// The same in C's form. It is to be used while what `self` borrows is there.
+    /// This state as a C structure. Its pointers are valid while what `self` borrows is.
     pub(crate) fn raw(&self) -> ffi::State {
         ffi::State {
             contents: self.registers.contents.as_ptr(),
             contents_length: self.registers.contents.len(),
             known: self.registers.known.as_ptr(),
             known_length: self.registers.known.len(),
-            // a `Block` is an `ffi::Block`, since it is transparent
+            // a `Block` has the layout of an `ffi::Block`, since it is transparent
             blocks: self.memory.as_ptr().cast(),
             blocks_length: self.memory.len(),
             kept: self.abi.kept.as_ptr(),

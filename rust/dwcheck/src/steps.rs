@@ -6,13 +6,14 @@ use crate::fault::Error;
 use crate::process::Process;
 use crate::state::{Block, Registers, State};
 
-/// A frame, and what is known of its caller.
+/// A frame, and what is known about its caller.
 #[derive(Clone, Debug, PartialEq, Eq, Hash)]
 #[non_exhaustive]
 pub struct Step {
-    /// The frame's address, as loaded: the one that the walk began at, or a return address.
+    /// The frame's address, as loaded: the walk's first address, or a return address.
     pub address: u64,
-    /// Its caller, with the frame's CFA. `None` where no module has a row for it.
+    /// The frame's caller, together with the frame's CFA. `None` if no module has a row for the
+    /// frame.
     pub caller: Option<Caller>,
 }
 
@@ -23,21 +24,23 @@ pub struct Steps<'a> {
     memory: &'a [Block<'a>],
     abi: Abi<'a>,
     registers: Registers,
-    /// The next frame's address, and where it is looked up, if anywhere.
+    /// The next frame's address, and the address at which to look the frame up: `None` for a return
+    /// address of 0, which has no address before it.
     next: Option<(u64, Option<u64>)>,
 }
 
 impl Process {
-    /// Walks up the stack from the frame at an address, a frame with all registers of its caller at a
-    /// time.
+    /// Walks up the stack from the frame at an address. Each step gives a frame, and all registers
+    /// of its caller.
     ///
-    /// The frames are those of [`backtrace`](Process::backtrace), which takes much less time. A step is
-    /// an [`unwind`](Process::unwind): the first frame is looked up at its address, each other at its
-    /// address less one, over the registers that its callee's caller has a value for. It ends after a
-    /// frame that isn't covered, or whose return address has no value. A walk of a stack that is astray
-    /// may go on for ever: [`take`](Iterator::take) as many as you want.
+    /// The frames are those of [`backtrace`](Process::backtrace), which is much faster. Each step
+    /// is an [`unwind`](Process::unwind): the first frame is looked up at its address, each later
+    /// frame at its address minus one, with the registers that have a value in the step before. The
+    /// walk ends after a frame that no module covers, or whose return address has no value. On a
+    /// corrupt stack it may never end: [`take`](Iterator::take) as many steps as you want.
     ///
-    /// A step is an error, and the last, where the ABI names too many registers or one twice.
+    /// If the ABI names too many registers or a register twice, the first step is an error, and the
+    /// last.
     ///
     /// ```
     /// # const SECTION: &[u8] = &[
@@ -75,7 +78,7 @@ impl Process {
 }
 
 impl Steps<'_> {
-    /// The caller of the frame that is looked up at an address. There is none where it is nowhere.
+    /// The caller of the frame that is looked up at `address`. `None` if there is no address.
     fn caller(&self, address: Option<u64>) -> Result<Option<Caller>, Error> {
         let state = State {
             registers: &self.registers,

@@ -1,4 +1,5 @@
-//! What the library never gives, and a newer one might: each has an answer, and nothing panics.
+//! Numbers that this version of the library never gives, but a newer one might. Each is decoded to
+//! some answer, without a panic.
 
 use crate::caller::{Answer, Caller};
 use crate::fault::{Error, Fault, FaultKind, Section};

@@ -1,17 +1,17 @@
-//! What machine a section is for.
+//! The kind of machine that a section is for.
 
 use crate::ffi;
 
 /// A byte order.
 #[derive(Clone, Copy, Debug, PartialEq, Eq, Hash)]
 pub enum Order {
-    /// The least byte first.
+    /// The least significant byte first.
     Little,
-    /// The greatest byte first.
+    /// The most significant byte first.
     Big,
 }
 
-/// How many bytes an address has.
+/// The size of an address.
 #[derive(Clone, Copy, Debug, PartialEq, Eq, Hash)]
 pub enum AddressSize {
     /// Four bytes, 32 bits.
@@ -22,7 +22,8 @@ pub enum AddressSize {
 
 /// The machine that a section is for: a byte order and an address size.
 ///
-/// Below, w is the address size in bits. Arithmetic on addresses is modulo 2^w.
+/// In this crate's documentation, w is the address size in bits. Arithmetic on addresses is modulo
+/// 2^w.
 ///
 /// ```
 /// use dwcheck::{AddressSize, Order, Target};
@@ -32,32 +33,32 @@ pub enum AddressSize {
 /// ```
 #[derive(Clone, Copy, Debug, PartialEq, Eq, Hash)]
 pub struct Target {
-    /// The order of the bytes of a number.
+    /// The order of a number's bytes.
     pub order: Order,
     /// The size of an address.
     pub address_size: AddressSize,
 }
 
 impl Target {
-    /// Little-endian with addresses of 64 bits, as x86-64, and nearly always aarch64 and riscv64.
+    /// Little-endian with 64-bit addresses: x86-64, and nearly always aarch64 and riscv64.
     pub const LITTLE_64: Target = Target {
         order: Order::Little,
         address_size: AddressSize::Eight,
     };
 
-    /// Little-endian with addresses of 32 bits, as i386, and nearly always arm and riscv32.
+    /// Little-endian with 32-bit addresses: i386, and nearly always arm and riscv32.
     pub const LITTLE_32: Target = Target {
         order: Order::Little,
         address_size: AddressSize::Four,
     };
 
-    /// Big-endian with addresses of 64 bits, as s390x.
+    /// Big-endian with 64-bit addresses, such as s390x.
     pub const BIG_64: Target = Target {
         order: Order::Big,
         address_size: AddressSize::Eight,
     };
 
-    /// Big-endian with addresses of 32 bits, as powerpc.
+    /// Big-endian with 32-bit addresses, such as powerpc.
     pub const BIG_32: Target = Target {
         order: Order::Big,
         address_size: AddressSize::Four,

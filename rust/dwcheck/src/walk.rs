@@ -8,8 +8,8 @@ use std::vec;
 
 /// A frame of a stack.
 ///
-/// The first frame's address is the one that the walk began at. Any other's is a return address: the
-/// instruction after the call. So a symbolizer looks up the address less one for these.
+/// The first frame's address is where the walk began. Every other frame's address is a return
+/// address, which is just after the call, so a symbolizer has to look up that address minus one.
 #[repr(transparent)]
 #[derive(Clone, Copy, Default)]
 pub struct Frame {
@@ -22,7 +22,7 @@ impl Frame {
         self.raw.address
     }
 
-    /// Its canonical frame address (CFA). `None` where no module has a row for it.
+    /// The frame's canonical frame address (CFA). `None` if no module has a row for the frame.
     pub fn cfa(&self) -> Option<Answer> {
         match self.raw.cfa.kind {
             ffi::NOT_COVERED => None,
@@ -30,9 +30,9 @@ impl Frame {
         }
     }
 
-    /// Slots as the library takes them.
+    /// A pointer to slots, in the type that the library takes.
     pub(crate) fn raw_slots(slots: &mut [Frame]) -> *mut ffi::Frame {
-        // a `Frame` is an `ffi::Frame`, since it is transparent
+        // a `Frame` has the layout of an `ffi::Frame`, since it is transparent
         slots.as_mut_ptr().cast()
     }
 }
@@ -54,23 +54,25 @@ impl fmt::Debug for Frame {
     }
 }
 
-/// Why a walk ends.
+/// Why a walk ended.
 #[derive(Clone, Copy, Debug, PartialEq, Eq, Hash)]
 #[non_exhaustive]
 pub enum Stop {
-    /// There are as many frames as were asked for.
+    /// The walk has as many frames as were asked for.
     Limit,
     /// No module has a row for the last frame.
     NotCovered,
-    /// The row's rule for the return address of the last frame is undefined, which completes the walk
-    /// (DWARF 5, section 6.4.4); or neither the row nor the ABI's kept registers name its register: on
-    /// targets that keep it in a register, the ABI has to name that.
+    /// The return address of the last frame is undefined. Either the row's rule says so, which
+    /// completes the walk (DWARF 5, section 6.4.4); or neither the row nor the ABI's callee-saved
+    /// registers name the register of the return address. On targets that keep the return address
+    /// in a register, the ABI has to name that register.
     ReturnUndefined,
-    /// The last frame's return address takes a register or memory that isn't handed in.
+    /// The last frame's return address depends on a register or memory that wasn't passed, or on
+    /// memory past 2^w - 1.
     ReturnUnreadable,
     /// The expression of the last frame's return address divides by zero.
     ReturnDivisionByZero,
-    /// A reason that this crate doesn't know, by its number: the library is newer.
+    /// The number of a reason that this crate doesn't know, because the library is newer.
     Other(u32),
 }
 

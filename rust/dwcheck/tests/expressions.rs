@@ -1,4 +1,4 @@
-//! `evaluate`, with what docs/WORKED.md says of each expression.
+//! `evaluate`, on the expressions of docs/WORKED.md, with the answers there.
 
 mod common;
 
@@ -10,7 +10,7 @@ use dwcheck::{
 
 use ExpressionKind::{FrameCfa, FrameRegister};
 
-/// What a machine has.
+/// Registers, memory and a context.
 #[derive(Default)]
 struct Machine {
     registers: Registers,
@@ -163,7 +163,7 @@ fn pieces() {
     assert_eq!((outcome, steps), (Outcome::Pieces(three), 5));
 }
 
-/// Each piece of bytes has its own: docs/PROFILE.md, implicit_value and piece.
+/// Each piece that is bytes has its own bytes: docs/PROFILE.md, implicit_value and piece.
 #[test]
 fn pieces_of_bytes() {
     let pieces = vec![

@@ -1,4 +1,4 @@
-//! Input that makes no sense: each call has an answer. Valgrind is to look on.
+//! Input that makes no sense: each call returns something. Run this under valgrind, too.
 
 mod common;
 
@@ -7,7 +7,7 @@ use dwcheck::{
     evaluate, Abi, Block, Context, ExpressionKind, Frame, Process, Registers, State, Target,
 };
 
-/// Numbers that look random and are the same in each run.
+/// Pseudorandom numbers, the same in each run.
 struct Numbers(u64);
 
 impl Numbers {
@@ -37,7 +37,7 @@ impl Numbers {
         all[self.below(4)]
     }
 
-    /// An address near those of the sections, or any.
+    /// An address near those that the sections cover, or any address.
     fn address(&mut self) -> u64 {
         match self.below(3) {
             0 => self.next(),
@@ -47,7 +47,7 @@ impl Numbers {
     }
 }
 
-/// A good section with some bytes changed.
+/// An accepted section, with some bytes changed.
 fn changed(numbers: &mut Numbers) -> Vec<u8> {
     let mut section = if numbers.below(2) == 0 { row_1() } else { x() };
     for _ in 0..numbers.below(3) {

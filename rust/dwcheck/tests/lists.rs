@@ -1,4 +1,4 @@
-//! `locations`, with what docs/WORKED.md says of each list.
+//! `locations`, on the lists of docs/WORKED.md, with the answers there.
 
 mod common;
 
@@ -19,7 +19,7 @@ fn at(section: &[u8], list: u32, base: u64, address: u64) -> Option<Vec<u64>> {
     Some(found.iter().map(|span| span.offset).collect())
 }
 
-/// What the expressions that hold come to.
+/// The results of the expressions that hold.
 fn come_to(section: &[u8], base: u64, address: u64) -> Vec<(Outcome, u32)> {
     let lookup = Lookup {
         list: 0xc,
@@ -77,7 +77,7 @@ fn ls_list() {
     assert_eq!(registers, want);
 }
 
-/// Ranges may overlap, so a list may have any count of expressions for an address.
+/// Ranges may overlap, so any number of expressions of a list may hold at an address.
 #[test]
 fn many_expressions_hold() {
     for count in [15, 16, 17, 127, 128, 129, 1000] {

@@ -1,5 +1,5 @@
-//! Each request for memory that a call makes is refused in turn. This file has `unsafe`: it stands in
-//! the place of the C library's allocator.
+//! Each allocation of a call fails in turn. This file has `unsafe`, because it replaces the
+//! allocator of the C library.
 #![cfg(all(target_os = "linux", target_env = "gnu"))]
 #![deny(unsafe_op_in_unsafe_fn)]
 
@@ -15,7 +15,7 @@ use std::os::raw::c_void;
 use std::ptr::null_mut;
 
 thread_local! {
-    /// How many requests of this thread are granted before one is refused; below 0 all are.
+    /// How many allocations of this thread succeed before one fails. If negative, none fails.
     static LEFT: Cell<isize> = const { Cell::new(-1) };
 }
 
@@ -37,23 +37,23 @@ extern "C" fn malloc(size: usize) -> *mut c_void {
     if refuses() {
         return null_mut();
     }
-    // SAFETY: it takes any size.
+    // SAFETY: `__libc_malloc` accepts any size.
     unsafe { __libc_malloc(size) }
 }
 
 /// # Safety
 ///
-/// As `realloc` of C.
+/// The same as for C's `realloc`.
 #[no_mangle]
 unsafe extern "C" fn realloc(block: *mut c_void, size: usize) -> *mut c_void {
     if refuses() {
         return null_mut();
     }
-    // SAFETY: as the caller promises.
+    // SAFETY: the caller promises the same.
     unsafe { __libc_realloc(block, size) }
 }
 
-/// Whether this file's allocator is in place. Valgrind has its own.
+/// Whether this file's allocator is in use. Valgrind uses its own.
 fn is_in_place() -> bool {
     LEFT.with(|left| left.set(0));
     let refused = Vec::<u8>::new().try_reserve_exact(1).is_err();
@@ -61,8 +61,9 @@ fn is_in_place() -> bool {
     refused
 }
 
-/// Calls with each request refused, until there are fewer. It answers how many there were. A call may
-/// have another way that takes no memory.
+/// Repeats a call: the first allocation fails, then only the second, and so on, until the call
+/// makes fewer allocations. Returns their number. A call may succeed without an allocation that
+/// failed.
 fn refuse_each<T>(mut call: impl FnMut() -> Result<T, Error>) -> isize {
     for granted in 0.. {
         LEFT.with(|left| left.set(granted));
@@ -103,7 +104,7 @@ fn processes() {
     let mut process = Process::new();
     assert!(refuse_each(|| add(&mut process, &section, 0)) > 0);
     assert!(refuse_each(|| add(&mut process, &section, 0x10000)) > 0);
-    // what was refused was not added
+    // a section that wasn't added because memory ran out isn't there
     assert!(process.remove(0x10000) && !process.remove(0x10000));
     assert!(process.row(0x1000).is_some());
     assert!(refuse_each(|| process.share()) > 0);

@@ -1,4 +1,5 @@
-//! Faults by docs/PROFILE.md's table, and ABIs by docs/OUTPUT.md's table of `keep` and `sp`.
+//! Compares faults with the table of docs/PROFILE.md, and ABIs with the table of `keep` and `sp` in
+//! docs/OUTPUT.md.
 
 use dwcheck::{Abi, FaultKind};
 
@@ -37,7 +38,7 @@ fn faults_have_their_numbers_and_names() {
     assert_eq!(FaultKind::from_number(u32::MAX).number(), u32::MAX);
 }
 
-/// The numbers of words as `19 to 29` and `30`.
+/// The numbers that words such as `19 to 29` and `30` stand for.
 fn registers(text: &str) -> Vec<u16> {
     let mut all = Vec::new();
     for part in text.replace("and ", "").split(", ") {

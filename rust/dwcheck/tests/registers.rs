@@ -1,4 +1,4 @@
-//! `Registers`, which is this crate's own.
+//! `Registers`, which doesn't call the library.
 
 use dwcheck::Registers;
 

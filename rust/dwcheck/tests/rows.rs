@@ -1,4 +1,4 @@
-//! `Process::row`, with what docs/WORKED.md says of each section.
+//! `Process::row`, on the sections of docs/WORKED.md, with the answers there.
 
 mod common;
 
@@ -96,7 +96,7 @@ fn older_cies_and_many_registers() {
     let cie = "14000000 ffffffff 03 00 01 78 9001 0c0708 9001 0000000000";
     let section = hex(&format!("{} {} 41 0e10 8602 43 0d06", cie, H1));
     assert_eq!(row(&section, 0x1000).return_register, 144);
-    // registers 0 to 126 undefined, and that of the return address has its rule: 128 make too many
+    // registers 0 to 126 are undefined, and the return address register has a rule: 128 rules
     let program: String = (0..127)
         .map(|register| format!("07{:02x} ", register))
         .collect();
@@ -131,7 +131,7 @@ fn other_targets() {
     process
         .add(&section, Target::BIG_32, 0xffff_8000, room)
         .unwrap();
-    // as linked 0x8000 and 0x8008, loaded at -0x8000 modulo 2^32
+    // 0x8000 and 0x8008 as linked; the load address is -0x8000 modulo 2^32
     assert_eq!(process.row(0).unwrap().cfa, cfa(13, 0));
     let found = process.row(0xf).unwrap();
     assert_eq!(found.addresses, 0x8008..0x8010);
@@ -175,7 +175,7 @@ fn room_is_a_bound_and_no_request() {
         .add(&section, Target::LITTLE_64, 0, usize::MAX)
         .unwrap();
     assert!(process.row(0x1000).is_some());
-    // what is refused changes nothing
+    // a refused section changes nothing
     let refused = add(&mut process, &section[..5], 0x5000);
     assert_eq!(refusal(refused), Some(("Truncated", 4)));
     assert!(process.row(0x1000).is_some());

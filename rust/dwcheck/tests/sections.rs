@@ -1,4 +1,4 @@
-//! `check`, with what docs/WORKED.md says of each section.
+//! `check`, on the sections of docs/WORKED.md, with the answers there.
 
 mod common;
 
@@ -75,7 +75,7 @@ fn row_1_changed() {
         let mut section = row_1();
         section[place] = byte;
         assert_eq!(frame(&section), want, "{:#x} at {}", byte, place);
-        // a process refuses the same
+        // a process refuses the section with the same fault
         let added = add(&mut Process::new(), &section, 0);
         assert_eq!(refusal(added), want, "{:#x} at {}", byte, place);
     }
@@ -163,7 +163,8 @@ fn faults_as_text() {
     assert_eq!(boxed.to_string(), fault.to_string());
 }
 
-/// Every beginning of a section, and every change of one byte to a few others: an answer for each.
+/// Cuts a section at every length, and changes each of its bytes to a few other values. Each result
+/// gets an answer.
 #[test]
 fn each_small_change_has_an_answer() {
     for section in [row_1(), x(), row_16(), l()] {

@@ -1,4 +1,4 @@
-//! Processes that go from thread to thread, and tables that threads share.
+//! Processes that move from thread to thread, and tables that threads share.
 
 mod common;
 
@@ -21,11 +21,12 @@ fn what_is_send_and_sync() {
     is_send::<dwcheck::Backtrace>();
     is_sync::<dwcheck::Row>();
     is_sync::<dwcheck::Error>();
-    // with a lock around it, it is for all threads
+    // a `Mutex` around a process lets all threads use it
     is_sync::<Mutex<Process>>();
 }
 
-/// Walks from the module at 0x200000 through that at 0x100000, and says whether all is right.
+/// Walks from the module at 0x200000 through the one at 0x100000. Returns whether the walk is
+/// right.
 fn walks_well(process: &Process) -> bool {
     let registers = Registers::from([(6, 0x7000)]);
     let words: [u64; 6] = [0x7020, 0x101010, 0, 0, 0, 0x5000];
@@ -61,7 +62,7 @@ fn threads_share_tables() {
             })
         })
         .collect();
-    // the others have it still
+    // the other processes still have the tables
     assert!(process.remove(0x100000));
     drop(process);
     for walker in walkers {
@@ -100,7 +101,7 @@ fn a_shared_process_is_its_own() {
     assert!(process.share().unwrap().row(0x101010).is_none());
 }
 
-/// The threads of musl have the smallest usual stacks, of 128 KB.
+/// musl gives threads stacks of 128 KB, the smallest of the usual ones.
 #[test]
 fn calls_fit_a_small_stack() {
     let walker = thread::Builder::new().stack_size(128 * 1024);

@@ -1,4 +1,4 @@
-//! `unwind` and `backtrace`, with what docs/WORKED.md says of each.
+//! `unwind` and `backtrace`, on the examples of docs/WORKED.md, with the answers there.
 
 mod common;
 
@@ -203,14 +203,14 @@ fn walks_into_slots() {
     assert_eq!((frames.len(), stop), (0, Stop::Limit));
 }
 
-/// C1 and H1 with a program and initial location 0.
+/// The section of C1 and H1 with a program, and with 0 as its initial location.
 fn from_0(program: &str) -> Vec<u8> {
     let mut section = with_program(program);
     section[33] = 0;
     section
 }
 
-/// A walk through it from 3 with `reg 7 0x10`.
+/// A walk through the section of [`from_0`], from address 3, with register 7 at 0x10.
 fn walk_from_3(program: &str, limit: usize) -> Backtrace {
     let process = process_at(&from_0(program), 0);
     let registers = Registers::from([(7, 0x10)]);
@@ -225,7 +225,7 @@ fn walk_from_3(program: &str, limit: usize) -> Backtrace {
     walk
 }
 
-/// Whether steps are the frames of a walk.
+/// Whether steps have the same frames as a walk.
 trait EqFrames {
     fn eq_frames(self, walk: &Backtrace) -> bool;
 }
@@ -281,7 +281,7 @@ fn walks_that_end() {
     );
 }
 
-/// Row 1's section at two addresses, and the frames of the walk through both.
+/// Loads row 1's section at two addresses, and walks through both modules.
 fn two_modules() -> (Process, [(u64, Option<u64>); 3]) {
     let mut process = process_at(&row_1(), 0x100000);
     add(&mut process, &row_1(), 0x200000).unwrap();
@@ -295,8 +295,8 @@ fn two_modules() -> (Process, [(u64, Option<u64>); 3]) {
 
 const STACK: [u64; 6] = [0x7020, 0x101010, 0, 0, 0, 0x5000];
 
-/// There is no address before 0, so a frame at 0 is looked up nowhere, though the last address is
-/// covered.
+/// A frame at address 0 is looked up nowhere, because no address is before 0. The module here
+/// covers the last address, which must not be found instead.
 #[test]
 fn a_frame_at_0_is_not_covered() {
     let mut process = process_at(&from_0("0f 01 3f 16 10 01 30"), 0);
@@ -329,7 +329,7 @@ fn walks_through_modules() {
         (frames.to_vec(), Stop::NotCovered)
     );
 
-    // step by step, with registers
+    // the same walk by steps, with registers
     let steps: Vec<_> = process
         .steps(0x201010, &state)
         .take(9)

@@ -1,4 +1,4 @@
-//! What can't be bridged.
+//! Why a record can't be rewritten.
 
 use crate::bytes::ReadError;
 use std::fmt;
@@ -14,7 +14,7 @@ pub struct BridgeError {
     pub reason: Reason,
 }
 
-/// Why a field of a record can't be bridged.
+/// Why a field of a record can't be rewritten.
 #[derive(Clone, Debug, PartialEq, Eq)]
 pub enum Reason {
     /// The section or the record ends before the field does.
@@ -29,15 +29,15 @@ pub enum Reason {
     Version(u8),
     /// The CIE's augmentation string has a letter with no known meaning.
     Augmentation(String),
-    /// A pointer encoding (`DW_EH_PE`) that isn't known, or that leads to memory.
+    /// A pointer encoding (`DW_EH_PE`) that isn't known, or that is indirect or omitted.
     Encoding(u8),
-    /// A pointer is relative to a place (text, data or function) that the file doesn't have.
+    /// A pointer is relative to an address that isn't known: of the text, the data or the function.
     NoBase(u8),
     /// A signed range is negative.
     NegativeRange,
     /// The field's relocation names a symbol that the object doesn't define.
     Unresolved,
-    /// The section, or what it becomes, has 2^32 bytes or more.
+    /// The section, or the rewritten section, has 2^32 bytes or more.
     TooLong,
 }
 
@@ -51,7 +51,7 @@ impl From<ReadError> for Reason {
 }
 
 impl Reason {
-    /// A name, as faults of `dwcheck` have: the fault's own where it is one of these.
+    /// The reason's name. If `dwcheck` has a fault for the reason, it is that fault's name.
     pub fn name(&self) -> &'static str {
         match self {
             Reason::Truncated => "Truncated",
@@ -67,7 +67,7 @@ impl Reason {
         }
     }
 
-    /// The error at a field of a record.
+    /// The error for this reason, at a field of a record.
     pub(crate) fn at(self, record: usize, field: usize) -> BridgeError {
         BridgeError { record: record as u64, field: field as u64, reason: self }
     }

@@ -1,4 +1,4 @@
-//! Copies call frame instructions, and changes those few that differ.
+//! Copies call frame instructions, and changes the few that differ in `.debug_frame`.
 
 use super::pointer;
 use super::records::{Bridge, CieParts};
@@ -7,7 +7,7 @@ use crate::bytes::{Cursor, ReadError};
 use crate::target::Target;
 use object::elf::EM_AARCH64;
 
-/// The operands of an instruction, as far as their sizes go.
+/// The operands of an instruction, by their kinds of size.
 #[derive(Clone, Copy, Debug, PartialEq, Eq)]
 pub(crate) enum Operands {
     None,
@@ -30,7 +30,7 @@ const DEF_CFA_SF: u8 = 0x12;
 const DEF_CFA_OFFSET_SF: u8 = 0x13;
 const GNU_ARGS_SIZE: u8 = 0x2e;
 
-/// The operands of an instruction by its code, or nothing if the code isn't known.
+/// The operands of an instruction by its code. `None` if the code isn't known.
 pub(crate) fn operands(code: u8) -> Option<Operands> {
     Some(match code {
         0x40..=0x7f | 0xc0..=0xff => Operands::None,
@@ -44,7 +44,7 @@ pub(crate) fn operands(code: u8) -> Option<Operands> {
         0x05 | 0x09 | DEF_CFA | 0x11 | DEF_CFA_SF | 0x14 | 0x15 => Operands::TwoLebs,
         DEF_CFA_EXPRESSION => Operands::Block,
         0x10 | 0x16 => Operands::LebAndBlock,
-        // DW_CFA_MIPS_advance_loc8, and DW_CFA_GNU_window_save, which aarch64 has for another thing.
+        // DW_CFA_MIPS_advance_loc8; and DW_CFA_GNU_window_save, AARCH64_negate_ra_state on aarch64.
         0x1d => Operands::Bytes(8),
         0x2d => Operands::None,
         GNU_ARGS_SIZE => Operands::Leb,
@@ -54,7 +54,8 @@ pub(crate) fn operands(code: u8) -> Option<Operands> {
     })
 }
 
-/// Moves past operands, of which an address is written as in `.debug_frame`. Gives the length of a block.
+/// Moves past operands. Returns the length of the block, if there is one. An address is taken to
+/// have the size that it has in `.debug_frame`.
 pub(crate) fn skip(cursor: &mut Cursor<'_>, operands: Operands, target: Target) -> Result<Option<usize>, ReadError> {
     match operands {
         Operands::None => {}
@@ -73,7 +74,8 @@ fn block(cursor: &mut Cursor<'_>) -> Result<usize, ReadError> {
     cursor.take(length).map(<[u8]>::len)
 }
 
-/// The name of an instruction by its code, as DWARF 5 has it in section 7.24, without `DW_CFA_`.
+/// The name of an instruction by its code, without `DW_CFA_`: that of DWARF 5, section 7.24, or a
+/// vendor's.
 pub(crate) fn name_of(code: u8, machine: u16) -> Option<&'static str> {
     Some(match code {
         0x40..=0x7f => "advance_loc",
@@ -119,12 +121,12 @@ pub(super) struct CfaKnown {
 }
 
 impl CfaKnown {
-    /// As it is where a program begins.
+    /// The state at the beginning of a program. `now` says whether the CFA has a rule there.
     pub fn new(now: bool) -> Self {
         CfaKnown { now, remembered: Vec::new() }
     }
 
-    /// As it is where the program ends.
+    /// Whether the CFA has a rule after the instructions so far.
     pub fn now(&self) -> bool {
         self.now
     }
@@ -140,7 +142,7 @@ impl CfaKnown {
 }
 
 impl Bridge<'_> {
-    /// Copies a program. `function` is where the FDE's range begins.
+    /// Copies a program. `function` is the FDE's first address, or `None` in a CIE.
     pub(super) fn instructions(
         &mut self,
         cursor: &mut Cursor<'_>,
@@ -154,12 +156,12 @@ impl Bridge<'_> {
             let whole = cursor.clone();
             let code = cursor.byte().unwrap_or(0);
             let read = match operands(code) {
-                // It is decoded below.
+                // `set_loc` reads the address, below.
                 Some(Operands::Address) => Some(Ok(None)),
                 operands => operands.map(|operands| skip(cursor, operands, self.section.target)),
             };
             if !matches!(read, Some(Ok(_))) {
-                // dwcheck finds the same fault at the same instruction.
+                // `dwcheck` refuses this instruction, so it and the rest are copied unchanged.
                 self.bytes.extend_from_slice(whole.rest());
                 *cursor = whole;
                 cursor.take(cursor.rest().len() as u64).map_err(|error| (start, error.into()))?;
@@ -191,7 +193,7 @@ impl Bridge<'_> {
         Ok(())
     }
 
-    /// Gives the CFA the offset 0 with its register.
+    /// Writes `DW_CFA_def_cfa` with the same register and the offset 0.
     fn mend(&mut self, cursor: &Cursor<'_>, start: usize) {
         self.bytes.push(DEF_CFA);
         self.bytes.extend_from_slice(cursor.since(start + 1));

@@ -1,13 +1,13 @@
-//! Which offset of `.eh_frame` an offset of the bridged bytes comes from.
+//! Where the bridged bytes come from in the original section.
 
 use std::ops::Range;
 
-/// A record of the bridged bytes and where it comes from.
+/// A record of the bridged bytes, and where it comes from.
 #[derive(Clone, Debug, PartialEq, Eq)]
 pub struct Record {
     /// The offset of the record in the bridged bytes.
     pub bridged: u64,
-    /// The offset of the record in `.eh_frame`.
+    /// The offset of the record in the original section.
     pub source: u64,
     /// What the record is.
     pub kind: RecordKind,
@@ -24,24 +24,24 @@ pub enum RecordKind {
         begin: u64,
         /// How many bytes it covers.
         size: u64,
-        /// Whether it is that of a signal frame. Its caller was interrupted, so the address in the caller doesn't follow a
-        /// call.
+        /// Whether the FDE is for a signal frame. A signal interrupted that frame's caller, so the
+        /// return address doesn't follow a call.
         signal: bool,
     },
 }
 
-/// A place in `.eh_frame`.
+/// A place in the original section.
 #[derive(Clone, Copy, Debug, PartialEq, Eq)]
 pub struct Place {
-    /// The offset in `.eh_frame`.
+    /// The offset in the original section.
     pub offset: u64,
-    /// The offset of the record in `.eh_frame`.
+    /// The offset of its record in the original section.
     pub record: u64,
     /// What the record is.
     pub kind: RecordKind,
 }
 
-/// Which record an offset belongs to, where one ends and the next begins.
+/// Which record an offset belongs to, if one record ends there and the next one begins.
 #[derive(Clone, Copy, Debug, PartialEq, Eq)]
 pub enum Edge {
     /// The record that begins there, as for the fault Overlap.
@@ -50,14 +50,14 @@ pub enum Edge {
     End,
 }
 
-/// A part of the bridged bytes begins at `bridged`, and what it comes from at `source`.
+/// The bridged bytes from `bridged` on come from the original section's bytes from `source` on.
 #[derive(Clone, Copy, Debug)]
 pub(super) struct Pair {
     pub bridged: u32,
     pub source: u32,
 }
 
-/// All records, and the parts that they were made of.
+/// All records, and where the parts that they are made of come from.
 #[derive(Clone, Debug, Default)]
 pub(super) struct Places {
     pub records: Vec<Record>,
@@ -65,7 +65,7 @@ pub(super) struct Places {
 }
 
 impl Places {
-    /// The place that an offset of the bridged bytes comes from.
+    /// Where an offset of the bridged bytes comes from.
     pub fn find(&self, offset: u64, edge: Edge) -> Option<Place> {
         let next = self.records.partition_point(|record| match edge {
             Edge::Begin => record.bridged <= offset,

@@ -1,4 +1,4 @@
-//! Copies `.debug_frame`, without the records that have no body.
+//! Copies `.debug_frame`, without the records of length 0.
 
 use super::places::{Pair, Places, Record, RecordKind};
 use super::{Bridged, Counts};
@@ -6,15 +6,15 @@ use crate::debug_frame::{self, Kind};
 use crate::target::Target;
 use std::collections::HashMap;
 
-/// An offset that no section has.
+/// A CIE pointer that leads to no record.
 const NOWHERE: u64 = 0xffff_fffe;
 
 /// Copies a `.debug_frame` section for `dwcheck`, without the records of length 0.
 ///
-/// Some linkers leave such records, which DWARF doesn't have. Where there is none, the bytes are the section's. What
-/// follows the last record that can be read is copied as it is.
+/// Some linkers leave such records, which DWARF doesn't have. If there are none, the result has the
+/// section's bytes. What follows the last record that can be read is copied unchanged.
 ///
-/// `None` where the section has 2^32 bytes or more.
+/// `None` if the section has 2^32 bytes or more.
 pub fn without_empty_records(section: &[u8], target: Target) -> Option<Bridged> {
     u32::try_from(section.len()).ok()?;
     let records = debug_frame::records(section, target);
@@ -42,7 +42,7 @@ pub fn without_empty_records(section: &[u8], target: Target) -> Option<Bridged> 
     Some(Bridged { bytes: copy.bytes, places, counts: copy.counts, mended: Vec::new() })
 }
 
-/// Where each record begins in the copy, by where it begins in the section.
+/// The offset of each record in the copy, by its offset in the section.
 fn new_starts(records: &[debug_frame::Record]) -> HashMap<u64, u64> {
     let mut dropped = 0;
     let mut starts = HashMap::new();
@@ -67,7 +67,8 @@ struct Copy<'a> {
 }
 
 impl Copy<'_> {
-    /// Copies a record. A CIE pointer follows its CIE; one that leads to no record leads to none in the copy.
+    /// Copies a record. Its CIE pointer is changed to the new offset of its CIE. A pointer that
+    /// leads to no record leads to none in the copy, either.
     fn record(&mut self, record: &debug_frame::Record, starts: &HashMap<u64, u64>) -> RecordKind {
         let part = |from, to| self.section.get(from..to).unwrap_or(&[]);
         match record.kind {

@@ -3,13 +3,13 @@
 use super::{EhFrame, Reason};
 use crate::bytes::Cursor;
 
-/// No pointer at all.
+/// The encoding of a pointer that isn't there.
 pub(super) const OMIT: u8 = 0xff;
-/// The pointer is a place in memory that holds the address.
+/// The bit that says that the pointer leads to memory that holds the address.
 const INDIRECT: u8 = 0x80;
-/// Which bits say how the number is written.
+/// The bits that say how the number is written.
 const FORMAT: u8 = 0x0f;
-/// Which bits say what the number is relative to.
+/// The bits that say what the number is relative to.
 const BASE: u8 = 0x70;
 const PC_RELATIVE: u8 = 0x10;
 const TEXT_RELATIVE: u8 = 0x20;
@@ -34,7 +34,7 @@ fn number(cursor: &mut Cursor<'_>, encoding: u8, address_size: u8) -> Result<u64
     })
 }
 
-/// Reads an address. `function` is where the FDE's range begins, once that is known.
+/// Reads an address. `function` is the FDE's first address, if that is known already.
 pub(super) fn address(
     cursor: &mut Cursor<'_>,
     encoding: u8,
@@ -62,7 +62,8 @@ pub(super) fn address(
     Ok(section.target.wrap(base.wrapping_add(number)))
 }
 
-/// Reads the count of bytes that an FDE covers. It is written in the format of an address, but has no base.
+/// Reads the number of bytes that an FDE covers. Its format is that of the addresses, but it has no
+/// base.
 pub(super) fn range(cursor: &mut Cursor<'_>, encoding: u8, section: &EhFrame<'_>) -> Result<u64, Reason> {
     let range = number(cursor, encoding, section.target.address_size.bytes())?;
     let narrow = matches!(encoding & FORMAT, 0x0a | 0x0b) && encoding & FORMAT != widest(section);
@@ -73,7 +74,7 @@ pub(super) fn range(cursor: &mut Cursor<'_>, encoding: u8, section: &EhFrame<'_>
     Ok(section.target.wrap(range))
 }
 
-/// The signed format that is as wide as an address.
+/// The signed format that has the size of an address.
 fn widest(section: &EhFrame<'_>) -> u8 {
     match section.target.address_size.bytes() {
         4 => 0x0b,
@@ -81,7 +82,7 @@ fn widest(section: &EhFrame<'_>) -> u8 {
     }
 }
 
-/// Moves past a pointer that isn't needed, as that of a personality routine.
+/// Moves past a pointer that isn't needed, such as that of a personality routine.
 pub(super) fn skip(cursor: &mut Cursor<'_>, encoding: u8, section: &EhFrame<'_>) -> Result<(), Reason> {
     if encoding == OMIT {
         return Ok(());

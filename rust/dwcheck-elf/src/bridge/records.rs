@@ -8,14 +8,14 @@ use crate::bytes::Cursor;
 /// The id of a CIE in `.debug_frame`.
 const CIE_ID: u64 = 0xffff_ffff;
 
-/// What the FDEs of a CIE need.
+/// What is stored of a CIE, to rewrite its FDEs.
 #[derive(Clone, Debug)]
 pub(super) struct CieParts {
     /// Its offset in `.eh_frame`.
     source: usize,
     /// Its offset in the bridged bytes.
     bridged: u64,
-    /// How its FDEs write addresses.
+    /// The pointer encoding of its FDEs' addresses.
     pub encoding: u8,
     /// Whether its FDEs have augmentation data.
     has_data: bool,
@@ -36,7 +36,7 @@ pub(super) struct Bridge<'a> {
     cies: Vec<CieParts>,
 }
 
-/// An error at a field, before it is known which record the field is in.
+/// The offset of a field and what is wrong with it. The caller adds the offset of the record.
 type AtField = (usize, Reason);
 
 impl<'a> Bridge<'a> {
@@ -69,7 +69,7 @@ impl<'a> Bridge<'a> {
         Ok(Bridged { bytes, places, counts, mended })
     }
 
-    /// Notes that the bytes that follow come from `source`.
+    /// Notes that the bytes written next come from `source`.
     pub fn pair(&mut self, source: usize) {
         let pair = Pair { bridged: self.bytes.len() as u32, source: source as u32 };
         self.places.pairs.push(pair);
@@ -118,7 +118,8 @@ impl<'a> Bridge<'a> {
         Some(())
     }
 
-    /// The CIE that an FDE's pointer leads to. The pointer counts back from its own place.
+    /// The CIE that an FDE's pointer leads to. The pointer is the distance back from `place`, its
+    /// own offset.
     fn cie_of(&self, place: usize, pointer: u64) -> Option<CieParts> {
         let source = place.checked_sub(usize::try_from(pointer).ok()?)?;
         let found = self.cies.binary_search_by_key(&source, |cie| cie.source).ok()?;
@@ -164,7 +165,8 @@ impl<'a> Bridge<'a> {
         Ok(())
     }
 
-    /// Reads the augmentation data of a CIE. Only how addresses are written is kept.
+    /// Reads the augmentation data of a CIE. Stores in `cie` that there are data, the pointer
+    /// encoding, and whether the FDEs are signal frames; drops the rest.
     fn augmentation_data(&mut self, record: &mut Cursor<'a>, letters: &[u8], cie: &mut CieParts) -> Result<(), Reason> {
         let unknown = || Reason::Augmentation(String::from_utf8_lossy(letters).into_owned());
         let rest = match letters.split_first() {
@@ -189,7 +191,7 @@ impl<'a> Bridge<'a> {
                     self.counts.data_areas += 1;
                 }
                 b'S' => cie.signal = true,
-                // Return addresses are signed with aarch64's key B.
+                // The return addresses are signed with aarch64's key B. That changes no rule.
                 b'B' => {}
                 _ => return Err(unknown()),
             }

@@ -12,10 +12,10 @@ use std::path::{Component, Path, PathBuf};
 /// A mapped file with more bytes isn't read.
 pub const FILE_LIMIT: u64 = 1 << 30;
 
-/// No more files are read where all would have more bytes.
+/// A file isn't read if all files together would then have more than this many bytes.
 pub const FILES_LIMIT: u64 = 4 << 30;
 
-/// How many bytes of a file are compared with those that the core has.
+/// How many of a file's first bytes are compared with the core's memory.
 const COMPARED: usize = 4096;
 
 /// A file that was mapped.
@@ -30,15 +30,16 @@ pub struct MappedFile {
 /// Why a mapped file can't be used.
 #[derive(Debug)]
 pub enum FileError {
-    /// Its name isn't an absolute path, or leads up with `..`. The kernel gives no such name.
+    /// Its name isn't an absolute path, or contains `..`. The kernel gives no such name.
     Name,
     /// It can't be read.
     Read(std::io::Error),
-    /// It isn't a regular file, or it has no bytes, as files of `/proc` have none.
+    /// It isn't a regular file, or its size is 0, which files in `/proc` have.
     NotRegular,
-    /// It has more bytes than [`FILE_LIMIT`], or all have more than [`FILES_LIMIT`].
+    /// It has this many bytes: more than [`FILE_LIMIT`], or too many to stay within
+    /// [`FILES_LIMIT`].
     TooLarge(u64),
-    /// It isn't the file that was mapped: its first bytes aren't those that the core has.
+    /// It isn't the file that was mapped: its first bytes differ from those in the core.
     Changed,
 }
 
@@ -46,12 +47,13 @@ pub enum FileError {
 #[derive(Debug, Default)]
 pub struct Files {
     files: Vec<MappedFile>,
-    /// The place of each file by its name.
+    /// The index of each file in `files`, by its name.
     places: HashMap<Vec<u8>, usize>,
 }
 
 impl Files {
-    /// Reads the files that a core names, below a folder: `/` for those of this machine.
+    /// Reads the files that a core names, from below the folder `root`: `/` for this machine's
+    /// files.
     pub fn read(core: &CoreFile<'_>, root: &Path) -> Self {
         let mut places = HashMap::new();
         let mut left = FILES_LIMIT;
@@ -76,7 +78,7 @@ impl Files {
         &self.files
     }
 
-    /// The place of a file among all, and its bytes.
+    /// The index of a file in [`all`](Self::all), and its bytes.
     pub(super) fn find(&self, path: &[u8]) -> Option<(usize, &[u8])> {
         let place = *self.places.get(path)?;
         let bytes = self.files.get(place)?.bytes.as_deref().ok()?;
@@ -84,7 +86,7 @@ impl Files {
     }
 }
 
-/// The path below a folder, where an absolute path begins.
+/// The path in the folder `root` that an absolute path stands for.
 fn below(root: &Path, path: &Path) -> Result<PathBuf, FileError> {
     let inner = path.strip_prefix("/").map_err(|_| FileError::Name)?;
     let goes_down = inner.components().all(|part| matches!(part, Component::Normal(_)));
@@ -95,7 +97,7 @@ fn below(root: &Path, path: &Path) -> Result<PathBuf, FileError> {
     }
 }
 
-/// Reads a regular file. Others, as devices and pipes, aren't opened.
+/// Reads a regular file. Other files, such as devices and pipes, aren't opened.
 fn content(path: &Path, left: u64) -> Result<Vec<u8>, FileError> {
     if !path.metadata().map_err(FileError::Read)?.is_file() {
         return Err(FileError::NotRegular);
@@ -113,7 +115,7 @@ fn content(path: &Path, left: u64) -> Result<Vec<u8>, FileError> {
     Ok(bytes)
 }
 
-/// Compares the beginning of a program or library with what the core has of it.
+/// Compares the beginning of an ELF file with what the core has of it. Other files aren't compared.
 fn same(core: &CoreFile<'_>, path: &[u8], bytes: Vec<u8>) -> Result<Vec<u8>, FileError> {
     let starts = core.mappings().iter().filter(|mapping| mapping.path == path && mapping.offset == 0);
     for mapping in starts {

@@ -8,11 +8,12 @@ use std::collections::BTreeMap;
 pub enum Origin {
     /// The core.
     Core,
-    /// A mapped file, by its place in [`Files::all`]. The core left these bytes out, since they are the file's.
+    /// A mapped file, by its index in [`Files::all`]. The core left these bytes out, because the
+    /// file has them.
     File(usize),
 }
 
-/// Bytes of the memory.
+/// A block of memory.
 #[derive(Clone, Copy, Debug, PartialEq, Eq)]
 pub struct Block<'a> {
     /// The address of the first byte.
@@ -35,7 +36,7 @@ impl<'a> Block<'a> {
         self.address.saturating_add(self.bytes.len() as u64)
     }
 
-    /// The part of it from one address to before another.
+    /// The part of the block from `begin` up to, not including, `end`.
     fn part(&self, begin: u64, end: u64) -> Option<Block<'a>> {
         let from = usize::try_from(begin.checked_sub(self.address)?).ok()?;
         let to = usize::try_from(end.checked_sub(self.address)?).ok()?;
@@ -44,7 +45,7 @@ impl<'a> Block<'a> {
 }
 
 impl<'data> CoreFile<'data> {
-    /// The memory: what the core has, and what it left out since the files have it.
+    /// The memory: the bytes that the core has, and those of mapped files that it left out.
     pub fn memory<'a>(&self, files: &'a Files) -> Memory<'a>
     where
         'data: 'a,
@@ -69,7 +70,7 @@ impl<'data> CoreFile<'data> {
 }
 
 impl<'a> Memory<'a> {
-    /// Adds those parts of a block that no block has yet.
+    /// Adds the parts of a block that aren't covered by earlier blocks.
     fn add(&mut self, block: Block<'a>) {
         let mut next = block.address;
         while next < block.end() {
@@ -92,14 +93,15 @@ impl<'a> Memory<'a> {
         self.blocks.values()
     }
 
-    /// The bytes from an address on, as far as its block goes.
+    /// The bytes from an address to the end of its block.
     pub fn from(&self, address: u64) -> Option<&'a [u8]> {
         let (_, block) = self.blocks.range(..=address).next_back()?;
         let past = usize::try_from(address.checked_sub(block.address)?).ok()?;
         block.bytes.get(past..).filter(|bytes| !bytes.is_empty())
     }
 
-    /// Copies the bytes from an address on, across blocks. Gives false if one of them isn't known.
+    /// Copies the bytes from an address on, across blocks. Returns false if one of them isn't
+    /// known.
     pub fn read(&self, address: u64, bytes: &mut [u8]) -> bool {
         let mut done = 0;
         while let Some(rest) = bytes.get_mut(done..).filter(|rest| !rest.is_empty()) {

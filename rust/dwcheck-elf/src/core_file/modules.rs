@@ -10,11 +10,12 @@ use std::path::{Path, PathBuf};
 /// Where a module's ELF file is.
 #[derive(Clone, Copy, Debug, PartialEq, Eq)]
 pub enum Image<'a> {
-    /// A mapped file, by its place in [`Files::all`], and its bytes.
+    /// A mapped file, by its index in [`Files::all`], and its bytes.
     File(usize, &'a [u8]),
-    /// The program, of a core that doesn't say which files are mapped, and its bytes.
+    /// The bytes of the program that the caller passed. Used if the core doesn't list its mapped
+    /// files.
     Program(&'a [u8]),
-    /// The kernel's vDSO, which the core has in memory.
+    /// The bytes of the kernel's vDSO, which are in the core's memory.
     Vdso(&'a [u8]),
 }
 
@@ -42,7 +43,7 @@ impl<'a> Image<'a> {
     }
 }
 
-/// A module, as far as its mappings were seen.
+/// A possible module, with what its mappings so far have shown.
 struct Candidate<'a> {
     place: usize,
     has_code: bool,
@@ -53,7 +54,7 @@ struct Candidate<'a> {
 struct Finder<'a> {
     core: &'a CoreFile<'a>,
     files: &'a Files,
-    /// The segments of each file, once it was read.
+    /// The segments of each file that was read, by the file's index in [`Files::all`].
     segments: HashMap<usize, Vec<Segment>>,
     found: Vec<Candidate<'a>>,
 }
@@ -61,8 +62,8 @@ struct Finder<'a> {
 impl CoreFile<'_> {
     /// The modules, in the order of their mappings, and the vDSO last.
     ///
-    /// A mapped ELF file is a module where one of its executable segments is mapped. A file that is loaded at two
-    /// places is two modules.
+    /// A mapped ELF file is a module if one of its executable segments is mapped. A file that is
+    /// loaded twice, at different addresses, is two modules.
     pub fn modules<'a>(&'a self, files: &'a Files) -> Vec<Module<'a>> {
         let mut finder = Finder { core: self, files, segments: HashMap::new(), found: Vec::new() };
         self.mappings().iter().for_each(|mapping| finder.add(mapping));
@@ -70,8 +71,8 @@ impl CoreFile<'_> {
         loaded.map(|candidate| candidate.module).chain(self.vdso_module()).collect()
     }
 
-    /// The program as a module, by where its first instruction is. It is for a core that doesn't say which files are
-    /// mapped, as those of qemu.
+    /// The program as a module, for a core that doesn't list its mapped files, such as qemu's. The
+    /// bias comes from the address of the program's first instruction, which the core has.
     pub fn program_module<'a>(&self, path: &Path, bytes: &'a [u8]) -> Option<Module<'a>> {
         let program = Program::read(bytes).ok().filter(|program| program.target() == self.target())?;
         let bias = self.target().wrap(self.entry?.wrapping_sub(program.entry()));
@@ -81,7 +82,7 @@ impl CoreFile<'_> {
         Some(Module { path: path.to_path_buf(), bias, begin, end, image: Image::Program(bytes) })
     }
 
-    /// The vDSO, whose ELF file is in memory as a whole.
+    /// The vDSO. The core's memory has its whole ELF file.
     fn vdso_module(&self) -> Option<Module<'_>> {
         let begin = self.vdso?;
         let bytes = self.bytes_from(begin)?;
@@ -94,7 +95,7 @@ impl CoreFile<'_> {
 }
 
 impl<'a> Finder<'a> {
-    /// Adds a mapping to the module that it belongs to, if it belongs to one.
+    /// Adds a mapping to its module, if it belongs to one.
     fn add(&mut self, mapping: &Mapping<'_>) {
         let (place, bytes) = match self.files.find(mapping.path) {
             Some(found) => found,
@@ -129,16 +130,16 @@ impl<'a> Finder<'a> {
 
 /// Whether a mapping has a byte of a segment.
 ///
-/// Where one segment ends and the next begins in the same page of the file, both are mapped with that page. So a
-/// mapping can show a segment that it wasn't made for. The segment that gives a bias that is known already is the right
-/// one.
+/// If one segment ends in the same page of the file in which the next one begins, that page is
+/// mapped for both. So a mapping can have bytes of a segment that it wasn't made for. If one of the
+/// segments gives a bias that is known already, that segment is the right one.
 fn is_shown(mapping: &Mapping<'_>, segment: &Segment) -> bool {
     let mapped_end = mapping.offset.saturating_add(mapping.end.saturating_sub(mapping.begin));
     let segment_end = segment.offset.saturating_add(segment.file_size);
     mapping.offset < segment_end && segment.offset < mapped_end
 }
 
-/// The bias of a module that has a segment in a mapping.
+/// The bias of a module, if `mapping` maps its segment `segment`.
 fn bias(mapping: &Mapping<'_>, segment: &Segment) -> u64 {
     let file_begin = mapping.begin.wrapping_sub(mapping.offset);
     file_begin.wrapping_add(segment.offset).wrapping_sub(segment.address)

@@ -20,7 +20,7 @@ pub struct Mapping<'data> {
     pub begin: u64,
     /// The address after the last one.
     pub end: u64,
-    /// The offset in the file of what is at the first address.
+    /// The offset in the file of the byte at `begin`.
     pub offset: u64,
     /// The file's name, as the kernel gave it.
     pub path: &'data [u8],
@@ -31,13 +31,14 @@ pub struct Mapping<'data> {
 pub struct Signal {
     /// Its number.
     pub number: u32,
-    /// Why it came (`si_code`).
+    /// Its cause (`si_code`).
     pub code: u32,
-    /// For SIGSEGV, SIGBUS, SIGILL and SIGFPE: the address of the fault. Else it has no meaning.
+    /// For SIGSEGV, SIGBUS, SIGILL and SIGFPE: the address of the fault. For others it has no
+    /// meaning.
     pub address: u64,
 }
 
-/// What the notes say.
+/// The contents of the notes.
 #[derive(Clone, Debug)]
 pub(super) struct Notes<'data> {
     target: Target,
@@ -54,7 +55,7 @@ impl<'data> Notes<'data> {
         Notes { target, abi, threads: Vec::new(), signal: None, mappings: Vec::new(), vdso: None, entry: None }
     }
 
-    /// Reads a note. One that isn't needed is left out.
+    /// Reads a note. Ignores it if it isn't needed.
     pub fn add(&mut self, owner: &[u8], kind: u32, bytes: &'data [u8]) -> Result<(), CoreError> {
         if owner != b"CORE" {
             return Ok(());
@@ -73,7 +74,8 @@ impl<'data> Notes<'data> {
         read.map_err(|_| CoreError::Note(kind))
     }
 
-    /// A count, a page size, that many mappings, and their names.
+    /// Reads an `NT_FILE` note: the number of mappings, the page size, the mappings, and their
+    /// names.
     fn files(&mut self, bytes: &'data [u8]) -> Result<(), ReadError> {
         let word = self.target.address_size.bytes();
         let mut numbers = Cursor::new(bytes, self.target);
@@ -107,7 +109,7 @@ fn signal(bytes: &[u8], target: Target) -> Result<Signal, ReadError> {
     Ok(Signal { number, code, address })
 }
 
-/// Finds a value in the auxiliary vector, pairs of a type and a value.
+/// Finds a value in the auxiliary vector, which is pairs of a type and a value.
 fn auxiliary(bytes: &[u8], target: Target, wanted: u64) -> Option<u64> {
     let word = target.address_size.bytes();
     let mut cursor = Cursor::new(bytes, target);

@@ -10,7 +10,7 @@ use object::elf;
 pub struct Thread {
     /// Its id.
     pub id: u32,
-    /// The signal that it got, 0 for none.
+    /// The signal that it received, 0 for none.
     pub signal: u16,
     /// Its registers by their DWARF numbers, ascending.
     pub registers: Vec<(u16, u64)>,
@@ -53,7 +53,8 @@ fn numbers(abi: &Abi) -> &'static [u16] {
 /// Reads a note of type `NT_PRSTATUS`.
 pub(super) fn thread(bytes: &[u8], target: Target, abi: &Abi) -> Result<Thread, ReadError> {
     let word = target.address_size.bytes();
-    // Three numbers of 4 bytes, the signal, two masks of a word, four ids of 4 bytes, four times of two words.
+    // Before the registers: three numbers of 4 bytes, the signal, two masks of a word, four ids of
+    // 4 bytes, four times of two words.
     let (id, registers) = match target.address_size {
         AddressSize::Four => (24, 72),
         AddressSize::Eight => (32, 112),

@@ -1,4 +1,4 @@
-//! Rows as `dwcheck` has them, and their comparison with those of gimli.
+//! `dwcheck`'s rows, and their comparison with gimli's.
 
 use super::gimli_rows::{Bounded, Bytes, GimliRows};
 use super::{compare_rows, next_record, Agreement, Difference, RowSource, What};
@@ -13,12 +13,13 @@ use gimli::{
 };
 use std::ops::Range;
 
-/// The rows of an FDE by `dwcheck`: each is looked up by its first address, which the row before it ends with.
+/// `dwcheck`'s rows of an FDE. Each row is looked up at the address where the row before it ends.
 ///
-/// [`new`](Self::new) leaves out rules that say a register is undefined, as gimli does; [`whole`](Self::whole) has all.
+/// [`new`](Self::new) leaves out rules that say a register is undefined, as gimli does;
+/// [`whole`](Self::whole) has all rules.
 pub struct DwcheckRows<'a> {
     rows: Rows<'a>,
-    /// The section that the process was made of, which has the expressions.
+    /// The section that was added to the process, which has the expressions' bytes.
     bytes: &'a [u8],
     next: u64,
     end: u64,
@@ -27,22 +28,23 @@ pub struct DwcheckRows<'a> {
 }
 
 impl<'a> DwcheckRows<'a> {
-    /// The rows of the addresses from `begin` to before `end`, which a section covers.
+    /// The rows from `begin` up to, not including, `end`. The section has to cover all these
+    /// addresses.
     pub fn new(process: &'a Process, bytes: &'a [u8], begin: u64, end: u64) -> Self {
         DwcheckRows { rows: process.rows(), bytes, next: begin, end, return_register: None, has_undefined: false }
     }
 
-    /// The same rows with all rules.
+    /// The rows of [`new`](Self::new), with the rules for undefined registers.
     pub fn whole(process: &'a Process, bytes: &'a [u8], begin: u64, end: u64) -> Self {
         DwcheckRows { has_undefined: true, ..DwcheckRows::new(process, bytes, begin, end) }
     }
 
-    /// The register of the return address, once a row was read.
+    /// The register of the return address in the last row that was read.
     pub fn return_register(&self) -> Option<u16> {
         self.return_register
     }
 
-    /// Goes on with the rows of other addresses.
+    /// Continues with the rows of other addresses.
     pub fn restart(&mut self, begin: u64, end: u64) {
         self.next = begin;
         self.end = end;
@@ -101,14 +103,15 @@ impl<'a> RowSource<'a> for DwcheckRows<'a> {
     }
 }
 
-/// Compares gimli's rows of a section as it is in the file with `dwcheck`'s rows of what it was given, for each FDE.
+/// Compares gimli's rows of a section in the file with `dwcheck`'s rows of the rewritten bytes, for
+/// each FDE.
 ///
-/// `process` is that of [`Frames::process`] at 0. A section that `dwcheck` refuses has no process;
-/// [`validate`](super::validate) compares it by gimli alone.
+/// `process` has to be [`Frames::process`] for the load address 0. If `dwcheck` refuses the
+/// section, there is no process; [`validate`](super::validate) then compares by gimli alone.
 ///
 /// # Errors
 ///
-/// The first difference. The error of a row that gimli refuses is one, too.
+/// The first difference. A row that gimli refuses is one, too.
 pub fn validate_rows(frames: &Frames<'_>, process: &Process) -> Result<Agreement, Difference> {
     let source = frames.eh_frame();
     let (order, address_size) = (source.target.gimli_order(), source.target.address_size.bytes());
@@ -126,7 +129,7 @@ pub fn validate_rows(frames: &Frames<'_>, process: &Process) -> Result<Agreement
     }
 }
 
-/// What is used again for each FDE.
+/// Buffers that are used again for each FDE.
 struct Room<'a> {
     context: Box<UnwindContext<Bytes<'a>, Bounded>>,
     found: Rows<'a>,
@@ -134,7 +137,7 @@ struct Room<'a> {
     rows: (Row<'a>, Row<'a>),
 }
 
-/// A section and what `dwcheck` made of it.
+/// A section, and the process of what it was rewritten as.
 struct Comparison<'a, S> {
     frames: &'a Frames<'a>,
     process: &'a Process,
@@ -197,7 +200,7 @@ where
         if let Some(count) = self.count_equal(table, begin..end, register, found) {
             return Ok(count);
         }
-        // They differ, or gimli refuses one. This way takes longer, and tells which.
+        // The rows differ, or gimli refuses one. Comparing again is slower, but finds which row.
         let table = fde.rows(&self.section, &self.bases, context).map_err(unreadable)?;
         ours.restart(begin, end);
         let (count, _) = compare_rows(&mut GimliRows { table, target }, ours, rows)?;
@@ -207,7 +210,8 @@ where
         }
     }
 
-    /// How many rows an FDE has, if all of gimli's are `dwcheck`'s, and the return address is in a register.
+    /// The number of an FDE's rows. `None` unless all of gimli's rows and `dwcheck`'s are equal,
+    /// and `register` is the return address register of each.
     fn count_equal(
         &self,
         mut table: UnwindTable<'_, '_, Bytes<'a>, Bounded>,
@@ -233,7 +237,7 @@ where
     }
 }
 
-/// Whether two rows have the same rules. gimli has none for a register that is undefined.
+/// Whether two rows have the same rules. gimli has no rule for an undefined register.
 fn same_rules(ours: &dwcheck::Row, theirs: &UnwindTableRow<Bytes<'_>, Bounded>, bytes: &[u8]) -> bool {
     let same_cfa = match (&ours.cfa, theirs.cfa()) {
         (

@@ -1,4 +1,4 @@
-//! Rows as gimli reads them.
+//! gimli's rows, and their comparison with each other.
 
 use super::{compare_rows, RowSource, What};
 use crate::bridge::EhFrame;
@@ -14,7 +14,8 @@ type Context<'a> = Box<UnwindContext<Bytes<'a>, Bounded>>;
 type Cie<'a> = CommonInformationEntry<Bytes<'a>>;
 type Fde<'a> = FrameDescriptionEntry<Bytes<'a>>;
 
-/// Room for rules and remembered rows, more than dwcheck takes. gimli's own room for remembered rows has no bound.
+/// gimli's storage for rules and remembered rows: more than `dwcheck` accepts. gimli's default
+/// storage for remembered rows has no bound.
 pub(super) struct Bounded;
 
 impl<R: Reader> UnwindContextStorage<R> for Bounded {
@@ -22,13 +23,13 @@ impl<R: Reader> UnwindContextStorage<R> for Bounded {
     type Stack = [UnwindTableRow<R, Self>; 32];
 }
 
-/// The rows of one FDE by gimli. Rows that cover no address are left out.
+/// gimli's rows of one FDE, except those that cover no address.
 pub struct GimliRows<'data, 'a, 'ctx> {
     pub(super) table: UnwindTable<'a, 'ctx, Bytes<'data>, Bounded>,
     pub(super) target: Target,
 }
 
-/// The section as it is.
+/// The section in the file, before it is rewritten.
 pub(super) struct Original<'a> {
     section: gimli::EhFrame<Bytes<'a>>,
     bytes: &'a [u8],
@@ -51,7 +52,7 @@ pub(super) struct BridgedSection<'a> {
 }
 
 impl EhFrame<'_> {
-    /// What pointers are relative to, as gimli takes it.
+    /// The addresses that pointers are relative to, as gimli takes them.
     pub(super) fn bases(&self) -> BaseAddresses {
         let mut bases = BaseAddresses::default().set_eh_frame(self.address);
         if let Some(address) = self.text {
@@ -73,7 +74,7 @@ impl<'a> Original<'a> {
         Original { section: read, bytes: section.bytes, target: section.target, bases, context }
     }
 
-    /// The record at an offset. The id after its length says which it is.
+    /// The record at an offset. The id after the length tells whether it is a CIE or an FDE.
     pub fn entry(&self, record: usize) -> gimli::Result<OriginalEntry<'a>> {
         let is_long = self.bytes.get(record..).map_or(false, |bytes| bytes.starts_with(&[0xff; 4]));
         let id = record.saturating_add(if is_long { 12 } else { 4 });
@@ -122,7 +123,7 @@ impl<'a> BridgedSection<'a> {
     }
 }
 
-/// Compares what the FDEs of two CIEs take from them, but for their instructions.
+/// Compares what two CIEs give their FDEs, except for the instructions.
 pub(super) fn compared_cies(one: &Cie<'_>, other: &Cie<'_>) -> Result<(), What> {
     let same = one.code_alignment_factor() == other.code_alignment_factor()
         && one.data_alignment_factor() == other.data_alignment_factor()

@@ -1,4 +1,4 @@
-//! What readelf says of frame sections.
+//! What readelf shows of frame sections.
 
 use crate::common::{hex, Folder};
 use dwcheck_elf::bridge::{bridge, Bridged, Options};
@@ -9,14 +9,14 @@ use dwcheck_elf::validate::{validate, Agreement};
 #[derive(Debug)]
 pub struct Shown {
     pub offset: u64,
-    /// The offset of its CIE and the range, of an FDE.
+    /// If it is an FDE: the offset of its CIE, and the two ends of its range.
     pub fde: Option<(u64, u64, u64)>,
-    /// The augmentation string, of a CIE.
+    /// If it is a CIE: the augmentation string.
     pub augmentation: String,
     pub lines: Vec<String>,
 }
 
-/// The records of one section. End marks are left out.
+/// The records of one section, without records of length 0.
 pub fn records(folder: &Folder, file: &str, section: &str) -> Vec<Shown> {
     let mut shown: Vec<Shown> = Vec::new();
     for line in part(&folder.run(&format!("readelf --debug-dump=frames {}", file)), section) {
@@ -40,7 +40,7 @@ fn record(offset: &str, fde: Option<(u64, u64, u64)>) -> Shown {
     Shown { offset: hex(offset), fde, augmentation: String::new(), lines: Vec::new() }
 }
 
-/// The lines of what readelf shows that belong to a section.
+/// The lines of readelf's output that belong to a section.
 fn part<'a>(shown: &'a str, section: &str) -> impl Iterator<Item = &'a str> {
     let title = format!("Contents of the {} section", section);
     let lines = shown.lines().skip_while(move |line| !line.starts_with(&title)).skip(1);
@@ -56,8 +56,8 @@ fn rows(shown: &str, section: &str) -> Vec<String> {
     part(shown, section).filter(|line| !line.contains("ZERO terminator") && !line.trim().is_empty()).map(kept).collect()
 }
 
-/// Bridges the `.eh_frame` of a linked file, puts the result into a copy of the file as `.debug_frame`, and asks
-/// readelf for the rows of both, which have to be equal. gimli's have to be equal too.
+/// Rewrites the `.eh_frame` of a linked file, and adds the result as `.debug_frame` to a copy of
+/// the file. readelf's rows of both sections have to be equal, and so do gimli's.
 pub fn compared(folder: &Folder, file: &str, objcopy: &str) -> (Bridged, Agreement) {
     let bytes = folder.bytes(file);
     let program = Program::read(&bytes).unwrap();

@@ -1,4 +1,4 @@
-//! What the tests share: folders, tools and what they print.
+//! What the tests share: folders, tools, and the tools' output.
 #![allow(dead_code)]
 
 pub mod run;
@@ -6,7 +6,7 @@ pub mod run;
 use std::path::{Path, PathBuf};
 use std::process::Command;
 
-/// A folder of its own for a test, removed at the end.
+/// A folder for one test, which is removed at the end.
 pub struct Folder(PathBuf);
 
 impl Folder {
@@ -34,7 +34,7 @@ impl Folder {
         std::fs::read(self.file(name)).unwrap()
     }
 
-    /// Runs a command line in the folder and gives what it prints. It has to succeed.
+    /// Runs a command line in the folder, and returns what it prints. The command has to succeed.
     pub fn run(&self, line: &str) -> String {
         let output = Command::new("bash").args(["-c", line]).current_dir(&self.0).env("LC_ALL", "C").output().unwrap();
         let error = String::from_utf8_lossy(&output.stderr);
@@ -42,7 +42,7 @@ impl Folder {
         String::from_utf8_lossy(&output.stdout).into_owned()
     }
 
-    /// The bytes of a section, as objcopy takes them out, decompressed.
+    /// The bytes of a section, decompressed, from objcopy.
     pub fn section(&self, file: &str, section: &str) -> Vec<u8> {
         self.run(&format!("objcopy --decompress-debug-sections --dump-section {}=taken {} /dev/null", section, file));
         self.bytes("taken")
@@ -69,7 +69,7 @@ pub fn hex(text: &str) -> u64 {
     u64::from_str_radix(text.trim_start_matches("0x"), 16).unwrap_or_else(|_| panic!("no number: {}", text))
 }
 
-/// Where some bytes are among others. They have to be there once.
+/// The offset of some bytes in others, which have to contain them exactly once.
 pub fn place_of(bytes: &[u8], part: &[u8]) -> usize {
     let places: Vec<_> = (0..bytes.len()).filter(|place| bytes[*place..].starts_with(part)).collect();
     assert_eq!(places.len(), 1, "{:x?} is at {:?}", part, places);
@@ -115,7 +115,7 @@ int main(int argc, char **) {
 }
 ";
 
-/// The names before those of the binutils of other machines.
+/// The prefixes of the names of other machines' binutils.
 pub const MACHINES: [&str; 12] = [
     "i686-linux-gnu",
     "aarch64-linux-gnu",

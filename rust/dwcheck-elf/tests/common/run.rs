@@ -3,7 +3,7 @@
 use crate::common::Folder;
 use std::process::Command;
 
-/// What a run of the program came to.
+/// The result of a run of the program.
 #[derive(Debug)]
 pub struct Ran {
     pub status: i32,
@@ -18,7 +18,7 @@ impl Ran {
     }
 }
 
-/// Runs the program in a folder, with words between single spaces.
+/// Runs the program in a folder. The words of its command line are separated by single spaces.
 pub fn dwcheck_elf(folder: &Folder, words: &str) -> Ran {
     let mut command = Command::new(env!("CARGO_BIN_EXE_dwcheck-elf"));
     let output = command.args(words.split(' ')).current_dir(folder.path()).output().unwrap();
@@ -31,7 +31,7 @@ pub fn dwcheck_elf(folder: &Folder, words: &str) -> Ran {
     ran
 }
 
-/// What the program `dwcheck` of the variable DWCHECK writes, if there is one.
+/// What the program `dwcheck` writes. `None` if the variable DWCHECK doesn't name it.
 pub fn by_dwcheck(folder: &Folder, words: &str) -> Option<String> {
     let program = match std::env::var("DWCHECK") {
         Ok(program) => program,

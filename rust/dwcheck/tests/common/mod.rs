@@ -1,9 +1,9 @@
-//! Sections of docs/WORKED.md, and helpers. Not every test file uses all.
+//! Sections of docs/WORKED.md, and helpers. Not every test file uses all of them.
 #![allow(dead_code)]
 
 use dwcheck::{Error, Process, Target};
 
-/// The bytes of hex text with spaces.
+/// The bytes of a text of hexadecimal digits and spaces.
 pub fn hex(text: &str) -> Vec<u8> {
     let digits: Vec<u8> = text
         .chars()
@@ -20,10 +20,10 @@ pub fn hex(text: &str) -> Vec<u8> {
 /// The CIE that docs/WORKED.md calls C1.
 pub const C1: &str = "14000000 ffffffff 04 00 08 00 01 78 10 0c0708 9001 00000000";
 
-/// The beginning of an FDE that it calls H1, up to its program of eight bytes.
+/// The beginning of the FDE that docs/WORKED.md calls H1, up to its program of eight bytes.
 pub const H1: &str = "1c000000 00000000 0010000000000000 2000000000000000";
 
-/// The section of C1 and H1 with a program, which is filled with 0 to eight bytes.
+/// The section of C1 and H1 with a program, which is padded with zeros to eight bytes.
 pub fn with_program(program: &str) -> Vec<u8> {
     let mut section = hex(&format!("{} {} {}", C1, H1, program));
     section.resize(section.len().max(56), 0);
@@ -35,7 +35,7 @@ pub fn row_1() -> Vec<u8> {
     with_program("41 0e10 8602 43 0d06")
 }
 
-/// The section that it calls X.
+/// The section that docs/WORKED.md calls X.
 pub fn x() -> Vec<u8> {
     with_program("10 06 02 2308 16 07 00")
 }
@@ -45,7 +45,7 @@ pub fn row_16() -> Vec<u8> {
     hex("12000000 0500 08 00 00000000 04 00 10 01 50 05 02 309f 00")
 }
 
-/// The location lists that it calls L.
+/// The location lists that docs/WORKED.md calls L.
 pub fn l() -> Vec<u8> {
     hex(
         "36000000 0500 08 00 00000000 06 0020000000000000 04 00 10 01 50
@@ -53,7 +53,7 @@ pub fn l() -> Vec<u8> {
     )
 }
 
-/// An FDE like H1 with a range and eight `00`.
+/// An FDE like H1 with another range, and a program of eight nops.
 pub fn fde(initial: u64, range: u64) -> Vec<u8> {
     let mut bytes = hex("1c000000 00000000");
     bytes.extend(initial.to_le_bytes());
@@ -74,7 +74,7 @@ pub fn add(process: &mut Process, section: &[u8], load_address: u64) -> Result<(
     process.add(section, Target::LITTLE_64, load_address, room)
 }
 
-/// What a refusal says, as `NoSuchCie` and 28.
+/// A refusal's fault and offset, such as `NoSuchCie` and 28.
 pub fn refusal(result: Result<(), Error>) -> Option<(&'static str, u32)> {
     match result {
         Ok(()) => None,

@@ -48,12 +48,12 @@ pub struct Reading {
 }
 
 impl Reading {
-    /// What the library needs.
+    /// The options for rewriting `.eh_frame`.
     pub fn options(self) -> Options {
         Options { strict: self.strict }
     }
 
-    /// The same, with every fault or the first.
+    /// The options for a check, which finds every fault if `all`, else the first.
     pub fn check(self, all: bool) -> Check {
         Check { bridge: self.options(), all }
     }

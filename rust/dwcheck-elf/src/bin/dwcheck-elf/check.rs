@@ -1,4 +1,4 @@
-//! `check`: judges the sections of programs.
+//! `check`: checks the sections of programs.
 
 use crate::arguments::CheckWords;
 use crate::end::{Done, Failure};
@@ -57,7 +57,7 @@ fn check_one(words: &CheckWords, path: &Path, out: &mut impl Write) -> Result<Do
     Ok(done)
 }
 
-/// Writes how much a section holds, and a line for each of its expressions.
+/// Writes how much an accepted section holds, and a line for each of its expressions.
 fn write_accepted(out: &mut impl Write, program: &Program<'_>, section: &Inspected<'_>) -> io::Result<()> {
     match (&section.verdict, &section.frames) {
         (Verdict::Frames(agreement), Some(frames)) => write_frames(out, agreement, frames),
@@ -71,7 +71,7 @@ fn write_accepted(out: &mut impl Write, program: &Program<'_>, section: &Inspect
 
 /// An expression of a frame section.
 struct Located {
-    /// Where it begins in the bytes that `dwcheck` takes.
+    /// Its offset in the bytes that `dwcheck` takes.
     begin: usize,
     length: usize,
     is_cfa: bool,
@@ -117,7 +117,7 @@ fn write_lists(out: &mut impl Write, contents: &Contents, lists: &[u8], target: 
     Ok(())
 }
 
-/// Says what was dropped or changed, a line for each kind of thing.
+/// Writes what was dropped or changed, a line for each kind of change.
 pub fn write_notes(out: &mut impl Write, name: Name, bridged: &Bridged) -> io::Result<()> {
     let Counts { terminators, augmentations, personalities, data_areas, signal_frames, args_sizes, set_locs, .. } =
         *bridged.counts();

@@ -5,14 +5,14 @@ use std::fmt;
 use std::io;
 use std::path::Path;
 
-/// A run that came to its end.
+/// The result of a run that reached its end.
 #[derive(Clone, Copy, Debug, PartialEq, Eq, PartialOrd, Ord)]
 pub enum Done {
     /// All was accepted, or an answer was given.
     Accepted,
     /// Something was refused.
     Refused,
-    /// Something couldn't be read or judged; it was said on standard error.
+    /// Something couldn't be read or checked. Standard error says what.
     Unread,
 }
 
@@ -21,7 +21,7 @@ pub enum Done {
 pub enum Failure {
     /// An argument or a line of a state file is wrong.
     Argument(String),
-    /// A file can't be read, or not judged.
+    /// A file can't be read or checked.
     File(String),
     /// The output can't be written.
     Output,
@@ -47,7 +47,7 @@ impl Failure {
         }
     }
 
-    /// A file whose sections can't be judged.
+    /// The failure for a file whose sections can't be checked.
     pub fn judging(path: &Path, error: &InspectError) -> Self {
         Failure::File(format!("{}: {}", path.display(), error))
     }

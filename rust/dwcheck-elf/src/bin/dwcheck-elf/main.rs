@@ -20,7 +20,7 @@ fn main() -> ExitCode {
     let words = match Words::try_parse() {
         Ok(words) => words,
         Err(error) => {
-            // Where standard error is closed nobody reads it.
+            // If standard error is closed, nobody can read the message, so errors don't matter.
             let _ = error.print();
             return ExitCode::from(if error.use_stderr() { 2 } else { 0 });
         }

@@ -1,4 +1,4 @@
-//! Programs that are read, and what is asked of them.
+//! What the commands share: reading programs, addresses and names.
 
 use crate::end::Failure;
 use dwcheck::{Error, Process};
@@ -15,7 +15,7 @@ use std::fs::File;
 use std::io::{self, Read, Write};
 use std::path::Path;
 
-/// Reads a file. Others than regular ones, as pipes, are read to their end.
+/// Reads a file to its end, also if it is a pipe or another file that isn't regular.
 pub fn read(path: &Path) -> Result<Vec<u8>, Failure> {
     let content = || -> io::Result<Vec<u8>> {
         let mut bytes = Vec::new();
@@ -30,7 +30,8 @@ pub fn program<'data>(path: &Path, data: &'data [u8]) -> Result<Program<'data>, 
     Program::read(data).map_err(|error| Failure::File(format!("{}: {}", path.display(), error)))
 }
 
-/// The frame sections of a program that are accepted and whose rows were compared, or the first that is refused.
+/// The frame sections of a program if all are accepted, else the fault of the first one that is
+/// refused. The rows of rewritten sections are compared with gimli's.
 pub fn accepted_frames<'data>(
     path: &Path,
     program: &Program<'data>,
@@ -48,19 +49,19 @@ pub fn accepted_frames<'data>(
     Ok(Ok(accepted))
 }
 
-/// Writes what is refused: its record, and then where it is and the rule.
+/// Writes a fault in two lines: its record, and its offset with the rule that it breaks.
 pub fn write_defect(out: &mut impl Write, path: &Path, defect: &Defect) -> io::Result<()> {
     writeln!(out, "{}: {}", path.display(), defect)?;
     writeln!(out, "    at {:#x}: {}", defect.offset, defect.rule)
 }
 
-/// Adds sections to a process, at one load address.
+/// Adds the sections of a module to a process, at the module's load address.
 pub fn add(process: &mut Process, path: &Path, frames: &[Frames<'_>], load: u64) -> Result<(), Failure> {
     let failed = |name, error: Error| Failure::judging(path, &InspectError::Dwcheck(name, error));
     frames.iter().try_for_each(|one| one.add_to(process, load).map_err(|error| failed(one.name(), error)))
 }
 
-/// The name of the function that an address is in, in parentheses after a space, or nothing.
+/// The name of the function that contains an address, in parentheses after a space; or empty.
 pub fn named(functions: &Functions<'_>, address: u64) -> String {
     Spot::at(functions, address).map_or_else(String::new, |spot| format!(" ({})", spot))
 }
@@ -70,7 +71,8 @@ pub fn number_argument(text: &str, target: Target) -> Result<u64, Failure> {
     number(text, target).ok_or_else(|| Failure::Argument(format!("bad argument: {} isn't an address as 0x1130", text)))
 }
 
-/// An address as loaded: a number, or a function of the program and perhaps an offset.
+/// An address as loaded, from a number, or from a function of the program with or without an
+/// offset.
 pub fn address(text: &str, target: Target, functions: &Functions<'_>, load: u64) -> Result<u64, Failure> {
     if let Some(number) = number(text, target) {
         return Ok(number);

@@ -78,7 +78,7 @@ fn write_rows(out: &mut impl Write, frames: &Frames<'_>, mut rows: DwcheckRows<'
     Ok(())
 }
 
-/// Shows the row of an address, by the first section that has one.
+/// Shows the row of an address, from the first section that has one.
 pub fn row(words: &RowWords, out: &mut impl Write) -> Result<Done, Failure> {
     let data = read(&words.program)?;
     let program = program(&words.program, &data)?;

@@ -20,10 +20,10 @@ use std::io::{self, Write};
 use std::path::PathBuf;
 use totals::Totals;
 
-/// What gimli and dwcheck need of a thread's stack, with room to spare.
+/// The stack of each thread: more than gimli and `dwcheck` need.
 const STACK: usize = 8 << 20;
 
-/// What came of a file.
+/// The result of checking a file.
 pub struct Surveyed {
     path: PathBuf,
     /// The machine's number (`e_machine`), if the file's headers can be read.
@@ -31,13 +31,13 @@ pub struct Surveyed {
     outcome: Result<Vec<Section>, String>,
 }
 
-/// What came of a section.
+/// The result of checking a section.
 pub struct Section {
     name: Name,
     bytes: usize,
-    /// What it holds, where it was accepted.
+    /// How much it holds, if it was accepted.
     held: Held,
-    /// What is wrong with it, where it was refused.
+    /// Its faults, if it was refused.
     defects: Vec<Defect>,
     counts: Counts,
     mended: usize,
@@ -55,11 +55,11 @@ pub enum Held {
         lists: usize,
         expressions: usize,
     },
-    /// It was refused.
+    /// The section was refused.
     Unknown,
 }
 
-/// Checks all files, and writes those that are refused.
+/// Checks all files, and writes their faults and the totals, as text or as JSON.
 pub fn survey(words: &SurveyWords, out: &mut impl Write) -> Result<Done, Failure> {
     let pool = rayon::ThreadPoolBuilder::new().num_threads(words.jobs.unwrap_or(0)).stack_size(STACK);
     let pool = pool.build().map_err(|error| Failure::File(format!("no threads: {}", error)))?;
@@ -85,7 +85,7 @@ pub fn survey(words: &SurveyWords, out: &mut impl Write) -> Result<Done, Failure
     Ok(totals.done())
 }
 
-/// A bar on standard error, if that is a terminal.
+/// A progress bar on standard error, if that is a terminal.
 fn progress(count: u64) -> ProgressBar {
     let bar = ProgressBar::new(count);
     let style = ProgressStyle::with_template("{wide_bar} {pos}/{len} {eta}");
@@ -124,7 +124,8 @@ impl Section {
     }
 }
 
-/// Writes two lines for each fault, and on standard error a line for each file that can't be read or judged.
+/// Writes two lines for each fault; and, on standard error, a line for each file that can't be read
+/// or checked.
 fn write_refused(out: &mut impl Write, files: &Files, surveyed: &[Surveyed]) -> io::Result<()> {
     for (path, error) in &files.unread {
         let _ = writeln!(io::stderr(), "dwcheck-elf: cannot read {}: {}", path.display(), error);

@@ -1,4 +1,4 @@
-//! `unwind` and `backtrace`: callers over a state file.
+//! `unwind` and `backtrace`: find callers, with the registers and memory of a state file.
 
 use crate::arguments::{BacktraceWords, UnwindWords};
 use crate::end::{Done, Failure};
@@ -27,13 +27,13 @@ struct Given {
 struct Loaded<'a> {
     process: Process,
     target: Target,
-    /// The functions of each module, and where it is loaded.
+    /// The functions of each module, and the module's load address.
     functions: Vec<(Functions<'a>, u64)>,
 }
 
 impl<'a> Loaded<'a> {
-    /// The name of the function that an address as loaded is in, in parentheses after a space, or nothing. The first
-    /// module that has one gives it.
+    /// The name of the function that contains an address as loaded, in parentheses after a space;
+    /// or empty. It comes from the first module that has a name for the address.
     fn named(&self, address: u64, is_after_call: bool) -> String {
         let find = if is_after_call { Spot::after_call } else { Spot::at };
         let spot =
@@ -61,7 +61,8 @@ fn given(words: &UnwindWords, target: Target, data: Vec<u8>) -> Result<Vec<Given
     Ok(all)
 }
 
-/// Checks all modules and puts them into a process. The inner error is what is refused, and in which file.
+/// Checks all modules and puts them into a process. The inner error is the first fault, and its
+/// file.
 fn loaded<'a>(
     words: &UnwindWords,
     given: &'a [Given],
@@ -83,7 +84,7 @@ fn loaded<'a>(
     Ok(Ok(all))
 }
 
-/// What both commands do: reads all, and asks of the process.
+/// What both commands share: reads all files, and calls `ask` for the answer.
 fn run<W: Write>(
     words: &UnwindWords,
     out: &mut W,
@@ -155,7 +156,8 @@ pub fn backtrace(words: &BacktraceWords, out: &mut impl Write) -> Result<Done, F
     })
 }
 
-/// Where a frame goes on after a call, its name is that of the call.
+/// Writes a frame. If its address follows a call, the name is that of the function that has the
+/// call.
 fn write_frame(out: &mut impl Write, loaded: &Loaded<'_>, number: usize, frame: &Frame) -> Result<(), Failure> {
     let target = loaded.target;
     let name = loaded.named(frame.address(), number > 0);

@@ -9,18 +9,18 @@ use std::io::{self, Read};
 use std::os::unix::fs::MetadataExt;
 use std::path::{Path, PathBuf};
 
-/// A file with more bytes isn't read: the system has files that stand for all of memory.
+/// A larger file isn't read: some system files stand for all of memory.
 const LARGEST: u64 = 4 << 30;
 
 /// What an ELF file begins with.
 const MAGIC: &[u8; 4] = b"\x7fELF";
 
-/// ELF files, each of other bytes.
+/// ELF files. No two have the same bytes.
 #[derive(Debug, Default)]
 pub struct Files {
-    /// Where they are, in order.
+    /// Their paths, in order.
     pub paths: Vec<PathBuf>,
-    /// How many more there are with the bytes of one of these.
+    /// The number of further files with the same bytes as one of these.
     pub repeated: usize,
     /// Files and folders that can't be read, and why.
     pub unread: Vec<(PathBuf, String)>,
@@ -32,7 +32,8 @@ struct Candidate {
     size: u64,
 }
 
-/// Goes through folders. Links in them aren't followed, so no folder comes twice.
+/// Goes through folders, and visits each file and folder once. Symbolic links in folders aren't
+/// followed.
 #[derive(Default)]
 struct Walk {
     found: Vec<Candidate>,
@@ -42,7 +43,8 @@ struct Walk {
 }
 
 impl Files {
-    /// The ELF files among paths and in folders below them. Of files with the same bytes the first is taken.
+    /// The ELF files among `paths` and in folders below them. Of several files with the same bytes,
+    /// only the first is listed.
     pub fn once_each(paths: &[PathBuf]) -> Self {
         let mut walk = Walk::default();
         paths.iter().for_each(|path| walk.start(path));
@@ -67,7 +69,7 @@ impl Files {
 }
 
 impl Walk {
-    /// Adds a file or a folder that was named. A link is followed.
+    /// Adds a file or a folder that was named by the user. Follows it if it is a symbolic link.
     fn start(&mut self, path: &Path) {
         match path.metadata() {
             Ok(metadata) => self.add(path.to_path_buf(), &metadata),
@@ -88,7 +90,7 @@ impl Walk {
         }
     }
 
-    /// Goes through a folder and those in it, by name.
+    /// Goes through a folder and the folders below it, in order of names.
     fn folder(&mut self, path: &Path) {
         let listed = path.read_dir().and_then(|entries| entries.collect::<io::Result<Vec<_>>>());
         let mut entries = match listed {
@@ -111,15 +113,15 @@ fn is_elf(path: &Path) -> io::Result<bool> {
     Ok(start == MAGIC)
 }
 
-/// A mark of each file's bytes, where another file is as long. Files with other bytes have other marks, but for one
-/// chance in 2^128.
+/// A 128-bit hash of each file, if another file has the same size. Two files with different bytes
+/// have the same hash with a probability of 2^-128.
 fn marks(files: &[Candidate]) -> Vec<Option<u128>> {
     let mut sizes: HashMap<u64, usize> = HashMap::new();
     files.iter().for_each(|file| *sizes.entry(file.size).or_insert(0) += 1);
     let keys = (RandomState::new(), RandomState::new());
     let mark = |file: &Candidate| {
         let repeats = sizes.get(&file.size).map_or(false, |count| *count > 1);
-        // A file that can't be read is found out later.
+        // If the file can't be read, checking it reports that later.
         if repeats {
             mark(&file.path, &keys).ok()
         } else {

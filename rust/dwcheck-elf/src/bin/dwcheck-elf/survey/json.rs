@@ -66,7 +66,7 @@ fn text(plain: &str) -> String {
     for c in plain.chars() {
         match c {
             '"' | '\\' => quoted.extend(['\\', c]),
-            // A string takes any text.
+            // Writing to a `String` doesn't fail.
             c if c.is_control() => drop(write!(quoted, "\\u{:04x}", u32::from(c))),
             c => quoted.push(c),
         }

@@ -1,4 +1,4 @@
-//! What a survey comes to.
+//! The totals of a survey.
 
 use super::files::Files;
 use super::{Held, Section, Surveyed};
@@ -8,28 +8,28 @@ use std::io::{self, Write};
 /// Counts over all files.
 #[derive(Clone, Copy, Debug, Default)]
 pub struct Totals {
-    /// ELF files, each of other bytes.
+    /// ELF files, no two of which have the same bytes.
     pub files: usize,
-    /// Further files with the same bytes.
+    /// Further files with the same bytes as one of these.
     pub repeated: usize,
-    /// Files and folders that couldn't be read, and files that couldn't be judged.
+    /// Files and folders that couldn't be read, and files that couldn't be checked.
     pub unread: usize,
-    /// Sections that were judged.
+    /// Sections that were checked.
     pub sections: usize,
-    /// Those that were accepted.
+    /// Sections that were accepted.
     pub accepted: usize,
-    /// Those that were refused.
+    /// Sections that were refused.
     pub refused: usize,
-    /// Bytes of all judged sections.
+    /// Bytes of the sections that were checked, except those that couldn't be rewritten.
     pub bytes: usize,
-    /// Of accepted frame sections.
+    /// CIEs, FDEs and rows of accepted frame sections.
     pub cies: usize,
     pub fdes: usize,
     pub rows: usize,
-    /// Of accepted location lists.
+    /// Lists and expressions of accepted location lists.
     pub lists: usize,
     pub expressions: usize,
-    /// What of `.eh_frame` was dropped or changed.
+    /// What was dropped or changed in `.eh_frame`; see `Counts` of the library.
     pub augmentations: usize,
     pub signal_frames: usize,
     pub args_sizes: usize,
@@ -40,7 +40,7 @@ pub struct Totals {
 }
 
 impl Totals {
-    /// Counts all.
+    /// Counts the files and their sections.
     pub fn of(files: &Files, surveyed: &[Surveyed]) -> Self {
         let unread = files.unread.len() + surveyed.iter().filter(|one| one.outcome.is_err()).count();
         let mut totals = Totals { files: surveyed.len(), repeated: files.repeated, unread, ..Totals::default() };
@@ -74,7 +74,7 @@ impl Totals {
         self.mended += section.mended;
     }
 
-    /// How the survey ends.
+    /// The result of the survey, for its exit status.
     pub fn done(&self) -> Done {
         match (self.unread, self.refused) {
             (0, 0) => Done::Accepted,
@@ -83,7 +83,7 @@ impl Totals {
         }
     }
 
-    /// Each count by its name.
+    /// Each count with its name.
     pub fn named(&self) -> [(&'static str, usize); 18] {
         [
             ("files", self.files),
@@ -107,7 +107,8 @@ impl Totals {
         ]
     }
 
-    /// Writes the totals, a line for files, one for sections and one for what they hold.
+    /// Writes the totals: a line for files, one for sections, one for what the sections hold; and,
+    /// if `has_notes`, one for what was changed.
     pub fn write(&self, out: &mut impl Write, has_notes: bool) -> io::Result<()> {
         let named = self.named();
         let (files, rest) = named.split_at(3);
