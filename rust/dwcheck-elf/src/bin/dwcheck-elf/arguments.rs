@@ -16,26 +16,34 @@ pub struct Words {
 }
 
 const STATUS: &str =
-    "Exit status: 0 accepted, or answered; 1 refused; 2 a bad argument; 3 a file that can't be read or judged";
+    "Exit status: 0 accepted, or answered; 1 refused; 2 a bad argument; 3 a file that can't be read or checked";
 
 /// What can be done.
 #[derive(Debug, Subcommand)]
 pub enum Command {
     /// Check the frame sections and location lists of programs
+    #[command(after_help = "Example: dwcheck-elf check --all /bin/ls")]
     Check(CheckWords),
     /// Show each FDE, and the rows of its unwind table
+    #[command(after_help = "Example: dwcheck-elf rows /bin/ls")]
     Rows(RowsWords),
     /// Show the row of an address
+    #[command(after_help = "Example: dwcheck-elf row ./program main+4")]
     Row(RowWords),
     /// Show the caller of the frame at an address
+    #[command(after_help = "Example: dwcheck-elf unwind ./program main+4 state")]
     Unwind(UnwindWords),
-    /// Show the frame at an address, its caller, that one's caller and so on
+    /// Show the frames of a stack, from the frame at an address up
+    #[command(after_help = "Example: dwcheck-elf backtrace --load 0x555555554000 ./program 0x555555555139 state 64")]
     Backtrace(BacktraceWords),
-    /// Show where an object is at an address, by a location list
+    /// Show where a variable is at an address, by a location list
+    #[command(after_help = "Example: dwcheck-elf locs ./program 0xc main main+4")]
     Locs(LocsWords),
     /// Print the stack of each thread of a core file
+    #[command(after_help = "Example: dwcheck-elf stack ./program core")]
     Stack(StackWords),
     /// Check all ELF files in folders
+    #[command(after_help = "Example: dwcheck-elf survey /usr/bin /usr/lib")]
     Survey(SurveyWords),
 }
 
@@ -72,7 +80,7 @@ pub struct CheckWords {
     /// ELF files: programs, libraries, unlinked objects, kernel modules
     #[arg(required = true)]
     pub programs: Vec<PathBuf>,
-    /// Go on after the first fault, with each FDE alone, and list every one that is refused
+    /// Go on after the first fault: check each FDE alone, and list every one that is refused
     #[arg(long)]
     pub all: bool,
     #[command(flatten)]
@@ -95,7 +103,7 @@ pub struct RowsWords {
 pub struct RowWords {
     /// An ELF file
     pub program: PathBuf,
-    /// An address as 0x1130, or a function as main or main+4
+    /// An address, such as 0x1130, or a function, such as main or main+4
     pub address: String,
     /// Where the program is loaded
     #[arg(long, value_name = "ADDRESS", default_value = "0x0")]
@@ -121,9 +129,9 @@ pub struct Modules {
 pub struct UnwindWords {
     /// An ELF file
     pub program: PathBuf,
-    /// An address as 0x1130, or a function as main or main+4
+    /// An address, such as 0x1130, or a function, such as main or main+4
     pub address: String,
-    /// A state file: registers, memory, and which registers calls keep
+    /// A state file: registers, memory, and which registers are callee-saved
     pub state: PathBuf,
     #[command(flatten)]
     pub modules: Modules,
@@ -133,7 +141,7 @@ pub struct UnwindWords {
 pub struct BacktraceWords {
     #[command(flatten)]
     pub frame: UnwindWords,
-    /// How many frames at most, up to 65535
+    /// Print at most this many frames, up to 65535
     pub limit: String,
 }
 
@@ -141,13 +149,13 @@ pub struct BacktraceWords {
 pub struct LocsWords {
     /// An ELF file
     pub program: PathBuf,
-    /// The offset of the list in .debug_loclists, as 0xc
+    /// The offset of the list in .debug_loclists, such as 0xc
     pub list: String,
-    /// The base address of the list's unit, as 0x1130, or a function
+    /// The base address of the list's unit, such as 0x1130, or a function
     pub base: String,
-    /// An address as 0x1130, or a function as main or main+4
+    /// An address, such as 0x1130, or a function, such as main or main+4
     pub address: String,
-    /// What registers, memory and the context have
+    /// A state file: registers, memory and context
     #[arg(long, value_name = "FILE")]
     pub state: Option<PathBuf>,
 }
@@ -158,10 +166,10 @@ pub struct StackWords {
     pub program: PathBuf,
     /// A core file of x86-64, i386 or aarch64
     pub core: PathBuf,
-    /// The folder that the core file's paths begin at
+    /// The folder in which the paths of the core file are looked up
     #[arg(long, value_name = "FOLDER", default_value = "/")]
     pub root: PathBuf,
-    /// How many frames of a thread at most
+    /// Print at most this many frames of each thread
     #[arg(long, value_name = "N", default_value_t = 10_000)]
     pub limit: usize,
 }
@@ -177,10 +185,10 @@ pub struct SurveyWords {
     /// List every FDE that is refused, not only the first of each section
     #[arg(long)]
     pub all: bool,
-    /// Check .debug_loclists too, which compilers write with entries that are refused
+    /// Check .debug_loclists too. Compilers write entries in it that are refused (see the manual page)
     #[arg(long)]
     pub lists: bool,
-    /// How many files are checked at once, as many as there are processors if not given
+    /// Check this many files at once, instead of one for each processor
     #[arg(long, value_name = "N")]
     pub jobs: Option<usize>,
     #[command(flatten)]
