@@ -1,12 +1,15 @@
 #!/usr/bin/env bash
-# Runs each comparison briefly: random input with the models, walks of real programs with gdb and perf, of nine targets under
-# qemu, bad input, and the pages' commands; and, where dwcheck-elf is named, its rows with readelf's, and damaged files. Says of
-# each whether it passed, and how long it took; what failed is in the file that is named. Eight minutes on a busy machine. It
-# needs the packages that pages.py and walk/targets.py name.
+# Runs each comparison briefly: random input against the models; walks of real programs against gdb
+# and perf, and for nine targets under qemu; bad input; and the commands in the pages. If
+# DWCHECK_ELF is given, its rows are compared with readelf's, and it reads damaged files. For each
+# comparison it prints whether it passed and how long it took; if one fails, its output is in the
+# file that is named. It takes eight minutes on a busy machine, and needs the packages that pages.py
+# and walk/targets.py name.
 #     bench/all.sh DWCHECK [DWCHECK_ELF]
-# LIBRARY=crates/dw_times/out/libdw_times.a adds walks beside libunwind (`rt lib` in crates/dw_times makes it),
-# TESTS=crates/dw_tests/out/dw_tests_tests each request for memory refused (`rt test` in crates/dw_tests makes it).
-# SEED chooses the random cases, 1 if not given; COUNT is how many there are of each kind, 2000 if not given.
+# LIBRARY=crates/dw_times/out/libdw_times.a adds a comparison with libunwind (`rt lib` in
+# crates/dw_times makes the file). TESTS=crates/dw_tests/out/dw_tests_tests adds runs in which each
+# request for memory is refused (`rt test` in crates/dw_tests makes the file). SEED chooses the
+# random cases, 1 if not given; COUNT is the number of cases of each kind, 2000 if not given.
 set -u
 program=$(realpath "$1") elf=${2:+$(realpath "$2")} seed=${SEED:-1} count=${COUNT:-2000}
 here=$(cd "$(dirname "$0")" && pwd)

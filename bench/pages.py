@@ -3,10 +3,11 @@
 
     bench/pages.py DWCHECK [--elf DWCHECK_ELF] [--slow] [--write] [PAGE]..
 
-A PAGE is a Markdown file; without one, README.md and each page of docs/ and rust/dwcheck-elf/ that has sessions. A
-session is an indented block with lines that begin with `$ `; a command that ends with a backslash goes on in the next
-line. All sessions of a page run in one shell, in a folder that is empty at first, with the programs on the PATH and
-$REPO naming this repository. Each page that differs is shown, and the exit status is then 1. Less than a minute, but for --slow.
+A PAGE is a Markdown file; without one, README.md and each page of docs/ and rust/dwcheck-elf/ that
+has sessions. A session is an indented block with lines that begin with `$ `; a command that ends
+with a backslash goes on in the next line. All sessions of a page run in one shell, in a folder that
+is empty at first, with the programs on the PATH and $REPO naming this repository. Each page that
+differs is shown, and the exit status is then 1. Without --slow it takes less than a minute.
 
     $ cat FILE          where FILE isn't there yet, it is written as the page shows it
     ...                 a line that stands for any lines
@@ -32,16 +33,17 @@ import tempfile
 TOP = os.path.dirname(os.path.dirname(os.path.abspath(__file__)))
 INDENT = "    "
 ELF = "dwcheck-elf"
-# What pages have for the folder of their sessions.
+# The path that pages show for the folder of their sessions.
 SHOWN_FOLDER = "/home/user/session"
-# Stacks and libraries of x86-64 programs, stacks of Go's threads, of aarch64 and arm programs under qemu; threads; what perf
-# counted.
+# Words that vary: addresses of stacks and libraries of x86-64 programs, of stacks of Go's threads,
+# and of aarch64 and arm programs under qemu; numbers of threads; and perf's counts.
 VARYING = re.compile(r"0x(0*7f[0-9a-f]{9,10}|0*c000[0-9a-f]{6}|0*5502[0-9a-f]{6}|3[ef][0-9a-f]{6})\b"
                      r"|(?<=thread )[0-9]+|\b[0-9]+(?= (?:samples|frames|of which perf|stop not))")
 
 
 class Command:
-    """A command, what the page says that it writes, and the lines of the page where that is."""
+    """A command, the output that the page shows for it, and the lines of the page with that
+    output."""
 
     def __init__(self, text, begin):
         self.text, self.begin, self.wanted = text, begin, []
@@ -52,13 +54,14 @@ class Command:
 
 
 class Session:
-    """The commands of one block, with the heading above it, what they need, and whether they are slow."""
+    """The commands of one block, with the heading above it, the programs that it needs, and whether
+    it is slow."""
 
     def __init__(self, heading, needs, is_slow):
         self.heading, self.needs, self.is_slow, self.commands = heading, needs, is_slow, []
 
     def all_needs(self):
-        """The programs that it needs: dwcheck-elf without being said."""
+        """The programs that the session needs, including dwcheck-elf, which pages don't name."""
         is_elf = any(command.text.startswith(ELF + " ") for command in self.commands)
         return self.needs + [ELF] * is_elf
 
@@ -102,7 +105,7 @@ class Shell:
         self.process = subprocess.Popen(["bash"], cwd=folder, env=environment, text=True, errors="replace", **streams)
 
     def run(self, text):
-        """What a command writes, as lines."""
+        """Runs a command, and returns what it writes, as lines."""
         self.process.stdin.write(f"{{ {text}\n}} < /dev/null\nprintf '\\n{self.MARK}\\n'\n")
         self.process.stdin.flush()
         written = []
@@ -110,7 +113,8 @@ class Shell:
             if line == self.MARK + "\n":
                 break
             written.append(line.rstrip("\n").replace(self.folder, SHOWN_FOLDER))
-        # The empty line that the mark's own line begin needs.
+        # The line break before the mark ends a line that the command left open; after a complete
+        # line it makes an empty one.
         if written and not written[-1]:
             written.pop()
         return written
@@ -125,7 +129,7 @@ def comparable(line):
 
 
 def matches(wanted, written):
-    """Whether lines are what a page has, where `...` stands for any lines."""
+    """Whether the lines written are those of the page, in which `...` stands for any lines."""
     if "..." not in wanted:
         return [*map(comparable, wanted)] == [*map(comparable, written)]
     before = wanted.index("...")
@@ -136,7 +140,7 @@ def matches(wanted, written):
 
 
 def trimmed(lines):
-    """Lines without the empty ones at their end."""
+    """The lines without empty lines at the end."""
     while lines and not lines[-1].strip():
         lines = lines[:-1]
     return lines
@@ -150,7 +154,8 @@ def is_there(program):
 
 
 def run_command(shell, command):
-    """What a command writes. A file that a page shows before it is there is made of what the page shows."""
+    """Runs a command, and returns what it writes. For `cat FILE`, a file that doesn't exist is
+    first created as the page shows it."""
     name = re.fullmatch(r"cat ([\w.-]+)( +#.*)?", command.text)
     if name and not os.path.exists(os.path.join(shell.folder, name[1])):
         with open(os.path.join(shell.folder, name[1]), "w", encoding="utf-8") as file:
@@ -159,20 +164,20 @@ def run_command(shell, command):
 
 
 def c_blocks(lines):
-    """Each block of C that uses the library, as a text, with its place in the page."""
+    """Each block of C that uses the library: its line in the page, and its text."""
     text = "\n".join(lines)
     for found in re.finditer(r"^```c\n(#include <dwcheck.h>\n.*?)^```$", text, re.MULTILINE | re.DOTALL):
         yield text[:found.start()].count("\n") + 1, found[1]
 
 
 def complaints(block):
-    """What the compiler says of a block of C."""
+    """The compiler's messages for a block of C."""
     words = ["cc", "-fsyntax-only", "-Wall", "-Wextra", "-I", os.path.join(TOP, "c", "include"), "-x", "c", "-"]
     return subprocess.run(words, input=block, text=True, capture_output=True, check=False).stderr.splitlines()
 
 
 class Page:
-    """A page, and what its commands wrote where that isn't what it says."""
+    """A page, and the commands whose output differs from the page."""
 
     def __init__(self, path):
         self.path, self.name = path, os.path.relpath(path, TOP)
@@ -212,7 +217,7 @@ class Page:
             print(f"{self.name}: left out: {heading}")
 
     def write(self):
-        """Puts what was written in the place of what differs."""
+        """Replaces what differs in the page by what was written."""
         for command, written in reversed(self.differing):
             empty = command.wanted[len(trimmed(command.wanted)):]
             self.lines[command.begin:command.end] = [(INDENT + line).rstrip() for line in trimmed(written)] + empty

@@ -18,7 +18,8 @@ LISTED = re.compile(r"^\| `(dw_\w+)\.(\w+)` \| ([^|]*) \|", re.MULTILINE)
 
 
 def imports(crate):
-    """What the proofs of a crate import from proofs: the file, the crate, the module, a name."""
+    """What the proofs of a crate import from proofs: for each name the file, and the crate and
+    module that the name is from."""
     for path in sorted((crate / "proofs").rglob("*.antt")):
         for owner, module, names in USE.findall(path.read_text()):
             for name in names.split(","):
@@ -37,7 +38,7 @@ def laws(crates):
 
 
 def listed(text):
-    """The modules that docs/DECISIONS.md lists: for each the names, or all of them."""
+    """The lemmas that docs/DECISIONS.md lists, by crate and module."""
     section = text.split(HEADING, 1)[1].split("\n## ", 1)[0] if HEADING in text else ""
     found = {}
     for crate, module, names in LISTED.findall(section):

@@ -1,3 +1,3 @@
-/* gcc and g++: write .debug_frame beside .eh_frame. Use:  gcc -g -include tools/cfi.h ..
-   It has to come first in its unit, before any function. clang has -fforce-dwarf-frame for this. */
+/* Makes gcc and g++ write .debug_frame in addition to .eh_frame: gcc -g -include tools/cfi.h ..
+   It must come before any function of the compilation unit. clang has -fforce-dwarf-frame. */
 __asm__(".cfi_sections .eh_frame, .debug_frame");

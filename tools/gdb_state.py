@@ -7,13 +7,15 @@ STOP is a gdb script that stops the program; in a session of gdb, `source tools/
 
     dwcheck-state FILE [BYTES]
 
-FILE gets the lines `keep` and `sp` of the target (tools/abi), the registers by DWARF's numbers, and the stack from the
-red zone on: BYTES of it, or what gdb can read of 256 KiB. Then the command prints what to run next, with the load
-address of each module: for those that have a .debug_frame section an objcopy command each, and `dwcheck backtrace`;
-and `dwcheck-elf backtrace` for all of them.
+FILE gets the lines `keep` and `sp` of the target (tools/abi), the registers by DWARF's numbers, and
+the red zone with the stack above it: BYTES of the stack, or as much of 256 KiB as gdb can read.
+Then the command prints what to run next, with the load address of each module: an objcopy command
+for each module that has a .debug_frame section, `dwcheck backtrace` for these modules, and
+`dwcheck-elf backtrace` for all modules.
 
 Targets: x86-64, x32, i386, aarch64, arm, powerpc, powerpc64, s390x, riscv, mips. On another machine's program use
-gdb-multiarch, beside `qemu-aarch64 -g 1234 PROGRAM` for one. Not proved. --help prints this text.
+gdb-multiarch, for example with `qemu-aarch64 -g 1234 PROGRAM`. This script isn't proved. --help
+prints this text.
 """
 import os
 import re
@@ -28,33 +30,36 @@ except ImportError:
     sys.exit(0 if sys.argv[1:] in ([], ["--help"], ["-h"]) else 2)
 
 ABI_FOLDER = os.path.join(os.path.dirname(os.path.abspath(__file__)), "abi")
-# Below the stack pointer: a function may keep what it has popped, and x86-64's red zone is there.
+# The bytes below the stack pointer that are written too: a function may still use what it has
+# popped, and x86-64 has its red zone there.
 RED_ZONE = 128
 MOST_STACK = 1 << 18
 PAGE = 4096
 BYTES_IN_LINE = 1024
 
-# gdb's names of registers, by the number that DWARF has for the first of them.
+# gdb's names of registers, in groups: DWARF's number of the first register of a group, and the
+# group's names in order.
 X86_64 = [(0, "rax rdx rcx rbx rsi rdi rbp rsp r8 r9 r10 r11 r12 r13 r14 r15 rip".split())]
 POWERPC = [(0, [f"r{i}" for i in range(32)]), (65, ["lr"])]
 MIPS_TEMPORARIES = {4: "t0 t1 t2 t3 t4 t5 t6 t7", 8: "a4 a5 a6 a7 t0 t1 t2 t3"}
 
 
 def mips(size):
-    """mips' names: those of the third quarter depend on the ABI."""
+    """The names for mips. Those of registers 8 to 15 depend on the ABI."""
     names = f"zero at v0 v1 a0 a1 a2 a3 {MIPS_TEMPORARIES[size]} s0 s1 s2 s3 s4 s5 s6 s7 t8 t9 k0 k1 gp sp s8 ra"
     return [(0, names.split())]
 
 
 class Target:
-    """How a target's registers are called, and which of them holds its stack pointer."""
+    """A target: its file in tools/abi, gdb's names of its registers, and which of them is the stack
+    pointer."""
 
     def __init__(self, abi, registers, pointer):
         self.abi, self.registers, self.pointer = abi, registers, pointer
 
 
 def target_of(architecture, size):
-    """The target by gdb's name for its architecture and the size of an address."""
+    """The target for gdb's name of an architecture, and the size of an address in bytes."""
     name = architecture.lower()
     if name.startswith(("i386:x86-64", "i386:x64-32")):
         return Target("x86-64", X86_64, "rsp")
@@ -76,18 +81,20 @@ def target_of(architecture, size):
 
 
 def word_of(value, size):
-    """The content of a register as a number below 2^w."""
+    """The content of a register as a number below 2^w, where w is 8 * `size`."""
     return int(value) & ((1 << 8 * size) - 1)
 
 
 def address_size():
-    """Of a pointer of the program, which x32 has shorter than its registers. Not every language has the type."""
+    """The size of the program's pointers in bytes. On x32 they are shorter than registers. gdb is
+    asked in C, because not every language has `void *`."""
     said = gdb.execute("with language c -- output sizeof(void *)", to_string=True)
     return int(re.match(r"\d+", said)[0])
 
 
 def read_stack(start, most):
-    """The bytes from an address on, as far as they can be read, a page at a time."""
+    """At most `most` bytes from an address on, until memory can't be read. They are read a page at
+    a time."""
     held = b""
     while len(held) < most:
         at = start + len(held)
@@ -100,7 +107,7 @@ def read_stack(start, most):
 
 
 def register_lines(frame, target, size):
-    """A line for each register that gdb knows the content of."""
+    """The `reg` line of each register whose content gdb knows."""
     for first, names in target.registers:
         for number, name in enumerate(names, first):
             try:
@@ -111,13 +118,13 @@ def register_lines(frame, target, size):
 
 
 def memory_lines(start, held):
-    """The bytes from an address on, some in each line."""
+    """The `mem` lines for bytes from an address on."""
     for at in range(0, len(held), BYTES_IN_LINE):
         yield f"mem {start + at:#x} {held[at:at + BYTES_IN_LINE].hex()}"
 
 
 class ElfFile:
-    """What is needed of an ELF file: its entry point, and the address of each section by name."""
+    """An ELF file's entry point, and the address of each section by name."""
 
     def __init__(self, path):
         with open(path, "rb") as file:
@@ -134,7 +141,8 @@ class ElfFile:
         self.addresses = {self.name(data, text + name): address for name, address, _ in sections}
 
     def section(self, data, at):
-        """The offset of a section's name, its address, and its offset in the file."""
+        """The offset of a section's name in the string table, the section's address, and its offset
+        in the file."""
         if self.is_wide:
             name, _, _, address, offset = struct.unpack_from(self.order + "IIQQQ", data, at)
         else:
@@ -147,13 +155,14 @@ class ElfFile:
 
 
 def program_load(elf):
-    """Where the executable is loaded, beside where it is linked: the kernel passes its entry point as loaded."""
+    """The load address of the executable: its entry point as loaded, which the kernel passes, minus
+    its entry point as linked."""
     found = re.search(r"^9 +AT_ENTRY .*?(0x[0-9a-f]+|\d+)$", gdb.execute("info auxv", to_string=True), re.MULTILINE)
     return int(found[1], 0) - elf.entry if found else 0
 
 
 def library_loads():
-    """Each shared library's path, and where its .text section lies as loaded."""
+    """Each shared library's path, and the address of its .text section as loaded."""
     lines = gdb.execute("info sharedlibrary", to_string=True).splitlines()
     for found in (re.match(r"(0x[0-9a-f]+) +0x[0-9a-f]+ +(?:Yes|No)(?: \(\*\))? +(.+)$", line) for line in lines):
         if found:
@@ -161,7 +170,7 @@ def library_loads():
 
 
 class Module:
-    """A file of the process, where it is loaded, and whether it has a .debug_frame section."""
+    """A file of the process, its load address, and whether it has a .debug_frame section."""
 
     def __init__(self, path, elf, load):
         self.load, self.has_frame = load, ".debug_frame" in elf.addresses
@@ -170,7 +179,7 @@ class Module:
 
 
 def modules():
-    """The program, and then its shared libraries as far as their files can be read."""
+    """The program, and then those of its shared libraries whose files can be read."""
     program = gdb.current_progspace().filename
     elf = ElfFile(program)
     yield Module(program, elf, program_load(elf))
@@ -183,7 +192,7 @@ def modules():
 
 
 def walk(program, flags, files, state, address):
-    """The command for a walk over some modules, each with the file that it is named by."""
+    """The command for a walk over some modules, each given with the file that names it."""
     words = [program, "backtrace", *flags]
     for number, (module, file) in enumerate(files):
         if number > 0:
@@ -194,7 +203,8 @@ def walk(program, flags, files, state, address):
 
 
 def next_commands(state, address, size):
-    """The commands that dump sections and walk over them, and the one that walks over the files."""
+    """The commands that dump sections and walk over them, and the command that walks over the files
+    themselves."""
     is_big = "big endian" in gdb.execute("show endian", to_string=True)
     flags = ["--big"] * is_big + ["--addr4"] * (size == 4)
     found = list(modules())

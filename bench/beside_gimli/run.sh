@@ -1,12 +1,18 @@
 #!/usr/bin/env bash
-# The libraries beside gimli 0.27, in one process. Nothing is written into the checkout.
-#   bench/beside_gimli/run.sh times SECTION ..    processor times of both, the least of several runs, and their ratio
-#   bench/beside_gimli/run.sh read SECTION       gimli alone, all rows or entries, to be timed as a process
+# Compares dwcheck's libraries with gimli 0.27, in one process. Nothing is written into the
+# checkout.
+#   bench/beside_gimli/run.sh times SECTION ..   processor times of both, the least of several runs,
+#                                                and their ratio
+#   bench/beside_gimli/run.sh read SECTION       only gimli reads all rows or entries, so that its
+#                                                process can be timed
 #   bench/beside_gimli/run.sh differ FRAMES LISTS EXPRESSIONS SEED SECTION ..
-#                                                 FRAMES, LISTS and EXPRESSIONS random cases made of these sections, read by both; what came of them.
-#                                                 Rows by compiled tables too, of the accepted cases and of the sections
-# Sections are raw and little-endian with addresses of 8 bytes: .debug_loclists where the name ends with .lists, else .debug_frame.
-# WORK=FOLDER keeps what was built. It needs gcc, cargo and Debian's librust-gimli-dev (apt-get install librust-gimli-dev).
+#                                                makes this many random cases of each kind from
+#                                                the sections, reads them with both, and counts the
+#                                                results; compares rows by compiled tables too, of
+#                                                the accepted cases and of the sections
+# Sections are raw and little-endian with addresses of 8 bytes: .debug_loclists if the name ends
+# with .lists, else .debug_frame. WORK=FOLDER keeps what was built. It needs gcc, cargo and Debian's
+# librust-gimli-dev (apt-get install librust-gimli-dev).
 set -eu
 here=$(cd "$(dirname "$0")" && pwd)
 checkout=$(cd "$here" && git rev-parse --show-toplevel)

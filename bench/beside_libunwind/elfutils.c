@@ -1,5 +1,5 @@
-/* The same walk by elfutils' dwfl_getthread_frames. It reads .eh_frame of the files that this process has mapped, and asks
-   these callbacks for the registers and the stack. */
+/* A walk by elfutils' dwfl_getthread_frames. It reads .eh_frame of the files that this process
+   has mapped, and gets the registers and the stack through the callbacks below. */
 #define _GNU_SOURCE
 #include "elfutils.h"
 #include <elfutils/libdwfl.h>
@@ -11,7 +11,7 @@ typedef struct {
     size_t room, count;
 } Found;
 
-/* The one thread. */
+/* Gives elfutils the only thread. */
 static pid_t next_thread(Dwfl *dwfl, void *start, void **thread)
 {
     (void)dwfl;
@@ -28,7 +28,7 @@ static bool get_thread(Dwfl *dwfl, pid_t tid, void *start, void **thread)
     return true;
 }
 
-/* Eight bytes of the copied stack. */
+/* Reads eight bytes of the copied stack. */
 static bool read_memory(Dwfl *dwfl, Dwarf_Addr address, Dwarf_Word *word, void *arg)
 {
     const WalkStart *start = arg;

@@ -1,4 +1,4 @@
-/* elfutils' walk of the stack that ours begins with. */
+/* elfutils' walk of the stack that dwcheck walks too. */
 #ifndef ELFUTILS_H
 #define ELFUTILS_H
 
@@ -6,9 +6,10 @@
 
 typedef struct Dwfl Dwfl;
 
-/* Opens the files that this process has mapped. NULL where that fails. `start` has to stay while it is used. */
+/* Opens the files that this process has mapped. NULL on failure. `start` must exist until
+   elfutils_end. */
 Dwfl *elfutils_begin(const WalkStart *start);
-/* Walks, and writes the addresses of the frames: how many there are. */
+/* Walks, writes the addresses of the frames, and returns their number. */
 size_t elfutils_walk(Dwfl *dwfl, uint64_t *addresses, size_t room);
 void elfutils_end(Dwfl *dwfl);
 

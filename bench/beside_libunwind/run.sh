@@ -1,12 +1,15 @@
 #!/usr/bin/env bash
-# Walks by the libraries' tables beside libunwind, in one process: the same addresses and CFAs, and nanoseconds a frame. The stack is 600 frames
-# deep, a third of them a shared library's that calls back. unw_step keeps what it found for an address; unw_backtrace keeps even where a return
-# address has its frame's registers, and follows no rules. Some seconds, once crates/dw_times is built.
-#   bench/beside_libunwind/run.sh [SECTION]..    each SECTION, a raw .debug_frame, is a module more that every look-up asks first
-# PREFIX=FOLDER, where `make install` put libdwcheck, times its dwcheck_backtrace and dwcheck_row_at too. Where Debian's libdw-dev
-# is installed, elfutils' dwfl_getthread_frames is timed on the same stack.
-# WORK=FOLDER keeps what was built, LIBRARY=FILE is linked in the place of crates/dw_times. It needs x86-64, gcc and Debian's libunwind-dev
-# (apt-get install libunwind-dev).
+# Compares walks by dwcheck's compiled tables with libunwind's, in one process: addresses and CFAs
+# must agree, and nanoseconds per frame are printed. The stack is 600 frames deep; a third of the
+# frames belong to a shared library that calls back. unw_step caches what it found for an address.
+# unw_backtrace also caches where a return address has its frame's registers, and follows no rules.
+# It takes some seconds once crates/dw_times is built.
+#   bench/beside_libunwind/run.sh [SECTION]..    each SECTION, a raw .debug_frame, is a further
+#                                                module that every look-up searches first
+# PREFIX=FOLDER, where `make install` put libdwcheck, times its dwcheck_backtrace and dwcheck_row_at
+# too. If Debian's libdw-dev is installed, elfutils' dwfl_getthread_frames is timed on the same
+# stack. WORK=FOLDER keeps what was built; LIBRARY=FILE is linked instead of crates/dw_times. It
+# needs x86-64, gcc and Debian's libunwind-dev (apt-get install libunwind-dev).
 set -eu
 here=$(cd "$(dirname "$0")" && pwd)
 checkout=$(cd "$here" && git rev-parse --show-toplevel)

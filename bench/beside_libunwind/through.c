@@ -1,9 +1,9 @@
-/* The library of walks.c. */
+/* The shared library that walks.c calls. */
 #include "walks.h"
 
 static volatile int sink;
 
-/* more registers than a call destroys */
+/* keeps values across its calls, so it saves callee-saved registers */
 int through(int levels, int (*down)(int))
 {
     int a = sink, b = sink, c = sink, d = sink;

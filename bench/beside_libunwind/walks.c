@@ -1,7 +1,9 @@
-/* Times a walk up a deep stack by bench_walk and by libunwind, in one process, and compares addresses and CFAs of all frames that both have.
+/* Times a walk up a deep stack by bench_walk and by libunwind, in one process, and compares the
+   addresses and CFAs of all frames that both have.
        walks OWN LIBRARY [SECTION]..
-   OWN and LIBRARY are the .debug_frame sections of this program and of libthrough.so. Each further SECTION is a module in front of both that
-   is loaded where nothing of this process is, so that each look-up asks it first. The exit status is 1 where a frame differs. */
+   OWN and LIBRARY are the .debug_frame sections of this program and of libthrough.so. Each further
+   SECTION becomes a module in front of both. Nothing in this process is at its load address, so
+   each look-up searches it first, in vain. The exit status is 1 if a frame differs. */
 #define _GNU_SOURCE
 #define UNW_LOCAL_ONLY
 #include "walks.h"
@@ -32,7 +34,8 @@ static double now(void)
     return (double)t.tv_sec * 1e9 + (double)t.tv_nsec;
 }
 
-/* Where the first mapping of a file begins, or the last mapping of a name ends. */
+/* The address where the first mapping of a file begins, or, if `is_end`, where the last mapping
+   with that name ends. */
 static uint64_t mapping(const char *name, bool is_end)
 {
     FILE *maps = fopen("/proc/self/maps", "r");
@@ -47,7 +50,7 @@ static uint64_t mapping(const char *name, bool is_end)
     return at;
 }
 
-/* libunwind's walk; how many frames it has. */
+/* Walks by libunwind, and returns the number of frames. */
 static int stepped(unw_context_t *context)
 {
     unw_cursor_t cursor;
@@ -61,7 +64,8 @@ static int stepped(unw_context_t *context)
     return count;
 }
 
-/* How many of ours aren't libunwind's. The CFA of a frame is the stack pointer of its caller's. */
+/* The number of dwcheck's frames that differ from libunwind's. The CFA of a frame is the stack
+   pointer of its caller. */
 static uint64_t differing(uint64_t ours, uint64_t theirs)
 {
     uint64_t different = 0;
@@ -78,7 +82,8 @@ static uint64_t differing(uint64_t ours, uint64_t theirs)
 
 static double least(double one, double other) { return one < other ? one : other; }
 
-/* Nanoseconds a frame: what some more walks take beside one, since each call checks the sections and compiles their tables too. */
+/* Nanoseconds per frame: the time of one walk is subtracted from that of many, because each call
+   also checks the sections and compiles their tables. */
 static double time_of_ours(const LoadedSection *first, size_t count, WalkStart *start, WalkEnd *end)
 {
     double once = 1e30, more = 1e30;
@@ -122,7 +127,7 @@ static double time_of_backtrace(void)
 
 static size_t section_count;
 
-/* The numbers that DWARF has for them. */
+/* Copies the registers in the order of DWARF's numbers. */
 static void read_registers(const unw_context_t *context, uint64_t contents[17])
 {
     static const int order[17] = {REG_RAX, REG_RDX, REG_RCX, REG_RBX, REG_RSI, REG_RDI, REG_RBP, REG_RSP, REG_R8,
@@ -131,7 +136,8 @@ static void read_registers(const unw_context_t *context, uint64_t contents[17])
         contents[i] = (uint64_t)context->uc_mcontext.gregs[order[i]];
 }
 
-/* How many frames ours has, 0 where a section is refused. */
+/* The number of frames of dwcheck's walk, after comparing them with libunwind's; 0 if a section
+   is refused. */
 static uint64_t compared(const char *said, const LoadedSection *first, size_t count, WalkStart *start, unw_context_t *context)
 {
     WalkEnd end = {0, 0};
@@ -151,7 +157,7 @@ static uint64_t compared(const char *said, const LoadedSection *first, size_t co
 }
 
 #ifdef WITH_ELFUTILS
-/* elfutils' walk of the same stack: it has to have our addresses. */
+/* Times elfutils' walk of the same stack, which must have the addresses of dwcheck's. */
 static void by_elfutils(const WalkStart *start, uint64_t our_count)
 {
     static uint64_t found[PLACES];
@@ -174,7 +180,8 @@ static void by_elfutils(const WalkStart *start, uint64_t our_count)
 #endif
 
 #ifdef THROUGH_C
-/* Nanoseconds a row of our frames in one module: by the library with its rules read, and through libdwcheck. */
+/* Prints nanoseconds per row, for the frames in one module: by the library, reading all rules,
+   and through libdwcheck. */
 static void rows_through_c(const LoadedSection *module, uint64_t frame_count)
 {
     enum { TIMES = 200, RULES = 128 };
@@ -208,7 +215,8 @@ static void rows_through_c(const LoadedSection *module, uint64_t frame_count)
     dwcheck_process_close(&process);
 }
 
-/* The same walk through libdwcheck, as a C program has it: it has to have our frames. */
+/* Times the walk through libdwcheck, as a C program would make it. It must have the frames of
+   the library's walk. */
 static void through_c(const LoadedSection *first, size_t count, const WalkStart *start)
 {
     static const uint8_t known[] = {0xff, 0xff, 0x01};
@@ -238,7 +246,8 @@ static void through_c(const LoadedSection *first, size_t count, const WalkStart 
 }
 #endif
 
-/* At the innermost frame. The stack is copied, since a walk writes on it. */
+/* Runs in the innermost frame. It walks a copy of the stack, since a walk itself writes on the
+   stack. */
 static __attribute__((noinline)) int measured(void)
 {
     static unw_context_t context;

@@ -1,4 +1,5 @@
-/* The exports of crates/dw_times that are timed, and what they are handed. Slices are a pointer and a count. */
+/* The exports of crates/dw_times that are timed, and their arguments. A slice is passed as a
+   pointer and a count. */
 #ifndef WALKS_H
 #define WALKS_H
 
@@ -6,15 +7,17 @@
 #include <stddef.h>
 #include <stdint.h>
 
-/* A .debug_frame section, and where its module is loaded. */
+/* A .debug_frame section, and the load address of its module. */
 typedef struct {
     uint64_t load_address;
     const uint8_t *bytes;
     size_t count;
 } LoadedSection;
 
-/* What a walk begins with: the address, the content of register n in place n, and a block of memory that begins at an address. It is
-   walked `times` times, once at least. The ABI is x86-64's: calls keep 3, 6 and 12 to 15, and 7 is the stack pointer. */
+/* The start of a walk: the address of its innermost frame; registers, of which register n has
+   contents[n]; and a block of memory that starts at address `base`. The walk is repeated `times`
+   times; pass at least 1. The ABI is that of x86-64: registers 3, 6 and 12 to 15 are
+   callee-saved, and 7 is the stack pointer. */
 typedef struct {
     uint64_t address;
     const uint64_t *contents;
@@ -27,7 +30,8 @@ typedef struct {
 
 enum { CFA_NONE, CFA_VALUE, CFA_UNDEFINED, CFA_UNREADABLE, CFA_DIVISION_BY_ZERO };
 
-/* A frame. Its CFA is 0 but where that is a value, and CFA_NONE says that no module covers it. */
+/* A frame. `cfa` is 0 unless `cfa_kind` is CFA_VALUE. CFA_NONE means that no module covers the
+   frame. */
 typedef struct {
     uint64_t address;
     uint64_t cfa;
@@ -36,25 +40,26 @@ typedef struct {
 
 enum { STOP_LIMIT, STOP_NOT_COVERED, STOP_RETURN_UNDEFINED, STOP_RETURN_UNREADABLE, STOP_RETURN_DIVISION_BY_ZERO };
 
-/* How many frames there were, and why there are no more. */
+/* The number of frames, and why the walk ended. */
 typedef struct {
     uint64_t count;
     uint32_t stop;
 } WalkEnd;
 
-/* Checks the sections, compiles their tables, walks, and writes the frames, as many as there are places for. False where a section is refused
-   or memory runs out. */
+/* Checks the sections, compiles their tables, walks, and writes as many frames as fit. Returns
+   false if a section is refused or memory runs out. */
 bool bench_walk(const LoadedSection *sections, size_t section_count, const WalkStart *start, WalkFrame *frames, size_t frame_count,
                 WalkEnd *end);
 
-/* The check of a section, its table, and the rows of all these addresses with their rules, a number of times. */
+/* Checks a section, compiles its table, and reads all rules of the row of each address, `times`
+   times. */
 uint64_t bench_read_by_table(const uint8_t *section, size_t size, const uint64_t *addresses, size_t count, uint32_t times);
 
-/* Of libthrough.so: calls back some levels further up, from a frame of its own. */
+/* In libthrough.so: calls `down` for the next level, from a frame of its own. */
 int through(int levels, int (*down)(int));
 
 #ifdef __GNUC__
-/* libunwind reads the one, and the libraries the other */
+/* libunwind reads .eh_frame, and dwcheck's libraries read .debug_frame */
 __asm__(".cfi_sections .eh_frame, .debug_frame");
 #endif
 

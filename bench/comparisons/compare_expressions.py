@@ -3,7 +3,7 @@
 
     bench/comparisons/compare_expressions.py DWCHECK COUNT [SEED]        1,000 cases take at most 15 s
 
-Most expressions are good ones with branches, the others operations and bytes in any order.
+Most expressions pass the check and have branches; the others are operations and bytes in any order.
 """
 import random
 
@@ -21,7 +21,7 @@ class Maker:
         self.random = random.Random(seed)
 
     def start(self, target=None):
-        """Another target, or the one that is named, and another kind."""
+        """Chooses a kind at random, and a target unless one is given."""
         drawn = self.random.random() < 0.3, self.random.choice([4, 8])
         self.big, self.size = target or drawn
         self.kind = self.random.choice(["cfa", "register", "location", "location"])
@@ -76,26 +76,27 @@ class Maker:
         ])
 
     def one(self):
-        """What leaves one entry more."""
+        """Operations that push one entry."""
         parts = [b"\x1f", b"\x20", b"\x19", b"\x96", b"\x12\x22", b"\x12\x1e", b"\x31\x24", b"\x23\x7f"]
         return self.push() + b"".join(self.random.choices(parts, k=self.random.randrange(3)))
 
     def read(self):
-        """A read in the place of an entry, mostly where the state may have memory."""
+        """Replaces the top entry by one read from memory, mostly at an address where the state may
+        have memory."""
         if self.random.random() < 0.1:
             return b"\x06"
         address = self.random.choice([b"\x30", b"\x31", b"\x37", b"\x4f", b"\x0a" + self.fixed(0x1000, 2)])
         return b"\x13" + address + self.random.choice([b"\x94\x01", b"\x94\x02", b"\x94\x04"])
 
     def diamond(self):
-        """A branch whose ways meet with one entry more."""
+        """A branch whose two paths meet, each with one more entry."""
         way, other = self.one(), self.one()
         way += b"\x2f" + self.fixed(len(other), 2)
         condition = bytes([0x30 + self.random.randrange(2)])
         return condition + b"\x28" + self.fixed(len(way), 2) + way + other
 
     def good(self):
-        """A good expression, but for a height above the limit."""
+        """An expression that passes the check, unless its stack exceeds the limit."""
         height = int(self.kind == "register")
         out = b""
         for _ in range(self.random.randrange(1, 16)):
@@ -110,7 +111,7 @@ class Maker:
         return out + (self.place(height) if self.kind == "location" else b"")
 
     def place(self, height):
-        """What makes a location of an expression with entries."""
+        """Operations that turn an expression with `height` entries into a location."""
         if self.random.random() < 0.5:
             return self.random.choice([b"", b"\x9f"])
         out = b"\x13" * (height - 1) + self.random.choice([b"", b"\x9f"]) + b"\x93\x04"
@@ -126,7 +127,8 @@ class Maker:
         return out[:self.random.randrange(len(out) + 1)] if self.random.random() < 0.2 else out
 
     def state(self):
-        """What a machine has, and the lines that say it."""
+        """A machine's registers, memory and context, and the lines of the state file that give
+        them."""
         top = 1 << 8 * self.size
         state = {"reg": {}, "mem": {}, "cfa": None, "frame": None, "object": None}
         lines = []

@@ -3,8 +3,9 @@
 
     bench/comparisons/compare_pairs.py DWCHECK COUNT [SEED]        1,000 cases take at most 40 s
 
-Each pair goes through `check`, and its sections through `unwind`, `row` and `locs`. Most sections are good ones, with expressions in rules;
-some have slips, or are changed or cut. Few state files have a malformed line.
+Each pair goes through `check`, and its sections through `unwind`, `row` and `locs`. Most sections
+pass the check, with expressions in rules; some have mistakes, or are changed or cut. Few state
+files have a malformed line.
 """
 import re
 
@@ -16,7 +17,8 @@ from frame_model import answers
 from list_model import answer
 from pair_model import check_text, state_of, unwind_text
 
-# Expressions of rules that a state may answer: sums, words, and divisions by zero.
+# Expressions of rules that often have a value in these states: sums, words of memory, and divisions
+# by zero.
 ANSWERED = {
     "cfa": ["7708", "7508", "7310", "7600", "7006", "75109404237f", "71081206", "720806", "8f08", "7408300622", "7130301b", "7430301d",
             "720873003f1a3b2a332422"],
@@ -31,7 +33,7 @@ BAD_LINES = [
 
 
 class PairMaker(SectionMaker):
-    """A maker of frame sections, and of lists for the same target."""
+    """Makes frame sections, and location lists for the same target."""
 
     def __init__(self, seed):
         super().__init__(seed)
@@ -72,11 +74,13 @@ class PairMaker(SectionMaker):
         return self.unsigned(len(held)) + held
 
     def beside(self, low, high):
-        """An address at this distance from the one where all is near, modulo the size of the address space."""
+        """An address at a random distance from `low` to `high` - 1 from self.near, modulo 2^w.
+        Registers point near there."""
         return (self.near + self.random.randrange(low, high)) % (self.top + 1)
 
     def memory(self):
-        """A line of some bytes; one more where they go on at 0."""
+        """A line of the state file with some bytes of memory. If they run past the last address, a
+        second line has the rest from 0 on."""
         about, most = self.random.choice([(0x200, 0x400), (0x200, 0x400), (0x80, 0x100), (0x20, 0x20), (8, 8)])
         address = self.beside(-about, about // 4)
         held = self.random.randbytes(self.random.randrange(most // 2, most))
@@ -84,13 +88,14 @@ class PairMaker(SectionMaker):
         return [f"mem {address:#x} {held[:room].hex()}"] + [f"mem 0x0 {held[room:].hex()}"] * (len(held) > room)
 
     def odd(self):
-        """Any line, mostly a malformed one."""
+        """An unusual line of a state file, mostly a malformed one."""
         past = [f"{name} {self.top + 1:#x}" for name in ["reg 7", "cfa", "frame", "object"]] + [f"mem {self.top:#x} 0102"]
         odd_but_good = ["", "mem 0x7F00 AbCd", "reg 00007 0x0000000000007f08", f"mem {self.top:#x} 7f"]
         return self.random.choice([*BAD_LINES, *past, *odd_but_good * 3])
 
     def state_file(self):
-        """Registers that point to the place where all is near, and memory there; and what other expressions may ask for."""
+        """A state file: registers that point near self.near, memory there, and now and then what
+        other expressions may need."""
         lines = [f"reg {register} {self.beside(0, 0x40):#x}" for register in REGISTERS if self.chance(0.8)]
         for _ in range(self.random.choice([0, 1, 2, 3, 3])):
             lines += self.memory()
@@ -103,7 +108,7 @@ class PairMaker(SectionMaker):
 
 
 def kinds_of(command, text):
-    """What is counted of a text: each answer of a caller, else how the text begins."""
+    """The kinds under which a text is counted: each value of a caller, or how the text begins."""
     lines = [line.split(" 0x")[0] for line in text.splitlines()]
     if lines[0].startswith("dwcheck: state line"):
         return [f"{command}: state line"]

@@ -3,8 +3,9 @@
 
     bench/comparisons/compare_sections.py DWCHECK COUNT [SEED]        1,000 cases take at most 15 s
 
-Each section goes through `rows`, and through `row` with one address. Half of the sections are made to be good ones, the others with
-slips here and there; and some of either have a few bytes changed, or are cut.
+Each section goes through `rows`, and through `row` with one address. Half of the sections are made
+to pass the check, the others have mistakes here and there. Some of both have a few bytes changed,
+or are cut.
 """
 import with_models  # noqa: F401
 from compare_expressions import Maker
@@ -22,20 +23,21 @@ class SectionMaker(Maker):
         self.marks = [self.random.choice([0, 0x1000, self.top])]
 
     def slips(self):
-        """Whether something is to be wrong here, or just may be."""
+        """Whether to make a mistake here, which may turn out to be none."""
         return self.random.random() < self.slip
 
     def chance(self, part):
         return self.random.random() < part
 
     def careless(self):
-        """The same where a fault may meet that of too many rules."""
+        """Like slips(), but more often if the program has about as many rules as are allowed, so
+        that a fault may come with TooManyRules."""
         return self.slips() or self.many and self.chance(0.3)
 
     # Numbers.
 
     def padded(self, number, last):
-        """A LEB128 number, now and then longer than it has to be, or too long."""
+        """A LEB128 number, now and then with redundant bytes, or with more than are allowed."""
         if not self.chance(0.02):
             return number
         more = self.random.randrange(10 - len(number)) if len(number) < 10 else 0
@@ -60,11 +62,11 @@ class SectionMaker(Maker):
         return self.unsigned(self.random.choice([*range(12), *range(12), 31, 63, 64, 127, 128, 300, 65535]))
 
     def column(self, version):
-        """That of the return address: a byte in version 1."""
+        """The return address column: a byte in version 1, a LEB128 number in later versions."""
         return bytes([self.random.choice([16, 14, 0, 127, 128, 255])]) if version == 1 else self.register()
 
     def factored(self, factor, signed):
-        """A number whose product with a factor fits 64 signed bits, at times just so."""
+        """A number whose product with `factor` fits 64 signed bits, sometimes only just."""
         number = self.random.choice([0, 1, 2, 3, 8, 20, 0x1234])
         if self.chance(0.4 if self.many else 0.1):
             number = ((1 << 63) - self.random.randrange(2)) // max(abs(factor), 1) + self.random.randrange(2)
@@ -91,7 +93,7 @@ class SectionMaker(Maker):
         return self.unsigned(len(held)) + held
 
     def rules(self):
-        """Nearly as many rules as there may be, and some more."""
+        """Nearly as many rules as are allowed, or a few more."""
         first, count = self.random.choice([0, 5, 12, 20, 200]), self.random.randrange(120, 130)
         out = b"".join(b"\x07" + Maker.unsigned(self, first + i) for i in range(count))
         return out + b"".join(self.rule() for _ in range(4))
@@ -146,7 +148,7 @@ class SectionMaker(Maker):
         return b"\x01" + self.fixed(there, self.size)
 
     def remembering(self):
-        """Some brackets opened or closed."""
+        """One or more remember_state instructions, or a restore_state."""
         if self.saved and self.chance(0.5):
             self.cfa = self.saved.pop()
             return b"\x0b"
@@ -168,7 +170,7 @@ class SectionMaker(Maker):
         return b"\x06" + self.register()
 
     def wrong(self):
-        """Any byte, or an instruction with two faults."""
+        """Random bytes, or an instruction with two faults."""
         if self.chance(0.7):
             return bytes([self.random.getrandbits(8)]) + (b"\x01" if self.chance(0.5) else b"")
         code = self.random.choice([0x05, 0x09, 0x0c, 0x10, 0x11, 0x12, 0x14, 0x15, 0x16])
@@ -193,12 +195,13 @@ class SectionMaker(Maker):
     # Records.
 
     def factors(self):
-        """Those of code and data."""
+        """The code and data alignment factors."""
         code = self.random.choice([1, 1, 1, 1, 2, 4, 0, 1 << 32, self.number()])
         return code, self.random.choice([-8, -8, -4, -1, 1, 4, 0, (1 << 63) - 1, -1 << 63, self.random.getrandbits(62)])
 
     def cie(self):
-        """What follows its id, and what its FDEs have to know."""
+        """The bytes of a CIE after its id, and what its FDEs need: both factors, and the kind of
+        its CFA rule."""
         self.code, self.data = self.factors()
         self.common, self.cfa, self.saved, self.at, self.end = True, None, [], 0, 0
         version = self.random.choice([1, 1, 3, 3, 4, 4])
@@ -211,7 +214,7 @@ class SectionMaker(Maker):
         return bytes(head) + self.program(), (self.code, self.data, self.cfa)
 
     def fde(self, known, start, end):
-        """What follows its pointer."""
+        """The bytes of an FDE after its CIE_pointer."""
         self.code, self.data, self.cfa = known
         self.common, self.saved, self.at, self.end = False, [], start, end
         self.marks += [start, end, start + self.random.randrange(max(end - start, 1)), min(end, start + 4)]
@@ -223,7 +226,7 @@ class SectionMaker(Maker):
         return out
 
     def ranges(self, count):
-        """Some ranges of addresses, mostly apart from one another."""
+        """Some ranges of addresses, which rarely overlap."""
         low = self.random.choice([0, 0x1000, 0x1000, 0x7ffffff0, self.top - 0x60])
         found = []
         for _ in range(count):
@@ -236,7 +239,7 @@ class SectionMaker(Maker):
         return found
 
     def section(self):
-        """Records in any order, those of FDEs with the number of their CIE."""
+        """A section with CIEs and FDEs in any order."""
         if self.chance(0.01):
             return b""
         commons = [self.cie() for _ in range(self.random.choice([1, 1, 1, 2, 3]))]
@@ -280,7 +283,7 @@ class SectionMaker(Maker):
         return bytes(out)
 
     def address(self):
-        """An address, mostly where a row begins or ends, or near to that."""
+        """An address, mostly at or near the beginning or end of a row."""
         address = self.random.choice(self.marks) + self.random.choice([-1, 0, 0, 0, 1, 1, self.random.randrange(0x20)])
         return min(max(address, 0), self.top)
 

@@ -1,26 +1,29 @@
-"""What the comparing scripts share: random cases, what the program writes of each against what is wanted, and counts of what came.
+"""Shared by the comparing scripts: makes random cases, compares what the program writes for each
+with what is wanted, and counts.
 
-A script calls compare(usage, make, case_of): its usage, what makes a maker of random things from a seed, and what gives a maker's
-next case.
+A script calls compare(usage, make, case_of): `usage` is its usage text, make(seed) gives a maker of
+random things, and case_of(maker) gives the maker's next case.
 """
 import collections
 import subprocess
 import sys
 import tempfile
 
-# Files by name; runs of the program on them; and the kinds under which the case is counted.
+# files: contents by name; runs: runs of the program on these files; kinds: the kinds under which
+# the case is counted.
 Case = collections.namedtuple("Case", "files runs kinds")
-# What to say where the texts differ; the program's words but for flags, in which a file's name means its path; the text wanted.
+# said: what to print if the texts differ; words: the program's words without flags, where a file's
+# name stands for its path; wanted: the text that the program must write.
 Run = collections.namedtuple("Run", "said words wanted")
 
 
 def refusal(text):
-    """The kind of a text that is a refusal."""
+    """The kind of a text that is a refusal, or None."""
     return " ".join(text.split()[:3:2]) if text.startswith("refused") else None
 
 
 def written(program, words):
-    """What it writes to standard output, and then to standard error."""
+    """What the program writes to standard output, and then to standard error."""
     run = subprocess.run([program, *words], capture_output=True, text=True, check=False)
     return run.stdout + run.stderr
 

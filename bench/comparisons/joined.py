@@ -1,7 +1,9 @@
-"""Several modules' sections as one section at the addresses where they are loaded, to be walked without load addresses.
+"""Joins the sections of several modules into one section with addresses as loaded, so that it can
+be walked without load addresses.
 
-joined(sections, loads, big, size) writes each section's FDEs and set_loc instructions anew, and puts the sections one after the other. It
-gives None where that isn't the same process: where a range goes through the top address, or ranges of two modules meet.
+joined(sections, loads, big, size) rewrites the addresses of each section's FDEs and set_loc
+instructions, and concatenates the sections. It returns None if the result isn't equivalent: if a
+range wraps past the top address, or ranges of two modules overlap.
 """
 import with_models  # noqa: F401
 from frame_model import body, checked, instruction, reader
@@ -12,7 +14,8 @@ def numbered(value, size, big):
 
 
 def moved_record(section, at, load, before, big, size):
-    """The record at an offset, moved, and where the next one is. Its section will follow this many bytes."""
+    """The record at offset `at` with addresses as loaded, and the offset of the next record.
+    `before` is the number of bytes that will precede its section."""
     top = 1 << 8 * size
     begin, end, wide = body(section, at, big, size)
     out, fields = bytearray(section[at:end]), reader(section[:end], begin, big, size)
@@ -43,7 +46,7 @@ def moved(section, load, before, big, size):
 
 
 def ranges(section, load, big, size):
-    """Where its FDEs lie as loaded."""
+    """The ranges of a section's FDEs as loaded."""
     for described, _, _ in checked(section, big, size)[1]:
         start = (described["start"] + load) % (1 << 8 * size)
         yield start, start + described["end"] - described["start"]

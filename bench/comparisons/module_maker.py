@@ -1,7 +1,8 @@
 """Random processes of one to five modules, with registers and memory in which walks go from module to module.
 
-All modules are for one target and use the same few registers. Their load addresses put them apart, over one another, one just after the
-other, through the top address, or anywhere; some sections cover nothing, are empty or refused, or are another module's.
+All modules are for one target and use the same few registers. Their load addresses place them
+apart, overlapping, one just after another, across the top address, or anywhere. Some sections cover
+no address, are empty or refused, or are shared with another module.
 """
 import with_models  # noqa: F401
 from module_model import rows_in_modules
@@ -10,7 +11,7 @@ from walks import BAD_ADDRESSES
 
 
 class Module:
-    """A section and its load address, and how both are passed."""
+    """A section and its load address, and how both are passed to the program."""
 
     def __init__(self, section, load, name):
         self.section, self.load, self.name = section, load, name
@@ -33,7 +34,8 @@ class ModuleMaker(WalkMaker):
         return ranges
 
     def block(self, kind):
-        """Now and then an address as linked: a place on the stack, or what is added to a register."""
+        """An expression, now and then with DW_OP_addr: an address on the stack, or a number that is
+        added to a register."""
         if not self.chance(0.1):
             return super().block(kind)
         breg = bytes([0x70 + self.random.choice([self.pointer, self.based])]) + bytes([self.size * self.random.randrange(1, 7)])
@@ -56,12 +58,12 @@ class ModuleMaker(WalkMaker):
     # The load addresses.
 
     def spans(self):
-        """Where the ranges lie that were made last."""
+        """The ranges of the section that was made last, without empty ones."""
         made = [pair for pair in self.made if pair[0] < pair[1]]
         return made or [(0x1000, 0x1010)]
 
     def process(self):
-        """Modules; the first is FRAME's."""
+        """A process: a list of modules, the first of which is that of FRAME."""
         process, spans = [], []
         count = self.random.choice([1, 1, 2, 2, 2, 3, 3, 4, 5])
         for number in range(count):
@@ -83,7 +85,8 @@ class ModuleMaker(WalkMaker):
         return super().fde(known, start, end)
 
     def load(self, number, count, span, process, spans):
-        """A load address, not yet modulo 2^w, for a module of these ranges that follows those that there are."""
+        """A load address, not yet modulo 2^w, for the next module. Its ranges are `span`; `process`
+        and `spans` are the modules so far and their ranges."""
         low, high = self.random.choice(span)
         if self.is_apart:
             part = (self.top + 1) // count
@@ -110,12 +113,13 @@ class ModuleMaker(WalkMaker):
     # The walk.
 
     def dream_in(self, modules):
-        """An address, registers and memory of a walk through modules, each of which is what was found in a section and a load address."""
+        """The address, registers and memory of a walk through modules, each of which is a pair:
+        what the model found in its section, and its load address."""
         rows = [[(low + load, high + load) for *_, rows in found for low, high, *_ in rows] for found, load in modules]
         return self.dream([some for some in rows if some], rows_in_modules(modules, self.size))
 
     def inside(self, beyond):
-        """An address of a row of any module, plus what is asked for."""
+        """An address in a row of any module, plus `beyond`."""
         low, high = self.random.choice(self.random.choice(self.rows))
         return (self.random.choice([low, high - 1, self.random.randrange(low, high)]) + beyond) % (self.top + 1)
 
@@ -135,7 +139,8 @@ class ModuleMaker(WalkMaker):
         return text[:at] + self.random.choice([b"0", b"g", b"0g", b"0x", b"\x00", b"\xff"]) + text[at:]
 
     def dress(self, process):
-        """Makes words of load addresses, and hex text of some processes' sections; some are wrong."""
+        """Writes load addresses as words and, in some processes, sections as hex text. Some of them
+        are made wrong."""
         is_hex, is_odd = self.chance(0.1), self.chance(0.03)
         texts = {module.name: self.hex_text(module.section) for module in process}
         spoilt = {name: self.spoilt(text) for name, text in texts.items() if is_hex and self.chance(0.05)}

@@ -4,10 +4,12 @@
     bench/comparisons/modules.py DWCHECK COUNT [SEED] [--jobs N] [--first N]               50,000 walks take some four minutes with --jobs 4
     bench/comparisons/modules.py DWCHECK COUNT [SEED] [--jobs N] [--first N] --reference   the model alone, beside a program without --load and --module
 
-Each case is a process: sections and load addresses, an address, a state file and a limit; it is the same for every number of jobs. Each case
-that differs is shown with its number, and --first N with a COUNT of 1 runs it again; the exit status is then 1. With --reference, FRAME
-alone at load address 0 has to be what the model of one section makes of it, and where no module's range wraps or meets another's, the
-program is run over one section that joined.py makes of all. At the end come counts of what there was.
+Each case is a process: sections and load addresses, an address, a state file and a limit. The cases
+don't depend on the number of jobs. Each case that differs is shown with its number, and the exit
+status is then 1; --first N with a COUNT of 1 runs case N again. With --reference, the model of
+modules must give what the model of one section gives for FRAME alone at load address 0; and if no
+range wraps or overlaps another module's, the program is run over one section that joined.py makes
+of all. At the end come counts of what the cases contained.
 """
 import argparse
 import collections
@@ -28,12 +30,14 @@ from walk_model import limit_of, walk
 from walks import FAR, address_word, ended, is_address, kinds_of, limit_word
 
 BAD = ("", "dwcheck: bad argument\n", 2)
-# A bad load address may be refused as a word or as an argument.
+# The program may refuse a bad load address with either of two messages, so None stands for any
+# text.
 BAD_LOAD = ("", None, 2)
 
 
 class Case:
-    """A process and what is asked of it: files by name, what the model found in each module's section, words."""
+    """A process and a query: files by name, what the model found in each module's section, and the
+    words of the query."""
 
     def __init__(self, maker):
         self.big, self.size, self.top = maker.big, maker.size, maker.top
@@ -54,7 +58,7 @@ class Case:
         return f"big {self.big}, {self.size} bytes\n{sections}\nstate\n{self.content.decode()}"
 
     def wanted(self, command):
-        """What it has to write and to end with: output, errors, status."""
+        """What the program must write and how it must end: output, errors, status."""
         is_good = all(module.is_good_load for module in (self.process if command != "row" else self.process[:1]))
         if not is_good:
             return BAD_LOAD
@@ -63,7 +67,8 @@ class Case:
         return self.row() if command == "row" else self.files_refused() or self.answer(command)
 
     def files_refused(self):
-        """How the run ends by a file, if it does: one that can't be read, FRAME, the state file, the others."""
+        """How the run must end because of a bad file, or None. In this order: a file that can't be
+        read, FRAME, the state file, other sections."""
         first, *others = self.process
         missing = [module for module in self.process if module.is_missing]
         if missing:
@@ -96,7 +101,8 @@ class Case:
 
 
 def written(case, folder):
-    """Writes its files in the place of those that are there, and names them by the folder."""
+    """Writes the files of a case into the folder, which is emptied first, and puts the folder into
+    their names."""
     for entry in os.scandir(folder):
         os.remove(entry)
     for module in case.process:
@@ -109,12 +115,12 @@ def written(case, folder):
 
 
 def option(maker, name, value):
-    """The words of an option, which are two or one."""
+    """The words of an option with its value: two words, or one with `=`."""
     return [name, value] if maker.chance(0.7) else [f"{name}={value}"]
 
 
 def words_of(maker, case, command, folder):
-    """The words, options at any place among them, those of modules in their order."""
+    """The words of a command line. Options are at any place; those of modules keep their order."""
     first, *others = case.process
     positional = [first.name, case.address] + [f"{folder}/s"] * (command != "row") + [case.limit] * (command == "backtrace")
     options = [["--big"]] * case.big + [["--addr4"]] * (case.size == 4) + [["--hex"]] * first.is_hex
@@ -141,7 +147,7 @@ def is_same(want, got):
 
 
 def beside_program(program, number, maker, case, folder):
-    """What it does with the case where it differs."""
+    """How the program's answer differs from what is wanted, or None."""
     written(case, folder)
     for command in ["backtrace", "unwind"] + ["row"] * maker.chance(0.2):
         words, want = words_of(maker, case, command, folder), case.wanted(command)
@@ -154,7 +160,8 @@ def beside_program(program, number, maker, case, folder):
 # The reference.
 
 def texts_alone(case):
-    """What the models of one section say of FRAME alone, and what is said of it as the one module at 0."""
+    """The texts for FRAME alone: by the models of one section, and by the model of modules with
+    FRAME as the only module, at 0."""
     section, address = case.process[0].section, int(case.address, 16)
     target = case.big, case.size
     found = judged([section], *target)
@@ -167,7 +174,8 @@ def texts_alone(case):
 
 
 def beside_reference(program, number, case, folder):
-    """Where the model differs from that of one section, or from the program over one section that was made of all; and what was compared."""
+    """How the model of modules differs from the model of one section, or from the program over one
+    section joined from all modules, or None; and what was compared."""
     if not is_address(case.address, case.top) or isinstance(case.state, int) or limit_of(case.limit) is None:
         return None, []
     alone, among = texts_alone(case)
@@ -193,13 +201,13 @@ def beside_reference(program, number, case, folder):
 # What there was.
 
 def look_ups(text):
-    """Where the frames of a walk are looked up."""
+    """The addresses at which the frames of a walk are looked up."""
     addresses = [int(line.split()[2], 16) for line in text.splitlines() if line.startswith("frame")]
     return [address - (number > 0) for number, address in enumerate(addresses)]
 
 
 def kinds_of_walk(case, text):
-    """What is counted of how a walk goes through modules."""
+    """The kinds under which a walk through modules is counted."""
     hits = [module_of(case.modules, address, case.size) if address >= 0 else None for address in look_ups(text)]
     numbers = [hit[0] for hit in hits if hit]
     kinds = ["frames in a module that isn't FRAME's" for number in numbers if number > 0]
@@ -230,7 +238,8 @@ def kinds_of_case(case):
 
 
 def compare(given, first, count, step):
-    """Every case of a count, from one on, a step apart: counts, and those that differ."""
+    """Runs the cases from number `first` on, `step` apart, `count` numbers in all. Returns counts,
+    and the cases that differ."""
     counts, different = collections.Counter(), []
     with tempfile.TemporaryDirectory() as folder:
         for number in range(first, first + count, step):

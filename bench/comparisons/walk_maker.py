@@ -1,7 +1,10 @@
-"""Random frame sections with registers and memory in which walks go on for a while, and the state files that have them.
+"""Makes random frame sections, and state files with registers and memory in which walks go on for
+some frames.
 
-A section is made first. Then a walk through it is dreamt: what it needs and isn't there yet is made up so that the walk goes on,
-until it has had its frames. What was made up is written into a state file, some of it left out or changed.
+A section is made first. Then a walk through it is made up ("dreamt"): whenever it needs a register
+or a word of memory that has no content yet, a content is chosen so that the walk goes on, until it
+has enough frames. These contents are written into a state file; some of them are left out or
+changed.
 """
 import with_models  # noqa: F401
 from compare_pairs import PairMaker
@@ -14,7 +17,8 @@ BAD_LINES = [
 
 
 class Dreamt(dict):
-    """Contents by number or address. One that is asked for first is made up by `make`; None is one that isn't there."""
+    """Contents of registers by number, or of memory by address. A content that is looked up for the
+    first time is made by `make`; None means that there is none."""
 
     def __init__(self, make):
         super().__init__()
@@ -30,7 +34,8 @@ class Dreamt(dict):
 
 
 class WalkMaker(PairMaker):
-    """A maker of sections, queries and state files. The registers of a target are few, so that rules and CFAs meet."""
+    """Makes sections, queries and state files. A target has few registers, so that rules and CFAs
+    often use the same ones."""
 
     def start(self):
         super().start()
@@ -54,12 +59,12 @@ class WalkMaker(PairMaker):
         return self.unsigned(self.random.choice([*self.pool, *self.pool, self.returns, 300]))
 
     def small(self, sign):
-        """A number whose product with the data factor is a word's place near the CFA, mostly on the side of the sign."""
+        """A factored offset for a word near the CFA, mostly on the side that `sign` says."""
         offset = sign * self.size * self.random.choice([1, 1, 2, 2, 3, 4, 6]) + (self.random.randrange(-4, 4) if self.chance(0.05) else 0)
         return offset // self.data
 
     def offset(self, packed, register):
-        """An instruction for a word, or a number, beside the CFA."""
+        """An instruction whose rule is a word, or a number, near the CFA."""
         value = self.small(-1 if self.chance(0.85) else 1)
         if packed == 0x80 and register < 64 and value >= 0 and self.chance(0.8):
             return bytes([0x80 + register]) + self.unsigned(value)
@@ -76,7 +81,8 @@ class WalkMaker(PairMaker):
         return bytes([code]) + self.unsigned(register) + (self.register() if code == 0x09 else b"")
 
     def rule(self):
-        """A rule for one of the target's registers; that of the return address is mostly a word on the stack."""
+        """A rule for one of the target's registers. That of the return address register is mostly a
+        word on the stack."""
         register = self.random.choice([*self.pool[1:], self.based, self.returns, 300 if self.chance(0.2) else self.third])
         if register in (self.returns, *self.pool[:3]) and self.chance(0.9):
             return self.rule_of(register, "offset")
@@ -84,7 +90,7 @@ class WalkMaker(PairMaker):
         return self.rule_of(register, self.random.choices(kinds, [6, 3, 2, 3, 1, 3, 2])[0])
 
     def rules(self):
-        """So many that with the few registers of the target there are as many as may be."""
+        """As many rules as are allowed beside those of the target's few registers."""
         few = {*self.pool, self.returns, 300}
         numbers = [number for number in range(self.random.choice([0, 1000]), 1200) if number not in few][:128 - len(few)]
         kinds = ["same_value", "undefined", "val_offset"]
@@ -102,7 +108,8 @@ class WalkMaker(PairMaker):
         return self.cfa_register(kind, register, count) + saved
 
     def cfa_register(self, kind, register, count):
-        """A CFA by a register and an offset, or what changes one of both."""
+        """An instruction that sets the CFA to a register and an offset, or changes one of the
+        two."""
         if kind == 0x12 and count % self.data == 0:
             return b"\x12" + self.unsigned(register) + self.number_of(count // self.data)
         if kind in (0x0d, 0x0e):
@@ -110,7 +117,8 @@ class WalkMaker(PairMaker):
         return b"\x0c" + self.unsigned(register) + self.unsigned(count)
 
     def block(self, kind):
-        """An expression over the target's registers, now and then any good one."""
+        """An expression that uses the target's registers, now and then any that passes the
+        check."""
         if self.chance(0.08):
             return super().block(kind)
         breg = bytes([0x70 + self.random.choice(self.pool)]) + self.number_of(self.size * self.random.randrange(-2, 8))
@@ -129,7 +137,8 @@ class WalkMaker(PairMaker):
         return self.unsigned(len(held)) + held
 
     def program(self):
-        """What it does besides: a CIE mostly says where the return address is, and what becomes of the stack pointer."""
+        """A program. That of a CIE mostly also says where the return address is, and what the stack
+        pointer becomes."""
         out = b""
         if self.common:
             out += self.cfa_rule() if self.cfa is None and self.chance(0.95) else b""
@@ -140,7 +149,7 @@ class WalkMaker(PairMaker):
         return out + super().program()
 
     def ranges(self, count):
-        """Mostly some that cover an address."""
+        """Ranges of FDEs, mostly at least one that isn't empty."""
         ranges = super().ranges(count)
         while self.chance(0.97) and not any(low < high for low, high in ranges):
             ranges = super().ranges(self.random.randrange(1, 7))
@@ -149,7 +158,7 @@ class WalkMaker(PairMaker):
     # The walk.
 
     def names(self):
-        """Which registers the ABI keeps, and its stack pointer or None."""
+        """The callee-saved registers of the ABI, and its stack pointer or None."""
         kind = self.random.choice(["whole", "whole", "whole", "no pointer", "none", "odd"])
         kept = [register for register in self.pool[1:] if self.chance(0.8)] + [self.returns] * self.chance(0.4)
         if kind == "odd" or self.many:
@@ -159,7 +168,8 @@ class WalkMaker(PairMaker):
         return list(dict.fromkeys(register for register in kept if register != pointer)) * (kind != "none"), pointer
 
     def dream(self, ranges, find):
-        """An address, and the registers and the memory of a walk of some frames from there: where rows lie, and what finds one."""
+        """The address, registers and memory of a walk of some frames. `ranges` are those of the
+        rows; `find` finds the row of an address."""
         self.rows = ranges
         address = start = self.inside(0) if self.rows and self.chance(0.97) else self.random.choice([0, 1, self.top, self.address()])
         contents, memory = Dreamt(self.new_register), Dreamt(self.new_word)
@@ -174,7 +184,7 @@ class WalkMaker(PairMaker):
         return start, first, memory
 
     def onward(self, place, contents, memory, purpose):
-        """Where a frame returns to, if it does, and the registers of its caller."""
+        """The address to which a frame returns, if it returns, and the registers of its caller."""
         common, row = place
         state = {"reg": contents, "mem": memory, "keep": self.kept, "sp": self.stack_pointer}
         self.purpose = "stack"
@@ -187,18 +197,18 @@ class WalkMaker(PairMaker):
         return None if isinstance(returns, str) else returns, held
 
     def inside(self, beyond):
-        """An address of a row, or one at a distance after a row."""
+        """An address in a row, plus `beyond`."""
         low, high = self.random.choice(self.rows)
         return self.random.choice([low, high - 1, self.random.randrange(low, high)]) + beyond
 
     def place(self):
-        """A place on the stack, mostly above all that was asked for."""
+        """An address on the stack, mostly above all that were used so far."""
         if self.chance(0.95):
             self.near = min(self.near + self.size * self.random.choice([1, 2, 4, 8]), self.top - 0x10)
         return self.near
 
     def content(self):
-        """What is made up, by what it is for; None is nothing."""
+        """A content that is made up for self.purpose; None means that there is none."""
         if self.purpose == "end" or self.chance(0.01):
             return self.random.choice([None, None, 0, self.top, self.number() % (self.top + 1)])
         if self.purpose == "return" and self.rows:
@@ -219,7 +229,8 @@ class WalkMaker(PairMaker):
     # The state file.
 
     def memory_lines(self, memory):
-        """The bytes that are there, each line as many as follow one another, or fewer."""
+        """Lines of the state file with the memory. Consecutive bytes are in one line, which is now
+        and then split."""
         lines, run, start = [], b"", 0
         for address in sorted(address for address, byte in memory.items() if byte is not None and address <= self.top):
             if run and (address != start + len(run) or self.chance(0.03)):
@@ -230,7 +241,7 @@ class WalkMaker(PairMaker):
         return lines + [f"mem {start:#x} {run.hex()}"] * bool(run)
 
     def naming_lines(self):
-        """Lines for the ABI, some of them twice, which changes nothing."""
+        """Lines that give the ABI, some of them twice, which changes nothing."""
         kept = [f"keep {register}" for register in self.kept]
         again = self.random.choices(kept, k=self.random.randrange(3)) if kept and self.chance(0.3) else []
         lines = kept + again
@@ -243,14 +254,15 @@ class WalkMaker(PairMaker):
         return lines
 
     def bad_lines(self):
-        """Lines of which one is mostly none: in itself, or beside the ABI's."""
+        """Lines that mostly include a bad one: malformed, or contradicting the ABI's lines."""
         clash = [f"sp {register}" for register in self.kept[:1]] + [f"keep {self.stack_pointer or 0}"]
         more = [f"keep {register}" for register in range(self.random.choice([200, 60000]), 65536)[:MAX_KEPT + 1 - len(self.kept)]]
         good = ["frame 0x10", "object 0x1", "", "cfa 0x7"]
         return self.random.choice([clash[:1], clash[-1:], more, more[1:], [self.random.choice(BAD_LINES)], good])
 
     def changed_lines(self, lines):
-        """Some of them left out, at another place or with other bytes."""
+        """The lines, with a few left out. Often a line is added that gives a register or an address
+        again, with another content."""
         lines = [line for line in lines if not self.chance(0.02)]
         if lines and self.chance(0.5):
             name, place, *held = self.random.choice(lines).split()

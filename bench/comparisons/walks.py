@@ -3,9 +3,10 @@
 
     bench/comparisons/walks.py DWCHECK COUNT [SEED] [--jobs N] [--first N]        50,000 walks take some four minutes with --jobs 4
 
-Each case is a section, an address, a state file and a limit, and is the same for every number of jobs. A case that differs is shown with
-its number, and --first N begins with the case of that number. Some state files go to `eval` and `locs` too, which check all their
-lines. At the end: how the walks ended, how long they were, and what else came.
+Each case is a section, an address, a state file and a limit. The cases don't depend on the number
+of jobs. A case that differs is shown with its number, and --first N starts with case N. Some state
+files go to `eval` and `locs` too, which check all their lines. At the end come counts: how the
+walks ended, how long they were, and what else they contained.
 """
 import argparse
 import collections
@@ -21,16 +22,16 @@ from pair_model import refused_text, state_of, unwind_text
 from walk_maker import WalkMaker
 from walk_model import limit_of, rows_in, walk, walk_text
 
-# How far a walk is followed to choose a limit that is near to its length.
+# A walk is followed for at most this many frames, to choose a limit near its length.
 FAR = 60
 BAD_LIMITS = ["65536", "99999", "000001", "0x1", "", " 1", "1 ", "+1", "1_0", "\u0661"]
 BAD_ADDRESSES = ["0x", "1000", "0X1000", "0x00000000000001000", "0x1g", ""]
-# An expression that asks for a register of the state, and one that is refused.
+# Expressions that need a register of the state, and one that is refused.
 EXPRESSIONS = [bytes.fromhex("7708"), bytes.fromhex("720806"), bytes.fromhex("12")]
 
 
 def limit_word(maker, length):
-    """Mostly one near to the length of the walk, or far beyond it."""
+    """A LIMIT, mostly near the length of the walk or far above it."""
     if maker.chance(0.01):
         return maker.random.choice(BAD_LIMITS)
     if maker.chance(0.0015):
@@ -51,7 +52,8 @@ def is_address(word, top):
 
 
 def made(maker):
-    """A section, what the model read of it, the words of an address and a limit, and a state file."""
+    """A section, what the model found in it or its fault, the words ADDRESS and LIMIT, and a state
+    file."""
     maker.start()
     section = maker.section()
     try:
@@ -66,7 +68,8 @@ def made(maker):
 
 
 def wanted(maker, case):
-    """What the two commands have to write and to end with, each as their output, their errors and their status."""
+    """What `backtrace` and `unwind` must write and how they must end: output, errors and status of
+    each."""
     section, found, fault, address, limit, content = case
     bad, target = ("", "dwcheck: bad argument\n", 2), (maker.big, maker.size)
     if not is_address(address, maker.top):
@@ -85,7 +88,8 @@ def wanted(maker, case):
 
 
 def others(maker, expression, content):
-    """What `eval` of an expression and `locs` of no list have to write with the state."""
+    """What `eval` of an expression and `locs` of an empty section must write with the state
+    file."""
     state = state_of(content, maker.size)
     if isinstance(state, int):
         return (("", f"dwcheck: state line {state}\n", 2),) * 2
@@ -105,7 +109,7 @@ def differs(said, words, want, got):
 
 
 def kinds_of(text, errors):
-    """What is counted of a walk: its end, its length, and what its frames have."""
+    """The kinds under which a walk is counted: its end, its length, and what its frames have."""
     if errors:
         return [errors.rstrip("\n0123456789 ")]
     if text.startswith("refused"):
@@ -122,7 +126,7 @@ def length_of(count):
 
 
 def compared(program, seed, number, folder):
-    """What is counted of a case, or how it differs."""
+    """The kinds under which a case is counted, or a text that says how it differs."""
     maker = WalkMaker(f"{seed} {number}")
     case = made(maker)
     section, _, _, address, limit, content = case
@@ -148,7 +152,8 @@ def compared(program, seed, number, folder):
 
 
 def compare(program, seed, first, count, step):
-    """Every step-th case of a count, from one on: counts, and the first that differs."""
+    """Runs every `step`-th case from number `first` on. Returns counts, and the first case that
+    differs."""
     counts = collections.Counter()
     with tempfile.TemporaryDirectory() as folder:
         for number in range(first, first + count, step):

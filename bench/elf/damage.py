@@ -3,10 +3,11 @@
 
     bench/elf/damage.py DWCHECK_ELF COUNT SEED [--jobs N] [--kinds elf,core]
 
-COUNT files of each kind are made of a few that gcc and gdb make: bytes are changed in headers, in sections and anywhere,
-and some files are cut. Each run has to end by itself within 60 seconds, with a status of its own, and without a panic;
-a survey has to have a line of JSON for each file. ELF files go through `survey --all --lists` in folders of 250, and some of them
-through `check`, `rows` and `row` too; core files through `stack`. It needs gcc, gdb and binutils.
+COUNT files of each kind are made of a few that gcc and gdb make: bytes are changed in headers, in
+sections and anywhere, and some files are cut. Each run must end by itself within 60 seconds, with a
+status of its own, and without a panic; a survey must have a line of JSON for each file. ELF files
+go through `survey --all --lists` in folders of 250, and some of them through `check`, `rows` and
+`row` too; core files through `stack`. It needs gcc, gdb and binutils.
 """
 import argparse
 import json
@@ -29,14 +30,14 @@ __attribute__((noinline)) int deep(int n) {
 }
 int main(int argc, char **argv) { return deep(argc + 3); }
 """
-# Without what is refused in location lists.
+# Flags that keep gcc from writing entries of location lists that are refused.
 PLAIN = "-O2 -g -gdwarf-5 -gno-variable-location-views -fno-var-tracking-assignments -fvar-tracking -fno-var-tracking-uninit"
 IN_A_FOLDER = 250
 ODD = [0, 1, 0x7F, 0x80, 0xFF, 0xFE, 0x10, 0x9B, 0x2E, 0x0D]
 
 
 def run(words, folder, statuses, timeout=60):
-    """Runs the program, and says what is wrong with how it ends, if anything."""
+    """Runs the program. Returns the run, and what is wrong with how it ended, or None."""
     try:
         ran = subprocess.run(words, cwd=folder, capture_output=True, timeout=timeout)
     except subprocess.TimeoutExpired:
@@ -47,7 +48,7 @@ def run(words, folder, statuses, timeout=60):
 
 
 def made(folder):
-    """The files that others are made of: ELF files with the ranges of their sections, and core files."""
+    """Makes the files that are changed later: ELF files, and a core file."""
     with open(os.path.join(folder, "a.c"), "w") as file:
         file.write(SOURCE)
     lines = [
@@ -69,7 +70,8 @@ def made(folder):
 
 
 def sections(bytes_of_file):
-    """Where the bytes of sections are that matter here, and where section headers are."""
+    """The ranges of the file that are changed most often: the ELF header, the section headers, and
+    small sections."""
     offset = int.from_bytes(bytes_of_file[40:48], "little")
     count = int.from_bytes(bytes_of_file[60:62], "little")
     found = [(0, 64), (offset, offset + 64 * count)]
@@ -82,7 +84,7 @@ def sections(bytes_of_file):
 
 
 def changed(numbers, original, ranges):
-    """A copy with some bytes changed in one of the ranges or anywhere, or cut."""
+    """A copy with some bytes changed, mostly in one of the ranges; now and then it is also cut."""
     copy = bytearray(original)
     for _ in range(numbers.choice([1, 1, 2, 3, 8])):
         begin, end = numbers.choice(ranges) if numbers.random() < 0.9 else (0, len(copy))
@@ -103,7 +105,8 @@ def changed(numbers, original, ranges):
 
 
 def elf_files(program, made_elf, work, seed, count):
-    """A folder of changed ELF files. Gives what came of them, and what was wrong."""
+    """Runs the program on a folder of changed ELF files. Returns counts of the results, and the
+    problems."""
     numbers = random.Random(seed)
     folder = tempfile.mkdtemp(dir=work)
     all_ranges = {name: sections(original) for name, original in made_elf.items()}
@@ -135,7 +138,7 @@ def elf_files(program, made_elf, work, seed, count):
 
 
 def core_files(program, core, work, seed, count):
-    """Changed core files, one after the other."""
+    """Runs the program on changed core files, one after another."""
     numbers = random.Random(seed)
     header = int.from_bytes(core[32:40], "little")
     table = (header, header + 56 * int.from_bytes(core[56:58], "little"))

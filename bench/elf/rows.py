@@ -24,7 +24,8 @@ def name_of(register):
 
 
 def rule_by_readelf(text):
-    """A register's rule in the form of rule_by_dwcheck."""
+    """A register's rule in readelf's output, in the form that rule_by_dwcheck gives; None for
+    undefined."""
     return None if text == "u" else text
 
 
@@ -51,7 +52,8 @@ def cfa_by_dwcheck(text):
 
 
 def by_dwcheck(program, path):
-    """The FDEs of a file by section: a list of ranges with their rows. None where the file is refused."""
+    """The FDEs of a file by section, as dwcheck-elf prints them: a list of ranges with their rows.
+    None if the file is refused."""
     ran = subprocess.run([program, "rows", path], capture_output=True, text=True, errors="replace")
     if ran.returncode != 0:
         print(f"{path}: status {ran.returncode}: {(ran.stdout + ran.stderr).splitlines()[:1]}")
@@ -74,8 +76,9 @@ def by_dwcheck(program, path):
 
 
 def by_readelf(path):
-    """The same by readelf, which shows a row for each advance, of which the last at an address holds. Of an FDE without
-    instructions it shows no row: that is its CIE's."""
+    """The FDEs of a file by section, as readelf prints them. readelf prints a row for each advance;
+    if several have the same address, the last one counts. For an FDE without instructions it prints
+    no row: the row is that of its CIE."""
     command = ["readelf", "--debug-dump=frames-interp", "--wide", path]
     shown = subprocess.run(command, capture_output=True, text=True, errors="replace").stdout
     sections, fdes, rows, columns, cies = {}, None, None, [], {}
@@ -92,7 +95,7 @@ def by_readelf(path):
         elif line.strip().startswith("LOC"):
             columns = line.split()[2:]
         elif line and rows is not None:
-            # A register that holds another has its number, and its name in parentheses.
+            # A rule that names another register has its number, and its name in parentheses.
             words = [word for word in line.split() if not word.startswith("(")]
             begin = int(words[0], 16)
             rules = {column: rule_by_readelf(rule) for column, rule in zip(columns, words[2:])}
@@ -104,7 +107,8 @@ def by_readelf(path):
 
 
 def compare(path, ours, theirs):
-    """How many rows are equal, and how many aren't. An FDE without addresses has no rows."""
+    """The number of rows that are equal, and of rows that differ. An FDE without addresses has no
+    rows."""
     equal = differ = 0
     for section, fdes in ours.items():
         others = theirs.get(section, [])

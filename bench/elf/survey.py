@@ -38,7 +38,7 @@ def main():
             counts["accepted" if section["accepted"] else "refused"] += 1
             counts["fdes"] += section.get("fdes", 0)
             counts["rows"] += section.get("rows", 0)
-            # What an FDE shares addresses with is another one each time.
+            # For an overlap, the text names another FDE each time, so it is left out.
             told = [(fault["fault"], fault["fault"] != "Overlap" and fault["what"]) for fault in section.get("faults", [])]
             for (fault, what), count in Counter(told).items():
                 times = f", {count:,} times" if count > 1 else ""

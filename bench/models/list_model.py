@@ -1,6 +1,8 @@
-"""Location lists judged and looked up by docs/PROFILE.md alone, in plain Python: nothing here was taken from the program.
+"""Checks location lists and looks addresses up in them, according to docs/PROFILE.md alone, in
+plain Python: nothing here was taken from the program.
 
-answer(section, offset, base, address, big, size, state) gives the text that `dwcheck locs` has to write.
+answer(section, offset, base, address, big, size, state) gives the text that `dwcheck locs` must
+write.
 """
 from expression_model import NAMES as EXPRESSION_NAMES
 from expression_model import Fault, Reader, located, run_text
@@ -20,7 +22,8 @@ def reader(data, at, big, size):
 
 
 def entry(fields, has_default, big, size):
-    """Its code, two numbers, and its expression."""
+    """The code of the next entry, its two operands, and its expression; None for those that it
+    doesn't have."""
     at, code = fields.at, fields.fixed(1)
     if code not in (END, PAIR, DEFAULT, BASE, START_END, START_LENGTH):
         raise Fault(51, at)
@@ -46,7 +49,7 @@ def entry(fields, has_default, big, size):
 
 
 def body(section, at, big, size):
-    """Where the body of a table begins and ends, and the size of its offsets."""
+    """Where the body of a table or a record begins and ends, and the size of offsets in it."""
     fields = reader(section, at, big, size)
     length, wide = fields.fixed(4), 4
     if 0xfffffff0 <= length < 0xffffffff:
@@ -61,7 +64,8 @@ def body(section, at, big, size):
 
 
 def table(section, at, big, size):
-    """The lists of the table at an offset, by their own, and where it ends."""
+    """The lists of the table at offset `at`, by the offset of each list, and the offset where the
+    table ends."""
     begin, end, wide = body(section, at, big, size)
     fields, lists = reader(section[:end], begin, big, size), {}
     for number, count, value in [(50, 2, 5), (6, 1, size), (7, 1, 0)]:
@@ -87,7 +91,7 @@ def table(section, at, big, size):
 
 
 def holding(entries, base, address):
-    """The expressions that hold, in order."""
+    """The expressions of a list that hold at an address, in order."""
     found, otherwise = [], []
     for code, first, second, expression in entries:
         if code == BASE:
@@ -104,7 +108,8 @@ def holding(entries, base, address):
 
 
 def checked(section, big, size):
-    """How many tables there are, and the lists by their offsets, in the order of the section; or the first fault."""
+    """The number of tables, and the lists by their offsets, in the order of the section. Raises the
+    first fault."""
     at, tables, lists = 0, 0, {}
     while at < len(section):
         more, at = table(section, at, big, size)

@@ -1,12 +1,15 @@
 #!/usr/bin/env python3
 """Walks through a process of several modules: nothing here was taken from the program.
 
-A module is a section and a load address. That of an address is the first of which an FDE covers the address less its load address, modulo
-2^w: the section of FRAME with that of --load, then those of --module in their order. ADDRESS, frames' addresses, CFAs and registers are
-numbers of the process; what an expression pushes by DW_OP_addr is as linked, and so is the text of `row`. Frame 0 is looked up at its
-address, each other one at its address less one, where there is one. All else is by the other models.
+A module is a section and a load address. The first module is FRAME's, with the load address of
+--load; then come those of --module in their order. The module of an address is the first with an
+FDE that covers the address minus the load address, modulo 2^w. ADDRESS, the addresses of frames,
+CFAs and registers are as loaded; what an expression pushes by DW_OP_addr and the text of `row` are
+as linked. Frame 0 is looked up at its address, each later frame at its address minus 1, unless that
+is negative. The other models do the rest.
 
-As a program of its own the model answers as `dwcheck` has to, so that bench/walk/modules.sh can hold it against gdb, in seconds a walk:
+Run as a program, the model answers like `dwcheck`, so that bench/walk/modules.sh can compare it
+with gdb; a walk takes seconds:
 
     bench/models/module_model.py backtrace FRAME ADDRESS STATE LIMIT [--load 0xL] [--module 0xL=FILE].. [--big] [--addr4]
     bench/models/module_model.py unwind FRAME ADDRESS STATE [..]
@@ -26,7 +29,8 @@ def as_linked(address, load, size):
 
 
 def module_of(modules, address, size):
-    """The number of the first module that has a row there, and the row with its CIE; or None."""
+    """The number of the first module that has a row for `address`, and the row with its CIE; or
+    None."""
     for number, (found, load) in enumerate(modules):
         place = row_at(found, as_linked(address, load, size))
         if place is not None:
@@ -35,7 +39,8 @@ def module_of(modules, address, size):
 
 
 def rows_in_modules(modules, size):
-    """What finds a row among modules, each of which is the FDEs that a check found and a load address."""
+    """A function that finds the row of an address among modules. A module is a pair: the FDEs that
+    a check found, and a load address."""
     def find(address):
         hit = module_of(modules, address, size) if address >= 0 else None
         return hit and hit[1]
@@ -56,7 +61,8 @@ def row_text(module, address, size):
 
 
 def judged(sections, big, size):
-    """What was found in each, or the fault of the first that is refused."""
+    """The FDEs that were found in each section, or the fault of the first section that is
+    refused."""
     try:
         return [checked(section, big, size)[1] for section in sections]
     except Fault as fault:

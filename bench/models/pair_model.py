@@ -1,7 +1,9 @@
-"""Two sections checked together, and callers, by the rules of docs/PROFILE.md alone: nothing here was taken from the program.
+"""Checks two sections together, and finds callers, according to docs/PROFILE.md alone: nothing here
+was taken from the program.
 
-check_text(frame, lists, big, size) gives the text that `dwcheck check` has to write, and unwind_text(frame, address, state, big, size)
-that of `dwcheck unwind`. state_of(content, size) reads a state file, the lines that name an ABI's registers too.
+check_text(frame, lists, big, size) gives the text that `dwcheck check` must write, and
+unwind_text(frame, address, state, big, size) the text of `dwcheck unwind`. state_of(content, size)
+reads a state file, including the lines of an ABI.
 """
 import re
 
@@ -42,7 +44,8 @@ def check_text(frame, lists, big, size):
 # Callers.
 
 class Caller:
-    """What a row's rules make of registers and memory. An answer is a number, or what is said in the place of one."""
+    """The caller by a row, for given registers and memory. An answer is a number, or a text such as
+    "unreadable" if there is none."""
 
     def __init__(self, row, state, big, size):
         _, _, cfa, self.rules = row
@@ -51,11 +54,11 @@ class Caller:
         self.cfa = self.cfa_answer(cfa)
 
     def named(self):
-        """The registers that a rule or the ABI names, ascending."""
+        """The registers that have a rule from the row or the ABI, in ascending order."""
         return sorted({*self.rules, *self.kept, *([] if self.stack_pointer is None else [self.stack_pointer])})
 
     def rule(self, register):
-        """Its rule, and where it has none what the ABI says of it."""
+        """The rule of a register in the row, or, if it has none, the rule that the ABI gives it."""
         if register in self.rules:
             return self.rules[register]
         if register == self.stack_pointer:
@@ -74,7 +77,8 @@ class Caller:
             return "unreadable"
 
     def value(self, expression, cfa):
-        """What an expression gives over a CFA, or none, and nothing else."""
+        """The value of an expression with the given CFA (or None) and no other context, or why
+        there is none."""
         context = {"cfa": cfa, "frame": None, "object": None}
         (said, *held), _ = outcome_of(expression, self.given | context, self.big, self.size)
         return held[0] if said == "value" else said
@@ -106,7 +110,7 @@ def unwind_text(frame, address, state, big, size):
 
 
 def caller_text(place, state, big, size):
-    """What is said of the caller by a row with its CIE, or by none."""
+    """The text of the caller by a row and its CIE. `place` is None if there is no row."""
     if place is None:
         return "none\n"
     common, row = place
@@ -122,7 +126,7 @@ def answer_text(answer, size):
 
 # State files.
 
-# How many registers an ABI may keep.
+# The greatest number of callee-saved registers of an ABI.
 MAX_KEPT = 127
 
 
@@ -136,7 +140,8 @@ def state_of(content, size):
 
 
 def added(state, line, top):
-    """Whether it is a line, which then gives what none before it gave."""
+    """Adds what a line gives, unless an earlier line gave it. Returns whether the line is
+    accepted."""
     number = rb"0x([0-9a-fA-F]{1,16})"
     if parsed := re.fullmatch(rb"reg ([0-9]{1,5}) " + number, line):
         register, value = int(parsed[1]), int(parsed[2], 16)
@@ -159,7 +164,7 @@ def added(state, line, top):
 
 
 def kept(state, register):
-    """Keeps it, unless it is kept already; whether it may be kept."""
+    """Makes a register callee-saved, if it isn't yet. Returns whether that is allowed."""
     if register in state["keep"]:
         return True
     state["keep"].append(register)
@@ -167,7 +172,7 @@ def kept(state, register):
 
 
 def pointed(state, register):
-    """Makes it the stack pointer, unless there is one; whether it may be."""
+    """Makes a register the stack pointer, unless there is one. Returns whether that is allowed."""
     if state["sp"] is not None:
         return True
     state["sp"] = register

@@ -1,8 +1,10 @@
-"""Walks over frames, by the rules of docs/PROFILE.md alone: nothing here was taken from the program.
+"""Walks up the stack according to docs/PROFILE.md alone: nothing here was taken from the program.
 
-backtrace_text(frame, address, state, limit, big, size) gives the text that `dwcheck backtrace` has to write, and limit_of(word) the limit
-that a word names. Sections, rows, expressions, single callers and state files are those of the other models. A walk takes what finds a row
-with its CIE for an address, or None: rows_in(found) does in one section, and module_model.py has one for several.
+backtrace_text(frame, address, state, limit, big, size) gives the text that `dwcheck backtrace` must
+write, and limit_of(word) the limit that a word stands for. The other models read sections, rows,
+expressions, single callers and state files. A walk takes a function that returns an address's row
+with its CIE, or None: rows_in(found) makes one for a section, rows_in_modules of module_model.py
+for several.
 """
 import re
 
@@ -14,13 +16,15 @@ MAX_LIMIT = 65535
 
 
 def limit_of(word):
-    """A number of one to five digits that isn't too large, or None."""
+    """The number of a word of one to five digits, or None if it is no such word or above
+    MAX_LIMIT."""
     limit = int(word) if re.fullmatch("[0-9]{1,5}", word, re.ASCII) else MAX_LIMIT + 1
     return limit if limit <= MAX_LIMIT else None
 
 
 class Frame:
-    """A frame by its number, its address and its registers' contents; of a covered one also its caller, and where that goes on."""
+    """A frame: its number, its address and its registers. If a row covers it, it also has a caller,
+    and the address to which it returns or why that isn't known."""
 
     def __init__(self, find, number, address, state, big, size):
         self.number, self.address, self.state, self.big, self.size = number, address, state, big, size
@@ -33,13 +37,14 @@ class Frame:
             self.returns = self.caller.answer(common["return"])
 
     def why_last(self):
-        """Why no frame follows, or None."""
+        """Why no frame comes after this one, or None."""
         if self.caller is None:
             return "not covered"
         return f"return {self.returns}" if isinstance(self.returns, str) else None
 
     def next(self, find):
-        """The frame of the caller. A register has a content there only where the caller answers a number."""
+        """The frame of the caller. A register is known there only if the caller's answer for it is
+        a number."""
         answers = {register: self.caller.answer(register) for register in self.caller.named()}
         contents = {register: answer for register, answer in answers.items() if not isinstance(answer, str)}
         return Frame(find, self.number + 1, self.returns, self.state | {"reg": contents}, self.big, self.size)
@@ -50,12 +55,12 @@ class Frame:
 
 
 def rows_in(found):
-    """What finds a row in a section that is taken as it is."""
+    """A function that finds the row of an address in a section as linked."""
     return lambda address: row_at(found, address)
 
 
 def walk(find, address, state, limit, big, size):
-    """The frames, at most as many as the limit says, and why there are no more."""
+    """At most `limit` frames, and why there are no more."""
     frames = []
     while len(frames) < limit:
         frames.append(frames[-1].next(find) if frames else Frame(find, 0, address, state, big, size))

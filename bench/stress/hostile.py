@@ -37,7 +37,7 @@ frame 1 0x0000000000001020 cfa value 0x0000000000007f50
 frame 2 0x0000000000002000 none
 stop not covered
 """
-# its frames at 7 have themselves as callers, whatever is known
+# a frame at 7 is its own caller, whatever the state is
 ROUND = bytes.fromhex(CIE + "1c0000000000000000000000000000002000000000000000" + "0f013f1410010000")
 WALK = ["backtrace", "frame", "0x1010", "state", "9"]
 LONGEST = ["backtrace", "round", "0x3", "empty", "65535"]
@@ -55,7 +55,8 @@ wrong = []
 
 
 def judge(said, found, wanted):
-    """Notes what a run came to where it isn't what is wanted: a text, a line on standard error and a status."""
+    """Prints how a run ended if it isn't as wanted: the text, the line on standard error, and the
+    status."""
     if found != wanted:
         wrong.append(said)
         print(f"{said}\n  wanted {wanted}\n  found  {found}")
@@ -71,7 +72,7 @@ def run(program, words, **how):
 
 
 def try_files(program):
-    """Files that can't be read, and those that can."""
+    """Files that can't be read, and some that can."""
     for name in ("missing", "folder", "", "frame/under", "n" * 300, "loop"):
         for words in (
             ["rows", name], ["check", "frame", name], ["unwind", "frame", "0x1000", name], ["eval", "cfa", name, "--state", "missing"],
@@ -96,7 +97,7 @@ def try_files(program):
 
 
 def try_words(program):
-    """Words that are no text, and those that ask for nothing."""
+    """Words that aren't UTF-8, and words that ask for nothing."""
     judge("a word that isn't UTF-8", run(program, ["rows", b"\xff"]), ("", "error: invalid UTF-8 was detected in one or more arguments\n", 2))
     for words in (
         [], ["rows"], ["columns", "frame"], ["rows", "frame", "frame"], ["--help"], ["eval", "foo"], ["backtrace"], ["backtrace", "--help"],
@@ -107,7 +108,8 @@ def try_words(program):
 
 
 def try_walks(program):
-    """Words, state files and sections of a walk that are wrong, mostly where all that is judged later is wrong too."""
+    """Wrong words, state files and sections of a walk. Mostly what would be checked later is wrong
+    too, so the first error must be reported."""
     for limit_word in BAD_LIMITS:
         judge(f"a limit {limit_word[:9]!r}", run(program, ["backtrace", "missing", "0x0", "missing", limit_word]), ("", "dwcheck: bad argument\n", 2))
     for address in ("", "0x", "1010", "0X10", "0x" + "0" * 17):
@@ -151,7 +153,8 @@ def try_modules(program):
 
 
 def try_changed_sections(program):
-    """Walks over a section that is cut at each length, and over one with a byte changed: they end as they may, and each at once."""
+    """Walks over a section that is cut to each length, or has one byte changed. Each must end at
+    once, with an allowed result."""
     for length in range(len(FRAME) + 1):
         with open("changed", "wb") as file:
             file.write(FRAME[:length])
@@ -169,7 +172,7 @@ def try_changed_sections(program):
 
 
 def try_outputs(program, big):
-    """Standard output that takes nothing, is closed, or ends early."""
+    """Standard output that accepts nothing, is closed, or is closed early."""
     with open("/dev/full", "wb") as full:
         judge("/dev/full", run(program, ["rows", "frame"], stdout=full), ("", CANNOT_WRITE, 3))
         judge("/dev/full, for a refusal", run(program, ["rows", "cut"], stdout=full), ("", CANNOT_WRITE, 3))
@@ -228,7 +231,7 @@ def free_memory():
 
 
 def try_long_files(program):
-    """Files that memory doesn't hold, and one that is longer than a section may be."""
+    """Files that don't fit into memory, and one that is longer than a section may be."""
     with open("long", "wb") as file:
         file.truncate(2 ** 27)
     for words in (

@@ -1,15 +1,18 @@
 #!/usr/bin/env python3
-"""Refuses each request for memory in turn: of the tests of refused memory, and of the program.
+"""Refuses each request for memory in turn, in the tests of refused memory and in the program.
 
     bench/stress/refused_memory.py TESTS DWCHECK
 
-TESTS is the tests' program that `rt test` leaves, crates/dw_tests/out/dw_tests_tests, DWCHECK the program. It needs cc and glibc.
+TESTS is the test program that `rt test` leaves, crates/dw_tests/out/dw_tests_tests; DWCHECK is the
+program. It needs cc and glibc.
 
-A library that is loaded before the C library's refuses the Nth request. Each test of `refused_memory` then has to pass for every N from 1
-until none is refused: the call answers that memory ran out, or it does without that request and its answer is right. So do the check
-of lists where a short way lacks memory for an expression, and `certify` where its short way lacks memory for the states: the general way
-then does all of it. Each line says how many requests were done without. Each run of the program has to end with its text, or with status 3, the line "out of memory", and a beginning
-of its text; and with nothing written where its text is a refusal's line.
+A library that is loaded before the C library refuses the Nth request. Each test of `refused_memory`
+must pass for every N from 1 until no request is refused: either the call reports that memory ran
+out, or it does without that request and its answer is right. For example, the check of lists and
+`certify` do without it if a fast path lacks memory: then the general path does all the work. Each
+line of output says how many requests were done without. Each run of the program must end with its
+usual text, or with status 3, the line "out of memory" and a prefix of its text. If its text is the
+line of a refusal, that prefix must be empty.
 """
 import os
 import subprocess
@@ -51,7 +54,8 @@ WITHOUT = "done without"
 
 
 def run(library, words, number, folder):
-    """What a run with its Nth request refused writes to standard output and standard error, its status, and whether one was refused."""
+    """What a run whose Nth request is refused writes to standard output and standard error, its
+    status, and whether a request was refused."""
     reading, writing = os.pipe()
     surroundings = {**os.environ, "LD_PRELOAD": library, "REFUSED": str(number), "REFUSED_TO": str(writing)}
     ended = subprocess.run(words, cwd=folder, env=surroundings, pass_fds=[writing], capture_output=True, check=False)
@@ -61,7 +65,8 @@ def run(library, words, number, folder):
 
 
 def each(library, words, folder, judge):
-    """Refuses each request of a command in turn, and gives how many there are, and how many of them were done without."""
+    """Refuses each request of a command in turn. Returns the number of requests, and how many of
+    them the command did without."""
     number, without = 1, 0
     while True:
         *ended, refused = run(library, words, number, folder)

@@ -4,12 +4,12 @@
     bench/times/expressions.py SHAPE N > FILE
 
 sums        N additions to a constant
-branches    N branches, each of which takes one of two ways
+branches    N branches, each of which takes one of two paths
 one_target  N branches, 8,000 at a time to one operation
 reads       N reads of the word at 0x1000
 words       a state file of N lines, each of four bytes
-backwards   the same, the highest address first
-again       the same, all at one address
+backwards   the lines of `words`, the highest address first
+again       a state file of N lines, each of the same four bytes of memory
 bytes       a state file of one line of N bytes
 registers   a state file of N lines of registers
 """

@@ -5,8 +5,8 @@
 
 Frames:
 ordinary        N FDEs, each with the six instructions of a function with a frame pointer
-descending      the same, the highest address first
-shuffled        the same, in no order
+descending      the FDEs of `ordinary`, the highest address first
+shuffled        the FDEs of `ordinary`, in random order
 empty           N FDEs with empty ranges at one address
 overlap         N FDEs, the last of which shares an address with the first
 nested          N FDEs, each within the one before it
@@ -17,19 +17,19 @@ full_cie        N FDEs under one CIE that leaves 128 rules
 many_cies       N CIEs, and an FDE for each
 full_cies       N CIEs that leave 128 rules each, and an FDE for each
 remember        one FDE with N pairs of remember_state and restore_state
-remember_full   the same, where 128 rules are remembered
-remembers       one FDE with N times remember_state
+remember_full   one FDE with N pairs of remember_state and restore_state, each saving 128 rules
+remembers       one FDE with N remember_state instructions
 rows            one FDE with N rows of 128 rules
-rule_sets       one FDE with N rows, each with a CFA of its own
-registers       N CIEs with return address registers of their own, and an FDE for each
+rule_sets       one FDE with N rows, each with another CFA
+registers       N CIEs, each with another return address register, and an FDE for each
 ends            FDEs at both ends of the addresses and in the middle, whatever N is
 nops            one FDE with N nops
 expression      one FDE with an expression of N bytes
 cie_expression  10,000 FDEs under a CIE with an expression of N bytes
 shown           one FDE with an expression of 1,000 bytes for the CFA, and N rows
-branches        one FDE with an expression of N branches, which has 2^N ways
+branches        one FDE with an expression of N branches, which has 2^N paths
 one_target      one FDE with an expression of N branches, 8,000 at a time to one operation
-targets         one FDE with an expression of N branches, each to another operation, as far off as may be
+targets         one FDE with an expression of N branches, each to another operation, far away
 expressions     N FDEs with 20 expressions each
 block           one FDE whose expression is said to have 2^32 - 1 bytes, and has N
 
@@ -48,7 +48,7 @@ import sys
 
 CIE_PROGRAM = bytes.fromhex("0c07089001")
 FUNCTION = bytes.fromhex("410e108602430d060320000c0708")
-# 128 rules, with that of the return address
+# 128 rules, including that of the return address register
 FULL = bytes.fromhex("0c07089001") + b"".join(bytes([0x08, r]) for r in range(127) if r != 16) + bytes.fromhex("08ff01")
 
 
@@ -73,7 +73,7 @@ def uleb(n):
 
 
 def functions(places, pointer=0):
-    """An ordinary FDE at each of these places."""
+    """An ordinary FDE for each number in `places`: number i begins at 0x1000 + 64 * i."""
     return b"".join(fde(pointer, 0x1000 + 64 * i, 64) for i in places)
 
 
@@ -83,7 +83,7 @@ def each_cie(n, program):
 
 
 def registers(n):
-    """N CIEs with return address registers of their own, each with an FDE."""
+    """N CIEs, each with another return address register, and an FDE for each."""
     section = b""
     for k in range(n):
         offset = len(section)
@@ -108,7 +108,7 @@ LONGEST = CIE_PROGRAM + b"\x08\x03" * 2097152
 
 
 def cfa_is(expression):
-    """An FDE of this expression."""
+    """A CIE, and an FDE whose CFA is this expression."""
     return cie() + fde(0, 0x1000, 64, b"\x0f" + uleb(len(expression)) + expression)
 
 
@@ -117,7 +117,8 @@ def sums(size):
 
 
 def one_target(n):
-    """lit0, bra to the last operation of the group, which is a nop."""
+    """Groups of at most 8,000 pairs of lit0 and bra. All branches of a group lead to its last
+    operation, a nop."""
     groups = []
     for start in range(0, n, 8000):
         count = min(8000, n - start)
@@ -126,7 +127,8 @@ def one_target(n):
 
 
 def targets(n):
-    """lit0, bra 32,764 bytes on or to the end, where all lead that come near it."""
+    """N pairs of lit0 and bra. Each branch leads 32,764 bytes further, or to the end if that is
+    nearer."""
     size = 4 * n
     return b"\x77\x00" + b"".join(b"\x30\x28" + struct.pack("<h", min(32764, size - 4 * (i + 1))) for i in range(n))
 

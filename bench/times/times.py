@@ -14,7 +14,7 @@ import tempfile
 from expressions import text
 from sections import FRAMES, section
 
-# what is asked of the program, and the shapes and sizes of sections
+# the command, and the shape and size of the section
 SECTIONS = [
     ("rows", "ordinary", 10000), ("rows", "ordinary", 60000), ("rows", "descending", 60000), ("rows", "shuffled", 60000),
     ("rows", "empty", 60000), ("rows", "overlap", 60000), ("check", "nested", 60000),
@@ -49,7 +49,7 @@ def saved(folder, name, content):
 
 
 def timed(words):
-    """Seconds and peak memory, as GNU time says them; and where it was stopped, that."""
+    """The seconds and peak memory of a run, by GNU time, and whether it was killed."""
     limited = ["prlimit", f"--as={8 << 30}", "timeout", "100", *words]
     run = subprocess.run(["time", "-f", "%x %e %M", *limited], stdout=subprocess.DEVNULL, stderr=subprocess.PIPE, text=True, check=False)
     status, seconds, kilobytes = run.stderr.split()[-3:]
@@ -58,7 +58,7 @@ def timed(words):
 
 
 def others(folder, beside, path, frames):
-    """What readelf, llvm-dwarfdump and gimli take for the section."""
+    """The times and peak memory of readelf, llvm-dwarfdump and gimli for the section."""
     name = ".debug_frame" if frames else ".debug_loclists"
     empty, whole = os.path.join(folder, "empty.o"), os.path.join(folder, "whole.o")
     subprocess.run(["as", "-o", empty, "/dev/null"], check=True)

@@ -1,5 +1,6 @@
 #!/usr/bin/env python3
-"""Times `dwcheck check` on frames and lists of real programs beside readelf on the frames alone, in turn.
+"""Times `dwcheck check` on frames and lists of real programs, and readelf on the frames alone,
+alternately.
 
     bench/times/whole.py DWCHECK FRAME_BYTES LISTS_BYTES SECTION ..        some seconds
 
@@ -18,7 +19,7 @@ RUNS = 7
 
 
 def records(section):
-    """The records of a section, each with where it begins."""
+    """The records of a section, each with its offset."""
     at = 0
     while at < len(section):
         length = 4 + struct.unpack_from("<I", section, at)[0]
@@ -27,7 +28,7 @@ def records(section):
 
 
 def moved(section, offset, distance):
-    """The section at another offset, its addresses so far up."""
+    """A copy of a section for another offset, with `distance` added to its addresses."""
     parts = []
     for _, record in records(section):
         pointer, start = struct.unpack_from("<IQ", record, 4)
@@ -38,7 +39,8 @@ def moved(section, offset, distance):
 
 
 def chosen(sections, size):
-    """Sections in turn, as long as one fits into a number of bytes."""
+    """The sections in turn, again and again, while one of them fits into what is left of `size`
+    bytes."""
     left, place = size, 0
     while any(len(section) <= left for section in sections):
         section = sections[place % len(sections)]
@@ -66,7 +68,8 @@ def seconds_of(words):
 
 
 def megabytes_of(words):
-    """The peak memory of a run: that of the largest child, so it has to be asked for before any larger one runs."""
+    """The peak memory of a run in MB. It is that of the largest child process so far, so call this
+    before any larger child runs."""
     subprocess.run(words, stdout=subprocess.DEVNULL, check=True)
     return resource.getrusage(resource.RUSAGE_CHILDREN).ru_maxrss / 1024
 

@@ -3,10 +3,11 @@
 
     bench/walk/compare.py DWCHECK SECTION FOLDER [NAME=SECTION]..
 
-A NAME is the file of a further module. Where there are some, stops.py has written where each one is loaded, and the program itself.
-The folder has what stops.py wrote. From a whole stack each frame of the program has gdb's address and CFA, and after them comes the first
-address that is no more the program's; the caller's registers are gdb's too. From the top of a stack the frames are the first of these,
-and where they end early the copy did.
+FOLDER has what stops.py wrote. NAME is the file of a further module; if there are any, stops.py has
+also written the load addresses of these modules and of the program. With the whole stack, each
+frame of the program must have gdb's address and CFA, and then comes the first address outside the
+program; the caller's registers must be gdb's too. With only the top of the stack, the frames must
+be the first of these, and fewer only if the copy of the stack ends.
 """
 import collections
 import glob
@@ -23,7 +24,7 @@ def lines_of(program, words):
 
 
 def read(path):
-    """gdb's frames, and the registers of the first caller."""
+    """Reads gdb's frames, and the registers of the first caller."""
     with open(path, encoding="ascii") as file:
         lines = [line.split() for line in file]
     frames = [(int(line[0], 16), int(line[1], 16), line[2] == "1") for line in lines if line[0].startswith("0x")]
@@ -31,7 +32,8 @@ def read(path):
 
 
 def wanted(frames):
-    """The lines of the frames in the program, and of the first after them."""
+    """The lines that are wanted for the frames in the program, and for the first frame after
+    them."""
     inside = next((i for i, (_, _, is_inside) in enumerate(frames) if not is_inside), len(frames))
     lines = [f"frame {i} 0x{address:016x} cfa value 0x{cfa:016x}" for i, (address, cfa, _) in enumerate(frames[:inside])]
     return lines + [f"frame {inside} 0x{address:016x} none" for address, _, _ in frames[inside:inside + 1]]
@@ -42,7 +44,7 @@ def differ(path, want, got):
 
 
 def options(folder, named):
-    """Those for load addresses."""
+    """The options that give load addresses."""
     if not named:
         return []
     with open(os.path.join(folder, "loads"), encoding="ascii") as file:
@@ -53,7 +55,7 @@ def options(folder, named):
 
 
 def compare(program, section, path, counts, more):
-    """One stop."""
+    """Compares the walks of one stop."""
     stem = path.removesuffix(".frames")
     frames, registers = read(path)
     start, want = hex(frames[0][0]), wanted(frames)

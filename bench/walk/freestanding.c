@@ -1,4 +1,5 @@
-/* The program of targets.py: frames of several kinds on a machine without a C library, to be stopped in the innermost one. */
+/* The program of targets.py: frames of several kinds on a target without a C library. It is
+   stopped in the innermost one. */
 typedef int (*callback)(int);
 
 #define APART __attribute__((noinline))
@@ -14,7 +15,7 @@ APART int innermost(int n)
     return sum + n;
 }
 
-/* more registers than a call leaves as they were */
+/* keeps values across its calls, so it saves callee-saved registers */
 APART static int busy(int a, int b, int c, int d, callback call)
 {
     int e = a * b, f = b * c, g = c * d, h = d * a;

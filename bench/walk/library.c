@@ -1,5 +1,6 @@
-/* The library of modules.sh: six frames of several kinds, the innermost of which calls back. Nothing in it is called through the procedure
-   linkage table, whose entries have no FDE in .debug_frame. */
+/* The library of modules.sh: six frames of several kinds, the innermost of which calls back. Its
+   functions aren't called through the procedure linkage table, whose entries have no FDE in
+   .debug_frame. */
 #include "process.h"
 #include <alloca.h>
 
@@ -16,7 +17,7 @@ APART static int each(const int *values, int count, callback call)
     return sum;
 }
 
-/* a stack that is aligned anew: the CFA's rule may be an expression */
+/* realigns the stack, so the CFA's rule may be an expression */
 APART static int aligned(int n, callback call)
 {
     _Alignas(64) volatile char bytes[64];
@@ -25,7 +26,7 @@ APART static int aligned(int n, callback call)
     return each(values, 2, call) + bytes[n & 63];
 }
 
-/* a frame with room that its caller chooses */
+/* a frame whose size depends on the argument */
 APART static int chosen(int n, callback call)
 {
     volatile char *bytes = alloca(100 * (n & 7) + 16);
@@ -41,7 +42,7 @@ APART static int large(int n, callback call)
     return chosen(n, call) + bytes[50 * (n & 7)];
 }
 
-/* more registers than a call destroys */
+/* keeps values across its calls, so it saves callee-saved registers */
 APART static int busy(int a, int b, int c, int d, callback call)
 {
     int e = large(a, call), f = large(b, call);

@@ -1,8 +1,10 @@
 #!/usr/bin/env bash
-# Compares walks through two modules with gdb's: a program that can lie anywhere (PIE) and a library that calls back, some six frames each, by gcc
-# and clang, where it is there, at six levels of optimization, on x86-64. Two minutes. Needs gdb with Python.
+# Compares walks through two modules with gdb's: a position-independent program (PIE) and a library
+# that calls back, some six frames each, compiled by gcc, and by clang if it is installed, at six
+# levels of optimization, on x86-64. It takes two minutes, and needs gdb with Python.
 #     bench/walk/modules.sh DWCHECK [STOPS]
-# Load addresses are gdb's, and each has to be what `nm` and gdb say of a symbol. DWCHECK may be bench/models/module_model.py, the model of such walks.
+# Load addresses come from gdb, and each must agree with the addresses that `nm` and gdb give for a
+# symbol. DWCHECK may be bench/models/module_model.py, the model of such walks.
 set -eu
 program=$(realpath "$1") stops=${2:-100}
 here=$(cd "$(dirname "$0")" && pwd)

@@ -3,8 +3,9 @@
 
     bench/walk/perf.py DWCHECK SECTION DATA START END [FOLDER]
 
-START and END are where the program's own code begins and ends. As far as both go, the frames there are those that perf finds in the same
-sample; where ours are fewer, the copy of the stack ended. FOLDER keeps the state files.
+START and END are where the program's own code begins and ends. Frames there must be those that perf
+finds in the same sample, as far as both walks go. dwcheck may find fewer only if the copy of the
+stack ends. FOLDER keeps the state files.
 """
 import collections
 import itertools
@@ -15,7 +16,7 @@ import tempfile
 
 from compare import lines_of
 
-# perf's names by the numbers that DWARF has for them.
+# perf's names of registers, in the order of DWARF's numbers.
 NAMES = ["AX", "DX", "CX", "BX", "SI", "DI", "BP", "SP", *(f"R{i}" for i in range(8, 16)), "IP"]
 ABI = "".join(f"keep {number}\n" for number in [3, 6, 12, 13, 14, 15]) + "sp 7\n"
 
@@ -25,7 +26,8 @@ def output_of(words):
 
 
 def samples(dump):
-    """Registers by perf's names, and the copy of the stack, of each sample of what perf shows of all it recorded."""
+    """The registers (by perf's names) and the copy of the stack of each sample in perf's dump of
+    its data."""
     for event in dump.split("raw event: size ")[1:]:
         if copied := re.search(r"ustack: size ([0-9]+), offset (0x[0-9a-f]+)", event):
             held = b"".join(bytes.fromhex(line) for line in re.findall(r"^\.  [0-9a-f]{4,}:  ((?:[0-9a-f]{2} )+)", event, re.MULTILINE))
@@ -35,7 +37,8 @@ def samples(dump):
 
 
 def chains(shown):
-    """The addresses of perf's frames of each sample, counted from where the file is mapped. A caller's is one less than where it goes on."""
+    """The addresses of perf's frames of each sample, relative to the mapping of the file. That of a
+    caller is its return address minus 1."""
     return [[int(line, 16) for line in sample.split()] for sample in shown.strip().split("\n\n")]
 
 
@@ -45,7 +48,7 @@ def state(registers, held):
 
 
 def compare(program, section, path, registers, chain, inside):
-    """What is counted of a sample."""
+    """Compares the walks of a sample, and returns what is counted."""
     *frames, stop = lines_of(program, ["backtrace", section, hex(registers["IP"]), path, "200"])
     walk = [int(line.split()[2], 16) - (i > 0) for i, line in enumerate(frames) if not line.endswith("none")]
     theirs = list(itertools.takewhile(inside, (address - chain[0] + registers["IP"] for address in chain)))

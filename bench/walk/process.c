@@ -1,4 +1,5 @@
-/* The program of modules.sh: six frames, a library's six, which call back, and six more, to be stopped in the innermost one. */
+/* The program of modules.sh. Six of its frames call a library, whose six frames call back six
+   more of this program. It is stopped in the innermost frame. */
 #include "process.h"
 #include <alloca.h>
 
@@ -16,7 +17,7 @@ APART int innermost(int n)
     return sum + n;
 }
 
-/* more registers than a call destroys */
+/* keeps values across its calls, so it saves callee-saved registers */
 APART static int busy(int a, int b, int c, int d)
 {
     int e = innermost(a), f = innermost(b), g = innermost(c), h = innermost(d);
@@ -44,7 +45,7 @@ APART static int large(int n)
     return chosen(n) + bytes[50 * (n & 7)];
 }
 
-/* what the library calls: the sixth frame from the innermost one */
+/* the function that the library calls: the sixth frame from the innermost */
 APART static int called(int n) { return large(n) + n; }
 
 APART static int first(int n) { return through_library(n, called) + n; }

@@ -1,4 +1,5 @@
-/* What the two modules of modules.sh share: a program, process.c, and a library that calls back, library.c. */
+/* Shared by the two modules of modules.sh: the program process.c, and library.c, a library that
+   calls back. */
 #ifndef PROCESS_H
 #define PROCESS_H
 
@@ -10,7 +11,7 @@
 
 typedef int (*callback)(int);
 
-/* Six frames, the last of which calls the function that is passed. */
+/* Makes six frames, the innermost of which calls `call`. */
 int through_library(int n, callback call);
 
 #endif

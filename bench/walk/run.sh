@@ -1,6 +1,7 @@
 #!/usr/bin/env bash
-# Compares walks of a stopped program with gdb's, and walks of perf's samples of it with perf's: x86-64, by gcc and clang, where it
-# is there, and at several levels of optimization. Needs gdb with Python; without perf the second half is left out.
+# Compares walks of a stopped program with gdb's, and walks from perf's samples of the program with
+# perf's: on x86-64, compiled by gcc, and by clang if it is installed, at several levels of
+# optimization. It needs gdb with Python; without perf the second half is left out.
 #     bench/walk/run.sh DWCHECK [STOPS]        two minutes with 20 STOPS; 250 if not given
 set -eu
 program=$(realpath "$1") stops=${2:-250}

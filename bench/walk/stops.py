@@ -2,12 +2,15 @@
 
     STOPS=N FOLDER=F [MODULES=SYMBOLS] gdb --batch --nx -x stops.py PROGRAM
 
-Of the stop of number I these files are written: I.state, the registers and the whole stack from the red zone on; I.top, the same with the
-first 8,192 bytes of the stack alone; and I.frames, gdb's frames: address, CFA, and 1 where it lies in the program; then, of frame 1, the
-stack pointer and the registers that a call keeps. Where gdb can't read what a frame of its own needs, there is I.failed alone.
+For stop number I these files are written. I.state: the registers, and the whole stack from the red
+zone on. I.top: the registers, and only the first 8,192 bytes of the stack from the stack pointer
+on. I.frames: gdb's frames, each with its address, its CFA, and 1 if it is in the program, else 0;
+then the stack pointer and the callee-saved registers of frame 1. If gdb can't read the memory that
+a frame needs, there is only I.failed.
 
-SYMBOLS says which files make up the program, where it isn't the executable alone: lines of a file's name, a symbol of it and that one's address
-as linked. Then the file `loads` has each one's name and where it is loaded, by the process's mappings.
+SYMBOLS is a file that says which files make up the program, if it isn't only the executable. Each
+line has the name of a file, a symbol in it, and the symbol's address as linked. Then the file
+`loads` gets each file's name and its load address, which is taken from the process's mappings.
 """
 import os
 import re
@@ -15,7 +18,7 @@ import traceback
 
 import gdb
 
-# By the numbers that DWARF has for them.
+# gdb's names of registers, in the order of DWARF's numbers.
 NAMES = ["rax", "rdx", "rcx", "rbx", "rsi", "rdi", "rbp", "rsp", *(f"r{i}" for i in range(8, 16)), "rip"]
 KEPT, POINTER = [3, 6, 12, 13, 14, 15], 7
 RED_ZONE, COPIED, LINE, PAGE = 128, 8192, 1024, 4096
@@ -26,7 +29,7 @@ def contents(frame, numbers):
 
 
 def stack(start):
-    """All bytes from an address on, as far as memory goes."""
+    """All bytes from an address on, until memory can't be read."""
     held, at = b"", start
     while True:
         count = PAGE - at % PAGE
@@ -38,7 +41,7 @@ def stack(start):
 
 
 def state(registers, start, held):
-    """The state file: what the ABI says, the registers, and the memory from an address on."""
+    """The text of a state file: the ABI, the registers, and the memory from an address on."""
     lines = [f"keep {number}" for number in KEPT] + [f"sp {POINTER}"]
     lines += [f"reg {number} {content:#x}" for number, content in registers.items()]
     lines += [f"mem {start + i:#x} {held[i:i + LINE].hex()}" for i in range(0, len(held), LINE)]
@@ -46,7 +49,8 @@ def state(registers, start, held):
 
 
 def frames():
-    """gdb's frames but those of inlined functions and of calls that were jumps, which have none of their own."""
+    """gdb's frames, except those of inlined functions and tail calls, which have no frame of their
+    own."""
     frame = gdb.newest_frame()
     while frame is not None:
         if frame.type() not in (gdb.INLINE_FRAME, gdb.TAILCALL_FRAME):
@@ -55,18 +59,19 @@ def frames():
 
 
 def base(frame):
-    """What gdb calls the frame's place, on this machine the CFA."""
+    """The address that gdb gives for a frame; on x86-64 it is the CFA."""
     frame.select()
     return re.search("frame at (0x[0-9a-f]+)", gdb.execute("info frame", to_string=True))[1]
 
 
 def name_at(address):
-    """The name of the file that an address lies in, without its folder."""
+    """The name, without its folder, of the file that contains an address."""
     return os.path.basename(gdb.solib_name(address) or gdb.current_progspace().filename)
 
 
 def loads(symbols):
-    """Where each file is loaded: where its first mapping begins. The addresses of its symbol, as loaded and as linked, have to agree."""
+    """The load address of each file, which is where its first mapping begins. Raises an error if
+    the file's symbol isn't at its linked address plus that."""
     mappings = re.findall(r"^\s*(0x[0-9a-f]+) .* /.*/([^/\s]+)$", gdb.execute("info proc mappings", to_string=True), re.MULTILINE)
     for name, symbol, linked in symbols:
         load = min(int(start, 16) for start, file in mappings if file == name)

@@ -19,7 +19,7 @@ STATE_TOOL = os.path.join(os.path.dirname(os.path.dirname(HERE)), "tools", "gdb_
 STOPS, PORT, LIMIT = 20, 1300, 40
 LLD = "ld.lld"
 
-# clang's name of each target and its flags, qemu's name, and what links.
+# For each target: clang's name and flags, qemu's name, and the linker.
 TARGETS = {
     "x86-64": (["x86_64-linux-gnu"], "x86_64", LLD),
     "i386": (["i386-linux-gnu"], "i386", LLD),
@@ -53,7 +53,7 @@ gdb.execute("kill")
 
 
 def build(folder, names, linker):
-    """Compiles the program, and puts its section into a file."""
+    """Compiles the program, and writes its .debug_frame section to a file."""
     triple, *flags = names
     flags += ["-O1", "-g", "-fforce-dwarf-frame", "-fno-pic", "-ffreestanding"]
     source = os.path.join(HERE, "freestanding.c")
@@ -63,7 +63,7 @@ def build(folder, names, linker):
 
 
 def stop(folder, emulator):
-    """Has gdb stop the program, and write what it has there."""
+    """Lets gdb stop the program STOPS times, and write a state file and its frames at each stop."""
     with open(f"{folder}/stops.py", "w", encoding="ascii") as file:
         file.write(IN_GDB.format(port=PORT, stops=STOPS))
     with subprocess.Popen([f"qemu-{emulator}", "-g", str(PORT), "./walk"], cwd=folder, stderr=subprocess.DEVNULL) as running:
@@ -77,7 +77,7 @@ def stop(folder, emulator):
 
 
 def compare(program, folder, number):
-    """How many frames gdb has at a stop, which have to be the first of ours."""
+    """The number of gdb's frames at a stop. They must be the first of dwcheck's."""
     with open(f"{folder}/{number}.frames", encoding="ascii") as file:
         command, *lines = file.read().splitlines()
     wanted = [tuple(int(word, 16) for word in line.split()) for line in lines]

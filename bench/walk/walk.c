@@ -1,4 +1,5 @@
-/* A program with frames of many kinds, to be stopped in the innermost one. It calls nothing of another library before its end. */
+/* A program with frames of many kinds, to be stopped in the innermost one. It calls no function
+   of another library before it exits. */
 #include <alloca.h>
 #include <stdlib.h>
 
@@ -34,14 +35,14 @@ _Noreturn APART void finish(int n)
     exit(0);
 }
 
-/* more registers than a call destroys */
+/* keeps values across its calls, so it saves callee-saved registers */
 APART int busy(int a, int b, int c, int d, int e, int f)
 {
     int g = innermost(a), h = innermost(b), i = innermost(c), j = innermost(d);
     return a + b * c - d + e * f + g * innermost(g & 3) + h - i * j + f;
 }
 
-/* a stack that is aligned anew: the CFA's rule may be an expression */
+/* realigns the stack, so the CFA's rule may be an expression */
 APART int aligned(int n)
 {
     _Alignas(64) volatile char bytes[64];
@@ -51,7 +52,7 @@ APART int aligned(int n)
     return busy(1, 2, n, 3, bytes[n], 4) + more[n];
 }
 
-/* a frame with room that its caller chooses */
+/* a frame whose size depends on the argument */
 APART int chosen(int n)
 {
     volatile char *bytes = alloca(100 * n + 16);
@@ -90,7 +91,7 @@ APART void last(int n)
     finish(n);
 }
 
-/* this number of walks before the last, where a word gives one */
+/* the argument, if there is one, is the number of calls before the last */
 int main(int argc, char **argv)
 {
     for (long i = argc > 1 ? atol(argv[1]) : 0; i > 0; i--)

@@ -4,10 +4,12 @@
    the rules here; nothing checks that they do.
 
    Rules for the caller of every call:
-   - A pointer points to a whole, aligned value of its type, which no other thread writes during the call. What a pointer
-     without const points to overlaps no other argument; the others may overlap. A pointer that comes with a length points
-     to that many elements; for none it may be NULL where this header's macros are used, and any other address where they
-     aren't. No other pointer may be NULL: `fault`, `count`, `stop`, `size`, `row`, `state`, `context` and the like never are.
+   - A pointer points to a whole, aligned value of its type, which no other thread writes during the
+     call. What a pointer without const points to overlaps no other argument; what pointers to const
+     point to may overlap. A pointer that comes with a length points to that many elements. If the
+     length is 0, the pointer may be NULL where this header's macros are used, and any address but
+     NULL where they aren't. No other pointer may be NULL: `fault`, `count`, `stop`, `size`, `row`,
+     `state`, `context` and the like never are.
    - A process (dwcheck_process) is passed to one call at a time, and is moved only by copying it and setting the old
      one to DWCHECK_CLOSED. A process that was added to, or made by dwcheck_process_share from an open one, has to be
      closed, even after its modules are removed. It may go from thread to thread, ordered by a lock, an atomic of
@@ -20,14 +22,15 @@
      others less than 4 KB. So a walk is not for a signal handler on an alternate stack of the usual 8 KB.
    - Fields called `reserved` are set to 0. A later version may give them a meaning.
 
-   Enumerations may gain values: treat one that you don't know as "something else". Structures gain fields only in place of
-   those named `reserved`.
+   Enumerations may gain values: treat a value that you don't know as "something else". New fields
+   of structures only take the place of fields named `reserved`.
 
-   Addresses, offsets and registers are DWARF's numbers. A target is a byte order and an address size, 4 or 8
-   bytes; w is its size in bits. Contents of registers and values of a context are taken modulo 2^w. The modules of a process
-   may have different targets: an address is looked up modulo 2^w in each, so one of 2^32 or more may be found in a module
-   with 4-byte addresses. In expressions, those of rows too, what DW_OP_addr pushes is as linked, while registers and memory
-   are as loaded.
+   Addresses, offsets and registers are DWARF's numbers. A target is a byte order and an address
+   size, 4 or 8 bytes; w is the address size in bits. Contents of registers and values of a context
+   are taken modulo 2^w. The modules of a process may have different targets. An address is looked
+   up modulo 2^w in each module, so an address of 2^32 or more may be found in a module with 4-byte
+   addresses. In all expressions, including those of rows, DW_OP_addr pushes an address as linked,
+   while registers and memory contain addresses as loaded.
 
    Link: cc .. $(pkg-config --cflags --libs dwcheck), or libdwcheck.a itself. */
 #ifndef DWCHECK_H
@@ -41,8 +44,8 @@
 extern "C" {
 #endif
 
-/* The version of this interface: 65536 times the first number, plus the second. If the first numbers are the same, a
-   program keeps working with a library whose second number is later. */
+/* The version of this interface: 65536 * major + minor. A program keeps working with a library
+   that has the same major version and the same or a later minor version. */
 #define DWCHECK_VERSION 0x10000u
 uint32_t dwcheck_version(void);
 
@@ -60,35 +63,38 @@ enum {
 
 enum { DWCHECK_LITTLE = 0, DWCHECK_BIG = 1 }; /* byte orders */
 
-/* What a fault's offset counts in. */
+/* What the `offset` of a fault refers to (its `within`). */
 enum {
     DWCHECK_IN_FRAME = 0,      /* bytes of the frame section */
     DWCHECK_IN_LISTS = 1,      /* bytes of the location lists */
     DWCHECK_IN_EXPRESSION = 2, /* bytes of the expression */
-    DWCHECK_IN_ABI = 3         /* an index into the callee-saved registers; the stack pointer's is after them */
+    DWCHECK_IN_ABI = 3         /* an index into `kept`; kept_length for the stack pointer */
 };
 
-/* Why an input is refused: the number of the fault (docs/PROFILE.md lists them) and its offset. */
+/* Why an input is refused: the number of the fault (docs/PROFILE.md lists them), its offset, and
+   what the offset refers to. */
 typedef struct { uint32_t number, offset, within, reserved; } dwcheck_fault;
 
-/* The name of a fault, such as "NoSuchCie", without a final 0: as much of it as fits goes into `text`, and `size` is its
-   whole length, at most 22. DONE, or NONE if no fault has the number, and then nothing is written. Neither allocates nor
-   frees. */
+/* The name of a fault, such as "NoSuchCie", without a final 0. As many bytes of the name as fit
+   go into `text`, and `size` is the length of the whole name, at most 22. DONE; or NONE if no
+   fault has the number, and then nothing is written. It neither allocates nor frees. */
 uint32_t dwcheck_fault_name(uint32_t number, uint8_t *text, size_t text_length, size_t *size);
 
 /* ---- sections ------------------------------------------------------------------------------------------------------ */
 
-/* Checks a .debug_frame section and a .debug_loclists section, either of which may be empty. DONE if both are well
-   formed; REFUSED with the first fault; NO_MEMORY; BAD_TARGET. A section of 2^32 bytes or more is refused with fault 61.
-   The length of the frame section is judged first, then that of the lists, then the frame section, then the lists. It
+/* Checks a .debug_frame section and a .debug_loclists section, either of which may be empty.
+   DONE if both are well formed; REFUSED with the first fault; NO_MEMORY; BAD_TARGET. A section
+   of 2^32 bytes or more is refused with fault 61. The length of the frame section is checked
+   first, then that of the lists, then the frame section itself, then the lists. The call
    allocates memory in proportion to the sections, and frees it. */
 uint32_t dwcheck_check(const uint8_t *frame, size_t frame_length, const uint8_t *lists, size_t lists_length,
                        uint32_t order, uint32_t address_size, dwcheck_fault *fault);
 
 /* ---- processes ----------------------------------------------------------------------------------------------------- */
 
-/* A process: its modules, each a compiled .debug_frame section with a load address. The fields are private.
-   If all of it is 0 it is closed: it has no module, and every call accepts it. */
+/* A process: its modules, each a compiled .debug_frame section with a load address. The fields
+   are private. A process whose bytes are all 0 is closed: it has no module, and every call
+   accepts it. */
 typedef struct { void *opaque; uint64_t opaque_open; } dwcheck_process;
 #define DWCHECK_CLOSED {0, 0}
 
@@ -104,13 +110,16 @@ typedef struct { void *opaque; uint64_t opaque_open; } dwcheck_process;
 uint32_t dwcheck_process_add(dwcheck_process *process, const uint8_t *frame, size_t frame_length, uint32_t order,
                              uint32_t address_size, uint64_t load_address, size_t room, dwcheck_fault *fault);
 
-/* Removes the first module with a load address, all 64 bits of which are compared: DONE, or NONE if no module has it.
-   Doesn't allocate; frees the table if no other process has it. */
+/* Removes the first module with this load address, all 64 bits of which are compared. DONE; or
+   NONE if no module has it. It doesn't allocate, and frees the module's table if no other
+   process shares the table. */
 uint32_t dwcheck_process_remove(dwcheck_process *process, uint64_t load_address);
 
-/* Makes `other` a process of the same modules; what it was before is closed. It is closed if `process` is. The tables are
-   shared, not copied, and are freed with the last process that has them. Modules added to or removed from one of the two
-   don't change the other. DONE, or NO_MEMORY, and then `other` is unchanged. `process` is unchanged in either case. */
+/* Makes `other` a process with the modules of `process`, after closing what `other` was before.
+   If `process` is closed, `other` is closed too. The tables are shared, not copied, and are
+   freed with the last process that has them. Adding modules to one of the two processes, or
+   removing them, doesn't change the other. DONE; or NO_MEMORY, and then `other` is unchanged.
+   `process` is unchanged in either case. */
 uint32_t dwcheck_process_share(dwcheck_process *process, dwcheck_process *other);
 
 /* Releases all modules and closes the process. A closed process may be closed again. */
@@ -142,21 +151,24 @@ typedef struct {
     uint32_t count;      /* the number of registers that have a rule, at most DWCHECK_MAX_RULES */
 } dwcheck_row;
 
-/* The row of an address as loaded, from the first module that has one. The rules of its registers go into `rules` by
-   ascending registers, as many as fit. DONE, or NONE, and then nothing is written. Neither allocates nor frees. */
+/* The row of an address as loaded, from the first module that has a row for it. The rules of
+   registers go into `rules` in ascending order of registers, as many as fit. DONE; or NONE if no
+   module has a row, and then nothing is written. It neither allocates nor frees. */
 uint32_t dwcheck_row_at(dwcheck_process *process, uint64_t address, dwcheck_row *row, dwcheck_rule *rules,
                         size_t rules_length);
 
 /* ---- callers and walks --------------------------------------------------------------------------------------------- */
 
-/* Memory from an address on. It has at least one byte, or a pointer that isn't NULL: the macros don't replace this one. */
+/* A block of memory that starts at address `base`. `bytes` must not be NULL, even if `length` is
+   0: the macros at the end of this file replace NULL in other arrays, but not here. */
 typedef struct { uint64_t base; const uint8_t *bytes; size_t length; } dwcheck_block;
 
-/* The state of a stopped thread. Register n has contents[n] if bit n % 8 of known[n / 8] is set and both elements exist.
-   Memory is the blocks' bytes; if two blocks have an address, the first one's byte counts.
-   `kept` (callee-saved registers, 127 at most) and stack_pointer (if has_stack_pointer isn't 0) are the ABI. It applies to
-   registers that the row gives no rule: a kept one has its present value in the caller, the stack pointer is the CFA, and
-   any other register is undefined there. No register occurs twice among these. */
+/* The state of a stopped thread. Register n has contents[n] if bit n % 8 of known[n / 8] is set
+   and both elements exist. Memory is the bytes of the blocks; if two blocks contain an address,
+   the byte of the first block counts. The ABI is `kept` (callee-saved registers, 127 at most)
+   and, if has_stack_pointer isn't 0, stack_pointer. It applies to registers to which the row
+   gives no rule: in the caller, a register in `kept` has the value that it has now, the stack
+   pointer is the CFA, and any other register is undefined. The ABI names no register twice. */
 typedef struct {
     const uint64_t *contents;
     size_t contents_length;
@@ -170,7 +182,7 @@ typedef struct {
     uint32_t reserved;
 } dwcheck_state;
 
-/* What is known of a number. */
+/* What is known of a CFA, a return address or a register. */
 enum {
     DWCHECK_NOT_COVERED = 0,     /* no FDE covers the address that is looked up */
     DWCHECK_VALUE = 1,           /* it is `value`, below 2^w */
@@ -187,10 +199,12 @@ typedef struct { dwcheck_answer cfa, return_address; uint64_t count; } dwcheck_c
 
 #define DWCHECK_MAX_REGISTERS 256
 
-/* The caller of the frame at an address as loaded, by the first module that has a row for it. The address itself is looked
-   up: to go on from a caller pass its return address minus 1. Its registers go into `registers` by ascending numbers, as
-   many as fit. DONE; NONE if no module has a row; REFUSED if the ABI names too many registers or one twice. Only DONE writes
-   `caller` and `registers`, only REFUSED `fault`. Neither allocates nor frees. */
+/* The caller of the frame at an address as loaded, by the first module that has a row for the
+   address. The address itself is looked up: to go on from a caller, pass its return address
+   minus 1. The caller's registers go into `registers` in ascending order, as many as fit. DONE;
+   NONE if no module has a row; REFUSED if the ABI names too many registers or one of them twice.
+   Only DONE writes `caller` and `registers`, only REFUSED writes `fault`. It neither allocates
+   nor frees. */
 uint32_t dwcheck_unwind(dwcheck_process *process, uint64_t address, const dwcheck_state *state, dwcheck_caller *caller,
                         dwcheck_register *registers, size_t registers_length, dwcheck_fault *fault);
 
@@ -201,8 +215,9 @@ typedef struct { uint64_t address; dwcheck_answer cfa; } dwcheck_frame;
 enum {
     DWCHECK_STOP_LIMIT = 0,            /* the number of frames reached the number of slots */
     DWCHECK_STOP_NOT_COVERED = 1,      /* no module has a row for the last frame */
-    /* The row's rule for the return address is undefined, which completes the walk (DWARF 5, 6.4.4); or neither the row nor
-       `kept` names its register: on targets that keep it in a register put that into `kept`. */
+    /* The rule of the return address register is undefined, which completes the walk (DWARF 5,
+       6.4.4); or neither the row nor `kept` has that register. On targets where functions keep the
+       return address in a register, put that register into `kept`. */
     DWCHECK_STOP_RETURN_UNDEFINED = 2,
     DWCHECK_STOP_RETURN_UNREADABLE = 3,
     DWCHECK_STOP_RETURN_DIVISION_BY_ZERO = 4
@@ -226,33 +241,36 @@ typedef struct {
     uint32_t has_cfa, has_frame_base, has_object, reserved;
 } dwcheck_context;
 
-/* The outcome of an expression. `value` is 0 for the kinds that don't name it. `steps` is the number of operations reached,
-   the one without an answer included. */
+/* The outcome of an expression. `value` is 0 for kinds whose comment doesn't mention it. `steps`
+   is the number of operations that were reached, including an operation that had no result. */
 enum {
-    DWCHECK_IS_VALUE = 0,                 /* of a frame's expression: `value` */
-    /* The operation at `offset` requires something that isn't given, or reads memory past 2^w - 1. The rule of a register
-       without has_cfa is unreadable at 0 after 0 steps. */
+    DWCHECK_IS_VALUE = 0,                 /* `value`, of the rule of a CFA or a register */
+    /* The operation at `offset` requires something that isn't given, or reads memory past 2^w - 1.
+       The rule of a register is unreadable at offset 0, after 0 steps, if has_cfa is 0. */
     DWCHECK_IS_UNREADABLE = 1,
     DWCHECK_IS_DIVISION_BY_ZERO = 2,      /* the operation at `offset` divides by zero */
-    DWCHECK_LOCATION_NOWHERE = 3,         /* of a location, or of a piece of it: the object was optimized away */
+    DWCHECK_LOCATION_NOWHERE = 3,         /* the object, or this piece of it, was optimized away */
     DWCHECK_LOCATION_ADDRESS = 4,         /* in memory, at `value` */
     DWCHECK_LOCATION_REGISTER = 5,        /* in register `value` */
     DWCHECK_LOCATION_VALUE = 6,           /* nowhere, but its value is `value` */
-    DWCHECK_LOCATION_BYTES = 7,           /* nowhere, but its value is bytes, `value` of them */
+    DWCHECK_LOCATION_BYTES = 7,           /* nowhere, but its value is `value` bytes */
     DWCHECK_LOCATION_PIECES = 8           /* `count` pieces, 32 at most */
 };
 typedef struct { uint64_t value; uint32_t kind, offset, steps, count; } dwcheck_value;
 
-/* A piece: where it is, and its number of bytes, or, if is_bits isn't 0, of bits from bit_offset on. */
+/* A piece: where it is (`kind` and `value`), and its size. The size is in bytes; if is_bits
+   isn't 0, it is in bits, from bit_offset on. */
 typedef struct { uint64_t value; uint32_t kind, size, bit_offset, is_bits; } dwcheck_piece;
 
 #define DWCHECK_MAX_PIECES 32
 
-/* Checks an expression on all its paths, and runs it with registers and memory; the ABI of `state` is not used. Its pieces
-   go into `pieces`, as many as fit. The bytes of a location of bytes, or of the n-th piece if that is bytes, counted from
-   0, go into `bytes`, as many as fit. DONE; REFUSED with the first fault of the expression; NO_MEMORY; BAD_TARGET;
-   TOO_LONG; BAD_KIND. Only DONE writes `value`, `pieces` and `bytes`, only REFUSED `fault`. It allocates only for
-   expressions of more than 16 operations that branch or are refused, and frees the memory. */
+/* Checks an expression on all its paths, and runs it with registers and memory; the ABI of
+   `state` is not used. The pieces of the result go into `pieces`, as many as fit. If the result
+   is bytes, or its piece `n` (counted from 0) is, these bytes go into `bytes`, as many as fit.
+   DONE; REFUSED with the first fault of the expression; NO_MEMORY; BAD_TARGET; TOO_LONG;
+   BAD_KIND. Only DONE writes `value`, `pieces` and `bytes`, only REFUSED writes `fault`. The
+   call allocates only for expressions of more than 16 operations that branch or are refused, and
+   frees the memory. */
 uint32_t dwcheck_evaluate(const uint8_t *expression, size_t expression_length, uint32_t order, uint32_t address_size,
                           uint32_t kind, const dwcheck_context *context, const dwcheck_state *state, uint32_t n,
                           dwcheck_value *value, dwcheck_piece *pieces, size_t pieces_length, uint8_t *bytes,
@@ -260,11 +278,11 @@ uint32_t dwcheck_evaluate(const uint8_t *expression, size_t expression_length, u
 
 /* ---- location lists ------------------------------------------------------------------------------------------------ */
 
-/* A look-up: the list whose first byte is at the offset `list` of the section, with the base of its unit, at an address as
-   linked. */
+/* A look-up: `list` is the offset in the section of a list's first byte, `base` is the base
+   address of its unit, and `address` is an address as linked. */
 typedef struct { uint64_t base, address; uint32_t list, reserved; } dwcheck_lookup;
 
-/* An expression of the section: the offset where it begins, and its length in bytes. */
+/* An expression: the offset in the section where it begins, and its length in bytes. */
 typedef struct { uint64_t offset, length; } dwcheck_location;
 
 /* Checks a .debug_loclists section, and writes the expressions of a list that hold at an address into `locations`, in

@@ -1,4 +1,5 @@
-/* Tests each call with good input and at the edges. It prints each failure, and a last line. */
+/* Tests each call with accepted input and with edge cases. It prints each failure, and a last
+   line. */
 #include "dwcheck.h"
 #include <dlfcn.h>
 #include <pthread.h>
@@ -7,7 +8,7 @@
 #include <string.h>
 
 static long until = -1, asked, held;
-#ifdef REFUSING /* each allocation may be refused; allocations, blocks in use and bytes are counted */
+#ifdef REFUSING /* can refuse any allocation, and counts allocations, blocks in use and bytes */
 static long given;
 void *malloc(size_t n) {
     static void *(*real)(size_t);
@@ -46,7 +47,7 @@ static int wrong;
 static const uint8_t good[] = {
     0x14, 0, 0, 0, 0xff, 0xff, 0xff, 0xff, 4, 0, 8, 0, 1, 0x78, 16, 0x0c, 7, 8, 0x90, 1, 0, 0, 0, 0,
     0x14, 0, 0, 0, 0, 0, 0, 0, 0, 0x10, 0, 0, 0, 0, 0, 0, 0, 1, 0, 0, 0, 0, 0, 0};
-/* the same for 32 bits, with the return address register 8 and the CFA r4+4 */
+/* like `good` with 4-byte addresses, the return address register 8 and the CFA r4+4 */
 static const uint8_t four[] = {
     0x14, 0, 0, 0, 0xff, 0xff, 0xff, 0xff, 4, 0, 4, 0, 1, 0x7c, 8, 0x0c, 4, 4, 0x88, 1, 0, 0, 0, 0,
     0x0c, 0, 0, 0, 0, 0, 0, 0, 0, 0x10, 0, 0, 0, 1, 0, 0};
@@ -110,7 +111,7 @@ static void refusals(void) {
     IS(fault.number, 9);
     IS(dwcheck_process_add(&p, bad, sizeof bad, 0, 8, 0, room, &fault), DWCHECK_REFUSED);
     IS(fault.number, 1); IS(fault.within, DWCHECK_IN_FRAME);
-    IS(p.opaque == NULL, 1); /* it is still closed: there is nothing to release */
+    IS(p.opaque == NULL, 1); /* `p` is still closed: there is nothing to release */
     IS(dwcheck_check(good, sizeof good, bad, 0, 0, 8, &fault), DWCHECK_DONE);
     IS(dwcheck_check(good, 0, bad, 0, 0, 8, &fault), DWCHECK_DONE);
     IS(dwcheck_check(good, sizeof good, bad, 0, 3, 8, &fault), DWCHECK_BAD_TARGET);
@@ -132,7 +133,7 @@ static void walks(void) {
     IS(walk(&p, 0x810, 8, 2), DWCHECK_DONE); IS(count, 3); IS(stop, DWCHECK_STOP_NOT_COVERED);
     IS(frames[0].cfa.value, 0x7f10); IS(frames[0].cfa.kind, DWCHECK_VALUE); IS(frames[1].address, 0x71f000001020);
     IS(frames[1].cfa.value, 0x7f18); IS(frames[2].address, 0x55005); IS(frames[2].cfa.kind, DWCHECK_NOT_COVERED);
-    memset(frames, 0x55, sizeof frames); /* more frames than slots: those after the slots are unchanged */
+    memset(frames, 0x55, sizeof frames); /* more frames than slots: nothing is written after them */
     IS(walk(&p, 0x810, 2, 2), DWCHECK_DONE); IS(count, 2); IS(stop, DWCHECK_STOP_LIMIT); IS(frames[2].address, 0x5555555555555555);
     IS(dwcheck_row_at(&p, 0x71f0000010ff, &row, rules, 4), DWCHECK_DONE); IS(row.load_address, 0x71f000000000);
     IS(row.start, 0x1000); IS(row.end, 0x1100); IS(row.cfa.kind, DWCHECK_RULE_VAL_OFFSET); IS(row.cfa.reg, 7); IS(row.cfa.offset, 8);
@@ -165,14 +166,14 @@ static void walks(void) {
     s = state(2);
     s.contents_length = 7; /* more bits than registers */
     IS(dwcheck_backtrace(&p, 0x810, &s, frames, 8, &count, &stop, &fault), DWCHECK_DONE); IS(count, 1);
-    blocks[0].length = 15; /* the return address is cut */
+    blocks[0].length = 15; /* the last byte of the return address is missing */
     IS(walk(&p, 0x810, 8, 2), DWCHECK_DONE); IS(count, 1); IS(stop, DWCHECK_STOP_RETURN_UNREADABLE); IS(frames[0].cfa.kind, DWCHECK_VALUE);
     blocks[0].length = 12; /* a word in two blocks, the second of which overlaps the first */
     blocks[1].base = 0x7f0a; blocks[1].bytes = (uint8_t *)words + 10; blocks[1].length = 22;
     s = state(2);
     s.blocks_length = 2;
     IS(dwcheck_backtrace(&p, 0x810, &s, frames, 8, &count, &stop, &fault), DWCHECK_DONE); IS(count, 3); IS(frames[1].address, 0x71f000001020);
-    blocks[1].bytes = (uint8_t *)words; /* where both have a byte, the first block's counts */
+    blocks[1].bytes = (uint8_t *)words; /* if two blocks have a byte, the first block counts */
     blocks[0].length = 32;
     IS(dwcheck_backtrace(&p, 0x810, &s, frames, 8, &count, &stop, &fault), DWCHECK_DONE); IS(count, 3);
     s.has_stack_pointer = 0; /* the second CFA needs the stack pointer */
@@ -193,7 +194,7 @@ static void walks(void) {
     dwcheck_process_close(&p);
 }
 
-/* the section's bytes aren't needed any more */
+/* after a module is added, its section's bytes aren't needed */
 static void own_bytes(void) {
     dwcheck_process p = DWCHECK_CLOSED;
     dwcheck_row row;
@@ -230,7 +231,7 @@ static void threads(void) {
     IS(add(&p, 0x71f000000000), DWCHECK_DONE);
     IS(add(&p, (uint64_t)-0x800), DWCHECK_DONE);
     for (i = 0; i < 4; i++) IS(dwcheck_process_share(&p, &others[i]), DWCHECK_DONE);
-    IS(dwcheck_process_remove(&p, 0x71f000000000), DWCHECK_DONE); /* the others still have it */
+    IS(dwcheck_process_remove(&p, 0x71f000000000), DWCHECK_DONE); /* the other processes still have the module */
     for (i = 0; i < 4; i++) pthread_create(&ids[i], NULL, in_thread, &others[i]);
     dwcheck_process_close(&p);
     for (i = 0; i < 4; i++) { pthread_join(ids[i], &errors); IS((long)errors, 0); }
@@ -238,7 +239,7 @@ static void threads(void) {
 
 static long memory(void) {
     long m, left, before = held;
-    for (m = 0;; m++) { /* each allocation of an add and of a share, the first add and a second one */
+    for (m = 0;; m++) { /* refuses each allocation of two adds and a share in turn */
         dwcheck_process p = DWCHECK_CLOSED, q = DWCHECK_CLOSED;
         dwcheck_row row;
         uint32_t first, second, third;
@@ -273,7 +274,7 @@ static uint32_t evaluate(const char *expression, size_t length, uint32_t kind, u
 }
 
 static void expressions(void) {
-    char branches[305] = {0x31, 0x28, 0x01, 0x00}; /* lit1, bra over an operation, and many nops */
+    char branches[305] = {0x31, 0x28, 0x01, 0x00}; /* lit1, bra over one operation, and many nops */
     long before, m, left;
     uint32_t got;
     memset(branches + 4, 0x96, sizeof branches - 5);
@@ -282,7 +283,7 @@ static void expressions(void) {
     IS(evaluate("\x77\x08\x06", 3, DWCHECK_FRAME_CFA, 0), DWCHECK_DONE); IS(value.value, 0x55005);
     IS(evaluate("\x73\x00", 2, DWCHECK_FRAME_CFA, 0), DWCHECK_DONE); IS(value.kind, DWCHECK_IS_UNREADABLE); IS(value.offset, 0);
     IS(evaluate("\x31\x30\x1b", 3, DWCHECK_FRAME_CFA, 0), DWCHECK_DONE); IS(value.kind, DWCHECK_IS_DIVISION_BY_ZERO); IS(value.offset, 2);
-    IS(evaluate("\x38\x1c", 2, DWCHECK_FRAME_REGISTER, 0), DWCHECK_DONE); IS(value.value, 0x7f08); /* it begins with the CFA */
+    IS(evaluate("\x38\x1c", 2, DWCHECK_FRAME_REGISTER, 0), DWCHECK_DONE); IS(value.value, 0x7f08); /* the stack begins with the CFA */
     IS(evaluate("", 0, DWCHECK_LOCATION, 0), DWCHECK_DONE); IS(value.kind, DWCHECK_LOCATION_NOWHERE); IS(value.steps, 0);
     IS(evaluate("\x9c\x38\x1c", 3, DWCHECK_LOCATION, 0), DWCHECK_DONE); IS(value.kind, DWCHECK_LOCATION_ADDRESS); IS(value.value, 0x7f08);
     IS(evaluate("\x53", 1, DWCHECK_LOCATION, 0), DWCHECK_DONE); IS(value.kind, DWCHECK_LOCATION_REGISTER); IS(value.value, 3);
@@ -302,7 +303,7 @@ static void expressions(void) {
     IS(evaluate("\x97", 1, DWCHECK_LOCATION, 0), DWCHECK_DONE); IS(value.kind, DWCHECK_IS_UNREADABLE); IS(value.value, 0);
     context.object = 0x5000; context.has_object = 1;
     IS(evaluate("\x97", 1, DWCHECK_LOCATION, 0), DWCHECK_DONE); IS(value.kind, DWCHECK_LOCATION_ADDRESS); IS(value.value, 0x5000);
-    context.has_cfa = 0; /* the rule of a register without its CFA */
+    context.has_cfa = 0; /* the rule of a register needs the CFA */
     IS(evaluate("\x38\x1c", 2, DWCHECK_FRAME_REGISTER, 0), DWCHECK_DONE); IS(value.kind, DWCHECK_IS_UNREADABLE); IS(value.offset, 0); IS(value.steps, 0);
     context.has_cfa = 1;
     value.kind = 99;
@@ -312,7 +313,7 @@ static void expressions(void) {
     before = asked;
     IS(evaluate("\x53\x93\x04", 3, DWCHECK_LOCATION, 0), DWCHECK_DONE);
     IS(asked - before, 0);
-    for (m = 0;; m++) { /* one that branches allocates: each allocation refused in turn */
+    for (m = 0;; m++) { /* refuses each allocation of an expression that branches in turn */
         until = m;
         got = evaluate(branches, sizeof branches, DWCHECK_LOCATION, 0);
         left = until;
@@ -326,7 +327,8 @@ static void expressions(void) {
     IS(value.kind, DWCHECK_LOCATION_ADDRESS); IS(value.value, 3);
 }
 
-/* one table; its list at 0xc: register 0 from the base up to, not including, the base + 0x10, else the value 0 */
+/* one table; its list, at 0xc, has register 0 from the base up to, not including, the base +
+   0x10, and the value 0 elsewhere */
 static const uint8_t lists[] = {0x12, 0, 0, 0, 5, 0, 8, 0, 0, 0, 0, 0, 4, 0, 0x10, 1, 0x50, 5, 2, 0x30, 0x9f, 0};
 static dwcheck_location locations[2];
 static uint32_t look_up(size_t length, uint32_t list, uint64_t address, size_t n) {
@@ -351,18 +353,19 @@ static void location_lists(void) {
     IS(look_up(sizeof lists - 1, 0xc, 0x1005, 2), DWCHECK_REFUSED); IS(fault.within, DWCHECK_IN_LISTS); IS(fault.number, 1); IS(count, 99);
     IS(look_up((size_t)1 << 32, 0xc, 0x1005, 2), DWCHECK_TOO_LONG);
     IS(dwcheck_locations(lists, sizeof lists, 0, 7, &lookup, locations, 2, &count, &fault), DWCHECK_BAD_TARGET);
-    for (m = 0;; m++) { /* each allocation refused in turn */
+    for (m = 0;; m++) { /* each allocation is refused in turn */
         until = m;
         got = look_up(sizeof lists, 0xc, 0x1005, 2);
         left = until;
         until = -1;
-        IS(got == DWCHECK_DONE || got == DWCHECK_NO_MEMORY, 1); /* it can do without some allocations */
+        IS(got == DWCHECK_DONE || got == DWCHECK_NO_MEMORY, 1); /* some allocations can fail without harm */
         if (got == DWCHECK_DONE) IS(locations[0].offset, 0x10);
         if (left >= 0) break;
     }
 }
 
-/* a 4-byte word that passes 2^32 - 1, though the next bytes are given */
+/* a 4-byte word that goes past 2^32 - 1 is unreadable, although the block goes on after that
+   address */
 static void reads_past_the_top(void) {
     static const uint8_t word[8] = {1, 2, 3, 4, 5, 6, 7, 8};
     static const uint8_t at_the_top[] = {0x0c, 0xfc, 0xff, 0xff, 0xff, 0x06}, past_it[] = {0x0c, 0xfd, 0xff, 0xff, 0xff, 0x06};
@@ -375,7 +378,8 @@ static void reads_past_the_top(void) {
     IS(value.kind, DWCHECK_IS_UNREADABLE); IS(value.offset, 5);
 }
 
-/* the CIE of `good` with these instructions, and its FDE */
+/* writes the CIE of `good` with these instructions, and its FDE, to `section`; returns the
+   length */
 static size_t section_with(const char *instructions, size_t length, uint8_t *section) {
     memcpy(section, good, 15);
     memcpy(section + 15, instructions, length);
@@ -418,7 +422,7 @@ static void ends_of_walks(void) {
     walk_of("\x0c\x07\x08\x07\x10", 5, 2); IS(stop, DWCHECK_STOP_RETURN_UNDEFINED); IS(count, 1); IS(frames[0].cfa.value, 0x7f10);
     /* val_expression r16: lit1, lit0, div */
     walk_of("\x0c\x07\x08\x16\x10\x03\x31\x30\x1b", 9, 2); IS(stop, DWCHECK_STOP_RETURN_DIVISION_BY_ZERO); IS(count, 1);
-    /* no rule for r16: only if calls keep it, the return address is there */
+    /* no rule for r16: the return address is known only if the ABI has r16 as callee-saved */
     contents[16] = 0x55005; known[2] = 1;
     walk_of("\x0c\x07\x08", 3, 2); IS(stop, DWCHECK_STOP_RETURN_UNDEFINED); IS(count, 1);
     kept[1] = 16;
@@ -442,7 +446,7 @@ static void big_endian(void) {
 static void refused_calls_keep_no_memory(void) {
     char long_one[305];
     long before = held;
-    memset(long_one, 0x96, sizeof long_one); /* nops, and then drop of nothing */
+    memset(long_one, 0x96, sizeof long_one); /* nops, and then a drop from an empty stack */
     long_one[sizeof long_one - 1] = 0x13;
     IS(dwcheck_check(good, sizeof good, bad, sizeof bad, DWCHECK_LITTLE, 8, &fault), DWCHECK_REFUSED);
     IS(evaluate(long_one, sizeof long_one, DWCHECK_LOCATION, 0), DWCHECK_REFUSED);
@@ -465,13 +469,13 @@ static void last_remove_frees_the_table(void) {
     IS(add(&p, 0), DWCHECK_DONE);
     IS(dwcheck_process_share(&p, &q), DWCHECK_DONE);
     with_it = held;
-    IS(dwcheck_process_remove(&p, 0), DWCHECK_DONE); IS(held, with_it); /* the other process still has it */
+    IS(dwcheck_process_remove(&p, 0), DWCHECK_DONE); IS(held, with_it); /* the other process still has the module */
     IS(dwcheck_process_remove(&q, 0), DWCHECK_DONE); IS(held < with_it, 1);
     dwcheck_process_close(&p);
     dwcheck_process_close(&q);
 }
 
-/* 1,000 FDEs, each of 0x100 bytes */
+/* 1,000 FDEs, each of 0x100 addresses */
 static void share_copies_no_table(void) {
     static uint8_t many[24 + 24 * 1000];
     dwcheck_process p = DWCHECK_CLOSED, q = DWCHECK_CLOSED;
@@ -507,7 +511,7 @@ static void names(void) {
     IS(dwcheck_version(), DWCHECK_VERSION);
 }
 
-/* NULL and 0 for every array that may be empty */
+/* passes NULL and length 0 for every array that may be empty */
 static void nothing(void) {
     dwcheck_process p = DWCHECK_CLOSED;
     dwcheck_state none;
@@ -538,7 +542,7 @@ static void nothing(void) {
 
 int main(void) {
     long m;
-    contents[7] = 0x7f08; /* the CFA is 0x7f10, the return address is at 0x7f08 */
+    contents[7] = 0x7f08; /* so the CFA is 0x7f10, and the return address is at 0x7f08 */
     blocks[0].bytes = (uint8_t *)words;
     closed();
     refusals();

@@ -1,7 +1,7 @@
 #!/bin/sh
-# Builds the C cases against the static library (crates/dwcheck_c, by `rt lib`) and runs them. The header is compiled as C11
-# and as C++17; a pointer of a wrong type is an error there. They also run under sanitizers, and under valgrind if it is
-# installed.
+# Builds the C cases with the static library (crates/dwcheck_c, made by `rt lib`) and runs them. The
+# header is compiled as C11 and as C++17; passing a pointer of a wrong type must be an error in
+# both. The cases also run under sanitizers, and under valgrind if it is installed.
 set -eu
 here=$(cd "$(dirname "$0")" && pwd)
 top=$(dirname "$(dirname "$here")")

@@ -1,7 +1,9 @@
-"""Compares the frames that `stack` printed with gdb's: gdb runs this file where the program stops in `printed`.
+"""Compares the frames that `stack` printed with gdb's. gdb runs this file, and stops the program in
+`printed`.
 
-Level 0 is `printed` itself, and level 1 is frame 0, which has gone on since its registers were taken: its address isn't
-compared. The last frame has no canonical frame address where no module covers it.
+gdb's level 0 is `printed` itself, and its level 1 is frame 0. The address of frame 0 isn't
+compared, because the function has gone on since its registers were taken. The last frame has no
+canonical frame address if no module covers it.
 """
 import re
 import sys
@@ -12,7 +14,7 @@ LINE = re.compile(r"frame (\d+) (0x[0-9a-f]{16})(?: cfa (0x[0-9a-f]{16}))?$")
 
 
 def level(number):
-    """The address and the canonical frame address of a level."""
+    """The address and the canonical frame address of one of gdb's levels."""
     gdb.execute("frame %d" % number, to_string=True)
     text = gdb.execute("info frame", to_string=True)
     cfa = re.search(r"frame at (0x[0-9a-f]+)", text).group(1)
@@ -20,7 +22,7 @@ def level(number):
 
 
 def compare(path):
-    """How many frames are gdb's, or the first one that isn't."""
+    """The number of frames, all of which must be gdb's; exits at the first frame that isn't."""
     frames = [m.groups() for m in map(LINE.match, open(path)) if m]
     for number, address, cfa in frames:
         pc, at = level(int(number) + 1)

@@ -12,7 +12,7 @@
 #include <sys/stat.h>
 #include <unistd.h>
 
-/* A file's bytes, mapped for as long as they are read. */
+/* The bytes of a mapped file, or of a part of it. */
 struct file {
     const unsigned char *bytes;
     size_t length;
@@ -35,7 +35,8 @@ static int is_inside(const struct file *file, uint64_t offset, uint64_t length) 
     return offset <= file->length && length <= file->length - offset;
 }
 
-/* The .debug_frame section of an ELF file of this process's own class, empty if there is none. */
+/* The .debug_frame section of an ELF file of the process's own class (32 or 64 bits); empty if
+   there is none, or if it is compressed. */
 static struct file frame_section(const struct file *file) {
     const struct file none = {(const unsigned char *)"", 0};
     const ElfW(Ehdr) *header = (const void *)file->bytes;
@@ -65,7 +66,7 @@ struct adding {
 static int add_module(struct dl_phdr_info *info, size_t size, void *data) {
     (void)size;
     struct adding *adding = data;
-    /* The program itself has no name here. The vDSO has one, but no file. */
+    /* dl_iterate_phdr gives the program an empty name, and the vDSO a name without a file. */
     struct file file = map_file(info->dlpi_name[0] ? info->dlpi_name : "/proc/self/exe");
     if (file.bytes == NULL) return 0;
     struct file section = frame_section(&file);

@@ -1,5 +1,6 @@
-/* A small sampling profiler. A signal handler copies the registers and the top of the stack; the main thread walks
-   the copies and counts; the hottest stacks are printed. */
+/* A small sampling profiler. A signal handler copies the registers and the top of the stack; the
+   main thread walks these copies and counts the stacks. At the end the hottest stacks are
+   printed. */
 #define _GNU_SOURCE
 #include "modules.h"
 
@@ -15,7 +16,8 @@
 
 enum { SLOTS = 64, STACK = 16384, FRAMES = 32, STACKS = 1000, SHOWN = 3 };
 
-/* A sample, taken by the handler. It is written while `full` is 0, and read while it is 1. */
+/* A sample. The handler writes it while `full` is 0, and the main thread reads it while `full`
+   is 1. */
 struct sample {
     atomic_int full;
     uint64_t registers[REGISTERS];
@@ -27,7 +29,7 @@ static struct sample samples[SLOTS];
 static uintptr_t end_of_stack;
 static atomic_int is_done;
 
-/* Only copies: no lock, no allocation, no call into the library. */
+/* The handler only copies: it takes no lock, doesn't allocate, and doesn't call the library. */
 static void on_profile(int signal, siginfo_t *info, void *context) {
     (void)signal, (void)info;
     for (int i = 0; i < SLOTS; i++) {
@@ -42,7 +44,7 @@ static void on_profile(int signal, siginfo_t *info, void *context) {
     }
 }
 
-/* ---- a program to profile: most of its time is in `square_roots`, by way of `often` */
+/* ---- a program to profile: most of its time is spent in `square_roots`, called by `often` */
 
 static volatile double sink;
 __attribute__((noinline)) double square_roots(int count) {
@@ -86,7 +88,8 @@ static void count_stack(const uint64_t *frames, size_t length) {
     stack->length = length, stack->count = 1;
 }
 
-/* The first address of the function that an address is in, so that all samples of a loop count as one stack. */
+/* The first address of the function that contains `address`, so that samples at different
+   instructions of a function count as one stack. */
 static uint64_t function_of(uint64_t address) {
     Dl_info info;
     return dladdr((void *)(uintptr_t)address, &info) && info.dli_saddr ? (uintptr_t)info.dli_saddr : address;

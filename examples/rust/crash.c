@@ -1,4 +1,4 @@
-/* Two threads: one sorts by a callback of the C library, and the other one aborts in a deep call. */
+/* Two threads: one is in a callback of the C library's qsort, the other aborts in a deep call. */
 #include <pthread.h>
 #include <stdlib.h>
 #include <unistd.h>

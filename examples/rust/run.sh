@@ -1,6 +1,6 @@
 #!/usr/bin/env bash
-# Builds the crash reporter, makes a core file of a program with two threads, prints their stacks, and compares the addresses
-# of all frames with those of elfutils' eu-stack.
+# Builds the crash reporter, makes a core file of a program with two threads, prints the threads'
+# stacks, and compares the addresses of all frames with those of elfutils' eu-stack.
 # usage: examples/rust/run.sh        pkg-config finds libdwcheck, or DWCHECK_LIB_DIR names its folder
 # It needs cargo, gcc, gdb, elfutils and the packages that rust/cargo.sh names.
 set -euo pipefail

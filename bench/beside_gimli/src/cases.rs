@@ -1,12 +1,13 @@
-//! Cases made of real sections: a few records or lists, encoded for a target, and changed in some bytes. Some programs begin
-//! with instructions that come near a limit.
+//! Random cases made from real sections: a few records or lists, encoded for a target, with some
+//! bytes changed. Some programs begin with instructions that come near a limit of the profile.
 
 use crate::encoded::{Encoded, little, push_uleb, uleb};
 use crate::limits;
 use crate::random::Random;
 use crate::target::Target;
 
-/// A made section, with the places of its programs and expressions, where changes say most.
+/// A generated section. `inner` has the ranges of its programs and expressions, where a change
+/// tests most.
 pub struct Case {
     pub bytes: Vec<u8>,
     inner: Vec<(usize, usize)>,
@@ -17,7 +18,7 @@ impl Case {
         Case { bytes: Vec::new(), inner: Vec::new() }
     }
 
-    /// Appends a program or an expression.
+    /// Appends a program or an expression, and notes its range.
     fn push_inner(&mut self, bytes: &[u8]) {
         let start = self.bytes.len();
         self.bytes.extend(bytes);
@@ -26,14 +27,15 @@ impl Case {
         }
     }
 
-    /// An expression alone.
+    /// A case that is only an expression.
     pub fn of(bytes: Vec<u8>) -> Self {
         let mut case = Case::new();
         case.push_inner(&bytes);
         case
     }
 
-    /// Changes some bytes, or none. Most changes are in programs and expressions.
+    /// Changes some bytes, or none; most changes are in programs and expressions. Returns whether
+    /// the case differs.
     pub fn change(&mut self, random: &mut Random) -> bool {
         let before = self.bytes.clone();
         let count = *random.of(&[0, 1, 1, 1, 1, 2, 2, 2, 3, 5]);
@@ -58,7 +60,7 @@ impl Case {
 }
 
 struct Cie {
-    /// The factors and the register.
+    /// The bytes of the alignment factors and the return address register.
     fields: Vec<u8>,
     program: Encoded,
 }
@@ -75,17 +77,19 @@ struct Fde {
 pub struct Frames {
     cies: Vec<Cie>,
     fdes: Vec<Fde>,
-    /// Those FDEs that have expressions.
+    /// Indexes of FDEs that have an expression, in their own program or in their CIE's.
     with_expressions: Vec<usize>,
 }
 
-/// The factors and the register of a CIE: three numbers.
+/// The length of a CIE's alignment factors and return address register: three LEB128 numbers.
 fn factors(body: &[u8]) -> Option<usize> {
     (0..3).try_fold(0, |at, _| Some(at + uleb(body.get(at..)?)?.1))
 }
 
 impl Frames {
-    /// Adds the records of a little-endian section with addresses of 8 bytes, but those that the profile doesn't have.
+    /// Adds the records of a little-endian section with addresses of 8 bytes. CIEs that aren't of
+    /// version 4 without augmentation are left out, as are their FDEs and programs with an unknown
+    /// opcode.
     pub fn add(&mut self, section: &[u8]) {
         let mut cies = Vec::new();
         let mut at = 0;
@@ -123,7 +127,7 @@ impl Frames {
         }
     }
 
-    /// A CIE and one to three FDEs of it, in either format.
+    /// A case with a CIE and one to three of its FDEs, each in the 32-bit or 64-bit format.
     pub fn case(&self, random: &mut Random, target: Target) -> Case {
         let first = if !self.with_expressions.is_empty() && random.one_of(3) {
             *random.of(&self.with_expressions)
@@ -142,7 +146,7 @@ impl Frames {
     }
 }
 
-/// Appends a record in either format: what its body begins with, and its program.
+/// Appends a record, in the 64-bit format if `wide`: its length, `head`, and its program.
 fn push_record(case: &mut Case, wide: bool, target: Target, head: &[u8], program: &[u8]) {
     let length = (head.len() + program.len()) as u64;
     if wide {
@@ -194,7 +198,8 @@ pub struct Lists {
     lists: Vec<Vec<Entry>>,
 }
 
-/// An entry, and how many bytes it has; none where its code or its expression isn't known.
+/// The first entry of the bytes, and its length in bytes. `None` if its code or its expression
+/// isn't known.
 fn entry(bytes: &[u8]) -> Option<(Entry, usize)> {
     let code = *bytes.first()?;
     let (operands, mut at) = match code {
@@ -244,7 +249,7 @@ impl Lists {
         }
     }
 
-    /// A table, or two, of one to three lists each, some with an array of offsets.
+    /// A case with one or two tables of one to three lists each, some with an offset array.
     pub fn case(&self, random: &mut Random, target: Target) -> Case {
         let mut case = Case::new();
         for _ in 0..1 + usize::from(random.one_of(4)) {
@@ -282,7 +287,7 @@ impl Lists {
         case.bytes.extend(body.bytes);
     }
 
-    /// One to three expressions of lists, one after the other.
+    /// The bytes of one to three expressions of lists, one after the other.
     pub fn expression(&self, random: &mut Random, target: Target) -> Vec<u8> {
         let mut bytes = Vec::new();
         for _ in 0..1 + random.below(3) {
@@ -321,7 +326,8 @@ fn push_entry(case: &mut Case, target: Target, entry: &Entry) {
     }
 }
 
-/// An expression of literals and what computes with them, which has an entry at its end.
+/// A random expression of constants, registers and operations on them. It mostly leaves an entry on
+/// the stack.
 pub fn made_expression(random: &mut Random, target: Target) -> Vec<u8> {
     let mut bytes = vec![0x30 + random.below(32) as u8];
     let mut height = 1;
@@ -343,7 +349,7 @@ pub fn made_expression(random: &mut Random, target: Target) -> Vec<u8> {
                 height += 1;
             }
             4 => {
-                // a branch over as many nops, or to the next of them
+                // a branch that skips `count` nops or fewer, or a drop of the constant
                 push_constant(&mut bytes, random, target);
                 let count = random.below(3);
                 bytes.push(if random.one_of(4) { 0x13 } else { 0x28 });

@@ -1,7 +1,8 @@
-//! The differential run: made cases through dwcheck's libraries and through gimli.
+//! The differential run: random cases are read by dwcheck's libraries and by gimli.
 //!
-//! Where dwcheck accepts, gimli has to read the same; so what gimli can't read has to be refused. That dwcheck refuses what gimli
-//! reads is no difference: gimli judges little.
+//! If dwcheck accepts a case, gimli must read the same, so whatever gimli can't read must be
+//! refused by dwcheck. It is no difference if dwcheck refuses what gimli reads: gimli checks
+//! little.
 
 use crate::cases::{Case, Frames, Lists, made_expression};
 use crate::limits;
@@ -11,16 +12,17 @@ use crate::random::Random;
 use crate::target::{TARGETS, Target};
 use std::collections::BTreeMap;
 
-/// What came of the cases of a kind.
+/// The results for cases of one kind.
 #[derive(Default)]
 struct Counts {
     cases: u64,
     accepted: u64,
     accepted_changed: u64,
-    /// Refused, by the number of the fault; and how many of these gimli reads.
+    /// For each fault number: how many cases dwcheck refused, and how many of these gimli reads.
     refused: BTreeMap<u64, (u64, u64)>,
     differences: u64,
-    /// Differences of expressions in which gimli may shift by more.
+    /// Differences that aren't counted, since gimli may shift by a greater count (see
+    /// `may_shift_further`).
     shifts: u64,
 }
 
@@ -59,7 +61,8 @@ impl Counts {
     }
 }
 
-/// A section of frames, and where that is accepted the rows of some addresses by its compiled table.
+/// A case of a frame section. If it is accepted, the rows that its compiled table gives are
+/// compared too.
 fn frame_case(frames: &Frames, random: &mut Random, target: Target, counts: &mut Counts, tables: &mut Counts) {
     let mut case = frames.case(random, target);
     let changed = case.change(random);
@@ -70,7 +73,8 @@ fn frame_case(frames: &Frames, random: &mut Random, target: Target, counts: &mut
     }
 }
 
-/// The rows that the compiled table of an accepted section gives, at both ends of FDEs and elsewhere.
+/// Compares the rows that the compiled table of an accepted section gives at both ends of each FDE,
+/// inside each FDE, and at some other addresses.
 fn table_case(case: &Case, random: &mut Random, target: Target, changed: bool, counts: &mut Counts) {
     let read = meaning::Rows::read(&case.bytes, target);
     let mut addresses = vec![0, random.next() & target.greatest(), target.greatest()];
@@ -111,7 +115,8 @@ fn expression_case(lists: &Lists, random: &mut Random, target: Target, counts: &
     counts.add("expressions", &case, target, changed, ours, meaning::expression_answer(&case.bytes, kind, target));
 }
 
-/// These numbers of cases of frames, lists and expressions, in turn under each target.
+/// Runs the given number of cases of frames, lists and expressions; each kind takes the four
+/// targets in turn. Returns whether there is no difference.
 pub fn run(sections: &[(String, Vec<u8>)], frame_count: u64, list_count: u64, expression_count: u64, seed: u64) -> bool {
     let (mut frames, mut lists) = (Frames::default(), Lists::default());
     for (name, section) in sections {

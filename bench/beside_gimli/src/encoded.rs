@@ -1,17 +1,17 @@
-//! Programs and expressions of real sections, taken apart where their encoding hangs on the target, so that they can be
-//! encoded for another.
+//! Programs and expressions of real sections. They are split into parts where their encoding
+//! depends on the target, so that they can be encoded for another target.
 
 use crate::target::Target;
 
 /// A part of a program or an expression.
 #[derive(Clone, Debug)]
 enum Part {
-    /// The same under every target.
+    /// Bytes that are the same for every target.
     Bytes(Vec<u8>),
-    /// A number of this size, in bytes.
+    /// A number, and its size in bytes.
     Fixed(u64, usize),
     Address(u64),
-    /// A counted expression.
+    /// An expression with its length before it.
     Block(Encoded),
 }
 
@@ -20,7 +20,9 @@ pub struct Encoded {
     parts: Vec<Part>,
 }
 
-/// The operands of a call frame instruction: an address, numbers of some bytes, LEB128 numbers (u) or blocks (b).
+/// The operands of a call frame instruction, a letter each: `a` an address, a digit a number of so
+/// many bytes, `u` a LEB128 number, `b` a block that is an expression. `None` if the opcode isn't
+/// known.
 fn instruction_operands(code: u8) -> Option<&'static str> {
     Some(match code {
         0x40..=0x7f | 0xc0..=0xff => "",
@@ -38,7 +40,8 @@ fn instruction_operands(code: u8) -> Option<&'static str> {
     })
 }
 
-/// The operands of an operation; i is a counted run of bytes.
+/// The operands of an operation, in the letters of `instruction_operands`; `i` is a LEB128 length
+/// followed by as many bytes.
 fn operation_operands(code: u8) -> Option<&'static str> {
     Some(match code {
         0x03 => "a",
@@ -55,7 +58,7 @@ fn operation_operands(code: u8) -> Option<&'static str> {
     })
 }
 
-/// An unsigned LEB128 number, and how many bytes it has.
+/// An unsigned LEB128 number of at most nine bytes, and its length in bytes.
 pub fn uleb(bytes: &[u8]) -> Option<(u64, usize)> {
     let mut number = 0;
     for (place, byte) in bytes.iter().take(9).enumerate() {
@@ -75,19 +78,20 @@ pub fn push_uleb(bytes: &mut Vec<u8>, mut number: u64) {
     bytes.push(number as u8);
 }
 
-/// A number of this size in bytes, the least first.
+/// The first `size` bytes as a little-endian number.
 pub fn little(bytes: &[u8], size: usize) -> Option<u64> {
     let bytes = bytes.get(..size)?;
     Some(bytes.iter().rev().fold(0, |number, byte| number << 8 | u64::from(*byte)))
 }
 
 impl Encoded {
-    /// Of a little-endian program, with addresses of 8 bytes; none where it has a code that isn't known.
+    /// Splits a little-endian program with addresses of 8 bytes. `None` if an opcode isn't known.
     pub fn program(bytes: &[u8]) -> Option<Self> {
         Self::read(bytes, instruction_operands)
     }
 
-    /// Of such an expression.
+    /// Splits a little-endian expression with addresses of 8 bytes. `None` if an opcode isn't
+    /// known.
     pub fn expression(bytes: &[u8]) -> Option<Self> {
         Self::read(bytes, operation_operands)
     }
@@ -130,12 +134,12 @@ impl Encoded {
         })
     }
 
-    /// Whether it has an expression.
+    /// Whether a program has an expression.
     pub fn has_expression(&self) -> bool {
         self.parts.iter().any(|part| matches!(part, Part::Block(_)))
     }
 
-    /// Its bytes under a target.
+    /// The bytes of the program or expression for `target`.
     pub fn bytes(&self, target: Target) -> Vec<u8> {
         let mut bytes = Vec::new();
         for part in &self.parts {

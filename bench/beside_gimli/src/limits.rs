@@ -1,10 +1,10 @@
-//! Programs and expressions that keep to a limit of the profile, or go past it by a little.
+//! Programs and expressions that come near a limit of the profile, or exceed it by a little.
 
 use crate::encoded::push_uleb;
 use crate::random::Random;
 use crate::target::Target;
 
-/// A number near a limit, more often one that keeps to it.
+/// A number from `limit - 4` to `limit + 2`: more of these are within the limit than above.
 fn near(random: &mut Random, limit: usize) -> usize {
     limit - 4 + random.below(7)
 }
@@ -17,7 +17,8 @@ fn push_sleb(bytes: &mut Vec<u8>, mut number: i64) {
     bytes.push(number as u8 & 0x7f);
 }
 
-/// The beginning of an FDE's program: states that are remembered, offsets of 64 bits, or many rules.
+/// The beginning of an FDE's program: nested remember_state instructions, offsets near 64 bits, or
+/// many rules.
 pub fn program(random: &mut Random) -> Vec<u8> {
     match random.below(3) {
         0 => remembered(random),
@@ -26,7 +27,8 @@ pub fn program(random: &mut Random) -> Vec<u8> {
     }
 }
 
-/// States that are remembered, each with a rule changed, and then all of them restored, or nearly all, or one more.
+/// Nested remember_state instructions, with a change of a rule after most of them, and then as many
+/// restore_state instructions; now and then one fewer or one more.
 fn remembered(random: &mut Random) -> Vec<u8> {
     let mut bytes = Vec::new();
     let count = near(random, 16);
@@ -44,7 +46,8 @@ fn remembered(random: &mut Random) -> Vec<u8> {
     bytes
 }
 
-/// Instructions with an offset near the least or the greatest of 64 bits, before or after it is multiplied.
+/// Instructions whose offset comes near the limits of 64 bits, either as it is or when it is
+/// multiplied by an alignment factor.
 fn far_offsets(random: &mut Random) -> Vec<u8> {
     let mut bytes = Vec::new();
     for _ in 0..1 + random.below(3) {
@@ -72,7 +75,7 @@ fn far_offsets(random: &mut Random) -> Vec<u8> {
     bytes
 }
 
-/// Rules of many registers, one after the other, of which some are restored.
+/// Rules for many consecutive registers, some of which get a restore_extended.
 fn many_rules(random: &mut Random) -> Vec<u8> {
     let mut bytes = Vec::new();
     let first = *random.of(&[0, 0, 1, 17, 1000]);
@@ -92,7 +95,8 @@ fn many_rules(random: &mut Random) -> Vec<u8> {
     bytes
 }
 
-/// An expression with a high stack, with branches over what moves the stack, or of many pieces.
+/// An expression with a high stack, with branches over operations that move the stack, or with many
+/// pieces.
 pub fn expression(random: &mut Random, target: Target) -> Vec<u8> {
     match random.below(3) {
         0 => high(random),
@@ -101,7 +105,7 @@ pub fn expression(random: &mut Random, target: Target) -> Vec<u8> {
     }
 }
 
-/// Entries that are pushed, and some of them taken off again.
+/// Pushes nearly as many entries as are allowed, or a few more, and takes some of them off again.
 fn high(random: &mut Random) -> Vec<u8> {
     let mut bytes = vec![0x31, 0x32];
     for _ in 2..near(random, 128) {
@@ -118,7 +122,7 @@ fn high(random: &mut Random) -> Vec<u8> {
     bytes
 }
 
-/// Operations that leave the stack as high as it was, or now and then do not.
+/// Operations that leave the stack height as it was, now and then with some that don't.
 fn body(random: &mut Random) -> Vec<u8> {
     let mut bytes = Vec::new();
     for _ in 0..random.below(4) {
@@ -130,7 +134,7 @@ fn body(random: &mut Random) -> Vec<u8> {
     bytes
 }
 
-/// Branches over a body, or to one of two.
+/// Branches that skip a body, or that choose between two bodies. Some lead to other bytes.
 fn branching(random: &mut Random, target: Target) -> Vec<u8> {
     let mut bytes = vec![0x35];
     for _ in 0..1 + random.below(4) {
@@ -148,7 +152,7 @@ fn branching(random: &mut Random, target: Target) -> Vec<u8> {
     bytes
 }
 
-/// Pieces of every kind.
+/// Nearly as many pieces as are allowed, or a few more, of every kind.
 fn pieces(random: &mut Random) -> Vec<u8> {
     let mut bytes = Vec::new();
     for _ in 0..near(random, 32) {

@@ -1,10 +1,11 @@
-//! The libraries of dwcheck beside gimli, in one process.
+//! Compares dwcheck's libraries with gimli, in one process.
 //!   beside times SECTION ..
-//!   beside differ FRAMES LISTS EXPRESSIONS SEED SECTION ..    how many cases of each, made of these sections
-//!   beside rows SECTION     gimli alone: all rows of a frame section, and nothing else
-//!   beside read SECTION     gimli alone: all rows and rules, or entries, and all expressions
-//! A section is raw and little-endian with addresses of 8 bytes: a `.debug_loclists` where its name ends with `.lists`, else a
-//! `.debug_frame`.
+//!   beside differ FRAMES LISTS EXPRESSIONS SEED SECTION ..    makes this many cases of each kind
+//!                                                             from the sections
+//!   beside rows SECTION     only gimli reads all rows of a frame section
+//!   beside read SECTION     only gimli reads all rows and rules, or entries, and all expressions
+//! A section is raw and little-endian with addresses of 8 bytes: `.debug_loclists` if its name ends
+//! with `.lists`, else `.debug_frame`.
 
 mod cases;
 mod differ;

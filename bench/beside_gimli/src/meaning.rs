@@ -1,4 +1,5 @@
-//! What gimli reads of a section or an expression, mixed into a number as crates/dw_times mixes what it reads.
+//! Checksums of what gimli reads of a section or an expression. They equal those of crates/dw_times
+//! if both read the same.
 
 use crate::random::Random;
 use crate::target::Target;
@@ -12,7 +13,7 @@ use gimli::{
 type Bytes<'a> = EndianSlice<'a, RunTimeEndian>;
 type Frame<'a> = DebugFrame<Bytes<'a>>;
 
-/// As `Mixed` of crates/dw_times.
+/// The checksum that `Mixed` of crates/dw_times computes.
 #[derive(Default)]
 struct Mixed {
     number: u64,
@@ -42,7 +43,7 @@ impl Mixed {
     }
 }
 
-/// Places enough for all that `dwcheck` accepts.
+/// Storage with room for everything that `dwcheck` accepts.
 struct Places;
 
 impl<R: Reader> EvaluationStorage<R> for Places {
@@ -118,7 +119,7 @@ fn other(operation: Operation<Bytes<'_>>) -> Parts {
     }
 }
 
-/// The operations, each with its offset, after how many there are.
+/// Adds the number of operations, and each operation with its offset.
 fn add_operations(mixed: &mut Mixed, expression: Expression<Bytes<'_>>, target: Target) -> Result<(), Error> {
     let mut found = Vec::new();
     let mut operations = expression.operations(target.encoding());
@@ -147,7 +148,7 @@ fn add_location(mixed: &mut Mixed, location: &Location<Bytes<'_>>, target: Targe
     Ok(())
 }
 
-/// What an expression is of.
+/// What an expression is used for: a CFA, a register's rule, or a location.
 #[derive(Clone, Copy, PartialEq)]
 pub enum Kind {
     Cfa,
@@ -175,7 +176,8 @@ fn add_pieces(mixed: &mut Mixed, pieces: &[Piece<Bytes<'_>>], kind: Kind, target
     Ok(())
 }
 
-/// What it comes to on the machine of crates/dw_times: register N has N + 7, and each byte of memory is 0x5a.
+/// Adds the outcome of an expression on the machine of crates/dw_times: register N contains N + 7,
+/// and each byte of memory is 0x5a.
 fn add_value(mixed: &mut Mixed, expression: Expression<Bytes<'_>>, kind: Kind, target: Target) -> Result<(), Error> {
     let mut evaluation = Evaluation::<_, Places>::new_in(expression.0, target.encoding());
     evaluation.set_object_address(0x3000);
@@ -220,7 +222,8 @@ fn add_expression(
     mixed.add(expression.0.offset_from(section) as u64);
     add_operations(mixed, expression, target)?;
     if expression.0.is_empty() && kind == Kind::Location {
-        // no location: gimli asks for an entry of the stack, and its users don't evaluate these
+        // An empty location. gimli reports an empty stack here, and its users don't evaluate such
+        // expressions.
         mixed.add(2);
         mixed.add(1);
         return Ok(());
@@ -268,7 +271,7 @@ fn add_row(mixed: &mut Mixed, section: Bytes<'_>, row: &UnwindTableRow<Bytes<'_>
     }
 }
 
-/// The expressions of a program, each with what it is of.
+/// Appends the expressions of a program to `found`, each with its kind.
 fn expressions_of<'a>(
     mut instructions: gimli::CallFrameInstructionIter<'_, Bytes<'a>>,
     found: &mut Vec<(Kind, Expression<Bytes<'a>>)>,
@@ -295,7 +298,7 @@ fn add_cie(mixed: &mut Mixed, cie: &CommonInformationEntry<Bytes<'_>>) {
     );
 }
 
-/// The FDE, and its rows but for those of no address.
+/// Adds an FDE and its rows, except rows that cover no address.
 fn add_fde(mixed: &mut Mixed, frame: &Frame<'_>, section: Bytes<'_>, fde: &FrameDescriptionEntry<Bytes<'_>>) -> Result<(), Error> {
     mixed.add(fde.offset() as u64);
     mixed.add_three(fde.cie().offset() as u64, fde.initial_address(), fde.len());
@@ -310,7 +313,7 @@ fn add_fde(mixed: &mut Mixed, frame: &Frame<'_>, section: Bytes<'_>, fde: &Frame
     Ok(())
 }
 
-/// What a section of frames holds, if gimli can read it.
+/// The checksum of a frame section, if gimli can read it.
 pub fn frame_answer(bytes: &[u8], target: Target) -> Result<u64, Error> {
     let section = EndianSlice::new(bytes, target.order());
     let mut frame = DebugFrame::from(section);
@@ -339,7 +342,7 @@ pub fn frame_answer(bytes: &[u8], target: Target) -> Result<u64, Error> {
     Ok(mixed.answer())
 }
 
-/// The FDEs that cover an address, in order of address.
+/// The FDEs that cover at least one address, in order of address.
 fn covering<'a>(frame: &Frame<'a>) -> Result<Vec<FrameDescriptionEntry<Bytes<'a>>>, Error> {
     let bases = BaseAddresses::default();
     let mut fdes = Vec::new();
@@ -356,7 +359,8 @@ fn covering<'a>(frame: &Frame<'a>) -> Result<Vec<FrameDescriptionEntry<Bytes<'a>
     Ok(fdes)
 }
 
-/// The row of an address, with the return address register of its CIE, or that there is none.
+/// Adds an address, and its row with the return address register of the row's CIE, or that there is
+/// no row.
 fn add_found(
     mixed: &mut Mixed,
     frame: &Frame<'_>,
@@ -384,7 +388,7 @@ fn add_found(
     Err(Error::NoUnwindInfoForAddress)
 }
 
-/// The rows of a section, if gimli can read it.
+/// A frame section that gimli can read, with its FDEs in order of address.
 pub struct Rows<'a> {
     section: Bytes<'a>,
     frame: Frame<'a>,
@@ -400,7 +404,8 @@ impl<'a> Rows<'a> {
         Ok(Rows { section, frame, fdes })
     }
 
-    /// Where FDEs begin and end, each with its neighbour, and an address inside each.
+    /// For each FDE: its first address, the address before, its last address, the address after,
+    /// and an address inside.
     pub fn addresses(&self, random: &mut Random) -> Vec<u64> {
         let around = |fde: &FrameDescriptionEntry<Bytes<'_>>| {
             let (start, end) = (fde.initial_address(), fde.initial_address().wrapping_add(fde.len()));
@@ -409,7 +414,7 @@ impl<'a> Rows<'a> {
         self.fdes.iter().flat_map(around).collect()
     }
 
-    /// What the rows of these addresses say.
+    /// The checksum of the rows of these addresses.
     pub fn answer(&self, addresses: &[u64]) -> Result<u64, Error> {
         let mut mixed = Mixed::default();
         for &address in addresses {
@@ -421,18 +426,19 @@ impl<'a> Rows<'a> {
 
 /// An entry of a location list that has an expression.
 struct Entry<'a> {
-    /// Its range, counted from a base: the unit's, where there is no base. None for a default.
+    /// A base address, and the beginning and end of the range relative to it. The base is the
+    /// unit's if it is `None`. A default location has no range.
     range: Option<(Option<u64>, u64, u64)>,
     expression: Expression<Bytes<'a>>,
 }
 
-/// A list with where it begins.
+/// A list, and its offset in the section.
 struct List<'a> {
     at: usize,
     entries: Vec<Entry<'a>>,
 }
 
-/// Reads a list. Gives the offset after it, too.
+/// Reads the list at an offset. Returns the offset after its end, and the list.
 fn list<'a>(lists: &LocationLists<Bytes<'a>>, section: Bytes<'a>, at: usize, target: Target) -> Result<(usize, List<'a>), Error> {
     let mut raw = lists.raw_locations(LocationListsOffset(at), target.encoding())?;
     let (mut end, mut base, mut entries) = (at, None, Vec::new());
@@ -487,7 +493,8 @@ impl<'a> Lists<'a> {
         Ok(Lists { section, target, lists: found })
     }
 
-    /// Where ranges begin and end, each with its neighbours.
+    /// For each range: its first address, the address before, its last address, and the address
+    /// after.
     pub fn bounds(&self, unit: u64) -> Vec<u64> {
         let entries = self.lists.iter().flat_map(|list| &list.entries);
         let ranges = entries.filter_map(|entry| entry.range);
@@ -502,7 +509,8 @@ impl<'a> Lists<'a> {
             .collect()
     }
 
-    /// What the lists say of these addresses, where the unit has that base.
+    /// The checksum of the lists: the expressions that hold at each of these addresses, for a unit
+    /// with the base address `unit`, and all expressions.
     pub fn answer(&self, unit: u64, addresses: &[u64]) -> Result<u64, Error> {
         let mut mixed = Mixed::default();
         for list in &self.lists {
@@ -536,8 +544,9 @@ impl<'a> Lists<'a> {
     }
 }
 
-/// Whether it shifts under addresses of four bytes. dwcheck's entries are below 2^32; gimli may keep a count that isn't, of a longer
-/// constant or of `not`, and then shifts all bits out.
+/// Whether an expression has a shift and the target has addresses of four bytes. There dwcheck's
+/// stack entries are below 2^32. gimli may keep a greater shift count, from a longer constant or
+/// from `not`, and then shifts all bits out.
 pub fn may_shift_further(bytes: &[u8], target: Target) -> bool {
     let mut operations = Expression(EndianSlice::new(bytes, target.order())).operations(target.encoding());
     let mut shifts = false;
@@ -547,7 +556,7 @@ pub fn may_shift_further(bytes: &[u8], target: Target) -> bool {
     target.small && shifts
 }
 
-/// What an expression says, if gimli can read and run it.
+/// The checksum of an expression's meaning, if gimli can read and run the expression.
 pub fn expression_answer(bytes: &[u8], kind: Kind, target: Target) -> Result<u64, Error> {
     let section = EndianSlice::new(bytes, target.order());
     let mut mixed = Mixed::default();

@@ -30,77 +30,80 @@ unsafe extern "C" {
     fn bench_expression_answer(bytes: Start, n: usize, big: bool, small: bool, location: bool) -> u64;
 }
 
-/// How many FDEs a section has, 0 where it is refused.
+/// The number of FDEs of a section, 0 if the section is refused.
 pub fn check(section: &[u8]) -> usize {
     unsafe { bench_check(section.as_ptr(), section.len()) }
 }
 
-/// How many expressions a section of lists has, 0 where it is refused.
+/// The number of expressions of a section of lists, 0 if the section is refused.
 pub fn check_lists(section: &[u8]) -> usize {
     unsafe { bench_check_lists(section.as_ptr(), section.len()) }
 }
 
-/// The check, and all rows by the iterator.
+/// Checks a section, and gets all rows, with a new iterator for each FDE.
 pub fn rows(section: &[u8]) -> u64 {
     unsafe { bench_rows(section.as_ptr(), section.len()) }
 }
 
-/// The check, and all rows by the iterator, which begins again in one place for each FDE.
+/// Checks a section, and gets all rows, with one iterator that is reset for each FDE.
 pub fn rows_again(section: &[u8]) -> u64 {
     unsafe { bench_rows_again(section.as_ptr(), section.len()) }
 }
 
-/// The check, and all rows into one place.
+/// Checks a section, and writes all rows, one after another, to the same variable.
 pub fn rows_into(section: &[u8]) -> u64 {
     unsafe { bench_rows_into(section.as_ptr(), section.len()) }
 }
 
-/// The check, and the rows of all addresses, a number of times.
+/// Checks a section, and looks up the row of each address, `times` times.
 pub fn look_up(section: &[u8], addresses: &[u64], times: u32) -> u64 {
     unsafe { bench_look_up(section.as_ptr(), section.len(), addresses.as_ptr(), addresses.len(), times) }
 }
 
-/// The check, and the callers at all addresses, a number of times.
+/// Checks a section, and finds the caller of the frame at each address, `times` times.
 pub fn unwind(section: &[u8], addresses: &[u64], times: u32) -> u64 {
     unsafe { bench_unwind(section.as_ptr(), section.len(), addresses.as_ptr(), addresses.len(), times) }
 }
 
-/// The check, the compiled table, and the rows of all addresses, a number of times.
+/// Checks a section, compiles its table, and looks up the row of each address, `times` times.
 pub fn look_up_by_table(section: &[u8], addresses: &[u64], times: u32) -> u64 {
     unsafe { bench_look_up_by_table(section.as_ptr(), section.len(), addresses.as_ptr(), addresses.len(), times) }
 }
 
-/// The check, the compiled table, and the callers at all addresses, a number of times.
+/// Checks a section, compiles its table, and finds the caller of the frame at each address, `times`
+/// times.
 pub fn unwind_by_table(section: &[u8], addresses: &[u64], times: u32) -> u64 {
     unsafe { bench_unwind_by_table(section.as_ptr(), section.len(), addresses.as_ptr(), addresses.len(), times) }
 }
 
-/// What the compiled table of a section gives at these addresses, 0 where it is refused.
+/// The checksum of the rows of these addresses in a section's compiled table, or 0 if the section
+/// is refused.
 pub fn table_answer(section: &[u8], big: bool, small: bool, addresses: &[u64]) -> u64 {
     unsafe { bench_table_answer(section.as_ptr(), section.len(), big, small, addresses.as_ptr(), addresses.len()) }
 }
 
-/// One judgement of a register's expression, and a number of evaluations.
+/// Checks a register's expression once, and evaluates it `times` times.
 pub fn evaluate(bytes: &[u8], times: u32) -> u64 {
     unsafe { bench_evaluate(bytes.as_ptr(), bytes.len(), times) }
 }
 
-/// A number of judgements without states.
+/// Checks a register's expression `times` times, without making its certificate.
 pub fn check_expression(bytes: &[u8], times: u32) -> u64 {
     unsafe { bench_check_expression(bytes.as_ptr(), bytes.len(), times) }
 }
 
-/// A number of certificates.
+/// Checks a register's expression `times` times, and makes its certificate each time.
 pub fn certify(bytes: &[u8], times: u32) -> u64 {
     unsafe { bench_certify(bytes.as_ptr(), bytes.len(), times) }
 }
 
-/// What a section of frames holds, or the number of its fault.
+/// The checksum of a frame section, or the number of its first fault.
 pub fn frame_answer(section: &[u8], big: bool, small: bool) -> u64 {
     unsafe { bench_frame_answer(section.as_ptr(), section.len(), big, small) }
 }
 
-/// What a section of lists holds and says of some addresses, or the number of its fault.
+/// The checksum of a section of lists and of what it gives at some addresses, or the number of its
+/// first fault.
 pub fn lists_answer(section: &[u8], big: bool, small: bool, base: u64, addresses: &[u64]) -> u64 {
     unsafe {
         let (start, n) = (section.as_ptr(), section.len());
@@ -108,7 +111,8 @@ pub fn lists_answer(section: &[u8], big: bool, small: bool, base: u64, addresses
     }
 }
 
-/// What an expression says, of a location or a register's rule, or the number of its fault.
+/// The checksum of the meaning of an expression, which is a location or a register's rule, or the
+/// number of its first fault.
 pub fn expression_answer(bytes: &[u8], big: bool, small: bool, location: bool) -> u64 {
     unsafe { bench_expression_answer(bytes.as_ptr(), bytes.len(), big, small, location) }
 }

@@ -16,12 +16,12 @@ impl Random {
         self.state.wrapping_mul(0x2545_f491_4f6c_dd1d)
     }
 
-    /// A number below another.
+    /// A random number below `end`.
     pub fn below(&mut self, end: usize) -> usize {
         ((u128::from(self.next()) * end as u128) >> 64) as usize
     }
 
-    /// True once in this number of times, on average.
+    /// True once in `times` calls, on average.
     pub fn one_of(&mut self, times: usize) -> bool {
         self.below(times) == 0
     }

@@ -8,7 +8,7 @@ pub struct Target {
     pub small: bool,
 }
 
-/// Both orders and both sizes of an address.
+/// Both byte orders with both address sizes.
 pub const TARGETS: [Target; 4] = [
     Target { big: false, small: false },
     Target { big: true, small: false },
@@ -17,7 +17,7 @@ pub const TARGETS: [Target; 4] = [
 ];
 
 impl Target {
-    /// The bytes of an address.
+    /// The number of bytes of an address.
     pub fn size(self) -> u8 {
         if self.small { 4 } else { 8 }
     }
@@ -34,7 +34,7 @@ impl Target {
         Encoding { address_size: self.size(), format: Format::Dwarf32, version: 5 }
     }
 
-    /// The low bytes of a number, in this order.
+    /// The `size` low bytes of a number, in the target's byte order.
     pub fn number(self, number: u64, size: usize) -> Vec<u8> {
         let mut bytes = number.to_le_bytes()[..size].to_vec();
         if self.big {

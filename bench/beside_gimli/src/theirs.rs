@@ -1,4 +1,4 @@
-//! The work that is timed, done with gimli, which judges nothing.
+//! The work that is timed, done with gimli, which checks nothing.
 
 use crate::random::Random;
 use gimli::{
@@ -14,7 +14,7 @@ type Bytes<'a> = EndianSlice<'a, LittleEndian>;
 type Cie<'a> = CommonInformationEntry<Bytes<'a>>;
 type Fde<'a> = FrameDescriptionEntry<Bytes<'a>>;
 
-/// Each FDE in order, its CIE parsed once and kept.
+/// Calls `each` with each FDE in order. Each CIE is parsed once.
 fn each_fde<'a>(frame: &DebugFrame<Bytes<'a>>, mut each: impl FnMut(Fde<'a>)) {
     let bases = BaseAddresses::default();
     let mut cies: HashMap<usize, Cie<'a>> = HashMap::new();
@@ -34,7 +34,7 @@ fn each_fde<'a>(frame: &DebugFrame<Bytes<'a>>, mut each: impl FnMut(Fde<'a>)) {
     }
 }
 
-/// All rows of all FDEs.
+/// The sum of the end addresses of all rows.
 fn rows(frame: &DebugFrame<Bytes<'_>>) -> u64 {
     let bases = BaseAddresses::default();
     let mut context = Box::new(UnwindContext::new());
@@ -55,7 +55,8 @@ pub fn all_rows(bytes: &[u8]) -> u64 {
     rows(&frame)
 }
 
-/// What FDEs cover, in order of address: beginning, end and offset. gimli leaves such an index to its user.
+/// The first address, the end and the offset of each FDE that covers an address, in order of
+/// address. gimli leaves such an index to its user.
 fn index(frame: &DebugFrame<Bytes<'_>>) -> Vec<(u64, u64, usize)> {
     let mut index = Vec::new();
     each_fde(frame, |fde| {
@@ -67,7 +68,7 @@ fn index(frame: &DebugFrame<Bytes<'_>>) -> Vec<(u64, u64, usize)> {
     index
 }
 
-/// The row of an address, by the index.
+/// The end address of the row of an address, which is found with the index.
 fn look_up<'a>(
     frame: &DebugFrame<Bytes<'a>>,
     index: &[(u64, u64, usize)],
@@ -83,7 +84,7 @@ fn look_up<'a>(
     row.expect("a row").end_address()
 }
 
-/// A section that gimli reads, with an index of it.
+/// A section that gimli reads, with the `index` of its FDEs.
 pub struct Section<'a> {
     frame: DebugFrame<Bytes<'a>>,
     index: Vec<(u64, u64, usize)>,
@@ -97,12 +98,12 @@ impl<'a> Section<'a> {
         Section { frame, index }
     }
 
-    /// The ends of all rows, added up.
+    /// The sum of the end addresses of all rows.
     pub fn rows(&self) -> u64 {
         rows(&self.frame)
     }
 
-    /// The ends of the rows of all these addresses, added up.
+    /// The sum of the end addresses of the rows of these addresses.
     pub fn look_up(&self, addresses: &[u64]) -> u64 {
         let mut context = Box::new(UnwindContext::new());
         let found = addresses.iter().map(|&address| look_up(&self.frame, &self.index, &mut context, address));
@@ -120,7 +121,7 @@ impl<'a> Section<'a> {
     }
 }
 
-/// How many operations an expression has, each of which is read.
+/// Reads each operation of an expression, and returns their number.
 fn operations(expression: Expression<Bytes<'_>>, encoding: Encoding) -> u64 {
     let mut operations = expression.operations(encoding);
     let mut count = 0;
@@ -131,7 +132,8 @@ fn operations(expression: Expression<Bytes<'_>>, encoding: Encoding) -> u64 {
     count
 }
 
-/// Reads a list, and each operation of its expressions. Gives the offset after it and the count of operations.
+/// Reads a list, and each operation of its expressions. Returns the offset after the list, and the
+/// number of operations.
 fn list(lists: &LocationLists<Bytes<'_>>, section: Bytes<'_>, at: usize, encoding: Encoding) -> (usize, u64) {
     let mut entries = lists.raw_locations(LocationListsOffset(at), encoding).expect("a list");
     let (mut at, mut count) = (at, 0);
@@ -154,7 +156,7 @@ fn list(lists: &LocationLists<Bytes<'_>>, section: Bytes<'_>, at: usize, encodin
     (at + 1, count)
 }
 
-/// All lists of all tables: how many operations there are.
+/// Reads all lists of all tables, and returns the number of operations.
 pub fn all_lists(bytes: &[u8]) -> u64 {
     let section = EndianSlice::new(bytes, LittleEndian);
     let lists = LocationLists::new(DebugLoc::new(&[], LittleEndian), DebugLocLists::new(bytes, LittleEndian));
@@ -178,7 +180,7 @@ pub fn all_lists(bytes: &[u8]) -> u64 {
     count
 }
 
-/// Places of fixed size: nothing is allocated.
+/// Storage of fixed size, so that nothing is allocated.
 struct Fixed;
 
 impl<R: Reader> EvaluationStorage<R> for Fixed {
@@ -187,7 +189,7 @@ impl<R: Reader> EvaluationStorage<R> for Fixed {
     type Result = [gimli::Piece<R>; 32];
 }
 
-/// What an expression gives where each register has 7.
+/// The result of an expression if each register contains 7.
 pub fn evaluate(bytes: &[u8]) -> u64 {
     let encoding = Encoding { address_size: 8, format: Format::Dwarf32, version: 5 };
     let bytes = EndianSlice::new(black_box(bytes), LittleEndian);

@@ -15,7 +15,7 @@ unsafe extern "C" {
 #[derive(Default)]
 struct Time(i64, i64);
 
-/// The processor time of this thread: what else the machine does adds little to it.
+/// The processor time of this thread, in nanoseconds. Other work on the machine adds little to it.
 fn now() -> f64 {
     const THREAD: i32 = 3;
     let mut time = Time::default();
@@ -29,7 +29,8 @@ fn time_of<T>(work: impl FnOnce() -> T) -> f64 {
     now() - start
 }
 
-/// The least of some runs of each, which take turns, so that whatever else the machine does meets both.
+/// The least time of some runs of each. The runs alternate, so that other work on the machine
+/// affects both.
 fn least_of_both<T, U>(runs: usize, mut ours: impl FnMut() -> T, mut theirs: impl FnMut() -> U) -> (f64, f64) {
     (0..runs).fold((f64::MAX, f64::MAX), |least, _| {
         (least.0.min(time_of(&mut ours)), least.1.min(time_of(&mut theirs)))
@@ -73,7 +74,8 @@ fn frame(name: &str, bytes: &[u8]) {
     table(name, bytes, &section, &addresses, check);
 }
 
-/// As the C library has it: the fifth number is what is mapped by itself, the eighth what else is allocated.
+/// `mallinfo2` of the C library: the fifth number is the bytes in separate mappings, the eighth the
+/// other bytes in use.
 #[repr(C)]
 struct MallocInfo([usize; 10]);
 
@@ -81,13 +83,14 @@ unsafe extern "C" {
     fn mallinfo2() -> MallocInfo;
 }
 
-/// The bytes that are allocated, by the first thread.
+/// The number of bytes that the main thread has allocated.
 fn allocated() -> usize {
     let found = unsafe { mallinfo2() };
     found.0[4] + found.0[7]
 }
 
-/// How many bytes are allocated most of the time while something is done, beyond those before.
+/// The number of bytes that are allocated for most of the time while `work` runs, beyond those that
+/// were allocated before.
 fn held_by<T>(work: impl FnOnce() -> T) -> usize {
     let before = allocated();
     let done = AtomicBool::new(false);
@@ -108,7 +111,7 @@ fn held_by<T>(work: impl FnOnce() -> T) -> usize {
     })
 }
 
-/// The compiled table of a section. Its section is let go before a look-up.
+/// Times the compiled table of a section. The checked section is dropped before the first look-up.
 fn table(name: &str, bytes: &[u8], section: &theirs::Section<'_>, addresses: &[u64], check: f64) {
     const TIMES: u32 = 40;
     let each = |many: f64, once: f64| (many - once) / f64::from(TIMES) / addresses.len() as f64;
@@ -136,7 +139,7 @@ fn lists(name: &str, bytes: &[u8]) {
     line(&format!("{name}: check; gimli reads entries and operations"), check, Some(read));
 }
 
-/// One of many, less what is done once.
+/// The time of one of many repetitions, without the work that is done only once.
 fn each(work: impl Fn(u32) -> u64) -> f64 {
     const TIMES: u32 = 20_000;
     (least(9, || work(TIMES + 1)) - least(9, || work(1))) / f64::from(TIMES)
@@ -151,7 +154,7 @@ fn expression(name: &str, bytes: &[u8]) {
 
 fn expressions() {
     let two = [0x22, 0x1e, 0x27, 0x1c, 0x21, 0x22, 0x1e, 0x1a, 0x22, 0x24];
-    // a literal, 29 times a literal and an operation of two, and neg: 60 operations
+    // 60 operations: a literal, 29 times a literal and an operation with two operands, and `neg`
     let mut sixty = vec![0x31u8];
     for i in 0..29 {
         sixty.extend([0x31 + i as u8 % 7, two[i % 10]]);

@@ -12,7 +12,8 @@ fn refused(kept: &[u16], stack_pointer: Option<u16>) -> Option<(u8, u32)> {
         .map(|fault| (fault.kind.number(), fault.at))
 }
 
-/// The same for an ABI whose callee-saved registers are 0 to `count` - 1; `count` is at most 128.
+/// What `refused` gives for an ABI whose callee-saved registers are 0 to `count` - 1. At most 128
+/// registers are passed.
 fn refused_from_zero(count: usize, stack_pointer: Option<u16>) -> Option<(u8, u32)> {
     let mut numbers = [0; 128];
     for number in 0..128u16 {
@@ -21,7 +22,8 @@ fn refused_from_zero(count: usize, stack_pointer: Option<u16>) -> Option<(u8, u3
     refused(&numbers[..count.min(128)], stack_pointer)
 }
 
-/// Callee-saved registers, stack pointers, and the fault's number and index.
+/// Callee-saved registers, a stack pointer, and the number and index of the fault, if the ABI is
+/// refused.
 const NAMED: [(&[u16], Option<u16>, Option<(u8, u32)>); 7] = [
     (&[6, 7, 6], None, Some((63, 2))),
     (&[6, 7, 6], Some(7), Some((63, 2))),
@@ -43,7 +45,8 @@ fn names_a_register_that_stands_twice(rt: HostRuntime) {
     }
 }
 
-/// The number of callee-saved registers, counted from register 0, stack pointers, and the fault's number and index.
+/// The number of callee-saved registers, which are numbered from 0 on, a stack pointer, and the
+/// number and index of the fault, if the ABI is refused.
 const COUNTED: [(usize, Option<u16>, Option<(u8, u32)>); 4] = [
     (128, None, Some((62, 127))),
     (127, None, None),
@@ -62,7 +65,7 @@ fn keeps_127_registers_and_a_stack_pointer(rt: HostRuntime) {
     }
 }
 
-/// The registers of an address's row under an ABI, as text: each with its rule.
+/// Some registers, each with its rule at `address` under an ABI, as text.
 fn registers_at(
     alloc: Global,
     frame: &CheckedFrame<'_>,
@@ -79,7 +82,8 @@ fn registers_at(
     Some(text)
 }
 
-/// Addresses of the function, and the ABI's rules for registers there: 6 has a rule from 0x1001 on, and 16 in each row.
+/// Addresses of `FUNCTION`, and the rules of some registers there under an ABI. The rows give
+/// register 6 a rule from 0x1001 on, and register 16 everywhere.
 const REGISTERS: [(u64, &str); 2] = [
     (
         0x1000,
@@ -108,7 +112,7 @@ fn gives_registers_under_an_abi(rt: HostRuntime) -> Result<(), Fault> {
     Ok(())
 }
 
-/// The rules of a row under an ABI, as text.
+/// The rules of the row of `address` under an ABI, as text.
 fn rules_at(alloc: Global, frame: &CheckedFrame<'_>, abi: &Abi, address: u64) -> Option<String> {
     let row = frame.row_for_address(address)?;
     let mut text = String::new(alloc);
@@ -119,7 +123,8 @@ fn rules_at(alloc: Global, frame: &CheckedFrame<'_>, abi: &Abi, address: u64) ->
     Some(text)
 }
 
-/// Addresses of the function, and the rules there, by ascending registers, whatever the order in which an ABI names them.
+/// Addresses of `FUNCTION`, and the rules there under an ABI. They come in order of register
+/// number, although the ABI doesn't name its registers in that order.
 const RULES: [(u64, &str); 2] = [
     (
         0x1000,

@@ -1,4 +1,5 @@
-//! Rules with bad expressions, each bad in its own way, and what is checked before and after them.
+//! Rules whose expressions are refused for different reasons, and which faults of a program come
+//! before or after those of its expressions.
 
 use crate::inputs::LITTLE;
 use dw_bytes::{Fault, FaultKind};
@@ -6,21 +7,24 @@ use dw_check::{CheckFault, Section, check};
 use dw_stack::MAX_HEIGHT;
 use std::alloc::{AllocError, Global};
 
-/// The part of a CIE between its length and its program: the CFA is register 7 plus 8, and register 16 is saved 8 below
-/// it.
+/// The part of a CIE between its length and the end of its first instructions: the CFA is register
+/// 7 plus 8, and register 16 is saved at the CFA minus 8.
 const CIE: [u8; 16] = [
     0xff, 0xff, 0xff, 0xff, 4, 0, 8, 0, 1, 0x78, 0x10, 0x0c, 7, 8, 0x90, 1,
 ];
 
-/// The part of an FDE of that CIE between its length and its program: it covers 0x1000 to 0x1020.
+/// The part of an FDE of this CIE between its length and its program. The FDE covers 0x1000 to
+/// 0x1020.
 const FDE: [u8; 20] = [
     0, 0, 0, 0, 0, 0x10, 0, 0, 0, 0, 0, 0, 0x20, 0, 0, 0, 0, 0, 0, 0,
 ];
 
-/// The greatest number of literals that an expression may push onto an empty stack.
+/// As many literals as an empty stack has room for. An expression that starts with the CFA on the
+/// stack has room for one fewer.
 const DEEP: [u8; MAX_HEIGHT as usize] = [0x30; MAX_HEIGHT as usize];
 
-/// Expressions of registers, which begin with the CFA on the stack, and the fault of each, counted from its first byte.
+/// Expressions of registers' rules, which start with the CFA on the stack. Each comes with its
+/// fault, and the fault's offset from the expression's first byte.
 const BAD: [(&[u8], FaultKind, u32); 14] = [
     (&[0x08], FaultKind::Truncated, 1),
     (
@@ -52,7 +56,7 @@ const BAD: [(&[u8], FaultKind, u32); 14] = [
     ),
 ];
 
-/// Adds a record whose body has these two parts.
+/// Appends a record whose body is `header` followed by `program`.
 fn push_record(section: &mut Vec<u8>, header: &[u8], program: &[u8]) -> Option<()> {
     let length = u32::try_from(header.len().saturating_add(program.len())).ok()?;
     section.extend_from_slice(&length.to_le_bytes()).ok()?;
@@ -60,7 +64,8 @@ fn push_record(section: &mut Vec<u8>, header: &[u8], program: &[u8]) -> Option<(
     section.extend_from_slice(program).ok()
 }
 
-/// The first fault of a CIE whose program continues with `common`, and an FDE whose program is `own`.
+/// The first fault of a section of two records: a CIE whose program ends with `common`, and an FDE
+/// whose program is `own`.
 fn first_fault(alloc: Global, common: &[u8], own: &[u8]) -> Option<CheckFault> {
     let mut section = Vec::new(alloc);
     push_record(&mut section, &CIE, common)?;
@@ -68,7 +73,8 @@ fn first_fault(alloc: Global, common: &[u8], own: &[u8]) -> Option<CheckFault> {
     check(alloc, section.as_slice(), &[], LITTLE).err()
 }
 
-/// A rule that saves register 6 at the address of an expression, which begins at the fifth byte.
+/// An instruction: register 6 is saved at the address that `expression` gives. The expression
+/// begins at the instruction's fifth byte.
 fn saved_by(alloc: Global, expression: &[u8]) -> Option<Vec<u8>> {
     let length = u8::try_from(expression.len()).ok()?;
     let mut program = Vec::new(alloc);
@@ -79,7 +85,8 @@ fn saved_by(alloc: Global, expression: &[u8]) -> Option<Vec<u8>> {
     Some(program)
 }
 
-/// The first fault with the expression in a CIE, and with it in an FDE.
+/// The first fault if the rule with `expression` is in a CIE, and the first fault if it is in an
+/// FDE.
 fn faults_by(alloc: Global, expression: &[u8]) -> Option<(CheckFault, CheckFault)> {
     let program = saved_by(alloc, expression)?;
     let common = first_fault(alloc, &program, &[])?;
@@ -104,8 +111,9 @@ fn names_the_fault_of_an_expression_in_a_rule(rt: HostRuntime) {
     }
 }
 
-/// Programs of a CIE and of an FDE, and their first fault: a block that is cut short; an offset that doesn't fit before a bad
-/// expression; and a CIE's bad expression before an FDE's fault.
+/// The end of a CIE's program, an FDE's program, and their first fault: an expression's block that
+/// is cut short; an offset that doesn't fit 64 bits, before a bad expression; and a bad expression
+/// in the CIE, before a fault of the FDE.
 const BEFORE: [(&[u8], &[u8], FaultKind, u32); 3] = [
     (&[], &[0x10, 6, 5, 0x12], FaultKind::Truncated, 47),
     (
@@ -132,7 +140,8 @@ fn names_the_fault_that_comes_before_an_expressions(rt: HostRuntime) {
     }
 }
 
-/// A program with the greatest number of rules, followed by this one.
+/// A program that gives 128 registers a rule, the most that are allowed, and then has the
+/// instruction `rule`.
 fn behind_most(alloc: Global, rule: &[u8]) -> Result<Vec<u8>, AllocError> {
     let mut program = Vec::new(alloc);
     for register in 0..128u8 {
@@ -142,13 +151,14 @@ fn behind_most(alloc: Global, rule: &[u8]) -> Result<Vec<u8>, AllocError> {
     Ok(program)
 }
 
-/// Rules after them, with a bad expression and with a good one.
+/// Instructions that give a 129th register a rule, the first with a bad expression, the second with
+/// a good one; and the fault of each.
 const ONE_TOO_MANY: [(&[u8], FaultKind, u32); 2] = [
     (&[0x10, 0x80, 1, 1, 0x18], FaultKind::UnknownOperation, 304),
     (&[0x10, 0x80, 1, 0], FaultKind::TooManyRules, 300),
 ];
 
-/// The expression of the rule that is one too many is checked before the number of rules.
+/// The expression of the 129th rule is checked before the number of rules is.
 #[test]
 fn names_an_expressions_fault_before_too_many_rules(rt: HostRuntime) -> Result<(), AllocError> {
     for &(rule, kind, at) in &ONE_TOO_MANY {

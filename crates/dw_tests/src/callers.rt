@@ -5,13 +5,14 @@ use dw_check::{Answer, Caller, check, unwind, unwind_by, unwind_by_section};
 use dw_rows::{Abi, check_frame};
 use std::alloc::Global;
 
-/// The only known register of the frame: register 6, as in the worked unwinding of the function.
+/// The only known register of the frame, register 6.
 const REGISTERS: OneRegister = OneRegister {
     known: 6,
     content: 0x7f00,
 };
 
-/// Whether it is the worked caller at 0x1010: the CFA is 16 above register 6, and what is saved below it can't be read.
+/// Whether `caller` is the expected caller of the frame at 0x1010: its CFA is register 6 plus 16,
+/// and the registers that are saved below the CFA can't be read.
 fn is_worked(caller: &Option<Caller>) -> bool {
     let Some(caller) = caller else {
         return false;
@@ -22,8 +23,8 @@ fn is_worked(caller: &Option<Caller>) -> bool {
         && caller.return_address == Answer::Unreadable
 }
 
-/// The callers at an address, without an ABI or under one without rules: by both sections, the frame section and its
-/// table.
+/// The caller of the frame at `address`, found in three ways that must agree: from both sections,
+/// from the frame section alone, and from its compiled table. The ABI of the last two has no rules.
 fn callers(alloc: Global, address: u64) -> Option<[Option<Caller>; 3]> {
     let checked = check(alloc, &FUNCTION, &[], LITTLE).ok()?;
     let frame = check_frame(alloc, &FUNCTION, LITTLE).ok()?;

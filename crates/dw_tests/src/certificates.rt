@@ -1,4 +1,5 @@
-//! Expressions, their depths and numbers of operations, and their first faults.
+//! Checks of expressions: the depth and number of operations of those that are accepted, and the
+//! first fault of those that are refused.
 
 use crate::inputs::LITTLE;
 use dw_bytes::{Fault, FaultKind};
@@ -7,10 +8,10 @@ use dw_stack::{Kind, certify, check_expression};
 use std::alloc::{AllocError, Global};
 use std::process::Abort;
 
-/// The depth and the number of operations, or the fault.
+/// The result of a check: an expression's depth and its number of operations, or its first fault.
 pub(crate) type Verdict = Result<(u8, u32), Fault>;
 
-/// The result of checking an expression.
+/// The result of checking the expression `bytes`.
 pub(crate) fn judged(rt: &impl Abort, alloc: Global, bytes: &[u8], kind: Kind) -> Verdict {
     assert!(rt; bytes.len() < 0x1_0000);
     let checked = check_expression(alloc, Expression::new(bytes, LITTLE), kind)?;
@@ -21,7 +22,8 @@ pub(crate) fn refusal(kind: FaultKind, at: u32) -> Verdict {
     Err(Fault { kind, at })
 }
 
-/// Expressions, and the depth and the number of operations of each; the last two branch.
+/// Accepted expressions, each with its kind, its depth and its number of operations. The last two
+/// branch.
 const ACCEPTED: [(&[u8], Kind, u8, u32); 5] = [
     (&[], Kind::Location, 0, 0),
     (&[0x35], Kind::FrameCfa, 1, 1),
@@ -38,7 +40,8 @@ fn gives_the_depth_and_count_of_what_is_good(rt: HostRuntime) {
     }
 }
 
-/// Expressions, and the first fault of each: in reading, by its kind, and on a path.
+/// Refused expressions, each with its kind and its first fault: an operand is cut short; the kind
+/// doesn't allow an operation; and an operation finds too few entries on the stack.
 const REFUSED: [(&[u8], Kind, FaultKind, u32); 3] = [
     (&[0x12, 0x08], Kind::Location, FaultKind::Truncated, 2),
     (&[0x9f], Kind::FrameCfa, FaultKind::NotInFrame, 0),

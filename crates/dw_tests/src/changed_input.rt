@@ -18,7 +18,7 @@ fn text_of(alloc: Global, row: &UnwindTableRow<'_, '_>) -> Result<String, AllocE
     Ok(text)
 }
 
-/// A look-up of this address finds this row.
+/// Asserts that looking up `address` finds `row`.
 fn is_found(
     rt: &impl Abort,
     alloc: Global,
@@ -36,7 +36,8 @@ fn is_found(
     Ok(())
 }
 
-/// The rows of the FDE that covers these addresses cover them one after the other, and each look-up agrees.
+/// Asserts that the rows of the FDE from `start` to `end` cover these addresses without a gap or an
+/// overlap, and that looking up the first and the last address of each row finds that row.
 fn rows_cover(
     rt: &impl Abort,
     alloc: Global,
@@ -59,7 +60,8 @@ fn rows_cover(
     Ok(())
 }
 
-/// The rows next to these addresses, if any, don't overlap them.
+/// Asserts that rows just before `start` and just after `end`, if there are any, don't overlap the
+/// addresses between.
 fn rows_end(rt: &impl Abort, frame: &CheckedFrame<'_>, start: u64, end: u64) {
     if let Some(row) = frame.row_for_address(end) {
         assert!(rt; row.start_address() >= end);
@@ -71,7 +73,7 @@ fn rows_end(rt: &impl Abort, frame: &CheckedFrame<'_>, start: u64, end: u64) {
     }
 }
 
-/// An address that is covered has a row and a caller, any other none.
+/// Asserts that `address` has a row and a caller if an FDE covers it, and neither otherwise.
 fn covered_have_callers(rt: &impl Abort, checked: &Checked<'_>, address: u64) {
     let is_covered = checked.frame().fde_for_address(address).is_some();
     let has_row = checked.frame().row_for_address(address).is_some();
@@ -80,7 +82,8 @@ fn covered_have_callers(rt: &impl Abort, checked: &Checked<'_>, address: u64) {
     assert_eq!(rt; caller.is_some(), is_covered);
 }
 
-/// All this for each FDE.
+/// Asserts for each FDE that its rows cover it, don't overlap others, and agree with look-ups of
+/// rows and callers.
 fn rows_agree(rt: &impl Abort, alloc: Global, checked: &Checked<'_>) -> Result<(), AllocError> {
     let frame = checked.frame();
     for fde in frame.fdes() {
@@ -98,7 +101,7 @@ fn rows_agree(rt: &impl Abort, alloc: Global, checked: &Checked<'_>) -> Result<(
     Ok(())
 }
 
-/// One of the expressions begins at this offset.
+/// Whether an expression of the lists begins at `offset`.
 fn has_expression(lists: &CheckedLists<'_>, offset: u32) -> bool {
     for (other, _) in lists.expressions() {
         if other == offset {
@@ -108,7 +111,8 @@ fn has_expression(lists: &CheckedLists<'_>, offset: u32) -> bool {
     false
 }
 
-/// Each list is found, and the expressions that it gives at an address are the section's.
+/// Asserts that each list is found by its offset, and that the expressions that it gives at some
+/// addresses are among the section's.
 fn lists_agree(rt: &impl Abort, lists: &CheckedLists<'_>) {
     for list in lists.lists() {
         let Some(found) = lists.list(list.offset()) else {
@@ -123,7 +127,8 @@ fn lists_agree(rt: &impl Abort, lists: &CheckedLists<'_>) {
     }
 }
 
-/// A check gives an answer; its fault is in the section that it names, and what it accepts is consistent.
+/// Checks two sections. If they are accepted, asserts that what the check returns is consistent; if
+/// not, that the fault's offset lies in the section that it names, and that memory didn't run out.
 fn answers(rt: &impl Abort, alloc: Global, frame: &[u8], lists: &[u8]) -> Result<(), AllocError> {
     match check(alloc, frame, lists, LITTLE) {
         Ok(checked) => {
@@ -142,7 +147,7 @@ fn answers(rt: &impl Abort, alloc: Global, frame: &[u8], lists: &[u8]) -> Result
     }
 }
 
-/// `answers` for a section, as a frame section or as lists.
+/// Calls `answers` with `bytes` as the frame section or as the lists, and the other section empty.
 fn section_answers(
     rt: &impl Abort,
     alloc: Global,
@@ -155,7 +160,7 @@ fn section_answers(
     }
 }
 
-/// The same for each beginning of the section, and for each change of one byte.
+/// Calls `section_answers` with each prefix of `bytes`, and with each change of one byte.
 fn each_change_answers(
     rt: &impl Abort,
     alloc: Global,
@@ -195,7 +200,8 @@ fn answers_each_change_of_lists(rt: HostRuntime) -> Result<(), AllocError> {
     each_change_answers(&rt, rt.alloc(), Section::Lists, &OVERLAPPING)
 }
 
-/// Changes of the function, each an offset and a new byte, with the first fault.
+/// Changes of one byte of `FUNCTION`: the byte's offset, its new value, and the first fault with
+/// its offset.
 const FUNCTION_CHANGES: [(usize, u8, FaultKind, u32); 12] = [
     (0, 0x15, FaultKind::Truncated, 29),
     (0, 0xff, FaultKind::Truncated, 4),
@@ -211,7 +217,8 @@ const FUNCTION_CHANGES: [(usize, u8, FaultKind, u32); 12] = [
     (55, 0x80, FaultKind::Truncated, 55),
 ];
 
-/// Changes of the list with a pair and a default.
+/// Changes of one byte of `PAIR_AND_DEFAULT`: the byte's offset, its new value, and the first fault
+/// with its offset.
 const LIST_CHANGES: [(usize, u8, FaultKind, u32); 9] = [
     (0, 0x11, FaultKind::NoEnd, 21),
     (4, 4, FaultKind::ListVersion, 4),
@@ -224,7 +231,7 @@ const LIST_CHANGES: [(usize, u8, FaultKind, u32); 9] = [
     (21, 5, FaultKind::Truncated, 22),
 ];
 
-/// The section with one byte changed.
+/// A copy of `bytes` whose byte at offset `at` is `byte`.
 fn changed(
     rt: &impl Abort,
     alloc: Global,
@@ -243,7 +250,7 @@ fn first_fault(alloc: Global, frame: &[u8], lists: &[u8]) -> Option<CheckFault> 
     check(alloc, frame, lists, LITTLE).err()
 }
 
-/// A fault of this section.
+/// The fault `kind` at offset `at` of `section`.
 fn fault_in(section: Section, kind: FaultKind, at: u32) -> Option<CheckFault> {
     let fault = Fault { kind, at };
     Some(CheckFault { section, fault })
@@ -265,7 +272,8 @@ fn names_the_fault_of_chosen_changes(rt: HostRuntime) -> Result<(), AllocError> 
     Ok(())
 }
 
-/// Changes of the function, and the row of an address: the highest byte of the range, and the offset of register 6.
+/// Changes of one byte of `FUNCTION`, and the row of an address then: the first changes the highest
+/// byte of the FDE's address range, the second the factored offset of register 6.
 const ROW_CHANGES: [(usize, u8, u64, &str); 2] = [
     (
         47,

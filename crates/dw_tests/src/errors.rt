@@ -1,4 +1,4 @@
-//! Errors as text, and errors converted from others.
+//! The texts of errors, and conversions from one error to another.
 
 use crate::inputs::{FUNCTION, LITTLE};
 use crate::texts::cases::asked;
@@ -8,7 +8,7 @@ use std::alloc::{AllocError, Global};
 use std::error::Error;
 use std::process::Abort;
 
-/// Every kind, with the number and name in docs/PROFILE.md.
+/// Every kind of fault, with its number and name in docs/PROFILE.md.
 const KINDS: [(FaultKind, u8, &str); 47] = [
     (FaultKind::Truncated, 1, "Truncated"),
     (FaultKind::LebRange, 2, "LebRange"),
@@ -63,7 +63,7 @@ const KINDS: [(FaultKind, u8, &str); 47] = [
     (FaultKind::CertState, 71, "CertState"),
 ];
 
-/// The error has this text.
+/// Asserts that `error` is shown as `wanted`.
 fn is_shown<E: Error>(
     rt: &(impl Abort + AllocGlobal),
     error: &E,

@@ -1,4 +1,5 @@
-//! Evaluations by the library's own call, with numbers that may be greater than any address.
+//! Evaluations by the library's own call. Registers and context contain values that don't fit an
+//! address of four bytes.
 
 use crate::inputs::{LITTLE, LITTLE_SHORT, OneRegister, Unknown};
 use dw_bytes::Target;
@@ -18,7 +19,7 @@ const CONTEXT: Context = Context {
     object: Some(0x1_0000_0010),
 };
 
-/// The outcome of an expression and its number of steps, if it is good.
+/// The outcome of an expression and its number of steps, if the expression is accepted.
 fn evaluated<'a>(
     alloc: Global,
     bytes: &'a [u8],
@@ -38,7 +39,7 @@ fn address(address: u64) -> Option<(Outcome<'static>, u32)> {
     Some((Outcome::Single(Location::Address(address)), 1))
 }
 
-/// Operations, and the addresses that they give with addresses of eight bytes and of four.
+/// Operations, and the address that each gives with 8-byte addresses and with 4-byte ones.
 const HANDED_IN: [(&[u8], u64, u64); 5] = [
     (&[0x77, 0x08], 0x1_0000_7f08, 0x7f08),
     (&[0x92, 0x07, 0x78], 0x1_0000_7ef8, 0x7ef8),

@@ -16,10 +16,11 @@ use dw_eval::{Context, Memory, Outcome, Registers, evaluate};
 use dw_rows::{Abi, CheckedFrame, RegisterRule, UnwindTable};
 use dw_stack::CheckedExpression;
 
-/// Where a function has saved a register at an address: the offset from the CFA in bytes.
+/// The offset from the CFA, in bytes, at which the function at `address` has saved a register.
 ///
-/// It is the rule of the one row that has the address (`dw_rows::laws::exact_rows`): the look-up can't fail, so `None`
-/// means that no FDE covers the address, or that the register has another rule.
+/// It is the rule of the only row that covers `address` (`dw_rows::laws::exact_rows`). The look-up
+/// can't fail, so `None` means that no FDE covers `address`, or that the register's rule isn't an
+/// offset.
 pub fn saved_offset(frame: &CheckedFrame<'_>, address: u64, register: u16) -> Option<i64>
     ensures { IfSome result (λ n. (row : Row) × (row_of frame.now address ≡ Some row)
         × (rule_in row.rules register ≡ offset n)) }
@@ -33,8 +34,9 @@ pub fn saved_offset(frame: &CheckedFrame<'_>, address: u64, register: u16) -> Op
 
 /// The value of a checked expression with given registers and memory, if it has a value.
 ///
-/// That a run ends, within its number of operations and with the standard's value, needs no test here:
-/// `CheckedExpression` promises it. `None` means that something isn't known, or that the expression is a location.
+/// No test is needed here that the run ends within the expression's number of operations, and with
+/// the standard's value: `CheckedExpression` promises that. `None` means that the run needs
+/// something that isn't given, that it divides by zero, or that the expression is a location.
 pub fn computed_value<R: Registers, M: Memory>(
     expression: &CheckedExpression<'_>,
     registers: &R,
@@ -63,8 +65,8 @@ pub fn computed_value<R: Registers, M: Memory>(
     }
 }
 
-/// The caller of a frame by a table that was compiled before. It is the caller by the table's section, whichever that is;
-/// the section's bytes may be gone.
+/// The caller of a frame by a compiled table. It is the caller by whichever section the table was
+/// compiled from, even if that section's bytes no longer exist.
 pub fn caller_by_table<R: Registers, M: Memory>(
     table: &UnwindTable,
     abi: &Abi,

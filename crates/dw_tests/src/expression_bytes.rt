@@ -5,8 +5,8 @@ use dw_bytes::{Fault, FaultKind};
 use dw_ops::{Expression, Operation, decode_one, operations};
 use std::alloc::Global;
 
-/// Bytes, and the operation that they encode: each line of the table of operations, and the first and last of each range
-/// of 32 codes.
+/// Bytes, and the operation that they encode. Each operation occurs, and each of `lit`, `reg` and
+/// `breg`, which have 32 opcodes, occurs with its last opcode and a lower one.
 const OPERATIONS: &str = "\
 030102030405060708: Addr { address: 578437695752307201 }
 08ff: Const1u { value: 255 }
@@ -68,7 +68,7 @@ const OPERATIONS: &str = "\
 2c: Le
 ";
 
-/// Bytes that encode no operation: the fault and its offset.
+/// Bytes that encode no operation, each with the fault and its offset.
 const FAULTS: &str = "\
 00: UnknownOperation 0
 18: UnknownOperation 0
@@ -84,7 +84,7 @@ ff: UnknownOperation 0
 9403: BadSize 0
 ";
 
-/// The operation that all of these bytes encode, or the fault if they encode none, as text.
+/// The only operation in the bytes, or the fault of the first one, as text.
 fn shown(alloc: Global, digits: &str) -> Option<String> {
     let bytes = bytes_of(alloc, digits)?;
     if bytes.is_empty() || bytes.len() >= 16 {
@@ -140,7 +140,7 @@ fn refuses_a_read_that_is_wider_than_an_address(rt: HostRuntime) {
     );
 }
 
-/// A list of seventeen operations allocates: with enough memory all are read.
+/// A list of more than sixteen operations takes memory from the allocator.
 #[test]
 fn lists_seventeen_operations(rt: HostRuntime) -> Result<(), Fault> {
     let list = operations(rt.alloc(), &Expression::new(&[0x31; 17], LITTLE))?;

@@ -32,8 +32,8 @@ fn first_program_fault(section: &[u8], target: Target) -> Option<(FaultKind, u32
     None
 }
 
-/// Of a def_cfa_expression of an FDE that is the second record: the offset of the instruction, the offset of its
-/// expression, and the expression's bytes.
+/// The def_cfa_expression that begins the program of an FDE, the section's second record: the
+/// offset of the instruction, the offset of its expression, and the expression's bytes.
 fn first_cfa_expression(section: &[u8]) -> Option<(u32, u32, &[u8])>
     requires { length section.now < 2 ^ 32 }
 {
@@ -48,7 +48,8 @@ fn first_cfa_expression(section: &[u8]) -> Option<(u32, u32, &[u8])>
     }
 }
 
-/// Programs, and where their expression begins: after a length of one byte, and of two.
+/// Programs that begin with a def_cfa_expression, and the offset of its expression in the section.
+/// The expression comes after a length of one byte, and of two.
 const WITH_EXPRESSIONS: [([u8; 8], u32); 2] = [
     ([0x0f, 3, 0x77, 8, 6, 0, 0, 0], 50),
     ([0x0f, 0x83, 0, 0x77, 8, 6, 0, 0], 51),
@@ -74,7 +75,9 @@ const LONG: [u8; 80] = [
     0x0e, 0x10, 0x86, 2, 0x43, 0x0d, 6, 0, 0, 0, 0,
 ];
 
-/// The fields of a record's header, and where its program begins and ends.
+/// A record's offset and format, three numbers of its header, and where its program begins and
+/// ends. The numbers are a CIE's alignment factors and return address register, or an FDE's
+/// CIE_pointer, the offset of that field, and the end of the address range.
 type Header = (u32, Format, u64, i64, u64, u32, u32);
 
 /// The header of a record.
@@ -194,8 +197,8 @@ const LONG_BIG: [u8; 55] = [
     0, 0, 0, 0, 0, 0, 0x80, 0, 0, 0, 0, 0x10,
 ];
 
-/// CIEs of versions 1 and 3 in both formats, the little-endian ones with return address column 144, the big-endian ones
-/// with 14. The column has one more byte in version 3.
+/// CIEs of versions 1 and 3 in both formats. The return address column is 144 in the little-endian
+/// ones and 14 in the big-endian ones. It takes one byte in version 1, and two bytes in version 3.
 const OLDER: [(Target, &str); 8] = [
     (LITTLE, "14000000ffffffff01000178900c07089001000000000000"),
     (LITTLE, "14000000ffffffff0300017890010c070890010000000000"),
@@ -219,7 +222,7 @@ const OLDER: [(Target, &str); 8] = [
     ),
 ];
 
-/// The ends of the length and of each field of the header of such a CIE.
+/// Where the length and each field of the header of a CIE of `OLDER` end.
 fn older_fields(section: &[u8]) -> Option<[usize; 7]> {
     let (head, id) = if *section.first()? == 0xff {
         (12, 20)
@@ -237,7 +240,8 @@ fn first_cie(section: &[u8], target: Target) -> Option<(u8, Header)> {
     Some((cie.version(), header_of(&Entry::Cie(cie))))
 }
 
-/// The fields of such a CIE: its code alignment factor is 1, and its data alignment factor -8.
+/// The expected version and header of a CIE of `OLDER`. The code alignment factor is 1, and the
+/// data alignment factor -8.
 fn older_cie(section: &[u8], target: Target) -> Option<(u8, Header)> {
     let fields = older_fields(section)?;
     let format = match fields[0] {
@@ -265,7 +269,10 @@ fn reads_cies_of_older_versions(rt: HostRuntime) {
     assert_eq!(rt; first_cie(&FUNCTION, LITTLE).map(|found| found.0), Some(4));
 }
 
-/// The first size of a record, cut in its header, for which the fault isn't `Truncated` at the field that is cut.
+/// Cuts the record at `start` at each byte of its header, and makes its length match. Returns the
+/// first size for which the fault isn't `Truncated` at the field that is cut. `low` is the index of
+/// the length's least significant byte. `fields` says where the length and each field of the header
+/// end.
 fn misjudged(
     section: &[u8],
     target: Target,
@@ -298,8 +305,8 @@ fn misjudged(
 
 #[test]
 fn names_the_field_that_a_body_cuts_off(rt: HostRuntime) {
-    // The section, its target, where the record begins, the index of the last byte of its length, and the ends of the
-    // length and of each field of its header.
+    // The section, its target, where the record begins, the index of the least significant byte of
+    // its length, and where the length and each field of its header end.
     let headers: [(&[u8], Target, usize, usize, &[usize]); 8] = [
         (&FUNCTION, LITTLE, 0, 0, &[4, 8, 9, 10, 11, 12, 13, 14, 15]),
         (&FUNCTION, LITTLE, 24, 0, &[4, 8, 16, 24]),
@@ -334,7 +341,7 @@ fn names_the_field_that_an_older_body_cuts_off(rt: HostRuntime) {
         let Some(fields) = older_fields(&section) else {
             panic!(rt; "{digits} is no CIE")
         };
-        // The last byte of the length that isn't 0.
+        // The index of the length's least significant byte.
         let low = match target.order {
             Order::Little if fields[0] == 4 => 0,
             Order::Little => 4,
@@ -360,7 +367,8 @@ fn refuses_other_versions(rt: HostRuntime) {
 
 #[test]
 fn a_column_has_a_byte_or_is_at_most_65535(rt: HostRuntime) {
-    // The version, three bytes from the column's first on, and the column or its fault.
+    // The version, the three bytes from the return address column on, and the column that they
+    // give, or its fault.
     let columns: [(u8, [u8; 3], Result<u16, FaultKind>); 6] = [
         (1, [0xff, 0, 0], Ok(255)),
         (1, [0x80, 0x80, 4], Ok(128)),
@@ -400,7 +408,8 @@ fn names_the_fault_of_a_changed_header(rt: HostRuntime) {
     }
 }
 
-/// Headers that are bad in themselves, and the offset of the fault.
+/// Records whose header is refused whatever else the section contains, each with its fault and the
+/// fault's offset.
 const BAD_HEADERS: [(&str, Target, FaultKind, u32); 5] = [
     ("f0ffffff", LITTLE, FaultKind::ReservedLength, 0),
     ("fffffffe", BIG_SHORT, FaultKind::ReservedLength, 0),
@@ -447,7 +456,8 @@ fn takes_a_range_up_to_the_last_address(rt: HostRuntime) {
 
 #[test]
 fn finds_cies_by_their_offset(rt: HostRuntime) {
-    // What has the CIE's offset, no CIE, or the offset of the fault.
+    // The length to which `FUNCTION` is cut, the offset at which a CIE is sought, and the result:
+    // the offset of the CIE, `None` if there is no CIE, or the offset of the fault.
     let cases: [(usize, u64, Result<Option<u32>, u32>); 5] = [
         (56, 0, Ok(Some(0))),
         (56, 24, Ok(None)),

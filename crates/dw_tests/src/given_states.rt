@@ -1,4 +1,4 @@
-//! States that are given.
+//! Checks of expressions with states that the caller passes (`recheck`).
 
 ghost use Rattle.std.specs.Prelude.{◌<◌, ◌^◌, length};
 
@@ -10,7 +10,8 @@ use dw_stack::{Kind, Mode, State, certify, recheck};
 use std::alloc::{AllocError, Global};
 use std::process::Abort;
 
-/// The depth and the number of operations, or the fault.
+/// The result of checking an expression with the given `states`: its depth and its number of
+/// operations, or the fault.
 fn rechecked(
     rt: &impl Abort,
     alloc: Global,
@@ -23,8 +24,8 @@ fn rechecked(
     Ok((checked.depth(), checked.operation_count()))
 }
 
-/// States before these operations, each with its offset and its number of stack entries; the location is on the
-/// stack.
+/// The states before operations with these offsets and stack heights. The mode of each is `Stack`,
+/// and no piece came before.
 fn states_of(alloc: Global, numbers: &[(u32, u8)]) -> Result<Vec<State>, AllocError> {
     let mut states = Vec::new(alloc);
     for (offset, height) in numbers {
@@ -38,15 +39,16 @@ fn states_of(alloc: Global, numbers: &[(u32, u8)]) -> Result<Vec<State>, AllocEr
     Ok(states)
 }
 
-/// The sum of 2 and 3, and its states.
+/// An expression that adds 2 and 3. `STATES_OF_SUM` has its states.
 const SUM: [u8; 3] = [0x32, 0x33, 0x22];
 
 const STATES_OF_SUM: [(u32, u8); 3] = [(0, 0), (1, 1), (2, 2)];
 
-/// A branch over a literal, whose two ways meet with different heights.
+/// A branch that skips a literal, so that two paths meet with different stack heights.
 const MEETING: [u8; 6] = [0x30, 0x28, 0x01, 0x00, 0x31, 0x32];
 
-/// Expressions, states, and the first fault with these states.
+/// Expressions with states that are refused, and the first fault. A state is written as an offset
+/// and a stack height.
 const REFUSED: [(&[u8], Kind, &[(u32, u8)], FaultKind, u32); 7] = [
     (
         &SUM,
@@ -90,7 +92,7 @@ const REFUSED: [(&[u8], Kind, &[(u32, u8)], FaultKind, u32); 7] = [
         FaultKind::Mismatch,
         5,
     ),
-    // The given state is checked before the kind.
+    // The state is checked before whether the kind allows the operation.
     (&[0x9c], Kind::FrameCfa, &[(0, 1)], FaultKind::CertState, 0),
 ];
 
@@ -104,7 +106,7 @@ fn refuses_other_states(rt: HostRuntime) -> Result<(), AllocError> {
     Ok(())
 }
 
-/// Expressions, their states, and their depths and numbers of operations.
+/// Expressions with states that are accepted, and the depth and number of operations of each.
 const ACCEPTED: [(&[u8], Kind, &[(u32, u8)], u8, u32); 2] = [
     (&SUM, Kind::Location, &STATES_OF_SUM, 2, 3),
     (&[0x12, 0x22], Kind::FrameRegister, &[(0, 1), (1, 2)], 2, 2),
@@ -134,7 +136,7 @@ fn certifies_a_sum_with_its_states(rt: HostRuntime) -> Result<(), AllocError> {
 
 const MODES: [Mode; 4] = [Mode::Stack, Mode::Register, Mode::Value, Mode::AfterPiece];
 
-/// An expression, and the states on its paths.
+/// An expression with the states of its certificate.
 #[derive(Clone, Copy)]
 struct Certified<'a> {
     bytes: &'a [u8],
@@ -143,7 +145,7 @@ struct Certified<'a> {
 }
 
 impl Certified<'_> {
-    /// These states are refused with this fault.
+    /// Asserts that the states `given` are refused with `fault` at offset `at`.
     fn refuses_states(
         &self,
         rt: &impl Abort,
@@ -156,7 +158,8 @@ impl Certified<'_> {
         assert_eq!(rt; found, refusal(fault, at));
     }
 
-    /// A changed state with this number is refused there.
+    /// Asserts that the states are refused at the offset of state `i` if `other` takes that state's
+    /// place.
     fn refuses(
         &self,
         rt: &impl Abort,
@@ -172,7 +175,7 @@ impl Certified<'_> {
         Ok(())
     }
 
-    /// The state with this number differs in its offset.
+    /// Asserts that the states are refused if state `i` has any other offset, up to 255.
     fn refuses_offsets(&self, rt: &impl Abort, alloc: Global, i: usize) -> Result<(), AllocError> {
         assert!(rt; i < self.states.len());
         let state = self.states[i];
@@ -184,7 +187,7 @@ impl Certified<'_> {
         Ok(())
     }
 
-    /// The state with this number differs in its height.
+    /// Asserts that the states are refused if state `i` has any other height.
     fn refuses_heights(&self, rt: &impl Abort, alloc: Global, i: usize) -> Result<(), AllocError> {
         assert!(rt; i < self.states.len());
         let state = self.states[i];
@@ -196,7 +199,8 @@ impl Certified<'_> {
         Ok(())
     }
 
-    /// The state with this number differs in its mode, or in whether a piece came before.
+    /// Asserts that the states are refused if state `i` has any other mode, or differs in whether a
+    /// piece came before.
     fn refuses_modes(&self, rt: &impl Abort, alloc: Global, i: usize) -> Result<(), AllocError> {
         assert!(rt; i < self.states.len());
         let state = self.states[i];
@@ -209,7 +213,7 @@ impl Certified<'_> {
         self.refuses(rt, alloc, i, State { pieced, ..state })
     }
 
-    /// One state is left out, or occurs twice.
+    /// Asserts that the states are refused if the last one is left out, or occurs twice.
     fn refuses_counts(&self, rt: &impl Abort, alloc: Global) -> Result<(), AllocError> {
         let mut given = self.states.to_vec(alloc)?;
         let Some(last) = given.pop() else {
@@ -223,7 +227,7 @@ impl Certified<'_> {
     }
 }
 
-/// The states on the paths of an expression.
+/// The states of an expression's certificate.
 fn own_states(alloc: Global, bytes: &[u8], kind: Kind) -> Option<Vec<State>>
     requires { length bytes.now < 2 ^ 32 }
 {
@@ -231,7 +235,8 @@ fn own_states(alloc: Global, bytes: &[u8], kind: Kind) -> Option<Vec<State>>
     certificate.states().to_vec(alloc).ok()
 }
 
-/// The certificate's states are accepted; none changed in one field is, nor one more or one fewer.
+/// Asserts that the states of an expression's certificate are accepted, and that they are refused
+/// if one field of one state is changed, or if there is one state more or one fewer.
 fn takes_only_its_own(
     rt: &impl Abort,
     alloc: Global,

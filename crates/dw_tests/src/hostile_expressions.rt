@@ -23,7 +23,7 @@ fn judges_a_thousand_branches_to_one_target(rt: HostRuntime) -> Result<(), Alloc
 #[test]
 fn judges_ten_thousand_diamonds_in_a_row(rt: HostRuntime) -> Result<(), AllocError> {
     let mut bytes = Vec::new(rt.alloc());
-    // Each doubles the number of paths.
+    // Each of these branches doubles the number of paths.
     push_times(&mut bytes, &[0x30, 0x28, 0x01, 0x00, 0x96], 10_000)?;
     bytes.push(0x30)?;
     assert_eq!(rt;
@@ -59,7 +59,8 @@ fn judges_the_farthest_branch(rt: HostRuntime) -> Result<(), AllocError> {
     Ok(())
 }
 
-/// One way of a branch pushes `count` entries and drops them again, the other skips them.
+/// An expression with a branch. One path pushes `count` entries and drops them again; the other
+/// path skips these operations.
 fn one_high_way(alloc: Global, count: u8) -> Result<Vec<u8>, AllocError> {
     let mut bytes = Vec::new(alloc);
     let [low, high] = (2 * u16::from(count)).to_le_bytes();

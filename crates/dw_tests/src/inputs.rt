@@ -22,41 +22,44 @@ pub(crate) const BIG_SHORT: Target = Target {
     address_size: AddressSize::Four,
 };
 
-/// A CIE, and an FDE of 0x1000 to 0x1020: the first of the worked examples.
+/// A CIE, and an FDE of 0x1000 to 0x1020: the first example of docs/WORKED.md.
 pub(crate) const FUNCTION: [u8; 56] = [
     0x14, 0, 0, 0, 0xff, 0xff, 0xff, 0xff, 4, 0, 8, 0, 1, 0x78, 0x10, 0x0c, 7, 8, 0x90, 1, 0, 0, 0,
     0, 0x1c, 0, 0, 0, 0, 0, 0, 0, 0, 0x10, 0, 0, 0, 0, 0, 0, 0x20, 0, 0, 0, 0, 0, 0, 0, 0x41, 0x0e,
     0x10, 0x86, 2, 0x43, 0x0d, 6,
 ];
 
-/// A CIE and an FDE of 0x8000 to 0x8010 in big-endian order, with addresses of four bytes: from 0x8008 on the CFA is
-/// register 13 plus 8, and register 14 is saved at 4 below it.
+/// A CIE and an FDE of 0x8000 to 0x8010 in big-endian order, with addresses of four bytes. From
+/// 0x8008 on, the CFA is register 13 plus 8, and register 14 is saved at the CFA minus 4.
 pub(crate) const BIG_FUNCTION: [u8; 44] = [
     0, 0, 0, 0x10, 0xff, 0xff, 0xff, 0xff, 4, 0, 4, 0, 4, 0x7c, 0x0e, 0x0c, 0x0d, 0, 0, 0, 0, 0, 0,
     0x14, 0, 0, 0, 0, 0, 0, 0x80, 0, 0, 0, 0, 0x10, 0x42, 0x0e, 8, 0x8e, 1, 0, 0, 0,
 ];
 
-/// The CIE, and an FDE whose rules have expressions.
+/// The CIE of `FUNCTION`, and an FDE of 0x1000 to 0x1020 whose rules of registers 6 and 7 have
+/// expressions.
 pub(crate) const EXPRESSIONS: [u8; 56] = [
     0x14, 0, 0, 0, 0xff, 0xff, 0xff, 0xff, 4, 0, 8, 0, 1, 0x78, 0x10, 0x0c, 7, 8, 0x90, 1, 0, 0, 0,
     0, 0x1c, 0, 0, 0, 0, 0, 0, 0, 0, 0x10, 0, 0, 0, 0, 0, 0, 0x20, 0, 0, 0, 0, 0, 0, 0, 0x10, 6, 2,
     0x23, 8, 0x16, 7, 0,
 ];
 
-/// The CIE, and an FDE of 0 to 0x20 whose return address is 7, whatever is known: an endless walk.
+/// The CIE of `FUNCTION`, and an FDE of 0 to 0x20. Its return address is always 7, so a walk goes
+/// on without end.
 pub(crate) const ROUND: [u8; 56] = [
     0x14, 0, 0, 0, 0xff, 0xff, 0xff, 0xff, 4, 0, 8, 0, 1, 0x78, 0x10, 0x0c, 7, 8, 0x90, 1, 0, 0, 0,
     0, 0x1c, 0, 0, 0, 0, 0, 0, 0, 0, 0, 0, 0, 0, 0, 0, 0, 0x20, 0, 0, 0, 0, 0, 0, 0, 0x0f, 1, 0x3f,
     0x14, 0x10, 1, 0, 0,
 ];
 
-/// A list at 0xc: 0 to 0x10 after the base in register 0, and else the value 0.
+/// A list at 0xc: the object is in register 0 for the first 0x10 addresses from the base on, and
+/// has the value 0 at all others.
 pub(crate) const PAIR_AND_DEFAULT: [u8; 22] = [
     0x12, 0, 0, 0, 5, 0, 8, 0, 0, 0, 0, 0, 4, 0, 0x10, 1, 0x50, 5, 2, 0x30, 0x9f, 0,
 ];
 
-/// A list at 0xc: with the base 0x2000, 0x2000 to 0x2010 in register 0, 0x2008 to 0x2018 in register 1, and an empty
-/// range in register 2.
+/// A list at 0xc that sets the base to 0x2000. The object is in register 0 from 0x2000 to 0x2010,
+/// and in register 1 from 0x2008 to 0x2018; an entry with an empty range says register 2.
 pub(crate) const OVERLAPPING: [u8; 58] = [
     0x36, 0, 0, 0, 5, 0, 8, 0, 0, 0, 0, 0, 6, 0, 0x20, 0, 0, 0, 0, 0, 0, 4, 0, 0x10, 1, 0x50, 8, 8,
     0x20, 0, 0, 0, 0, 0, 0, 0x10, 1, 0x51, 7, 0, 0x20, 0, 0, 0, 0, 0, 0, 0, 0x20, 0, 0, 0, 0, 0, 0,

@@ -1,4 +1,4 @@
-//! One case for each line of the table of instructions, each alone in the program of an FDE.
+//! A case for each call frame instruction, each alone in the program of an FDE.
 
 use crate::inputs::{BIG_SHORT, bytes_of, parts_of};
 use dw_bytes::Fault;
@@ -42,7 +42,8 @@ fn first_fault(alloc: Global, bytes: &[u8]) -> Option<String> {
     format!(in alloc; "{kind:?} {at}").ok()
 }
 
-/// Bytes, where their last field begins, and the instruction that they encode.
+/// An instruction's bytes, the offset in the section where its last field begins, and the
+/// instruction.
 const INSTRUCTIONS: &str = "\
 7f | 16: AdvanceLoc { delta: 63 }
 868201 | 17: Offset { register: 6, factored_offset: 130 }
@@ -73,7 +74,8 @@ ff | 16: Restore { register: 63 }
 160602309f | 19: ValExpression { register: 6, expression: UnwindExpression { offset: 19, expression: Expression { bytes: [48, 159], target: Target { order: Big, address_size: Four } } } }
 ";
 
-/// The bytes encode this instruction, and without their last byte its last field is cut short.
+/// Asserts that the bytes encode the instruction `wanted`, and that without their last byte the
+/// fault is `Truncated` at the offset `last`.
 fn is_instruction(rt: &(impl Abort + AllocGlobal), digits: &str, last: &str, wanted: &str) {
     let Some(bytes) = bytes_of(rt.alloc(), digits) else {
         panic!(rt; "{digits}")
@@ -125,7 +127,8 @@ fn instructions_come_in_order(rt: HostRuntime) {
     assert_eq!(rt; found.as_deref(), Some(LISTED));
 }
 
-/// The fault that ends the instructions of a program, after which there are none, as text.
+/// The fault that ends the iteration over the instructions of a program, as text, if nothing comes
+/// after the fault.
 fn last_fault(alloc: Global, digits: &str) -> Option<String> {
     let section = section_with(alloc, &bytes_of(alloc, digits)?)?;
     let mut instructions = first_program(&section)?.instructions();

@@ -8,7 +8,8 @@ use dw_eval::{MemoryBlock, Registers};
 use dw_rows::{Abi, CheckedFrame, UnwindTable, check_frame};
 use std::alloc::Global;
 
-/// A frame in which only register 6 is known: its stack begins at 0x7000.
+/// The registers of a frame where only register 6 is known. Its content is the address of the first
+/// byte of `STACK`.
 #[derive(Clone, Copy)]
 struct FramePointer {}
 
@@ -29,7 +30,8 @@ const STACK: MemoryBlock<'static> = MemoryBlock {
     ],
 };
 
-/// The function at 0x101000 and at 0x201000, by tables.
+/// Two modules with compiled tables of `FUNCTION`: the program has the function at 0x101000, the
+/// library at 0x201000.
 fn program_and_library(alloc: Global) -> Option<[Module<UnwindTable>; 2]> {
     let program = check_frame(alloc, &FUNCTION, LITTLE).ok()?;
     let program = program.compile(alloc, 1 << 20).ok()??;
@@ -41,7 +43,8 @@ fn program_and_library(alloc: Global) -> Option<[Module<UnwindTable>; 2]> {
     ])
 }
 
-/// From the library to the program, and to an address that nothing covers.
+/// The frames of a walk from the library to the program, and from there to an address that no
+/// module covers.
 const FRAMES: [BriefFrame; 3] = [
     BriefFrame {
         address: 0x20_1010,
@@ -127,7 +130,7 @@ fn a_backtrace_keeps_the_frames_of_the_walk(rt: HostRuntime) {
     }
 }
 
-/// The CFA at an address by these modules, none if no module covers it.
+/// The CFA of the frame at `address`, or `None` if no module covers that address.
 fn cfa_in(modules: &[Module<&CheckedFrame<'_>>], address: u64) -> Option<Answer> {
     match unwind_in(modules, &Abi::none(), address, &FramePointer {}, &STACK) {
         Some(caller) => Some(caller.cfa),

@@ -1,6 +1,7 @@
-//! Calls that may run out of memory. If an allocation is refused, the answer is out of memory and nothing else, and the
-//! call gives its worked answer when it is made again. `bench/stress/refused_memory.py` runs each test with its Nth
-//! allocation refused, for every N; with enough memory only the worked answers are compared.
+//! Calls that may run out of memory. If an allocation is refused, a call must report that it is out
+//! of memory, and nothing else; when it is made again, it must give the expected answer.
+//! `bench/stress/refused_memory.py` runs each test with its Nth allocation refused, for every N. In
+//! an ordinary run nothing is refused, and the test only compares the expected answer.
 
 ghost use Rattle.std.specs.Prelude.{◌≡◌, ◌≤◌, ◌<◌, ◌^◌, length};
 
@@ -24,11 +25,11 @@ use std::process::Abort;
 /// An expression with forty pushes.
 const PUSHES: [u8; 40] = [0x30; 40];
 
-/// The function as hex text.
+/// `FUNCTION` as hex text.
 const FUNCTION_TEXT: &str = "14000000 ffffffff 04 00 08 00 01 78 10 0c0708 9001 00000000
 1c000000 00000000 0010000000000000 2000000000000000 41 0e10 8602 43 0d06";
 
-/// Its rows.
+/// The rows of `FUNCTION`.
 const ROWS: &str = "\
 fde 0x00000018 cie 0x00000000 0x0000000000001000..0x0000000000001020 ra r16
 row 0x0000000000001000..0x0000000000001001 cfa=r7+8 r16=[c-8]
@@ -36,7 +37,7 @@ row 0x0000000000001001..0x0000000000001004 cfa=r7+16 r6=[c-16] r16=[c-8]
 row 0x0000000000001004..0x0000000000001020 cfa=r6+16 r6=[c-16] r16=[c-8]
 ";
 
-/// The report on the function and the lists of `PAIR_AND_DEFAULT`.
+/// The report on `FUNCTION` and the lists of `PAIR_AND_DEFAULT`.
 const REPORT: &str = "\
 accepted
 cies 1 fdes 1 rows 3
@@ -45,7 +46,7 @@ expr lists 0x00000010 location ops 1 depth 0
 expr lists 0x00000013 location ops 2 depth 1
 ";
 
-/// The report on the function with expressions and no lists.
+/// The report on `EXPRESSIONS` and no lists.
 const REPORT_OF_EXPRESSIONS: &str = "\
 accepted
 cies 1 fdes 1 rows 1
@@ -109,8 +110,9 @@ enum Call {
 }
 
 impl Call {
-    /// Makes the call. Either it gets the memory that it requests and gives its worked answer, or it answers out of
-    /// memory.
+    /// Makes the call. Returns `true` if the call got all memory that it requested and gave the
+    /// expected answer, and `false` if it reported that it is out of memory. Anything else fails
+    /// the test.
     fn has_memory(self, rt: &impl Abort, alloc: Global) -> bool {
         match self {
             Call::Operations => reads_operations(rt, alloc),
@@ -154,7 +156,7 @@ fn reads_operations(rt: &impl Abort, alloc: Global) -> bool {
     }
 }
 
-/// The state before the operation with this number.
+/// The state before operation `number` of `PUSHES`.
 fn state(number: u8) -> State {
     State {
         offset: u32::from(number),
@@ -253,7 +255,7 @@ fn reports(rt: &impl Abort, alloc: Global, frame: &[u8], lists: &[u8], text: &st
     }
 }
 
-/// The words of the first of the worked examples.
+/// The command line of the first example of docs/WORKED.md.
 fn words(alloc: Global) -> Result<Vec<String>, AllocError> {
     let mut words: Vec<String> = Vec::new(alloc);
     for word in ["dwcheck", "rows", "--hex", "f"] {
@@ -282,14 +284,14 @@ fn requests(rt: &impl Abort, alloc: Global) -> bool {
     }
 }
 
-/// The only file of a request.
+/// The contents of a request's files: its only file contains `text`.
 fn files(alloc: Global, text: &str) -> Result<Vec<Vec<u8>>, AllocError> {
     let mut files: Vec<Vec<u8>> = Vec::new(alloc);
     files.push(Vec::from_slice(alloc, text.as_bytes())?)?;
     Ok(files)
 }
 
-/// The request of these words, and its file with this content, if there is enough memory for them.
+/// The request of `words`, and its only file with this content, if there is enough memory.
 fn request_and_files(alloc: Global, content: &str) -> Option<(Request, Vec<Vec<u8>>)> {
     let request = request(alloc, words(alloc).ok()?).ok()?;
     Some((request, files(alloc, content).ok()?))
@@ -330,7 +332,7 @@ fn loads(rt: &impl Abort, alloc: Global) -> bool {
     }
 }
 
-/// A walk of forty frames, so that the list of them grows again and again.
+/// A walk of forty frames, so that the list of frames is reallocated several times.
 fn walks(rt: &impl Abort, alloc: Global) -> bool {
     let Ok(checked) = check(alloc, &ROUND, &[], LITTLE) else {
         return false;
@@ -349,7 +351,7 @@ fn walks(rt: &impl Abort, alloc: Global) -> bool {
     }
 }
 
-/// A table of a section, in which the row of an address ends at `end`.
+/// Compiles the table of a section, in which the row of `address` must end at `end`.
 fn compiles(rt: &impl Abort, alloc: Global, section: &[u8], address: u64, end: u64) -> bool
     requires { length section.now < 2 ^ 32 }
 {
@@ -372,7 +374,8 @@ fn compiles(rt: &impl Abort, alloc: Global, section: &[u8], address: u64, end: u
     }
 }
 
-/// A table of a thousand rows and a thousand gaps: its lists grow again and again.
+/// Compiles a table of a thousand rows with gaps between, so that its lists are reallocated several
+/// times.
 fn compiles_many(rt: &impl Abort, alloc: Global) -> bool {
     let Ok(section) = descending(alloc) else {
         return false;
@@ -381,7 +384,7 @@ fn compiles_many(rt: &impl Abort, alloc: Global) -> bool {
     compiles(rt, alloc, &section, 0x8cef, 0x8cf0)
 }
 
-/// Each expression of a frame section is evaluated.
+/// Evaluates each expression of a frame section.
 fn evaluates(rt: &impl Abort, frame: &CheckedFrame<'_>) {
     let context = Context {
         cfa: Some(0x10),
@@ -394,7 +397,7 @@ fn evaluates(rt: &impl Abort, frame: &CheckedFrame<'_>) {
     }
 }
 
-/// The FDE, the rows and the row of an address.
+/// Looks up an FDE, all its rows, and the row of an address.
 fn finds_rows(rt: &impl Abort, frame: &CheckedFrame<'_>) {
     let Some(fde) = frame.fde_for_address(0x1000) else {
         panic!(rt; "no FDE")
@@ -405,7 +408,7 @@ fn finds_rows(rt: &impl Abort, frame: &CheckedFrame<'_>) {
     assert!(rt; frame.row_for_address(0x101f).is_some());
 }
 
-/// A list, and what it gives at an address.
+/// Looks up a list, and the expressions that it gives at an address.
 fn finds_locations(rt: &impl Abort, lists: &CheckedLists<'_>) {
     let Some(list) = lists.list(0xc) else {
         panic!(rt; "no list")
@@ -505,7 +508,8 @@ fn compile_of_many_lacks_memory(rt: HostRuntime) {
     is_made(&rt, Call::CompileOfMany);
 }
 
-/// These make as many allocations as the check of the same sections alone.
+/// Look-ups don't allocate: `bench/stress/refused_memory.py` sees that this test makes as many
+/// allocations as `check_of_expressions_lacks_memory`, which only checks the same sections.
 #[test]
 fn look_ups_take_no_memory(rt: HostRuntime) {
     is_made(&rt, Call::LookUps);

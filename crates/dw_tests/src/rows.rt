@@ -22,7 +22,7 @@ fn records(section: &[u8]) -> Option<(CommonInformationEntry<'_>, FrameDescripti
     Some((cie?, fde?))
 }
 
-/// The results of checking a section's last CIE, and its last FDE.
+/// The results of checking the last CIE and the last FDE of a section.
 fn judged(alloc: Global, section: &[u8]) -> Option<(Result<(), Fault>, Result<(), Fault>)>
     requires { length section.now < 2 ^ 32 }
 {
@@ -46,14 +46,15 @@ fn checks_a_cie_and_its_fde(rt: HostRuntime) {
 /// Addresses, and where the row of each begins and ends.
 type Ranges = [(u64, Option<(u64, u64)>); 4];
 
-/// A look-up of each of these addresses gives a row with this range.
+/// Asserts that the row of each address has the given range, or that there is no row.
 fn has_ranges(rt: &impl Abort, frame: &CheckedFrame<'_>, ranges: &Ranges) {
     for (address, range) in ranges {
         assert_eq!(rt; range_at(frame, *address), *range, "{address:#x}");
     }
 }
 
-/// The CIE of `FUNCTION`, and 1,000 FDEs of eight nops, the highest addresses first. Each covers 16 addresses of 32.
+/// The CIE of `FUNCTION`, and 1,000 FDEs of eight nops, in order of descending addresses. Each
+/// covers 16 addresses and leaves a gap of 16 before the next.
 pub(crate) fn descending(alloc: Global) -> Result<Vec<u8>, AllocError> {
     let mut section = FUNCTION[..24].to_vec(alloc)?;
     for i in (0..1000u64).rev() {
@@ -62,7 +63,7 @@ pub(crate) fn descending(alloc: Global) -> Result<Vec<u8>, AllocError> {
     Ok(section)
 }
 
-/// Appends an FDE of eight nops, of the first CIE.
+/// Appends an FDE of eight nops, whose CIE is the section's first record.
 pub(crate) fn push_fde(section: &mut Vec<u8>, initial: u64, range: u64) -> Result<(), AllocError> {
     section.extend_from_slice(&[0x1c, 0, 0, 0, 0, 0, 0, 0])?;
     section.extend_from_slice(&initial.to_le_bytes())?;
@@ -77,7 +78,7 @@ fn range_at(frame: &CheckedFrame<'_>, address: u64) -> Option<(u64, u64)> {
     Some((row.start_address(), row.end_address()))
 }
 
-/// The number of rows of the FDE of 0x1000.
+/// The number of rows of the FDE that covers 0x1000.
 fn row_count(alloc: Global, section: &[u8]) -> Option<u32>
     requires { length section.now < 2 ^ 32 }
 {
@@ -90,7 +91,8 @@ fn row_count(alloc: Global, section: &[u8]) -> Option<u32>
     Some(count)
 }
 
-/// Where the first two rows of an FDE end, and where the first one ends again, from the reused iterator.
+/// Where the first two rows of the FDE of `address` end; then where the first row ends when the
+/// same iterator is started again.
 fn ends_at(frame: &CheckedFrame<'_>, address: u64) -> Option<(u64, u64, u64)> {
     let fde = frame.fde_for_address(address)?;
     let mut rows = frame.rows(&fde);
@@ -105,8 +107,8 @@ fn ends_at(frame: &CheckedFrame<'_>, address: u64) -> Option<(u64, u64, u64)> {
     }
 }
 
-/// Where the CIE and the FDE of an address begin, and where its row ends; then where the row in the same variable
-/// ends after a look-up of another address.
+/// The offsets of the CIE and the FDE of `address`, and where its row ends; then where the row in
+/// the same variable ends after `other` is looked up.
 fn places_at(frame: &CheckedFrame<'_>, address: u64, other: u64) -> Option<(u32, u32, u64, u64)> {
     let mut row = UnwindTableRow::empty();
     let (cie, fde) = frame.row_for_address_into(address, &mut row)?;
@@ -136,7 +138,8 @@ fn checks_a_section(rt: HostRuntime) -> Result<(), Fault> {
     Ok(())
 }
 
-/// The last address of the first and of the last FDE of `descending`, each with the one after it, which none covers.
+/// The last address of the lowest and of the highest FDE of `descending`, each followed by the next
+/// address, which no FDE covers.
 const RANGES_AMONG_MANY: Ranges = [
     (0x100f, Some((0x1000, 0x1010))),
     (0x1010, None),
@@ -168,7 +171,8 @@ fn names_an_overlap_among_many(rt: HostRuntime) -> Result<(), AllocError> {
     Ok(())
 }
 
-/// The CIE of `FUNCTION`, and an FDE of 4,096 addresses whose program is 1,000 times the same byte.
+/// The CIE of `FUNCTION`, and an FDE of 4,096 addresses whose program is 1,000 copies of
+/// `instruction`.
 fn repeated(alloc: Global, instruction: u8) -> Result<Vec<u8>, AllocError> {
     let mut section = FUNCTION[..24].to_vec(alloc)?;
     section.extend_from_slice(&[0xfc, 3, 0, 0, 0, 0, 0, 0])?;

@@ -1,4 +1,5 @@
-//! The standard's own examples, by the library's calls. Their sections are those of DWARF 5.
+//! Examples from the DWARF 5 standard, through library calls. The sections named in comments are
+//! the standard's.
 
 use crate::inputs::{LITTLE, LITTLE_SHORT, bytes_of};
 use dw_bytes::Cursor;
@@ -38,14 +39,14 @@ fn reads_the_numbers_of_the_standard(rt: HostRuntime) {
     }
 }
 
-/// The section of the standard's fictional machine (section D.6), in little-endian order: a CIE and the FDE of `foo`,
-/// here at 0x1000, whose frame has 12 bytes.
+/// The frame section of the standard's fictional machine (section D.6), in little-endian order: a
+/// CIE, and the FDE of `foo`, which here begins at 0x1000 and has a frame of 12 bytes.
 pub(crate) const MADE_UP_MACHINE: &str = "\
 24000000ffffffff04000400047c080c070008000701070207030804080508060807090801000000\
 28000000000000000010000054000000410e0c418801418602410d064184034cc441c60d0741c8410e000000";
 
-/// Where each row of `foo` begins, its CFA and its rules for registers 0 to 8, as the standard writes them: `u`
-/// undefined, `s` the same value, `rN` register N, `cN` saved N bytes from the CFA.
+/// Where each row of `foo` begins, its CFA, and its rules for registers 0 to 8 in the standard's
+/// notation: `u` undefined, `s` same value, `rN` register N, `cN` saved at the CFA plus N bytes.
 const ROWS: [(u64, &str); 10] = [
     (0x1000, "[r7]+0 s u u u s s s s r1"),
     (0x1004, "[r7]+12 s u u u s s s s r1"),
@@ -59,7 +60,7 @@ const ROWS: [(u64, &str); 10] = [
     (0x1050, "[r7]+0 s u u u s s s s r1"),
 ];
 
-/// A rule as the standard writes it.
+/// A rule in the standard's notation.
 fn rule_text(alloc: Global, rule: RegisterRule<'_>) -> Result<String, AllocError> {
     match rule {
         RegisterRule::Undefined => String::from_str(alloc, " u"),
@@ -89,7 +90,8 @@ fn row_at(
     Ok(Some((row.start_address(), row.end_address(), text)))
 }
 
-/// From its first address to its last, the row is the standard's.
+/// Asserts that the row of `first` begins there, ends at `end`, and has the rules `wanted`, and
+/// that the address before `end` has the same row.
 fn is_row(
     rt: &(impl Abort + AllocGlobal),
     frame: &CheckedFrame<'_>,

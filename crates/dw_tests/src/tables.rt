@@ -1,4 +1,4 @@
-//! Compiled tables: the rows that they give are the section's.
+//! Compiled tables give the same rows as their sections.
 
 ghost use Rattle.std.specs.Prelude.{◌<◌, ◌^◌, length};
 
@@ -9,10 +9,10 @@ use dw_rows::{CfaRule, CheckedFrame, RegisterRule, UnwindTable, check_frame};
 use std::alloc::{AllocError, Global};
 use std::process::Abort;
 
-/// Room for any table of these tests.
+/// Enough bytes for any table of these tests.
 const AMPLE: usize = 1 << 20;
 
-/// The table of a section. The checked section is gone when the table is used.
+/// The compiled table of a section. The checked section is dropped before the table is used.
 fn compiled(alloc: Global, section: &[u8]) -> Result<Option<UnwindTable>, Fault>
     requires { length section.now < 2 ^ 32 }
 {
@@ -25,7 +25,8 @@ fn range_at(table: &UnwindTable, address: u64) -> Option<(u64, u64, u16)> {
     Some((row.start_address(), row.end_address(), register))
 }
 
-/// The same for the checked section.
+/// Where the row of an address begins and ends by the checked section, and its return address
+/// register.
 fn range_in(frame: &CheckedFrame<'_>, address: u64) -> Option<(u64, u64, u16)> {
     let row = frame.row_for_address(address)?;
     let cie = frame.cie_of(&frame.fde_for_address(address)?);
@@ -36,7 +37,8 @@ fn range_in(frame: &CheckedFrame<'_>, address: u64) -> Option<(u64, u64, u16)> {
     ))
 }
 
-/// The rows of the function, each by its last address, and the addresses next to it.
+/// The rows of `FUNCTION`, each looked up by its last address, and the addresses just before and
+/// after the function, which have no row.
 const ROWS: [(u64, Option<(u64, u64, u16)>); 5] = [
     (0xfff, None),
     (0x1000, Some((0x1000, 0x1001, 16))),
@@ -45,7 +47,7 @@ const ROWS: [(u64, Option<(u64, u64, u16)>); 5] = [
     (0x1020, None),
 ];
 
-/// The CFA of the last row, and the rules of registers 6, 16 and 7 there.
+/// The CFA of the last row of `FUNCTION`, and the rules of registers 6, 16 and 7 in it.
 const RULES: &str = "RegisterAndOffset { register: 6, offset: 16 } Offset(-16) Offset(-8) Default";
 
 #[test]
@@ -85,7 +87,8 @@ fn a_table_keeps_the_bytes_of_its_expressions(rt: HostRuntime) -> Result<(), Fau
     Ok(())
 }
 
-/// At each of these addresses a table gives what the section gives.
+/// Asserts that a section and its table give the same row at each of `count` addresses from `from`
+/// on. `None` if there is no table.
 fn agrees(rt: &impl Abort, alloc: Global, section: &[u8], from: u64, count: u64) -> Option<()>
     requires { length section.now < 2 ^ 32 }
 {
@@ -110,7 +113,8 @@ fn a_table_agrees_with_its_section_among_many(rt: HostRuntime) -> Result<(), All
     Ok(())
 }
 
-/// FDEs without a gap, one of no address, and those of the first and of the last addresses.
+/// Two adjacent FDEs, the first of which begins at address 0; an FDE of no address; one of a single
+/// address; and one that ends at the highest address that an FDE can end at.
 fn edges(alloc: Global) -> Result<Vec<u8>, AllocError> {
     let mut section = FUNCTION[..24].to_vec(alloc)?;
     for (initial, range) in [(0, 16), (16, 16), (40, 0), (48, 1), (u64::MAX - 8, 8)] {
@@ -147,7 +151,7 @@ fn rows_that_take_more_than_their_room_are_not_kept(rt: HostRuntime) -> Result<(
 /// An address, and where its row begins and ends, with its return address register.
 type Found = (u64, Option<(u64, u64, u16)>);
 
-/// The table of a section gives these rows.
+/// Asserts that the table of a section gives these rows.
 fn has_rows(rt: &impl Abort, alloc: Global, section: &[u8], target: Target, rows: &[Found])
     requires { length section.now < 2 ^ 32 }
 {
@@ -186,7 +190,7 @@ fn an_fde_of_no_address_has_no_row_in_a_table(rt: HostRuntime) -> Result<(), All
     Ok(())
 }
 
-/// FDEs on either side of 2^32, one right after the other, and one a little further.
+/// Rows of two adjacent FDEs that meet at 2^32, and of a third one after a gap.
 const ABOUT_2_TO_THE_32: [Found; 7] = [
     (0xffff_fffe, None),
     (0xffff_ffff, Some((0xffff_ffff, 0x1_0000_0000, 16))),
@@ -211,7 +215,8 @@ fn a_table_gives_rows_on_either_side_of_2_to_the_32(rt: HostRuntime) -> Result<(
     Ok(())
 }
 
-/// FDEs of the first address, of some in the middle, and of the last that can be covered.
+/// Rows of an FDE of the first address, of one in the middle, and of one of the last address that
+/// can be covered.
 const FAR_APART: [Found; 8] = [
     (0, Some((0, 1, 16))),
     (1, None),
@@ -254,7 +259,8 @@ fn a_table_of_all_addresses_has_one_row(rt: HostRuntime) -> Result<(), AllocErro
     Ok(())
 }
 
-/// The CIE of `BIG_FUNCTION`, and an FDE of the first address and one of the last that can be covered in four bytes.
+/// The CIE of `BIG_FUNCTION`, an FDE of the first address, and an FDE of the last addresses that
+/// can be covered with addresses of four bytes.
 fn short_ends(alloc: Global) -> Result<Vec<u8>, AllocError> {
     let mut section = BIG_FUNCTION[..20].to_vec(alloc)?;
     section.extend_from_slice(&[0, 0, 0, 0x14, 0, 0, 0, 0, 0, 0, 0, 0, 0, 0, 0, 1])?;
@@ -287,7 +293,7 @@ fn a_table_gives_the_first_and_last_short_addresses(rt: HostRuntime) -> Result<(
 /// The number of CIEs, each with a return address register of its own.
 const CIES: u8 = 100;
 
-/// CIEs like that of `FUNCTION`, whose return address registers are 0, 1 and so on.
+/// Appends CIEs like that of `FUNCTION`, whose return address registers are 0, 1 and so on.
 fn push_cies(section: &mut Vec<u8>) -> Result<(), AllocError> {
     for register in 0..CIES {
         let mut cie = FUNCTION;
@@ -297,7 +303,8 @@ fn push_cies(section: &mut Vec<u8>) -> Result<(), AllocError> {
     Ok(())
 }
 
-/// For each of these CIEs an FDE of four addresses from 0x1000 on, one right after the other.
+/// The CIEs of `push_cies`, and for each of them an FDE of four addresses. The FDEs begin at 0x1000
+/// and have no gaps.
 fn with_return_registers(alloc: Global) -> Result<Vec<u8>, AllocError> {
     let mut section = Vec::new(alloc);
     push_cies(&mut section)?;
@@ -326,7 +333,8 @@ fn each_row_of_a_table_has_the_return_register_of_its_cie(rt: HostRuntime) -> Re
     Ok(())
 }
 
-/// 128 rows, each one address further: the CFA is register 7 plus 128 times a number plus 0 to 127.
+/// Appends instructions for 128 rows of one address each. Their CFAs are register 7 plus an offset
+/// from 128 * `high` on, which grows by 1 from row to row.
 fn push_cfas(section: &mut Vec<u8>, high: u8) -> Result<(), AllocError> {
     for low in 0x80..=0xffu8 {
         section.extend_from_slice(&[0x41, 0x0e, low, high])?;
@@ -334,8 +342,9 @@ fn push_cfas(section: &mut Vec<u8>, high: u8) -> Result<(), AllocError> {
     Ok(())
 }
 
-/// The CIE of `FUNCTION`, and two FDEs of 385 rows, each of one address: that of the address i after the first has its
-/// CFA at register 7 plus 127 + i. Both have the same rules.
+/// The CIE of `FUNCTION`, and two FDEs of 385 rows, each of one address. In both, the CFA of the
+/// first row is that of the CIE; from the second row on, its offset from register 7 is 128, 129 and
+/// so on.
 fn with_many_rules(alloc: Global) -> Result<Vec<u8>, AllocError> {
     let mut section = FUNCTION[..24].to_vec(alloc)?;
     for high in [0x10, 0x20] {
@@ -376,7 +385,7 @@ fn a_table_keeps_hundreds_of_rules_apart(rt: HostRuntime) -> Result<(), Fault> {
     Ok(())
 }
 
-/// For how many of these rooms, from 0 on, the table of a section isn't made.
+/// For how many numbers of bytes below `rooms` the table of a section has too little room.
 fn refusals(rt: &impl Abort, alloc: Global, frame: &CheckedFrame<'_>, rooms: usize) -> usize {
     let mut refused = 0usize;
     for room in 0..rooms {
@@ -393,7 +402,7 @@ fn refusals(rt: &impl Abort, alloc: Global, frame: &CheckedFrame<'_>, rooms: usi
 fn a_table_is_made_from_its_exact_room_on(rt: HostRuntime) -> Result<(), Fault> {
     let frame = check_frame(rt.alloc(), &FUNCTION, LITTLE)?;
     let least = refusals(&rt, rt.alloc(), &frame, 600);
-    // Its three rows alone take 48.
+    // The three rows alone take 48 bytes.
     assert!(rt; least >= 48 && least < 600);
     assert!(rt; frame.compile(rt.alloc(), least - 1)?.is_none());
     assert!(rt; frame.compile(rt.alloc(), least)?.is_some());

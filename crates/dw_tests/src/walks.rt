@@ -1,31 +1,31 @@
-//! Walks up the stack, by checked sections and tables.
+//! Walks up the stack, by checked sections and by compiled tables.
 
 use crate::inputs::{LITTLE, ROUND, Unknown};
 use dw_check::{Backtrace, Stop, backtrace, backtrace_by, backtrace_by_section, check};
 use dw_rows::{Abi, check_frame};
 use std::alloc::Global;
 
-/// The number of frames of an endless walk, and how it ends.
+/// The number of frames of an endless walk that is cut at `limit` frames, and why the walk stops.
 fn walked(alloc: Global, limit: u32) -> Option<(usize, Stop)> {
     let checked = check(alloc, &ROUND, &[], LITTLE).ok()?;
     let walk = backtrace(alloc, &checked, &Abi::none(), 3, &Unknown, &Unknown, limit).ok()?;
     Some((walk.frames.len(), walk.stop))
 }
 
-/// The same walk by the frame section alone.
+/// The endless walk by the frame section alone, up to `limit` frames.
 fn walk_by_section(alloc: Global, limit: u32) -> Option<Backtrace> {
     let frame = check_frame(alloc, &ROUND, LITTLE).ok()?;
     backtrace_by_section(alloc, &frame, &Abi::none(), 3, &Unknown, &Unknown, limit).ok()
 }
 
-/// The same walk by the table of the section.
+/// The endless walk by the compiled table, up to `limit` frames.
 fn walk_by_table(alloc: Global, limit: u32) -> Option<Backtrace> {
     let frame = check_frame(alloc, &ROUND, LITTLE).ok()?;
     let table = frame.compile(alloc, 1 << 20).ok()??;
     backtrace_by(alloc, &table, &Abi::none(), 3, &Unknown, &Unknown, limit).ok()
 }
 
-/// Whether these are the first two frames of the endless walk.
+/// Whether `walk` is the endless walk, cut at two frames.
 fn are_worked(walk: &Backtrace) -> bool {
     walk.stop == Stop::Limit
         && walk.frames.len() == 2

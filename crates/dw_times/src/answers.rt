@@ -1,4 +1,4 @@
-//! The contents of a section as one number, or the number of its first fault.
+//! A checksum of what a section contains, or the number of the section's first fault.
 
 use crate::meaning::add_expression;
 use crate::mixed::Mixed;
@@ -43,7 +43,7 @@ fn add_fde(mixed: &mut Mixed, fde: &FrameDescriptionEntry<'_>) {
     mixed.add_three(fde.cie_pointer, fde.initial_location, fde.address_range);
 }
 
-/// Mixes in the offset and length of an expression's bytes.
+/// Adds an expression's offset in the section, and its length in bytes.
 fn add_named(mixed: &mut Mixed, offset: u32, expression: &CheckedExpression<'_>) {
     mixed.add(u64::from(offset));
     mixed.add(expression.expression().bytes().len() as u64);
@@ -61,7 +61,7 @@ pub(crate) fn add_cfa(mixed: &mut Mixed, cfa: CfaRule<'_>) {
     }
 }
 
-/// Mixes in a register's rule, unless the rule is undefined.
+/// Adds a register's rule. An undefined rule, or no rule, adds nothing.
 pub(crate) fn add_rule(mixed: &mut Mixed, register: u16, rule: RegisterRule<'_>) {
     let number = u64::from(register);
     match rule {
@@ -91,14 +91,14 @@ fn add_row(mixed: &mut Mixed, row: &UnwindTableRow<'_, '_>) {
     }
 }
 
-/// Mixes in the remaining rows.
+/// Adds the remaining rows.
 fn add_rows<'f, 'a>(mixed: &mut Mixed, rows: &mut Rows<'f, 'a>, row: &mut UnwindTableRow<'f, 'a>) {
     'rows: while rows.next_into(row) {
         add_row(mixed, row);
     }
 }
 
-/// Mixes in each FDE, and its rows.
+/// Adds each FDE, and its rows.
 fn add_fdes(mixed: &mut Mixed, frame: &CheckedFrame<'_>) {
     let Some(first) = frame.fdes().first() else {
         return;
@@ -124,7 +124,8 @@ fn frame_number(alloc: Global, frame: &CheckedFrame<'_>) -> u64 {
     mixed.answer()
 }
 
-/// The contents of a section of frames: its CIEs, its FDEs and their rows, and its expressions.
+/// The checksum of a frame section: of its CIEs, its FDEs with their rows, and its expressions. If
+/// the section is refused, the number of its first fault.
 #[unsafe(no_mangle)]
 pub extern "C" fn bench_frame_answer(alloc: Global, section: &[u8], big: bool, small: bool) -> u64 {
     if section.len() >= 1 << 32 {
@@ -136,7 +137,8 @@ pub extern "C" fn bench_frame_answer(alloc: Global, section: &[u8], big: bool, s
     }
 }
 
-/// Mixes in, for each list, the expressions that hold at each of these addresses.
+/// For each list, adds its offset, and the offsets of the expressions that hold at each of
+/// `addresses`.
 fn add_held(mixed: &mut Mixed, lists: &CheckedLists<'_>, base: u64, addresses: &[u64]) {
     for list in lists.lists() {
         mixed.add(u64::from(list.offset()));
@@ -158,8 +160,9 @@ fn lists_number(alloc: Global, lists: &CheckedLists<'_>, base: u64, addresses: &
     mixed.answer()
 }
 
-/// The contents of a section of location lists: where its lists are, what they give at some addresses, and its
-/// expressions.
+/// The checksum of a section of location lists: of each list's offset, the expressions that hold at
+/// each of `addresses`, and all expressions of the section. If the section is refused, the number
+/// of its first fault.
 #[unsafe(no_mangle)]
 pub extern "C" fn bench_lists_answer(
     alloc: Global,
@@ -178,7 +181,8 @@ pub extern "C" fn bench_lists_answer(
     }
 }
 
-/// The meaning of an expression: a register's rule, or a location.
+/// The checksum of what an expression means, or the number of its first fault. The expression is a
+/// location if `location` is true, and a register's rule otherwise.
 #[unsafe(no_mangle)]
 pub extern "C" fn bench_expression_answer(
     alloc: Global,

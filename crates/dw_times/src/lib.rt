@@ -1,5 +1,5 @@
-//! The libraries as `bench/beside_gimli` times them: each export does one kind of work, and returns a number that depends
-//! on all of it.
+//! Exports that `bench/beside_gimli` and `bench/beside_libunwind` time and compare. Each does one
+//! kind of work, and its result depends on all of that work.
 #![tactic(auto)]
 
 mod answers;
@@ -55,7 +55,7 @@ impl Memory for Sevens {
     }
 }
 
-/// The section, if it is short enough and accepted.
+/// The checked section, or `None` if it has 2^32 bytes or more or is refused.
 fn checked<'a>(alloc: Global, section: &'a [u8]) -> Option<CheckedFrame<'a>> {
     if section.len() >= 1 << 32 {
         return None;
@@ -63,7 +63,7 @@ fn checked<'a>(alloc: Global, section: &'a [u8]) -> Option<CheckedFrame<'a>> {
     check_frame(alloc, section, TARGET).ok()
 }
 
-/// Checks a section.
+/// Checks a frame section, and returns the number of its FDEs.
 #[unsafe(no_mangle)]
 pub extern "C" fn bench_check(alloc: Global, section: &[u8]) -> usize {
     match checked(alloc, section) {
@@ -72,7 +72,7 @@ pub extern "C" fn bench_check(alloc: Global, section: &[u8]) -> usize {
     }
 }
 
-/// Checks a section of location lists.
+/// Checks a section of location lists, and returns the number of its expressions.
 #[unsafe(no_mangle)]
 pub extern "C" fn bench_check_lists(alloc: Global, section: &[u8]) -> usize {
     if section.len() >= 1 << 32 {
@@ -84,7 +84,7 @@ pub extern "C" fn bench_check_lists(alloc: Global, section: &[u8]) -> usize {
     }
 }
 
-/// The ends of all rows from the iterator, added up.
+/// The sum of the end addresses of all rows, with a new iterator for each FDE.
 fn iterated_sum(frame: &CheckedFrame<'_>) -> u64 {
     let mut sum = 0u64;
     for fde in frame.fdes() {
@@ -95,7 +95,7 @@ fn iterated_sum(frame: &CheckedFrame<'_>) -> u64 {
     sum
 }
 
-/// Checks a section, and gets all rows from the iterator.
+/// Checks a section, and gets all rows, with a new iterator for each FDE.
 #[unsafe(no_mangle)]
 pub extern "C" fn bench_rows(alloc: Global, section: &[u8]) -> u64 {
     match checked(alloc, section) {
@@ -104,7 +104,7 @@ pub extern "C" fn bench_rows(alloc: Global, section: &[u8]) -> u64 {
     }
 }
 
-/// The ends of the remaining rows, added up.
+/// The sum of the end addresses of the remaining rows, each of which is written to `row`.
 fn sum_of<'f, 'a>(rows: &mut Rows<'f, 'a>, row: &mut UnwindTableRow<'f, 'a>) -> u64 {
     let mut sum = 0u64;
     'rows: while rows.next_into(row) {
@@ -113,7 +113,7 @@ fn sum_of<'f, 'a>(rows: &mut Rows<'f, 'a>, row: &mut UnwindTableRow<'f, 'a>) -> 
     sum
 }
 
-/// The ends of all rows, each read into the same row, added up.
+/// The sum of the end addresses of all rows, each of which is written to the same `UnwindTableRow`.
 fn streamed_sum(frame: &CheckedFrame<'_>) -> u64 {
     let Some(first) = frame.fdes().first() else {
         return 0;
@@ -128,7 +128,7 @@ fn streamed_sum(frame: &CheckedFrame<'_>) -> u64 {
     sum
 }
 
-/// Checks a section, and reads all rows into the same row.
+/// Checks a section, and writes all rows, one after another, to the same `UnwindTableRow`.
 #[unsafe(no_mangle)]
 pub extern "C" fn bench_rows_into(alloc: Global, section: &[u8]) -> u64 {
     match checked(alloc, section) {
@@ -137,7 +137,7 @@ pub extern "C" fn bench_rows_into(alloc: Global, section: &[u8]) -> u64 {
     }
 }
 
-/// The ends of all rows from one iterator, which is reset for each FDE, added up.
+/// The sum of the end addresses of all rows, with one iterator that is reset for each FDE.
 fn iterated_again_sum(frame: &CheckedFrame<'_>) -> u64 {
     let Some(first) = frame.fdes().first() else {
         return 0;
@@ -153,7 +153,7 @@ fn iterated_again_sum(frame: &CheckedFrame<'_>) -> u64 {
     sum
 }
 
-/// Checks a section, and gets all rows from one iterator.
+/// Checks a section, and gets all rows, with one iterator that is reset for each FDE.
 #[unsafe(no_mangle)]
 pub extern "C" fn bench_rows_again(alloc: Global, section: &[u8]) -> u64 {
     match checked(alloc, section) {
@@ -162,7 +162,8 @@ pub extern "C" fn bench_rows_again(alloc: Global, section: &[u8]) -> u64 {
     }
 }
 
-/// The ends of the rows of all these addresses, `times` times, added up.
+/// Looks up the row of each of `addresses`, `times` times, and returns the sum of the rows' end
+/// addresses.
 fn found_sum(frame: &CheckedFrame<'_>, addresses: &[u64], times: u32) -> u64 {
     let mut row = UnwindTableRow::empty();
     let mut sum = 0u64;
@@ -176,7 +177,7 @@ fn found_sum(frame: &CheckedFrame<'_>, addresses: &[u64], times: u32) -> u64 {
     sum
 }
 
-/// Checks a section, and looks up the rows of all these addresses `times` times.
+/// Checks a section, and looks up the row of each of `addresses`, `times` times.
 #[unsafe(no_mangle)]
 pub extern "C" fn bench_look_up(
     alloc: Global,
@@ -197,7 +198,8 @@ fn number_of(answer: Answer) -> u64 {
     }
 }
 
-/// The callers of the frames at all these addresses, `times` times, each as a number, added up.
+/// Finds the caller of the frame at each of `addresses`, `times` times, and returns a sum of their
+/// CFAs, return addresses and numbers of registers.
 fn callers_sum(checked: &Checked<'_>, addresses: &[u64], times: u32) -> u64 {
     let mut sum = 0u64;
     for _ in 0..times {
@@ -213,7 +215,8 @@ fn callers_sum(checked: &Checked<'_>, addresses: &[u64], times: u32) -> u64 {
     sum
 }
 
-/// Checks a section, without lists, and finds the callers of the frames at all these addresses `times` times.
+/// Checks a frame section without location lists, and finds the caller of the frame at each of
+/// `addresses`, `times` times.
 #[unsafe(no_mangle)]
 pub extern "C" fn bench_unwind(
     alloc: Global,
@@ -258,7 +261,7 @@ pub extern "C" fn bench_evaluate(alloc: Global, bytes: &[u8], times: u32) -> u64
     }
 }
 
-/// Checks an expression `times` times, without states.
+/// Checks a register's expression `times` times, without making its certificate.
 #[unsafe(no_mangle)]
 pub extern "C" fn bench_check_expression(alloc: Global, bytes: &[u8], times: u32) -> u64 {
     if bytes.len() >= 1 << 32 {
@@ -274,7 +277,7 @@ pub extern "C" fn bench_check_expression(alloc: Global, bytes: &[u8], times: u32
     sum
 }
 
-/// Makes `times` certificates.
+/// Checks a register's expression `times` times, and makes its certificate each time.
 #[unsafe(no_mangle)]
 pub extern "C" fn bench_certify(alloc: Global, bytes: &[u8], times: u32) -> u64 {
     if bytes.len() >= 1 << 32 {

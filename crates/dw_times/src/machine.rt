@@ -1,4 +1,4 @@
-//! A machine in which everything is known.
+//! A machine whose registers and memory all have known contents.
 
 ghost use Rattle.std.specs.Prelude.{◌+◌, Some};
 
@@ -32,7 +32,7 @@ impl Memory for Known {
     }
 }
 
-/// The values that the point in the program supplies to an expression.
+/// The CFA, frame base and object address that expressions are evaluated with.
 pub(crate) const CONTEXT: Context = Context {
     cfa: Some(0x1000),
     frame_base: Some(0x2000),

@@ -1,4 +1,5 @@
-//! The meaning of an expression, mixed into a number: its operations, and its outcome on a known machine.
+//! A checksum of what an expression means: of its operations, and of its outcome on a machine whose
+//! registers and memory are all known.
 
 use crate::machine::{CONTEXT, Known};
 use crate::mixed::Mixed;
@@ -7,10 +8,11 @@ use dw_ops::{Expression, Operation, operations};
 use dw_stack::CheckedExpression;
 use std::alloc::Global;
 
-/// What identifies an operation: a number of its own, and its operands.
+/// What identifies the meaning of an operation: a code and two operands. Operations with the same
+/// meaning, such as `const1u 2` and `lit2`, have the same parts.
 type Parts = (u64, u64, u64);
 
-/// Those that push a number.
+/// The parts of an operation that pushes a value.
 fn pushing(operation: Operation<'_>) -> Option<Parts> {
     match operation {
         Operation::Addr { address } => Some((1, address, 0)),
@@ -41,7 +43,7 @@ fn pushing(operation: Operation<'_>) -> Option<Parts> {
     }
 }
 
-/// Those that compute.
+/// The parts of an operation that computes a value from entries of the stack.
 fn computing(operation: Operation<'_>) -> Option<Parts> {
     match operation {
         Operation::Abs => Some((20, 0, 0)),
@@ -69,7 +71,7 @@ fn computing(operation: Operation<'_>) -> Option<Parts> {
     }
 }
 
-/// All others. A word has `word` bytes.
+/// The parts of any other operation; `word` is the size of an address in bytes.
 fn other(operation: Operation<'_>, word: u64) -> Parts {
     match operation {
         Operation::Deref => (50, word, 0),
@@ -100,7 +102,7 @@ fn parts_of(operation: Operation<'_>, word: u64) -> Parts {
     }
 }
 
-/// Mixes in the operations of an expression, each with its offset.
+/// Adds the operations of an expression, each with its offset.
 fn add_operations(alloc: Global, mixed: &mut Mixed, expression: Expression<'_>) {
     let word = u64::from(expression.target().address_size.bytes());
     if let Ok(list) = operations(alloc, &expression) {
@@ -112,7 +114,7 @@ fn add_operations(alloc: Global, mixed: &mut Mixed, expression: Expression<'_>) 
     }
 }
 
-/// Mixes in where an object is.
+/// Adds where an object is.
 fn add_location(mixed: &mut Mixed, location: Location<'_>) {
     match location {
         Location::Empty => mixed.add(1),
@@ -123,7 +125,7 @@ fn add_location(mixed: &mut Mixed, location: Location<'_>) {
     }
 }
 
-/// Mixes in the size of a piece of an object: bits, and from where.
+/// Adds the size of a piece in bits, and its bit offset if it has one.
 fn add_size(mixed: &mut Mixed, size: PieceSize) {
     match size {
         PieceSize::Bytes(bytes) => mixed.add_three(1, u64::from(bytes) * 8, 0),
@@ -131,7 +133,7 @@ fn add_size(mixed: &mut Mixed, size: PieceSize) {
     }
 }
 
-/// Mixes in the outcome of an evaluation.
+/// Adds the outcome of an evaluation.
 fn add_outcome(mixed: &mut Mixed, outcome: &Outcome<'_>) {
     match outcome {
         Outcome::Value(value) => mixed.add_three(1, *value, 0),
@@ -151,7 +153,7 @@ fn add_outcome(mixed: &mut Mixed, outcome: &Outcome<'_>) {
     }
 }
 
-/// Mixes in a checked expression: where it is, its operations, and its outcome.
+/// Adds a checked expression: its offset, its operations, and its outcome.
 pub(crate) fn add_expression(
     alloc: Global,
     mixed: &mut Mixed,

@@ -1,31 +1,32 @@
-//! Numbers mixed into one, so that two readers of the same bytes can be compared by one number each.
+//! A checksum of a sequence of numbers. If two readers of the same bytes get the same checksum,
+//! they agree.
 
-/// Numbers mixed into one, in order.
+/// The checksum of the numbers added so far; their order matters.
 #[derive(Clone, Copy)]
 pub(crate) struct Mixed {
     number: u64,
 }
 
 impl Mixed {
-    /// No number yet.
+    /// The checksum of no numbers.
     pub(crate) fn new() -> Self {
         Mixed { number: 0 }
     }
 
-    /// Mixes a number in.
+    /// Adds a number.
     pub(crate) fn add(&mut self, number: u64) {
         let product = (self.number ^ number).wrapping_mul(0x9e37_79b9_7f4a_7c15);
         self.number = product ^ (product >> 32);
     }
 
-    /// Mixes three numbers in.
+    /// Adds three numbers.
     pub(crate) fn add_three(&mut self, first: u64, second: u64, third: u64) {
         self.add(first);
         self.add(second);
         self.add(third);
     }
 
-    /// Mixes in bytes, and their number.
+    /// Adds the number of bytes, and each byte.
     pub(crate) fn add_bytes(&mut self, bytes: &[u8]) {
         self.add(bytes.len() as u64);
         for byte in bytes {
@@ -33,7 +34,7 @@ impl Mixed {
         }
     }
 
-    /// The number, with its first bit set, so that it isn't a fault's.
+    /// The checksum with its highest bit set, so that it differs from the number of any fault.
     pub(crate) fn answer(self) -> u64 {
         self.number | 0x8000_0000_0000_0000
     }

@@ -1,4 +1,4 @@
-//! Compiled tables, as `bench/beside_gimli` times them and compares what they give.
+//! Exports for `bench/beside_gimli` that time compiled tables, or return a checksum of their rows.
 
 use crate::answers::{add_cfa, add_rule, target_of};
 use crate::machine::Known;
@@ -9,10 +9,11 @@ use dw_check::unwind_by;
 use dw_rows::{Abi, RegisterRule, UnwindRow, UnwindTable, check_frame};
 use std::alloc::Global;
 
-/// Room for any table.
+/// More bytes than any table needs.
 const AMPLE: usize = 1 << 40;
 
-/// The table of a section, if that is short enough and accepted. The checked section is gone.
+/// The compiled table of a section, or `None` if the section has 2^32 bytes or more, is refused, or
+/// memory runs out. It doesn't borrow the section.
 fn compiled(alloc: Global, section: &[u8], target: Target) -> Option<UnwindTable> {
     if section.len() >= 1 << 32 {
         return None;
@@ -21,7 +22,8 @@ fn compiled(alloc: Global, section: &[u8], target: Target) -> Option<UnwindTable
     frame.compile(alloc, AMPLE).ok()?
 }
 
-/// The ends of the rows of all these addresses, looked up a number of times and added up.
+/// Looks up the row of each of `addresses`, `times` times, and returns the sum of the rows' end
+/// addresses.
 fn found_sum(table: &UnwindTable, addresses: &[u64], times: u32) -> u64 {
     let mut sum = 0u64;
     for _ in 0..times {
@@ -34,7 +36,8 @@ fn found_sum(table: &UnwindTable, addresses: &[u64], times: u32) -> u64 {
     sum
 }
 
-/// The check, the table, and the rows of all these addresses, a number of times.
+/// Checks a section, compiles its table, and looks up the row of each of `addresses`, `times`
+/// times.
 #[unsafe(no_mangle)]
 pub extern "C" fn bench_look_up_by_table(
     alloc: Global,
@@ -48,7 +51,8 @@ pub extern "C" fn bench_look_up_by_table(
     }
 }
 
-/// The registers of all rules of the rows of all these addresses, looked up a number of times and added up.
+/// Looks up the row of each of `addresses`, `times` times, and returns the sum of `rules_sum` of
+/// the rows.
 fn read_sum(table: &UnwindTable, addresses: &[u64], times: u32) -> u64 {
     let mut sum = 0u64;
     for _ in 0..times {
@@ -61,7 +65,7 @@ fn read_sum(table: &UnwindTable, addresses: &[u64], times: u32) -> u64 {
     sum
 }
 
-/// The registers and offsets of a row's rules, added up.
+/// The sum of a row's end address, its rules' registers, and the offsets of its `Offset` rules.
 fn rules_sum(row: &UnwindRow<'_, '_>) -> u64 {
     let mut sum = row.end_address();
     for (register, rule) in row.rules() {
@@ -73,7 +77,8 @@ fn rules_sum(row: &UnwindRow<'_, '_>) -> u64 {
     sum
 }
 
-/// The check, the table, and the rows of all these addresses with their rules, a number of times.
+/// Checks a section, compiles its table, and reads all rules of the row of each of `addresses`,
+/// `times` times.
 #[unsafe(no_mangle)]
 pub extern "C" fn bench_read_by_table(
     alloc: Global,
@@ -87,7 +92,8 @@ pub extern "C" fn bench_read_by_table(
     }
 }
 
-/// The callers of the frames at all these addresses, each as a number, found a number of times and added up.
+/// Finds the caller of the frame at each of `addresses`, `times` times, and returns a sum of their
+/// CFAs, return addresses and numbers of registers.
 fn callers_sum(table: &UnwindTable, addresses: &[u64], times: u32) -> u64 {
     let abi = Abi::none();
     let mut sum = 0u64;
@@ -104,7 +110,8 @@ fn callers_sum(table: &UnwindTable, addresses: &[u64], times: u32) -> u64 {
     sum
 }
 
-/// The check, the table, and the callers of the frames at all these addresses, a number of times.
+/// Checks a section, compiles its table, and finds the caller of the frame at each of `addresses`,
+/// `times` times.
 #[unsafe(no_mangle)]
 pub extern "C" fn bench_unwind_by_table(
     alloc: Global,
@@ -127,7 +134,7 @@ fn add_row(mixed: &mut Mixed, row: &UnwindRow<'_, '_>) {
     }
 }
 
-/// Mixes in the row of an address with its return address register, or that there is none.
+/// Adds `address`, and its row with the return address register, or that there is no row.
 fn add_found(mixed: &mut Mixed, table: &UnwindTable, address: u64) {
     mixed.add(address);
     match table.row_and_return_register(address) {
@@ -139,7 +146,8 @@ fn add_found(mixed: &mut Mixed, table: &UnwindTable, address: u64) {
     }
 }
 
-/// What the table of a section gives at these addresses, 0 if the section is refused.
+/// The checksum of the rows at each of `addresses` in the compiled table of a section, or 0 if
+/// there is no table.
 #[unsafe(no_mangle)]
 pub extern "C" fn bench_table_answer(
     alloc: Global,

@@ -1,4 +1,4 @@
-//! Walks through modules, as `bench/beside_libunwind` times them and compares their frames.
+//! Walks through modules: `bench/beside_libunwind` times them, and compares their frames.
 
 use crate::TARGET;
 use dw_check::{Answer, BriefFrame, Module, Stop, Walk};
@@ -6,7 +6,7 @@ use dw_eval::{MemoryBlock, Registers};
 use dw_rows::{Abi, UnwindTable, check_frame};
 use std::alloc::Global;
 
-/// The content of register n is the one with index n.
+/// Registers whose contents are given by number: register n has `contents[n]`.
 #[derive(Drop)]
 struct Contents<'a> {
     contents: &'a [u64],
@@ -40,11 +40,12 @@ pub struct WalkStart<'a> {
     /// Where the stack's bytes begin.
     pub base: u64,
     pub stack: &'a [u8],
-    /// The number of times it is walked.
+    /// How often the walk is repeated.
     pub times: u32,
 }
 
-/// A frame: the kind of its CFA is 1 if that is a value, and 0 if no row is found for it.
+/// A frame. `cfa_kind` is 0 if no row was found for the frame, 1 if `cfa` is the CFA's value, 2 if
+/// the CFA is undefined, 3 if it is unreadable, 4 if its expression divides by zero.
 #[repr(C)]
 #[derive(Clone, Copy, Debug)]
 pub struct WalkFrame {
@@ -53,7 +54,7 @@ pub struct WalkFrame {
     pub cfa_kind: u32,
 }
 
-/// The number of frames, and why there are no more.
+/// The number of frames, and why the walk ended there, as a number (see `stop_number`).
 #[repr(C)]
 #[derive(Clone, Copy, Debug)]
 pub struct WalkEnd {
@@ -61,7 +62,8 @@ pub struct WalkEnd {
     pub stop: u32,
 }
 
-/// The modules with their sections' tables, if all are accepted. The sections are gone.
+/// Modules with the compiled tables of these sections, or `None` if a section is refused or memory
+/// runs out. They don't borrow the sections.
 fn modules_of(alloc: Global, sections: &[LoadedSection<'_>]) -> Option<Vec<Module<UnwindTable>>> {
     let mut modules = Vec::new(alloc);
     for section in sections {
@@ -100,13 +102,14 @@ fn stop_number(stop: Option<Stop>) -> u32 {
     }
 }
 
-/// The next frame of a walk. A loop that calls `next` itself must be shown to end, and a walk need not end.
+/// The next frame of a walk. This is a function of its own because a loop that calls `next`
+/// directly must be proved to end, and a walk need not end.
 #[inline(always)]
 fn next_frame(walk: &mut Walk<'_, &[Module<UnwindTable>], MemoryBlock<'_>>) -> Option<BriefFrame> {
     walk.next()
 }
 
-/// Walks once, and writes the frames, as many as there are slots for.
+/// Walks once, and writes the frames to `frames` until it is full or the walk ends.
 fn walk_once(
     modules: &[Module<UnwindTable>],
     abi: &Abi,
@@ -138,8 +141,8 @@ fn walk_once(
     }
 }
 
-/// Checks the sections, makes the tables, and walks `start.times` times. `false` if a section is refused or memory
-/// runs out.
+/// Checks the sections, compiles their tables, and walks `start.times` times. Returns `false` if a
+/// section is refused or memory runs out.
 #[unsafe(no_mangle)]
 pub extern "C" fn bench_walk(
     alloc: Global,

@@ -2,8 +2,9 @@
 //!
 //!     stack PROGRAM CORE
 //!
-//! All is the library's: `dwcheck_elf::core_file` reads the core file, and `dwcheck_elf::stack` walks by `.debug_frame`
-//! and `.eh_frame` of all files that it has mapped, and of the vDSO.
+//! The library does the work: `dwcheck_elf::core_file` reads the core file, and
+//! `dwcheck_elf::stack` walks by `.debug_frame` and `.eh_frame` of the files that the core file
+//! maps, and of the vDSO.
 
 use dwcheck_elf::core_file::{CoreFile, Files};
 use dwcheck_elf::stack::{Stacks, MOST_FRAMES};

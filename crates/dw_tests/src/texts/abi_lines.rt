@@ -6,7 +6,8 @@ use crate::texts::expressions::{LOCATION, LOCATION_WITH_STATE, evaluate_to};
 use std::alloc::{AllocError, Global};
 use std::process::Abort;
 
-/// A run with a file and a state file has the outcome given for the state file, or, if that is `taken`, this one.
+/// Asserts the outcome of a run with a file and a state file: it is `outcome`, or the parameter
+/// `taken` if `outcome` is that word.
 fn ends_so(
     rt: &(impl Abort + AllocGlobal),
     (words, content, taken): (&str, &str, &str),
@@ -17,7 +18,8 @@ fn ends_so(
     comes_to(rt, words, &contents, outcome)
 }
 
-// Words that take a state file, a file for them, and the outcome if the state file is accepted.
+// A command line that takes a state file, the contents of its other file, and the outcome if the
+// state file is accepted.
 const EVALUATION: (&str, &str, &str) = (LOCATION_WITH_STATE, "56", "register 6/steps 1 depth 0");
 
 const LOOKUP: (&str, &str, &str) = (
@@ -28,7 +30,8 @@ const LOOKUP: (&str, &str, &str) = (
 
 const CALLER: (&str, &str, &str) = ("dwcheck unwind --hex f 0x0 s", "-", "none");
 
-/// `eval`, `locs` and `unwind` check the state file of each line alike, and have its outcome.
+/// Asserts for the state file of each line that `eval`, `locs` and `unwind` have the line's
+/// outcome.
 fn end_so(rt: &(impl Abort + AllocGlobal), cases: &str) -> Result<(), AllocError> {
     for case in cases.lines() {
         let parts = parts_of(rt, case);
@@ -39,7 +42,7 @@ fn end_so(rt: &(impl Abort + AllocGlobal), cases: &str) -> Result<(), AllocError
     Ok(())
 }
 
-/// State files with a line that is malformed or contradicts those before it.
+/// State files with a line that is malformed or contradicts the lines before it.
 const REFUSED: &str = "\
 keep: state line 1
 keep : state line 1
@@ -64,8 +67,8 @@ keep 7/sp 7/bad/: state line 2
 keep 7/bad/sp 7/: state line 2
 ";
 
-/// State files each line of which fits with those before it. A callee-saved register that occurs again and a second stack
-/// pointer are skipped, even if the second stack pointer wouldn't fit otherwise.
+/// State files that are accepted. A callee-saved register that is named again and a second stack
+/// pointer are skipped, even if the second stack pointer would contradict other lines.
 const TAKEN: &str = "\
 keep 6: taken
 sp 7/: taken
@@ -83,7 +86,8 @@ fn takes_or_refuses_each_line(rt: HostRuntime) -> Result<(), AllocError> {
     end_so(&rt, TAKEN)
 }
 
-/// Lines that make 0 to 126 callee-saved: the greatest number allowed.
+/// State lines that make registers 0 to 126 callee-saved, the greatest number of registers that is
+/// allowed.
 fn most_lines(alloc: Global) -> Result<String, AllocError> {
     let mut lines = String::new(alloc);
     for number in 0..127u8 {
@@ -92,7 +96,7 @@ fn most_lines(alloc: Global) -> Result<String, AllocError> {
     Ok(lines)
 }
 
-/// Lines after these.
+/// State files that begin with the lines of `most_lines` (`{MOST}`), and their outcomes.
 const MANY: &str = "\
 {MOST}: taken
 {MOST}keep 127/: state line 128
@@ -108,7 +112,8 @@ fn takes_127_kept_registers_and_no_more(rt: HostRuntime) -> Result<(), AllocErro
     end_so(&rt, &MANY.replace(rt.alloc(), "{MOST}", &most)?)
 }
 
-/// An expression has the same outcome whatever an ABI gives for its register.
+/// An ABI gives an expression no register: register 6 stays unreadable if only `keep` or `sp` names
+/// it.
 const UNUSED: &str = "\
 7600 | keep 6/: unreadable at 0x00000000/steps 1 depth 1
 7600 | sp 6/: unreadable at 0x00000000/steps 1 depth 1

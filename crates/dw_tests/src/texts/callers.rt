@@ -3,9 +3,10 @@
 use crate::texts::cases::{cases_come_to, lines_come_to};
 use std::alloc::AllocError;
 
-/// Sections, state files, and callers: with undefined rules, with expressions, one of which divides by zero, and with an
-/// ABI's rules for registers without one. Sums are taken modulo 2^32, and a word that goes past the greatest address
-/// isn't read.
+/// Each case is a frame section and a state file, then a command, then its output. They cover
+/// undefined rules; expression rules, one of which divides by zero; and an ABI (`keep`, `sp`) that
+/// fills in for registers without a rule in the row. With 4-byte addresses, sums wrap modulo 2^32,
+/// and a word that runs past the last address is unreadable.
 const CALLERS: &str = "\
 {FUNCTION} | reg 6 0x7f00/mem 0x7f00 0080000000000000/mem 0x7f08 3412000000000000/
 dwcheck unwind --hex f 0x1010 s
@@ -98,7 +99,8 @@ fn shows_what_is_known_of_a_caller(rt: HostRuntime) -> Result<(), AllocError> {
     cases_come_to(&rt, CALLERS)
 }
 
-/// Malformed hex text is found before a fault of the state file, and a bad line of that before a fault of the section.
+/// Malformed hex text is reported before a bad line of the state file, and that before a fault of
+/// the section.
 const IN_THEIR_ORDER: &str = "\
 f0ffff | reg 6 0x1: refused 1 Truncated frame 0x00000000
 f0ffffff | reg 6 0x1//reg 6/: state line 3

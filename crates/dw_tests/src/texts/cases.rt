@@ -1,8 +1,9 @@
-//! Runs of `dwcheck` by `request` and `run`, and their outcomes.
+//! Test cases: each runs `dwcheck` through `request` and `run`, and states the outcome.
 //!
-//! Files are separated by ` | `. In each a name like `{CIE}` stands for its part, a slash for an LF, and `-` for an empty
-//! file. An outcome is the text written, with a slash for each LF but the last; or `state line N` or `bad hex N`, where
-//! nothing is written.
+//! The input files are separated by ` | `. Inside a file, `{CIE}` and the like are replaced by the
+//! text of that name (see `parts`), `/` means a newline, and `-` alone is an empty file. An outcome
+//! is the output, in which `/` means a newline and the last newline is left out; or `state line N`
+//! or `bad hex N`, for runs that write nothing.
 
 ghost use Rattle.std.specs.Prelude.{◌≡◌, length};
 
@@ -12,7 +13,8 @@ use dw_check::{End, Request, Through, Usage, request, run};
 use std::alloc::{AllocError, Global};
 use std::process::Abort;
 
-/// The request of a line of words, the first of which is the program's name, with single spaces between them.
+/// The request of a command line. Its words are separated by single spaces, and the first is the
+/// program's name.
 pub(crate) fn asked(alloc: Global, line: &str) -> Result<Result<Request, Usage>, AllocError> {
     let mut words: Vec<String> = Vec::new(alloc);
     for word in line.split(' ') {
@@ -21,7 +23,7 @@ pub(crate) fn asked(alloc: Global, line: &str) -> Result<Result<Request, Usage>,
     Ok(request(alloc, words))
 }
 
-/// The file in this notation.
+/// The bytes of a file that is written in the notation above.
 pub(crate) fn file_of(alloc: Global, content: &str) -> Result<Vec<u8>, AllocError> {
     if content == "-" {
         return Ok(Vec::new(alloc));
@@ -30,7 +32,7 @@ pub(crate) fn file_of(alloc: Global, content: &str) -> Result<Vec<u8>, AllocErro
     Ok(content.replace(alloc, '/', "\n")?.into_bytes())
 }
 
-/// The files in this notation.
+/// The bytes of files that are written in the notation above.
 pub(crate) fn files_of(alloc: Global, contents: &str) -> Result<Vec<Vec<u8>>, AllocError> {
     let mut files: Vec<Vec<u8>> = Vec::new(alloc);
     for content in contents.split(" | ") {
@@ -39,7 +41,7 @@ pub(crate) fn files_of(alloc: Global, contents: &str) -> Result<Vec<Vec<u8>>, Al
     Ok(files)
 }
 
-/// How a run with this outcome ends, and the part of the outcome that it writes.
+/// How a run with the outcome `outcome` ends, and what it writes.
 fn end_of<'a>(outcome: &'a str) -> Option<(End, &'a str)> {
     if let Some(line) = outcome.strip_prefix("state line ") {
         return Some((End::StateLine(line.parse::<u64>().ok()?), ""));
@@ -55,7 +57,7 @@ fn end_of<'a>(outcome: &'a str) -> Option<(End, &'a str)> {
     Some((end, outcome))
 }
 
-/// The text in this notation.
+/// The output that `outcome` stands for in the notation above.
 pub(crate) fn text_of(alloc: Global, outcome: &str) -> Result<String, AllocError> {
     let mut text = outcome.replace(alloc, '/', "\n")?;
     if !outcome.is_empty() {
@@ -64,7 +66,8 @@ pub(crate) fn text_of(alloc: Global, outcome: &str) -> Result<String, AllocError
     Ok(text)
 }
 
-/// How a run with these files ends, and what it writes, if the line gives a request with this number of files.
+/// How a run of `line` with `files` ends, and what it writes. `None` if the line is refused, or
+/// asks for another number of files.
 fn ran(alloc: Global, line: &str, files: &[Vec<u8>]) -> Option<(End, Vec<u8>)> {
     let request = asked(alloc, line).ok()?.ok()?;
     if files.len() != request.files().len() {
@@ -75,7 +78,7 @@ fn ran(alloc: Global, line: &str, files: &[Vec<u8>]) -> Option<(End, Vec<u8>)> {
     Some((end, sink.into_inner()))
 }
 
-/// A run with these files has this outcome.
+/// Asserts that a run of `line` with `files` has the outcome `outcome`.
 pub(crate) fn files_come_to(
     rt: &(impl Abort + AllocGlobal),
     line: &str,
@@ -94,7 +97,8 @@ pub(crate) fn files_come_to(
     Ok(())
 }
 
-/// The same for files in this notation.
+/// Asserts that a run of `line` has the outcome `outcome`, with the files that `contents` stands
+/// for.
 pub(crate) fn comes_to(
     rt: &(impl Abort + AllocGlobal),
     line: &str,
@@ -105,7 +109,8 @@ pub(crate) fn comes_to(
     files_come_to(rt, line, &files, outcome)
 }
 
-/// With these words, the files of each line have the line's outcome.
+/// Asserts the outcome of each line of `cases`: files, a colon, and the outcome of the command
+/// `words` with these files.
 pub(crate) fn lines_come_to(
     rt: &(impl Abort + AllocGlobal),
     words: &str,
@@ -118,7 +123,7 @@ pub(crate) fn lines_come_to(
     Ok(())
 }
 
-/// The parts of a paragraph of cases: files, words, and the outcome.
+/// The parts of a case that is a paragraph: its files, its command line, and its outcome.
 pub(crate) fn case_of<'a>(rt: &impl Abort, case: &'a str) -> (&'a str, &'a str, &'a str) {
     let Some((contents, rest)) = case.trim_end().split_once('\n') else {
         panic!(rt; "{case} is no case")
@@ -127,7 +132,8 @@ pub(crate) fn case_of<'a>(rt: &impl Abort, case: &'a str) -> (&'a str, &'a str, 
     (contents, words, outcome)
 }
 
-/// The files and words of each paragraph have its outcome, here written with its LFs.
+/// Asserts the outcome of each paragraph of `cases`: a line of files, a command line, and the
+/// output with newlines.
 pub(crate) fn cases_come_to(
     rt: &(impl Abort + AllocGlobal),
     cases: &str,

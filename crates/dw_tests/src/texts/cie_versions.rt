@@ -4,7 +4,7 @@ use crate::texts::cases::{cases_come_to, lines_come_to};
 use crate::texts::sections::ROWS;
 use std::alloc::AllocError;
 
-/// Sections, and their rows; the last has CIEs of all versions.
+/// Sections, and their rows. The last section has CIEs of versions 1, 3 and 4.
 const SHOWN: &str = "\
 {CIE_1} {FDE} {PUSHES}
 dwcheck rows --hex f
@@ -47,7 +47,8 @@ fn shows_rows_under_older_cies(rt: HostRuntime) -> Result<(), AllocError> {
     cases_come_to(&rt, SHOWN)
 }
 
-/// The first row's section with another version in its CIE, and its first fault: in 1 and 3 its program begins two bytes earlier.
+/// `FUNCTION` with another version in its CIE, and the first fault. CIEs of versions 1 and 3 don't
+/// have two of the fields, so the program begins two bytes earlier.
 const OTHER_VERSIONS: &str = "\
 14000000 ffffffff 00 00 08 00 01 78 10 0c0708 9001 00000000 {FDE} {PUSHES}: refused 4 Version frame 0x00000008
 14000000 ffffffff 01 00 08 00 01 78 10 0c0708 9001 00000000 {FDE} {PUSHES}: refused 13 NotInCie frame 0x0000000d

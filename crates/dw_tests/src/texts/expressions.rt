@@ -5,7 +5,7 @@ use crate::texts::cases::{comes_to, files_come_to, lines_come_to};
 use std::alloc::{AllocError, Global};
 use std::process::Abort;
 
-// The words that evaluate an expression as hex text, without a state file.
+// Commands that evaluate an expression, given as hex text, without a state file.
 pub(crate) const LOCATION: &str = "dwcheck eval location --hex e";
 
 pub(crate) const SHORT_LOCATION: &str = "dwcheck eval --addr4 location --hex e";
@@ -16,12 +16,12 @@ pub(crate) const REGISTER: &str = "dwcheck eval register --hex e";
 
 const CFA: &str = "dwcheck eval cfa --hex e";
 
-/// The words that evaluate a location as hex text with a state file.
+/// The command that evaluates a location, given as hex text, with a state file.
 pub(crate) const LOCATION_WITH_STATE: &str = "dwcheck eval location --hex e --state s";
 
 const SHORT_LOCATION_WITH_STATE: &str = "dwcheck eval --addr4 location --hex e --state s";
 
-/// The expression has this outcome, with the state file if there is one.
+/// Asserts the outcome of an expression. If `contents` has a second file, it is the state file.
 pub(crate) fn evaluates_to(
     rt: &(impl Abort + AllocGlobal),
     words: &str,
@@ -36,7 +36,7 @@ pub(crate) fn evaluates_to(
     }
 }
 
-/// The expression of each line has the line's outcome.
+/// Asserts the outcome of the expression in each line of `cases`.
 pub(crate) fn evaluate_to(
     rt: &(impl Abort + AllocGlobal),
     words: &str,
@@ -49,7 +49,7 @@ pub(crate) fn evaluate_to(
     Ok(())
 }
 
-/// Locations on a machine with nothing known, and their text without its last LF.
+/// Locations, evaluated without known registers or memory, and their outcomes.
 const LOCATIONS: &str = "\
 32 33 22: address 0x0000000000000005/steps 3 depth 2
 31 32 28 0000: address 0x0000000000000001/steps 3 depth 2
@@ -87,7 +87,7 @@ fn shows_what_locations_come_to(rt: HostRuntime) -> Result<(), AllocError> {
     evaluate_to(&rt, LOCATION, LOCATIONS)
 }
 
-/// The same text `count` times.
+/// `part`, `count` times.
 fn repeated(alloc: Global, part: &str, count: u32) -> Result<String, AllocError> {
     let mut text = String::new(alloc);
     for _ in 0..count {
@@ -96,7 +96,7 @@ fn repeated(alloc: Global, part: &str, count: u32) -> Result<String, AllocError>
     Ok(text)
 }
 
-/// No more are allowed.
+/// 32 is the greatest number of pieces that is allowed.
 #[test]
 fn takes_32_pieces(rt: HostRuntime) -> Result<(), AllocError> {
     let pieces = repeated(rt.alloc(), "9300", 32)?;
@@ -135,7 +135,7 @@ const STATES: &str = "\
 0effffffffffffffff 9401 | mem 0xffffffffffffffff 0A/reg 65535 0x0: address 0x000000000000000a/steps 2 depth 1
 ";
 
-/// The same in big-endian order.
+/// Locations in big-endian order, state files, and their outcomes.
 const BIG_STATES: &str = "\
 0a1000 06 | mem 0x1000 0102030405060708: address 0x0102030405060708/steps 2 depth 1
 0a1000 9402 | mem 0x1000 3412: address 0x0000000000003412/steps 2 depth 1
@@ -144,7 +144,7 @@ const BIG_STATES: &str = "\
 30 28 0001 96 32: address 0x0000000000000002/steps 4 depth 1
 ";
 
-/// The same with addresses of four bytes.
+/// Locations with addresses of four bytes, state files, and their outcomes.
 const SHORT_STATES: &str = "\
 0a0010 06 | mem 0x1000 01020304: address 0x04030201/steps 2 depth 1
 0c00000080 0dffffffff 1b: address 0x80000000/steps 3 depth 2
@@ -160,7 +160,7 @@ const SHORT_STATES: &str = "\
 0c00000080 0820 26: address 0xffffffff/steps 3 depth 2
 ";
 
-/// Expressions of registers' rules.
+/// Expressions of registers' rules, state files, and their outcomes.
 const REGISTER_STATES: &str = "\
 12 22 | cfa 0x10: value 0x0000000000000020/steps 2 depth 2
 12 22: unreadable at 0x00000000/steps 0 depth 2
@@ -169,7 +169,7 @@ const REGISTER_STATES: &str = "\
 12 13 | cfa 0x10: value 0x0000000000000010/steps 2 depth 2
 ";
 
-/// Expressions of a CFA.
+/// Expressions of a CFA, state files, and their outcomes.
 const CFA_STATES: &str = "\
 7708 | //reg 7 0x10/reg 7 0x20/: value 0x0000000000000018/steps 1 depth 1
 7700 | cfa 0x10: unreadable at 0x00000000/steps 1 depth 1
@@ -185,7 +185,7 @@ fn shows_what_expressions_come_to_over_a_state(rt: HostRuntime) -> Result<(), Al
     evaluate_to(&rt, CFA, CFA_STATES)
 }
 
-/// Expressions and their first faults.
+/// Locations, and their first faults.
 const REFUSED: &str = "\
 12: refused 35 Underflow expression 0x00000000
 30 28 0100 31 32: refused 37 Mismatch expression 0x00000005
@@ -236,8 +236,8 @@ fn names_the_first_fault_of_an_expression(rt: HostRuntime) -> Result<(), AllocEr
     comes_to(&rt, LOCATION, &pieces, fault)
 }
 
-/// State files with a malformed line. They are refused before the expression, which is refused otherwise, and after
-/// malformed hex text.
+/// State files with a malformed line. It is reported before the fault of the expression `12`, and
+/// after malformed hex text.
 const BAD_LINES: &str = "\
 12 | reg  7 0x1: state line 1
 12 | reg 7  0x1: state line 1
@@ -272,7 +272,8 @@ const BAD_LINES: &str = "\
 3 | bad: bad hex 0
 ";
 
-/// State files whose first line has an address or a value that isn't one of four bytes.
+/// State files whose first line has an address or a value that doesn't fit in four bytes, or memory
+/// that goes past the last address of four bytes.
 const LONG_LINES: &str = "\
 30 | reg 0 0x100000000: state line 1
 30 | mem 0x100000000 00: state line 1

@@ -3,8 +3,7 @@
 use crate::texts::cases::{cases_come_to, lines_come_to};
 use std::alloc::AllocError;
 
-/// Sections, and what a list in them gives at an address. Nothing is known of the machine, except in the last
-/// case.
+/// Sections, and what one of their lists gives at an address. Only the last case has a state file.
 const FOUND: &str = "\
 {PAIR_AND_DEFAULT}
 dwcheck locs --hex l 0xc 0x1000 0x1005
@@ -117,7 +116,8 @@ fn names_the_first_fault_of_lists(rt: HostRuntime) -> Result<(), AllocError> {
     lines_come_to(&rt, "dwcheck locs --hex l 0xc 0x0 0x0", REFUSED)
 }
 
-/// A bad line of the state file is found before a fault of the section, and malformed hex text before both.
+/// Malformed hex text is reported before a bad line of the state file, and that before a fault of
+/// the section.
 const IN_THEIR_ORDER: &str = "\
 080000 | reg 1 0x1//reg 1/: state line 3
 08000 | reg 1 0x1//reg 1/: bad hex 0

@@ -1,9 +1,10 @@
-//! Modules loaded at other addresses than linked, through `request` and `run`.
+//! Modules that aren't loaded where they were linked, through `request` and `run`.
 
 use crate::texts::cases::{cases_come_to, lines_come_to};
 use std::alloc::AllocError;
 
-/// Rows of a module that is loaded elsewhere, as linked. Addresses are taken modulo 2^w.
+/// Rows of a module that isn't loaded where it was linked. They show addresses as linked. Sums of
+/// addresses wrap at 2^64, or at 2^32 with addresses of four bytes.
 const LOADED: &str = "\
 {FUNCTION}
 dwcheck row --load 0x400000 --hex f 0x401000
@@ -26,7 +27,8 @@ dwcheck row --big --addr4 --load 0xffffffff --hex f 0x7fff
 row 0x00008000..0x00008008 cfa=r13+0
 ";
 
-/// Callers in a module that is loaded elsewhere, in a further one, and in the first of two that cover the address.
+/// Callers by a module that isn't loaded where it was linked, by a further module, and by the first
+/// of two modules that cover the address.
 const CALLERS: &str = "\
 {FUNCTION} | reg 6 0x7f00/mem 0x7f00 0080000000000000/mem 0x7f08 3412000000000000/
 dwcheck unwind --load 0x400000 --hex f 0x401010 s
@@ -53,7 +55,8 @@ r16 undefined
 return undefined
 ";
 
-/// Walks from a further module into that of the first section, and from that one into a further one.
+/// Walks from a further module (`--module`) into the first section's module, and from there into a
+/// further module.
 const WALKS: &str = "\
 {FUNCTION} | {STACK}{LAST_WORD} | {FUNCTION}
 dwcheck backtrace --module 0x400000=m --hex f 0x401010 s 9
@@ -81,8 +84,9 @@ frame 0 0x0000000000401010 none
 stop not covered
 ";
 
-/// Hex text is checked first, the state file before that of the further module, and then the sections in the order of the
-/// modules.
+/// What is reported first: malformed hex text of the first section, then a bad line of the state
+/// file, then malformed hex text of the further module, then the sections' faults in the order of
+/// the modules.
 const IN_THEIR_ORDER: &str = "\
 {FUNCTION} | - | f0ffffff: refused 3 ReservedLength frame 0x00000000
 f0ffff | - | f0ffffff: refused 1 Truncated frame 0x00000000

@@ -5,7 +5,7 @@ use crate::texts::expressions::{LOCATION, SHORT_LOCATION, evaluate_to, evaluates
 use std::alloc::AllocError;
 use std::process::Abort;
 
-/// Expressions, the addresses that they give with addresses of eight bytes and of four, and their
+/// Expressions, the address that each gives with 8-byte addresses and with 4-byte ones, and its
 /// steps and depth.
 const BOTH: &str = "\
 08ff: 0x00000000000000ff 0x000000ff steps 1 depth 1
@@ -85,7 +85,7 @@ const BOTH: &str = "\
 0a0410 9404 | mem 0x1000 34127856bc9af0deff: 0x00000000def09abc 0xdef09abc steps 2 depth 1
 ";
 
-/// With addresses of eight bytes.
+/// Expressions and their outcomes with addresses of eight bytes.
 const LONG: &str = "\
 03 0807060504030201: address 0x0102030405060708/steps 1 depth 1
 0affff: address 0x000000000000ffff/steps 1 depth 1
@@ -123,7 +123,7 @@ const LONG: &str = "\
 0f0000000000000080 09ff 1b: address 0x8000000000000000/steps 3 depth 2
 ";
 
-/// With addresses of four bytes, where the width matters.
+/// Expressions and their outcomes with addresses of four bytes; the address size matters to them.
 const SHORT: &str = "\
 03 04030201: address 0x01020304/steps 1 depth 1
 0bfeff: address 0xfffffffe/steps 1 depth 1
@@ -146,7 +146,8 @@ const SHORT: &str = "\
 920002 | reg 0 0xffffffff: address 0x00000001/steps 1 depth 1
 ";
 
-/// The expression gives the first of two addresses with eight bytes, and the other with four.
+/// Asserts that an expression gives the first of `addresses` with 8-byte addresses, and the second
+/// with 4-byte ones. The steps and depth come after both.
 fn gives_both(
     rt: &(impl Abort + AllocGlobal),
     contents: &str,

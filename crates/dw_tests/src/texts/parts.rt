@@ -1,18 +1,25 @@
-//! Named parts of files in cases.
+//! Named parts of files, which replace their names in test cases.
 
 use std::alloc::{AllocError, Global};
 
-/// Names and their parts. `CIE`, `BARE_CIE`, with nops for instructions, and those of versions 1 and 3, with column 16 or
-/// 144, have 24 bytes, `LONG_CIE`, in the 64-bit format, 32. `FDE` is an FDE of 32 bytes over 0x1000 to 0x1020 up to its
-/// program, `FDE_AT_ZERO` one over 0 to 0x20, and `FDE_AT` one up to its addresses. `PUSHES` is a program for it, `RULES`
-/// one with expressions of two registers' rules, the second of them empty.
+/// Names, and the text that replaces each.
 ///
-/// The list of `PAIR_AND_DEFAULT`, at 0xc, has 0 to 0x10 after the base in register 0, and else the value 0; that of
-/// `OVERLAPPING`, with the base 0x2000, 0x2000 to 0x2010 in register 0, 0x2008 to 0x2018 in register 1, and an empty
-/// range in register 2. Under `--big --addr4` that of `BIG_SHORT` has 0x8000 to 0x8010 in the memory at register 13 plus
-/// 4. `LONG` is a table in the 64-bit format with an empty list at 0x1c.
+/// `CIE` has 24 bytes, and so have `BARE_CIE`, whose instructions are all nops, and the CIEs of
+/// versions 1 and 3, whose return address column is 16 or 144. `LONG_CIE`, in the 64-bit format,
+/// has 32 bytes. `FDE` is the beginning of an FDE of 0x1000 to 0x1020 of 32 bytes, and lacks only
+/// the program of eight bytes; `FDE_AT_ZERO` is the same for 0 to 0x20. `FDE_AT` is one that lacks
+/// its addresses too. `PUSHES` and `RULES` are programs for `FDE`. In `RULES` the rules of two
+/// registers are expressions, the second of them empty.
 ///
-/// `STACK` leads a walk over `FUNCTION` from 0x1010 to 0x1020, and would go on to 0x2000 with the last word too.
+/// In the list of `PAIR_AND_DEFAULT`, at 0xc, the object is in register 0 for the first 0x10
+/// addresses from the base on, and has the value 0 at all others. The list of `OVERLAPPING`, at
+/// 0xc, sets the base to 0x2000; the object is in register 0 from 0x2000 to 0x2010, and in register
+/// 1 from 0x2008 to 0x2018, and an entry with an empty range says register 2. `BIG_SHORT` is for
+/// `--big --addr4`: in its list, at 0xc, the object is in memory at register 13 plus 4 from 0x8000
+/// to 0x8010. `LONG` is a table in the 64-bit format with an empty list at 0x1c.
+///
+/// `STACK` is a state file for a walk over `FUNCTION` from 0x1010 to 0x1020. With `LAST_WORD` after
+/// it the walk goes on to 0x2000.
 const PARTS: &str = "\
 {FUNCTION} {CIE} {FDE} {PUSHES}
 {CIE} 14000000 ffffffff 04 00 08 00 01 78 10 0c0708 9001 00000000

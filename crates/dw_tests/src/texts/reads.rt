@@ -28,7 +28,9 @@ impl Read for LittleReader<'_> {
     }
 }
 
-/// Reading all of these bytes takes one more call, which gives none: with fewer calls it fails.
+/// Loads `bytes` from a reader that gives at most `most` bytes per call and fails after `calls`
+/// calls. Returns whether the load succeeds. After the last byte it takes one more call, which
+/// gives no bytes.
 fn reads(rt: &impl Abort, alloc: Global, bytes: &[u8], most: usize, calls: usize) -> bool {
     let mut source = Reads::new(LittleReader { bytes, most, calls });
     assert_eq!(rt; source.state(), Reading::Open);
@@ -61,7 +63,7 @@ fn a_read_that_fails_ends_a_load(rt: HostRuntime) -> Result<(), AllocError> {
     Ok(())
 }
 
-/// More bytes than one read requests at once.
+/// The file has more bytes than one read requests.
 #[test]
 fn loads_files_of_several_reads(rt: HostRuntime) -> Result<(), AllocError> {
     let mut bytes = Vec::new(rt.alloc());

@@ -4,7 +4,7 @@ use crate::texts::cases::{cases_come_to, comes_to, file_of, files_come_to, lines
 use std::alloc::{AllocError, Global};
 use std::process::Abort;
 
-/// The rows of a section as hex text.
+/// The command that shows the rows of a section, given as hex text.
 pub(crate) const ROWS: &str = "dwcheck rows --hex f";
 
 /// Sections, and their rows: records, programs, expressions of rules, the 64-bit format, and an FDE after another.
@@ -127,7 +127,7 @@ fn shows_the_rows_of_sections(rt: HostRuntime) -> Result<(), AllocError> {
     cases_come_to(&rt, SHOWN)
 }
 
-/// What the first row's section has at an address.
+/// Rows of `FUNCTION` at given addresses.
 const BY_ADDRESS: &str = "\
 {FUNCTION}
 dwcheck row --hex f 0xfff
@@ -151,8 +151,8 @@ fn shows_the_row_of_an_address(rt: HostRuntime) -> Result<(), AllocError> {
     cases_come_to(&rt, BY_ADDRESS)
 }
 
-/// Sections, and their first faults. Expressions are checked in their context: the CFA's begins with an empty
-/// stack.
+/// Sections, and their first faults. Expressions are checked by their use: that of a CFA starts
+/// with an empty stack, that of a register with the CFA.
 const REFUSED: &str = "\
 f0ffffff: refused 3 ReservedLength frame 0x00000000
 {CIE} {FDE} 0b 00000000000000: refused 16 RestoreWithoutRemember frame 0x00000030
@@ -206,13 +206,13 @@ fn refuses_the_rules_of_129_registers(rt: HostRuntime) -> Result<(), AllocError>
     )
 }
 
-/// The first row's section as hex text without blanks.
+/// `FUNCTION` as hex text without spaces.
 pub(crate) fn first_row_digits(alloc: Global) -> Result<Vec<u8>, AllocError> {
     let text = file_of(alloc, "{FUNCTION}")?;
     text.iter().copied().filter(|b| *b != b' ').collect(alloc)
 }
 
-/// The offset of the fault if the first row's section is cut to this length, if that is within a record.
+/// The offset of the fault if `FUNCTION` is cut to `length` bytes, or `None` if no record is cut.
 pub(crate) fn cut_off_at(length: usize) -> Option<u32> {
     match length {
         0 | 24 | 56 => None,
@@ -223,7 +223,7 @@ pub(crate) fn cut_off_at(length: usize) -> Option<u32> {
     }
 }
 
-/// A run with these files reports that the frame section is truncated at this offset.
+/// Asserts that a run with these files reports that the frame section is truncated at offset `at`.
 pub(crate) fn is_truncated(
     rt: &(impl Abort + AllocGlobal),
     line: &str,
@@ -234,7 +234,7 @@ pub(crate) fn is_truncated(
     files_come_to(rt, line, files, &wanted)
 }
 
-/// The first row's section, cut at each length.
+/// `FUNCTION` is cut to each length.
 #[test]
 fn names_where_a_section_is_cut_off(rt: HostRuntime) -> Result<(), AllocError> {
     let digits = first_row_digits(rt.alloc())?;

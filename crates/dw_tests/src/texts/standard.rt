@@ -1,11 +1,13 @@
-//! The standard's own examples through `request` and `run`. Their sections are those of DWARF 5.
+//! Examples from the DWARF 5 standard, through `request` and `run`. The sections named in comments
+//! are the standard's.
 
 use crate::standard::MADE_UP_MACHINE;
 use crate::texts::cases::comes_to;
 use crate::texts::expressions::{LOCATION, REGISTER, SHORT_LOCATION, evaluate_to};
 use std::alloc::AllocError;
 
-/// The rows of `foo` on the standard's fictional machine (section D.6), with a slash for an LF.
+/// The rows of `foo` on the standard's fictional machine (section D.6). A slash stands for a
+/// newline.
 const MADE_UP_ROWS: &str = "\
 fde 0x00000028 cie 0x00000000 0x00001000..0x00001054 ra r8/\
 row 0x00001000..0x00001004 cfa=r7+0 r0=s r1=u r2=u r3=u r4=s r5=s r6=s r7=s r8=r1/\
@@ -29,8 +31,9 @@ fn shows_the_rows_of_the_standards_machine(rt: HostRuntime) -> Result<(), AllocE
     )
 }
 
-/// Operations on a stack of 17, 29 and 1000, the top first (sections 2.5.1.3 and D.1.2): dup, drop, pick 2, over, swap
-/// and rot, each followed by drops, so that every entry is seen, and finally the end of the stack.
+/// Operations on a stack with 17 on top of 29 and 1000 (sections 2.5.1.3 and D.1.2): dup, drop,
+/// pick 2, over, swap and rot. Drops after each operation show every entry, and at last that the
+/// stack is empty.
 const STACK: &str = "\
 0ae803 4d 41 12: address 0x0000000000000011/steps 4 depth 4
 0ae803 4d 41 12 13: address 0x0000000000000011/steps 5 depth 4
@@ -65,10 +68,11 @@ fn operations_leave_the_stacks_of_the_standard(rt: HostRuntime) -> Result<(), Al
     evaluate_to(&rt, LOCATION, STACK)
 }
 
-/// Location descriptions (sections 2.6.1.1, 2.6.1.2 and D.1.3): reg3; regx 54; addr 0x80d0045c; breg11 44; breg31 64, and
-/// fbreg -50 from there, with and without a frame base; bregx 54 32 and deref; registers 3 and 10 in pieces; register 0,
-/// nothing and fbreg -12 in pieces; the sum of two registers as a value; 1 and such a sum in pieces. Finally entry_value
-/// 1 reg5 and entry_value 2 breg5 0, which the profile leaves out.
+/// Location descriptions (sections 2.6.1.1, 2.6.1.2 and D.1.3): reg3; regx 54; addr 0x80d0045c;
+/// breg11 44; breg31 64; fbreg -50 from the value of breg31 64 as frame base, and without a frame
+/// base; bregx 54 32 and deref; registers 3 and 10 in pieces; register 0, nothing and fbreg -12 in
+/// pieces; the sum of two registers as a value; 1 and such a sum in pieces. Finally entry_value 1
+/// reg5 and entry_value 2 breg5 0, which the profile doesn't allow.
 const LOCATIONS: &str = "\
 53: register 3/steps 1 depth 0
 9036: register 54/steps 1 depth 0
@@ -95,7 +99,7 @@ fn locations_are_those_of_the_standard(rt: HostRuntime) -> Result<(), AllocError
     evaluate_to(&rt, SHORT_LOCATION, address)
 }
 
-/// plus_uconst 4, after the address of a structure was pushed (section D.1.3).
+/// plus_uconst 4, which gets the address of a structure from the stack (section D.1.3).
 const MEMBER: &str = "\
 2304 | cfa 0x7f00: value 0x0000000000007f04/steps 1 depth 1
 ";

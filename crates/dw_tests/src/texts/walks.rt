@@ -3,8 +3,9 @@
 use crate::texts::cases::cases_come_to;
 use std::alloc::AllocError;
 
-/// Walks from 0x1010, and their output; the last ones lack the word where frame 1 has saved its return address, and the
-/// word where frame 0 has saved register 6.
+/// Walks from 0x1010, and their output. Without `LAST_WORD`, the word is missing where frame 1 has
+/// saved its return address. In the last walk, the word is missing where frame 0 has saved register
+/// 6.
 const WALKS: &str = "\
 {FUNCTION} | {STACK}{LAST_WORD}
 dwcheck backtrace --hex f 0x1010 s 9
@@ -56,10 +57,10 @@ frame 1 0x0000000000001020 cfa unreadable
 stop return unreadable
 ";
 
-/// Walks from 3 with an FDE of 0 to 0x20: endless, as the CFA is 15 and the return address 7; to 0, which is not an
-/// address after a call although an FDE covers it; and to where the return address is undefined, or its expression
-/// divides by zero.
-/// divides by zero.
+/// Walks from 3 with an FDE of 0 to 0x20. The first is endless: the CFA is 15, and the return
+/// address always 7. Others return to 0, which isn't covered as a return address (the address
+/// before it is looked up), although an FDE covers 0. In the last ones the return address is
+/// undefined, or its expression divides by zero.
 const FROM_THREE: &str = "\
 {CIE} {FDE_AT_ZERO} 0f013f 141001 0000 | reg 7 0x10
 dwcheck backtrace --hex f 0x3 s 4

@@ -4,7 +4,7 @@ use crate::texts::cases::{cases_come_to, lines_come_to};
 use crate::texts::sections::{cut_off_at, first_row_digits, is_truncated};
 use std::alloc::AllocError;
 
-/// Both sections in this order, as hex text.
+/// The command that checks a frame section and location lists, both given as hex text.
 const CHECK: &str = "dwcheck check --hex f l";
 
 /// Frame sections and lists, and their reports.
@@ -104,8 +104,8 @@ fn reports_on_two_sections(rt: HostRuntime) -> Result<(), AllocError> {
     cases_come_to(&rt, ACCEPTED)
 }
 
-/// Frame sections and lists, and their first faults: those of the frame section come first, and malformed hex text before
-/// both, in the order of the files.
+/// Frame sections and lists, and their first faults. Malformed hex text is reported first, in the
+/// order of the files; then a fault of the frame section; then a fault of the lists.
 const REFUSED: &str = "\
 f0ffffff | -: refused 3 ReservedLength frame 0x00000000
 f0ffffff | 080000: refused 3 ReservedLength frame 0x00000000
@@ -128,7 +128,7 @@ fn names_the_first_fault_of_two_sections(rt: HostRuntime) -> Result<(), AllocErr
     lines_come_to(&rt, CHECK, REFUSED)
 }
 
-/// The first row's section, cut at each length.
+/// `FUNCTION` is cut to each length.
 #[test]
 fn names_where_the_frame_section_is_cut_off(rt: HostRuntime) -> Result<(), AllocError> {
     let digits = first_row_digits(rt.alloc())?;

@@ -6,7 +6,7 @@ use dw_check::{End, Usage};
 use std::alloc::AllocError;
 use std::process::Abort;
 
-/// Lines with a malformed word.
+/// Command lines with a malformed word.
 const BAD_WORDS: &str = "\
 dwcheck row --hex f 1000
 dwcheck row --hex f 0x
@@ -61,7 +61,7 @@ fn refuses_words_that_are_none(rt: HostRuntime) -> Result<(), AllocError> {
     Ok(())
 }
 
-/// Lines that are no command; clap shows the usage.
+/// Command lines that name no command or have the wrong words for it; clap shows the usage.
 const NO_COMMANDS: &str = "\
 dwcheck
 dwcheck rows
@@ -110,7 +110,7 @@ fn shows_the_usage_for_lines_that_are_no_command(rt: HostRuntime) -> Result<(), 
     Ok(())
 }
 
-/// Lines whose option lacks its value: clap reports that and shows no usage.
+/// Command lines where an option lacks its value; clap says so, and shows no usage.
 const NO_VALUES: &str = "\
 dwcheck eval location e --state
 dwcheck locs l 0xc 0x0 0x0 --state
@@ -128,7 +128,7 @@ fn asks_for_the_value_of_an_option(rt: HostRuntime) -> Result<(), AllocError> {
     Ok(())
 }
 
-/// Lines that give a request, and the names of their files.
+/// Accepted command lines, and the names of their files.
 const GOOD: &str = "\
 dwcheck row --big f 0xFFFFffffFFFFffff: f
 dwcheck row --addr4 f 0x00000000ffffffff: f
@@ -147,7 +147,7 @@ dwcheck unwind --load 0x1000 --module 0x2000=m --module 0x3000=n=o f 0x1000 s: f
 dwcheck backtrace f 0x1000 s 9 --module=0x2000=m: f s m
 ";
 
-/// The names of the files of a line's request, separated by single spaces.
+/// The names of the files that a command line asks for, separated by single spaces.
 fn names_of(rt: &(impl Abort + AllocGlobal), line: &str) -> Result<String, AllocError> {
     let Ok(request) = asked(rt.alloc(), line)? else {
         panic!(rt; "{line}")
@@ -171,7 +171,7 @@ fn asks_for_the_files_of_a_line(rt: HostRuntime) -> Result<(), AllocError> {
     Ok(())
 }
 
-/// The length of the part of each file that is needed.
+/// How many bytes of each file are needed at most; `None` means the whole file.
 const NEEDED: [(&str, &[Option<u64>]); 4] = [
     ("dwcheck check f l", &[Some(1 << 32), Some(1 << 32)]),
     ("dwcheck unwind f 0x0 s", &[Some(1 << 32), None]),

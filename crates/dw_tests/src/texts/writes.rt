@@ -39,8 +39,9 @@ impl Write for Little {
     }
 }
 
-/// How a run ends with a writer that accepts at most `most` bytes per call and fails after `calls` calls, and how much of
-/// this text it has written: it wrote nothing else.
+/// Runs a command with a writer that accepts at most `most` bytes per call and fails after `calls`
+/// calls. Returns how the run ends and how many bytes are written, and asserts that these bytes are
+/// the beginning of `text`.
 fn written(
     rt: &(impl Abort + AllocGlobal),
     line: &str,
@@ -73,8 +74,8 @@ fn written(
     Ok((end, len))
 }
 
-/// How many bytes a writer accepts per call, after how many calls it fails, how a check of two empty sections ends with
-/// it, and how much of the report it accepts.
+/// How many bytes a writer accepts per call, after how many calls it fails, how a check of two
+/// empty sections ends with it, and how many bytes of the report are written.
 const EMPTY_SECTIONS: [((usize, usize), End, usize); 4] = [
     ((3, 1), End::Output, 3),
     ((1, 1000), End::Done, 61),
@@ -93,7 +94,8 @@ fn writes_a_beginning_of_the_report_on_empty_sections(rt: HostRuntime) -> Result
     Ok(())
 }
 
-/// With a writer that fails at its first call, its second and so on, until it accepts the whole text.
+/// Asserts that runs end with `End::Output` if the writer fails at its first call, at its second
+/// and so on, until a writer accepts the whole text.
 fn fails_at_each_write(
     rt: &(impl Abort + AllocGlobal),
     line: &str,
