@@ -202,15 +202,17 @@ fn answers_each_change_of_lists(rt: HostRuntime) -> Result<(), AllocError> {
 
 /// Changes of one byte of `FUNCTION`: the byte's offset, its new value, and the first fault with
 /// its offset.
-const FUNCTION_CHANGES: [(usize, u8, FaultKind, u32); 12] = [
+const FUNCTION_CHANGES: [(usize, u8, FaultKind, u32); 14] = [
     (0, 0x15, FaultKind::Truncated, 29),
     (0, 0xff, FaultKind::Truncated, 4),
+    (3, 0xff, FaultKind::Truncated, 4),
     (4, 0, FaultKind::NoSuchCie, 4),
     (9, 0x7a, FaultKind::Augmentation, 9),
     (10, 4, FaultKind::AddressSize, 10),
     (11, 1, FaultKind::SegmentSize, 11),
     (12, 0x80, FaultKind::LocationPastEnd, 48),
     (15, 0x41, FaultKind::NotInCie, 15),
+    (27, 0xff, FaultKind::Truncated, 28),
     (28, 0x18, FaultKind::NoSuchCie, 28),
     (49, 0x1f, FaultKind::UnknownInstruction, 49),
     (54, 0x0f, FaultKind::Truncated, 56),

@@ -75,18 +75,11 @@ fn is_shown<E: Error>(
 }
 
 #[test]
-fn each_kind_has_its_number_and_name(rt: HostRuntime) -> Result<(), AllocError> {
+fn each_kind_and_its_faults_have_their_number_and_name(rt: HostRuntime) -> Result<(), AllocError> {
     for (kind, number, name) in &KINDS {
         assert_eq!(rt; kind.number(), *number);
         assert_eq!(rt; kind.name(), *name);
         is_shown(&rt, kind, name)?;
-    }
-    Ok(())
-}
-
-#[test]
-fn a_fault_is_shown_by_number_name_and_offset(rt: HostRuntime) -> Result<(), AllocError> {
-    for (kind, number, name) in &KINDS {
         let fault = Fault {
             kind: *kind,
             at: 0xab0,

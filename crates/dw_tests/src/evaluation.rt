@@ -57,10 +57,7 @@ fn gives_what_it_is_passed_modulo_the_address_size(rt: HostRuntime) {
         let found = evaluated(rt.alloc(), bytes, LITTLE_SHORT, kind);
         assert_eq!(rt; found, address(narrow), "{bytes:?}");
     }
-}
-
-#[test]
-fn an_empty_register_expression_gives_the_pushed_cfa(rt: HostRuntime) {
+    // The CFA that a register's expression starts with.
     let found = evaluated(rt.alloc(), &[], LITTLE_SHORT, Kind::FrameRegister);
     assert_eq!(rt; found, Some((Outcome::Value(0x20), 0)));
 }

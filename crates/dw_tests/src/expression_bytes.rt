@@ -1,12 +1,13 @@
 //! The bytes of expressions, and the operations that they encode.
 
-use crate::inputs::{BIG_SHORT, LITTLE, bytes_of, parts_of};
+use crate::inputs::{LITTLE, bytes_of, parts_of};
 use dw_bytes::{Fault, FaultKind};
 use dw_ops::{Expression, Operation, decode_one, operations};
 use std::alloc::Global;
 
 /// Bytes, and the operation that they encode. Each operation occurs, and each of `lit`, `reg` and
-/// `breg`, which have 32 opcodes, occurs with its last opcode and a lower one.
+/// `breg`, which have 32 opcodes, occurs with its last opcode and a lower one. The bytes of the last
+/// lines encode no operation, and have a fault and its offset.
 const OPERATIONS: &str = "\
 030102030405060708: Addr { address: 578437695752307201 }
 08ff: Const1u { value: 255 }
@@ -66,10 +67,6 @@ const OPERATIONS: &str = "\
 2a: Ge
 2b: Gt
 2c: Le
-";
-
-/// Bytes that encode no operation, each with the fault and its offset.
-const FAULTS: &str = "\
 00: UnknownOperation 0
 18: UnknownOperation 0
 95: UnknownOperation 0
@@ -98,7 +95,7 @@ fn shown(alloc: Global, digits: &str) -> Option<String> {
 }
 
 #[test]
-fn decodes_every_operation(rt: HostRuntime) {
+fn decodes_every_operation_and_names_each_fault(rt: HostRuntime) {
     for case in OPERATIONS.lines() {
         let (digits, wanted) = parts_of(&rt, case);
         assert_eq!(rt;
@@ -109,51 +106,9 @@ fn decodes_every_operation(rt: HostRuntime) {
     }
 }
 
-#[test]
-fn names_each_fault_of_decoding(rt: HostRuntime) {
-    for case in FAULTS.lines() {
-        let (digits, wanted) = parts_of(&rt, case);
-        assert_eq!(rt;
-            shown(rt.alloc(), digits).as_deref(),
-            Some(wanted),
-            "{case}"
-        );
-    }
-}
-
-#[test]
-fn an_address_has_the_size_and_order_of_the_target(rt: HostRuntime) {
-    let bytes = [0x03, 1, 2, 3, 4];
-    let address = Operation::Addr {
-        address: 0x0102_0304,
-    };
-    let found = decode_one(&Expression::new(&bytes, BIG_SHORT), 0);
-    assert_eq!(rt; found, Ok((address, 5)));
-}
-
-#[test]
-fn refuses_a_read_that_is_wider_than_an_address(rt: HostRuntime) {
-    let fault = decode_one(&Expression::new(&[0x94, 8], BIG_SHORT), 0).err();
-    assert_eq!(rt;
-        fault.map(|fault| (fault.kind, fault.at)),
-        Some((FaultKind::BadSize, 0))
-    );
-}
-
 /// A list of more than sixteen operations takes memory from the allocator.
 #[test]
-fn lists_seventeen_operations(rt: HostRuntime) -> Result<(), Fault> {
-    let list = operations(rt.alloc(), &Expression::new(&[0x31; 17], LITTLE))?;
-    assert_eq!(rt; list.len(), 17);
-    for (at, item) in list.iter().enumerate() {
-        assert_eq!(rt; item.0 as usize, at);
-        assert_eq!(rt; item.1, Operation::Lit { value: 1 });
-    }
-    Ok(())
-}
-
-#[test]
-fn refuses_a_list_with_an_unknown_code(rt: HostRuntime) {
+fn lists_seventeen_operations_and_refuses_an_unknown_code(rt: HostRuntime) -> Result<(), Fault> {
     let refused = operations(rt.alloc(), &Expression::new(&[0x31, 0x18], LITTLE));
     assert_eq!(rt;
         refused.err(),
@@ -162,4 +117,11 @@ fn refuses_a_list_with_an_unknown_code(rt: HostRuntime) {
             at: 1
         })
     );
+    let list = operations(rt.alloc(), &Expression::new(&[0x31; 17], LITTLE))?;
+    assert_eq!(rt; list.len(), 17);
+    for (at, item) in list.iter().enumerate() {
+        assert_eq!(rt; item.0 as usize, at);
+        assert_eq!(rt; item.1, Operation::Lit { value: 1 });
+    }
+    Ok(())
 }

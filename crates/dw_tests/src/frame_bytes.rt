@@ -2,7 +2,7 @@ ghost use Rattle.std.specs.Prelude.{◌<◌, ◌^◌, length};
 
 use crate::inputs::{BIG_FUNCTION, BIG_SHORT, FUNCTION, LITTLE, bytes_of};
 use dw_bytes::{AddressSize, Fault, FaultKind, Format, Order, Target};
-use dw_frame::{CallFrameInstruction, Entry, cie_at, entries};
+use dw_frame::{Entry, cie_at, entries};
 
 /// The first fault of the records of a section, and its offset.
 fn first_fault(section: &[u8], target: Target) -> Option<(FaultKind, u32)>
@@ -30,41 +30,6 @@ fn first_program_fault(section: &[u8], target: Target) -> Option<(FaultKind, u32
         }
     }
     None
-}
-
-/// The def_cfa_expression that begins the program of an FDE, the section's second record: the
-/// offset of the instruction, the offset of its expression, and the expression's bytes.
-fn first_cfa_expression(section: &[u8]) -> Option<(u32, u32, &[u8])>
-    requires { length section.now < 2 ^ 32 }
-{
-    let Entry::Fde(fde) = entries(section, LITTLE).nth(1)?.ok()? else {
-        return None;
-    };
-    match fde.program.instructions().next()?.ok()? {
-        (at, CallFrameInstruction::DefCfaExpression { expression }) => {
-            Some((at, expression.offset, expression.expression.bytes()))
-        }
-        _ => None,
-    }
-}
-
-/// Programs that begin with a def_cfa_expression, and the offset of its expression in the section.
-/// The expression comes after a length of one byte, and of two.
-const WITH_EXPRESSIONS: [([u8; 8], u32); 2] = [
-    ([0x0f, 3, 0x77, 8, 6, 0, 0, 0], 50),
-    ([0x0f, 0x83, 0, 0x77, 8, 6, 0, 0], 51),
-];
-
-#[test]
-fn an_expression_begins_after_its_count(rt: HostRuntime) {
-    for (program, offset) in &WITH_EXPRESSIONS {
-        let mut section = FUNCTION;
-        section[48..].copy_from_slice(program);
-        assert_eq!(rt;
-            first_cfa_expression(&section),
-            Some((48, *offset, [0x77, 8, 6].as_slice()))
-        );
-    }
 }
 
 /// A CIE and an FDE in the 64-bit format, in little-endian order.
@@ -138,42 +103,6 @@ fn reads_records_of_both_formats_and_orders(rt: HostRuntime) {
         assert!(rt; records.next().is_none());
         assert_eq!(rt; first_program_fault(section, target), None);
     }
-}
-
-#[test]
-fn refuses_a_register_above_the_last(rt: HostRuntime) {
-    let mut section = FUNCTION;
-    section[48..].copy_from_slice(&[5, 0x80, 0x80, 4, 1, 0, 0, 0]);
-    assert_eq!(rt; first_fault(&section, LITTLE), None);
-    assert_eq!(rt;
-        first_program_fault(&section, LITTLE),
-        Some((FaultKind::RegisterNumber, 48))
-    );
-}
-
-#[test]
-fn takes_a_record_of_any_length(rt: HostRuntime) {
-    let mut section = [0; 25];
-    section[..24].copy_from_slice(&FUNCTION[..24]);
-    section[0] = 0x15;
-    let mut records = entries(&section, LITTLE);
-    assert!(rt; matches!(records.next(), Some(Ok(Entry::Cie(_)))));
-    assert!(rt; records.next().is_none());
-}
-
-/// An FDE in the 32-bit format after a CIE in the 64-bit one.
-#[test]
-fn reads_both_formats_in_one_section(rt: HostRuntime) {
-    let mut section = [0; 64];
-    section[..32].copy_from_slice(&LONG[..32]);
-    section[32..].copy_from_slice(&FUNCTION[24..]);
-    let entry = entries(&section, LITTLE)
-        .nth(1)
-        .and_then(|entry| entry.ok());
-    assert_eq!(rt;
-        entry.map(|entry| header_of(&entry)),
-        Some((32, Format::Dwarf32, 0, 36, 0x1020, 56, 64))
-    );
 }
 
 #[test]
@@ -352,20 +281,6 @@ fn names_the_field_that_an_older_body_cuts_off(rt: HostRuntime) {
 }
 
 #[test]
-fn refuses_other_versions(rt: HostRuntime) {
-    for version in [0, 2, 5, 255] {
-        let mut bytes = FUNCTION;
-        bytes[8] = version;
-        let wanted = Some((FaultKind::Version, 8));
-        assert_eq!(rt; first_fault(&bytes, LITTLE), wanted, "{version}");
-        let mut bytes = LONG;
-        bytes[20] = version;
-        let wanted = Some((FaultKind::Version, 20));
-        assert_eq!(rt; first_fault(&bytes, LITTLE), wanted, "{version}");
-    }
-}
-
-#[test]
 fn a_column_has_a_byte_or_is_at_most_65535(rt: HostRuntime) {
     // The version, the three bytes from the return address column on, and the column that they
     // give, or its fault.
@@ -387,71 +302,6 @@ fn a_column_has_a_byte_or_is_at_most_65535(rt: HostRuntime) {
             wanted.map(Some).map_err(|kind| Fault { kind, at: 12 })
         );
     }
-}
-
-#[test]
-fn names_the_fault_of_a_changed_header(rt: HostRuntime) {
-    let changes: [(usize, u8, FaultKind, u32); 8] = [
-        (0, 0x15, FaultKind::Truncated, 29),
-        (0, 0xff, FaultKind::Truncated, 4),
-        (8, 5, FaultKind::Version, 8),
-        (9, 0x7a, FaultKind::Augmentation, 9),
-        (10, 4, FaultKind::AddressSize, 10),
-        (11, 1, FaultKind::SegmentSize, 11),
-        (3, 0xff, FaultKind::Truncated, 4),
-        (27, 0xff, FaultKind::Truncated, 28),
-    ];
-    for (place, value, kind, at) in changes {
-        let mut bytes = FUNCTION;
-        bytes[place] = value;
-        assert_eq!(rt; first_fault(&bytes, LITTLE), Some((kind, at)), "{place}");
-    }
-}
-
-/// Records whose header is refused whatever else the section contains, each with its fault and the
-/// fault's offset.
-const BAD_HEADERS: [(&str, Target, FaultKind, u32); 5] = [
-    ("f0ffffff", LITTLE, FaultKind::ReservedLength, 0),
-    ("fffffffe", BIG_SHORT, FaultKind::ReservedLength, 0),
-    (
-        "0d000000ffffffff040008000178808004",
-        LITTLE,
-        FaultKind::RegisterNumber,
-        14,
-    ),
-    (
-        "0000000c00000000fffffff000000010",
-        BIG_SHORT,
-        FaultKind::RangePastTop,
-        12,
-    ),
-    (
-        "1400000000000000f0ffffffffffffff1000000000000000",
-        LITTLE,
-        FaultKind::RangePastTop,
-        16,
-    ),
-];
-
-#[test]
-fn names_the_fault_of_a_bad_header(rt: HostRuntime) {
-    for (digits, target, kind, at) in &BAD_HEADERS {
-        let section = bytes_of(rt.alloc(), digits).expect(&rt, "hex digits");
-        assert!(rt; section.len() < 0x1_0000);
-        assert_eq!(rt;
-            first_fault(&section, *target),
-            Some((*kind, *at)),
-            "{digits}"
-        );
-    }
-}
-
-#[test]
-fn takes_a_range_up_to_the_last_address(rt: HostRuntime) {
-    let section = [
-        0, 0, 0, 12, 0, 0, 0, 0, 0xff, 0xff, 0xff, 0xf0, 0, 0, 0, 0x0f,
-    ];
-    assert_eq!(rt; first_fault(&section, BIG_SHORT), None);
 }
 
 #[test]

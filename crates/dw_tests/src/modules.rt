@@ -76,16 +76,6 @@ fn a_walk_goes_from_a_library_to_its_program(rt: HostRuntime) {
 }
 
 #[test]
-fn a_walk_can_be_cut_short_and_goes_on(rt: HostRuntime) {
-    let modules = program_and_library(rt.alloc()).expect(&rt, "there is memory");
-    let abi = Abi::none();
-    let mut walk = Walk::new(&modules[..], &abi, 0x20_1010, &FramePointer {}, &STACK);
-    assert_eq!(rt; walk.by_ref().take(2).count(), 2);
-    assert_eq!(rt; walk.next(), Some(FRAMES[2]));
-    assert_eq!(rt; walk.next(), None);
-}
-
-#[test]
 fn one_table_serves_processes_that_load_it_elsewhere(rt: HostRuntime) {
     let modules = program_and_library(rt.alloc()).expect(&rt, "there is memory");
     let table = &modules[0].rows;
@@ -148,17 +138,9 @@ fn the_first_module_that_covers_an_address_is_taken(rt: HostRuntime) {
     assert_eq!(rt; cfa_in(&two, 0x1010), Some(Answer::Unreadable));
     let apart = [Module::new(&other, 0x1000), Module::new(&function, 0)];
     assert_eq!(rt; cfa_in(&apart, 0x1010), Some(Answer::Value(0x7010)));
-}
-
-#[test]
-fn addresses_wrap_where_a_module_is_loaded(rt: HostRuntime) {
-    let function = check_frame(rt.alloc(), &FUNCTION, LITTLE).expect(&rt, "accepted");
-    let modules = [Module::new(&function, 0xffff_ffff_ffff_f000)];
-    assert_eq!(rt; cfa_in(&modules, 0x10), Some(Answer::Value(0x7010)));
-    assert_eq!(rt; cfa_in(&modules, 0x1010), None);
-}
-
-#[test]
-fn no_module_covers_nothing(rt: HostRuntime) {
+    // Addresses wrap.
+    let high = [Module::new(&function, 0xffff_ffff_ffff_f000)];
+    assert_eq!(rt; cfa_in(&high, 0x10), Some(Answer::Value(0x7010)));
+    assert_eq!(rt; cfa_in(&high, 0x1010), None);
     assert_eq!(rt; cfa_in(&[], 0x1010), None);
 }

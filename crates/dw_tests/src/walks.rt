@@ -39,13 +39,9 @@ fn walks_up_to_the_greatest_limit(rt: HostRuntime) {
 }
 
 #[test]
-fn walks_over_a_section_without_lists(rt: HostRuntime) {
+fn walks_over_one_section_or_its_table(rt: HostRuntime) {
     let walk = walk_by_section(rt.alloc(), 2).expect(&rt, "there is memory");
     assert!(rt; are_worked(&walk));
-}
-
-#[test]
-fn walks_over_a_table(rt: HostRuntime) {
     let walk = walk_by_table(rt.alloc(), 2).expect(&rt, "there is memory");
     assert!(rt; are_worked(&walk));
 }

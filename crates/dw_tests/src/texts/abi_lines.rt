@@ -2,7 +2,7 @@
 
 use crate::inputs::parts_of;
 use crate::texts::cases::comes_to;
-use crate::texts::expressions::{LOCATION, LOCATION_WITH_STATE, evaluate_to};
+use crate::texts::expressions::LOCATION_WITH_STATE;
 use std::alloc::{AllocError, Global};
 use std::process::Abort;
 
@@ -110,18 +110,4 @@ const MANY: &str = "\
 fn takes_127_kept_registers_and_no_more(rt: HostRuntime) -> Result<(), AllocError> {
     let most = most_lines(rt.alloc())?;
     end_so(&rt, &MANY.replace(rt.alloc(), "{MOST}", &most)?)
-}
-
-/// An ABI gives an expression no register: register 6 stays unreadable if only `keep` or `sp` names
-/// it.
-const UNUSED: &str = "\
-7600 | keep 6/: unreadable at 0x00000000/steps 1 depth 1
-7600 | sp 6/: unreadable at 0x00000000/steps 1 depth 1
-7600 | keep 6/reg 6 0x5/: address 0x0000000000000005/steps 1 depth 1
-7600 | sp 6/reg 6 0x5/: address 0x0000000000000005/steps 1 depth 1
-";
-
-#[test]
-fn an_abi_changes_no_expression(rt: HostRuntime) -> Result<(), AllocError> {
-    evaluate_to(&rt, LOCATION, UNUSED)
 }

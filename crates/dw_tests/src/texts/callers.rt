@@ -94,11 +94,6 @@ r14 unreadable
 return unreadable
 ";
 
-#[test]
-fn shows_what_is_known_of_a_caller(rt: HostRuntime) -> Result<(), AllocError> {
-    cases_come_to(&rt, CALLERS)
-}
-
 /// Malformed hex text is reported before a bad line of the state file, and that before a fault of
 /// the section.
 const IN_THEIR_ORDER: &str = "\
@@ -110,6 +105,7 @@ f0ffffff | -: refused 3 ReservedLength frame 0x00000000
 ";
 
 #[test]
-fn judges_hex_text_then_the_state_file_then_the_section(rt: HostRuntime) -> Result<(), AllocError> {
+fn shows_a_caller_or_the_first_fault_of_the_files(rt: HostRuntime) -> Result<(), AllocError> {
+    cases_come_to(&rt, CALLERS)?;
     lines_come_to(&rt, "dwcheck unwind --hex f 0x0 s", IN_THEIR_ORDER)
 }

@@ -111,11 +111,6 @@ const REFUSED: &str = "\
 080000: refused 1 Truncated lists 0x00000000
 ";
 
-#[test]
-fn names_the_first_fault_of_lists(rt: HostRuntime) -> Result<(), AllocError> {
-    lines_come_to(&rt, "dwcheck locs --hex l 0xc 0x0 0x0", REFUSED)
-}
-
 /// Malformed hex text is reported before a bad line of the state file, and that before a fault of
 /// the section.
 const IN_THEIR_ORDER: &str = "\
@@ -124,7 +119,8 @@ const IN_THEIR_ORDER: &str = "\
 ";
 
 #[test]
-fn judges_hex_text_then_the_state_file_then_the_lists(rt: HostRuntime) -> Result<(), AllocError> {
+fn names_the_first_fault_of_the_files(rt: HostRuntime) -> Result<(), AllocError> {
+    lines_come_to(&rt, "dwcheck locs --hex l 0xc 0x0 0x0", REFUSED)?;
     lines_come_to(
         &rt,
         "dwcheck locs --hex l 0xc 0x0 0x0 --state s",

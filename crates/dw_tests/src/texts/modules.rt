@@ -96,17 +96,9 @@ f0fffff | 00 | f0fffff: bad hex 0
 ";
 
 #[test]
-fn shows_the_row_of_an_address_as_loaded(rt: HostRuntime) -> Result<(), AllocError> {
-    cases_come_to(&rt, LOADED)
-}
-
-#[test]
-fn shows_callers_through_modules(rt: HostRuntime) -> Result<(), AllocError> {
-    cases_come_to(&rt, CALLERS)
-}
-
-#[test]
-fn shows_walks_through_modules(rt: HostRuntime) -> Result<(), AllocError> {
+fn shows_rows_callers_and_walks_through_modules(rt: HostRuntime) -> Result<(), AllocError> {
+    cases_come_to(&rt, LOADED)?;
+    cases_come_to(&rt, CALLERS)?;
     cases_come_to(&rt, WALKS)
 }
 

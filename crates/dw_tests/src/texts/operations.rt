@@ -146,6 +146,14 @@ const SHORT: &str = "\
 920002 | reg 0 0xffffffff: address 0x00000001/steps 1 depth 1
 ";
 
+/// The command that evaluates a location in big-endian order with addresses of four bytes.
+const BIG_SHORT_LOCATION: &str = "dwcheck eval --big --addr4 location --hex e";
+
+/// A location in big-endian order with addresses of four bytes.
+const BIG_SHORT: &str = "\
+03 01020304: address 0x01020304/steps 1 depth 1
+";
+
 /// Asserts that an expression gives the first of `addresses` with 8-byte addresses, and the second
 /// with 4-byte ones. The steps and depth come after both.
 fn gives_both(
@@ -175,11 +183,8 @@ fn operations_give_their_values_in_both_widths(rt: HostRuntime) -> Result<(), Al
 }
 
 #[test]
-fn operations_give_their_values_in_eight_bytes(rt: HostRuntime) -> Result<(), AllocError> {
-    evaluate_to(&rt, LOCATION, LONG)
-}
-
-#[test]
-fn operations_give_their_values_in_four_bytes(rt: HostRuntime) -> Result<(), AllocError> {
-    evaluate_to(&rt, SHORT_LOCATION, SHORT)
+fn operations_give_their_values_in_eight_or_four_bytes(rt: HostRuntime) -> Result<(), AllocError> {
+    evaluate_to(&rt, LOCATION, LONG)?;
+    evaluate_to(&rt, SHORT_LOCATION, SHORT)?;
+    evaluate_to(&rt, BIG_SHORT_LOCATION, BIG_SHORT)
 }

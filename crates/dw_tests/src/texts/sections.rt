@@ -7,7 +7,8 @@ use std::process::Abort;
 /// The command that shows the rows of a section, given as hex text.
 pub(crate) const ROWS: &str = "dwcheck rows --hex f";
 
-/// Sections, and their rows: records, programs, expressions of rules, the 64-bit format, and an FDE after another.
+/// Sections, and their rows: records, programs, expressions of rules, the 64-bit format, and an FDE
+/// after another. The last cases look up single addresses in `FUNCTION`.
 const SHOWN: &str = "\
 {FUNCTION}
 dwcheck rows --hex f
@@ -63,6 +64,13 @@ row 0x0000000000001000..0x0000000000001020 cfa=r7+8 r6=expr(12) r16=[c-8]
 
 {LONG_CIE}
 dwcheck rows --hex f
+
+{LONG_CIE} {FDE} {PUSHES}
+dwcheck rows --hex f
+fde 0x00000020 cie 0x00000000 0x0000000000001000..0x0000000000001020 ra r16
+row 0x0000000000001000..0x0000000000001001 cfa=r7+8 r16=[c-8]
+row 0x0000000000001001..0x0000000000001004 cfa=r7+16 r6=[c-16] r16=[c-8]
+row 0x0000000000001004..0x0000000000001020 cfa=r6+16 r6=[c-16] r16=[c-8]
 
 {LONG_CIE} ffffffff 2400000000000000 0000000000000000 0010000000000000 2000000000000000 {PUSHES} 00000000
 dwcheck rows --hex f
@@ -120,15 +128,7 @@ dwcheck rows --big --addr4 --hex f
 fde 0x00000014 cie 0x00000000 0x00008000..0x00008010 ra r14
 row 0x00008000..0x00008008 cfa=r13+0
 row 0x00008008..0x00008010 cfa=r13+8 r14=[c-4]
-";
 
-#[test]
-fn shows_the_rows_of_sections(rt: HostRuntime) -> Result<(), AllocError> {
-    cases_come_to(&rt, SHOWN)
-}
-
-/// Rows of `FUNCTION` at given addresses.
-const BY_ADDRESS: &str = "\
 {FUNCTION}
 dwcheck row --hex f 0xfff
 none
@@ -147,12 +147,12 @@ none
 ";
 
 #[test]
-fn shows_the_row_of_an_address(rt: HostRuntime) -> Result<(), AllocError> {
-    cases_come_to(&rt, BY_ADDRESS)
+fn shows_the_rows_of_sections(rt: HostRuntime) -> Result<(), AllocError> {
+    cases_come_to(&rt, SHOWN)
 }
 
 /// Sections, and their first faults. Expressions are checked by their use: that of a CFA starts
-/// with an empty stack, that of a register with the CFA.
+/// with an empty stack, that of a register with the CFA. The last files aren't hex text.
 const REFUSED: &str = "\
 f0ffffff: refused 3 ReservedLength frame 0x00000000
 {CIE} {FDE} 0b 00000000000000: refused 16 RestoreWithoutRemember frame 0x00000030
@@ -182,12 +182,25 @@ f0ffffff: refused 3 ReservedLength frame 0x00000000
 {CIE} {FDE} 00 0f 01 12 00000000: refused 35 Underflow frame 0x00000033
 {CIE} {FDE} 10 06 01 9c 00000000: refused 31 NotInFrame frame 0x00000033
 {CIE} {FDE} 16 06 03 30 9403 0000: refused 32 BadSize frame 0x00000034
+0d000000 ffffffff 04 00 08 00 01 78 808004: refused 10 RegisterNumber frame 0x0000000e
+14000000 00000000 f0ffffffffffffff 1000000000000000: refused 11 RangePastTop frame 0x00000010
+0: bad hex 0
+0g: bad hex 0
+12 3: bad hex 0
+00\u{b}: bad hex 0
+";
+
+/// Sections in big-endian order with addresses of four bytes, and their first faults.
+const BIG_REFUSED: &str = "\
+fffffffe: refused 3 ReservedLength frame 0x00000000
+0000000c 00000000 fffffff0 00000010: refused 11 RangePastTop frame 0x0000000c
 ";
 
 #[test]
-fn names_the_first_fault_of_a_section(rt: HostRuntime) -> Result<(), AllocError> {
+fn names_the_first_fault_of_a_file(rt: HostRuntime) -> Result<(), AllocError> {
     lines_come_to(&rt, ROWS, REFUSED)?;
-    lines_come_to(&rt, "dwcheck row --hex f 0x1000", REFUSED)
+    lines_come_to(&rt, "dwcheck row --hex f 0x1000", REFUSED)?;
+    lines_come_to(&rt, "dwcheck rows --big --addr4 --hex f", BIG_REFUSED)
 }
 
 #[test]
@@ -246,19 +259,6 @@ fn names_where_a_section_is_cut_off(rt: HostRuntime) -> Result<(), AllocError> {
         }
     }
     Ok(())
-}
-
-/// Malformed hex text.
-const BAD_HEX: &str = "\
-0: bad hex 0
-0g: bad hex 0
-12 3: bad hex 0
-00\u{b}: bad hex 0
-";
-
-#[test]
-fn refuses_what_is_no_hex_text(rt: HostRuntime) -> Result<(), AllocError> {
-    lines_come_to(&rt, ROWS, BAD_HEX)
 }
 
 #[test]

@@ -63,11 +63,6 @@ const STACK: &str = "\
 0ae803 4d 41 17 13 13 13: refused 40 EndsEmpty expression 0x00000009
 ";
 
-#[test]
-fn operations_leave_the_stacks_of_the_standard(rt: HostRuntime) -> Result<(), AllocError> {
-    evaluate_to(&rt, LOCATION, STACK)
-}
-
 /// Location descriptions (sections 2.6.1.1, 2.6.1.2 and D.1.3): reg3; regx 54; addr 0x80d0045c;
 /// breg11 44; breg31 64; fbreg -50 from the value of breg31 64 as frame base, and without a frame
 /// base; bregx 54 32 and deref; registers 3 and 10 in pieces; register 0, nothing and fbreg -12 in
@@ -92,20 +87,17 @@ a30155 9f: refused 30 UnknownOperation expression 0x00000000
 a3027500 9f: refused 30 UnknownOperation expression 0x00000000
 ";
 
-#[test]
-fn locations_are_those_of_the_standard(rt: HostRuntime) -> Result<(), AllocError> {
-    evaluate_to(&rt, LOCATION, LOCATIONS)?;
-    let address = "03 5c04d080: address 0x80d0045c/steps 1 depth 1";
-    evaluate_to(&rt, SHORT_LOCATION, address)
-}
-
 /// plus_uconst 4, which gets the address of a structure from the stack (section D.1.3).
 const MEMBER: &str = "\
 2304 | cfa 0x7f00: value 0x0000000000007f04/steps 1 depth 1
 ";
 
 #[test]
-fn a_member_is_found_from_what_was_pushed(rt: HostRuntime) -> Result<(), AllocError> {
+fn expressions_come_to_what_the_standard_says(rt: HostRuntime) -> Result<(), AllocError> {
+    evaluate_to(&rt, LOCATION, STACK)?;
+    evaluate_to(&rt, LOCATION, LOCATIONS)?;
+    let address = "03 5c04d080: address 0x80d0045c/steps 1 depth 1";
+    evaluate_to(&rt, SHORT_LOCATION, address)?;
     evaluate_to(&rt, REGISTER, MEMBER)?;
     evaluate_to(
         &rt,

@@ -99,11 +99,7 @@ stop return division by zero
 ";
 
 #[test]
-fn shows_the_frames_of_a_walk(rt: HostRuntime) -> Result<(), AllocError> {
-    cases_come_to(&rt, WALKS)
-}
-
-#[test]
-fn shows_why_walks_from_three_stop(rt: HostRuntime) -> Result<(), AllocError> {
+fn shows_the_frames_of_walks_and_why_they_stop(rt: HostRuntime) -> Result<(), AllocError> {
+    cases_come_to(&rt, WALKS)?;
     cases_come_to(&rt, FROM_THREE)
 }
