@@ -6,6 +6,7 @@ pub mod Evaluated
 pub mod Found
 pub mod GoodLocations
 pub mod Growth
+pub mod HexBytes
 pub mod KeptNumbers
 pub mod KnownMachine
 pub mod KnownState

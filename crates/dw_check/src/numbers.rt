@@ -1,32 +1,70 @@
 //! Numbers as text. Each function appends to `line`, a buffer that is reused.
 
 ghost use Rattle.std.specs.Prelude.{◌≡◌, ◌++◌, ◌^◌, ◌<◌, OnOk, codes};
+ghost use Rattle.std.specs.Str.{IsUtf8};
 ghost use Rattle.std.specs.String.{string_bytes};
-ghost use Rattle.dw_bytes.specs.Text.{hex_number, offset_text};
+ghost use Rattle.dw_bytes.specs.Text.{hex_digits, hex_number, offset_text};
 ghost use Rattle.dw_check.specs.Text.{digits_of, address_text, range_text, signed_text};
 
 use dw_bytes::AddressSize;
 use itoa::{Buffer, Integer};
 use std::alloc::AllocError;
 
+/// The hex digits of a number. Text is mostly offsets and addresses, and `write!` would take several
+/// times as long for each.
+#[tactic(auto, using(crate::proofs::HexBytes::short_digits))]
+fn short_digits(number: u32) -> [u8; 8]
+    ensures { result ≡ hex_digits 8 number }
+{
+    let mut digits = [0; 8];
+    match hex::encode_to_slice(number.to_be_bytes(), &mut digits) {
+        Ok(()) => digits,
+        Err(_) => unreachable!(),
+    }
+}
+
+/// Like `short_digits`, for a number of 64 bits.
+#[tactic(auto, using(crate::proofs::HexBytes::long_digits))]
+fn long_digits(number: u64) -> [u8; 16]
+    ensures { result ≡ hex_digits 16 number }
+{
+    let mut digits = [0; 16];
+    match hex::encode_to_slice(number.to_be_bytes(), &mut digits) {
+        Ok(()) => digits,
+        Err(_) => unreachable!(),
+    }
+}
+
+/// Appends `0x` and hex digits.
+fn push_digits(line: &mut String, digits: &[u8]) -> Result<(), AllocError>
+    requires { IsUtf8 digits.now }
+    ensures { OnOk result (string_bytes line.new
+        ≡ string_bytes line.old ++ codes "0x" ++ digits.now) }
+{
+    let Ok(text) = str::from_utf8(digits) else {
+        unreachable!();
+    };
+    line.push_str("0x")?;
+    line.push_str(text)
+}
+
 /// An offset in a section or in an expression.
 pub(crate) fn push_offset(line: &mut String, offset: u32) -> Result<(), AllocError>
     ensures { OnOk result (string_bytes line.new ≡ string_bytes line.old ++ offset_text offset) }
 {
-    write!(line, "0x{offset:08x}")
+    push_digits(line, &short_digits(offset))
 }
 
-fn push_short_address(line: &mut String, address: u64) -> Result<(), AllocError>
-    requires { address < 2 ^ 32 }
+fn push_short_address(line: &mut String, address: u32) -> Result<(), AllocError>
     ensures { OnOk result (string_bytes line.new ≡ string_bytes line.old ++ hex_number 8 address) }
 {
-    write!(line, "0x{address:08x}")
+    push_digits(line, &short_digits(address))
 }
 
 fn push_long_address(line: &mut String, address: u64) -> Result<(), AllocError>
     ensures { OnOk result (string_bytes line.new ≡ string_bytes line.old ++ hex_number 16 address) }
 {
-    write!(line, "0x{address:016x}")
+    push_digits(line, &long_digits(address))
 }
 
 /// An address in hex digits. Of a number that is too large only the low digits are shown.
@@ -39,7 +77,7 @@ pub(crate) fn push_address(
         ++ address_text size address) }
 {
     match size {
-        AddressSize::Four => push_short_address(line, address % (1 << 32)),
+        AddressSize::Four => push_short_address(line, (address % (1 << 32)) as u32),
         AddressSize::Eight => push_long_address(line, address),
     }
 }
