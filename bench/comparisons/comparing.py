@@ -12,8 +12,9 @@ import tempfile
 # files: contents by name; runs: runs of the program on these files; kinds: the kinds under which
 # the case is counted.
 Case = collections.namedtuple("Case", "files runs kinds")
-# said: what to print if the texts differ; words: the program's words without flags, where a file's
-# name stands for its path; wanted: the text that the program must write.
+# said: printed if the texts differ. words: the program's arguments, except --big and --addr4, which
+# check() adds; an argument that is a key of `files` becomes that file's path. wanted: the output that
+# the program must write.
 Run = collections.namedtuple("Run", "said words wanted")
 
 

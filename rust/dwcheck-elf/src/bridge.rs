@@ -41,7 +41,8 @@ pub struct EhFrame<'a> {
     pub text: Option<u64>,
     /// The address of the global offset table, for `DW_EH_PE_datarel`.
     pub data: Option<u64>,
-    /// Offsets of fields whose address isn't known, ascending. See [`crate::program::Section::unresolved`].
+    /// Offsets, in ascending order, of fields that hold an unknown address: their relocation names a
+    /// symbol that the object doesn't define. See [`crate::program::Section::unresolved`].
     pub unresolved: &'a [u64],
 }
 

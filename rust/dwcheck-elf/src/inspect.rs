@@ -24,7 +24,8 @@ use std::fmt;
 pub struct Check {
     /// How `.eh_frame` is rewritten.
     pub bridge: Options,
-    /// Whether to go on after the first fault, and check each CIE and each FDE alone.
+    /// Whether to report every fault of a frame section, not only the first. See
+    /// [`crate::alone::every_fault`].
     pub all: bool,
 }
 

@@ -54,109 +54,115 @@ macro_rules! fault_kinds {
 }
 
 fault_kinds! {
-    /// A field runs past the end of its body, program, expression or section. At the field's first
-    /// byte.
+    /// A field runs past the end of its body, program, expression or section. Reported at the
+    /// field's first byte.
     Truncated = 1,
-    /// A LEB128 number has more than ten bytes, or its value doesn't fit 64 bits. At the
+    /// A LEB128 number has more than ten bytes, or its value doesn't fit 64 bits. Reported at the
     /// field's first byte.
     LebRange = 2,
-    /// An initial length from 0xfffffff0 to 0xfffffffe. At its first byte.
+    /// An initial length from 0xfffffff0 to 0xfffffffe. Reported at its first byte.
     ReservedLength = 3,
-    /// A CIE's version isn't 1, 3 or 4. At the version byte.
+    /// A CIE's version isn't 1, 3 or 4. Reported at the version byte.
     Version = 4,
-    /// A CIE's augmentation isn't empty. At the augmentation's first byte.
+    /// A CIE's augmentation isn't empty. Reported at the augmentation's first byte.
     Augmentation = 5,
-    /// A CIE's or list table's address size isn't the target's. At that byte.
+    /// A CIE's or list table's address size isn't the target's. Reported at that byte.
     AddressSize = 6,
-    /// A CIE's or list table's segment selector size isn't 0. At that byte.
+    /// A CIE's or list table's segment selector size isn't 0. Reported at that byte.
     SegmentSize = 7,
-    /// A CIE_pointer isn't the offset of a CIE. At that field.
+    /// A CIE_pointer isn't the offset of a CIE. Reported at that field.
     NoSuchCie = 9,
-    /// A register number is above 65535. At the instruction or operation; for the return address
-    /// register of a CIE, at that field.
+    /// A register number is above 65535. Reported at the instruction or operation; for the return
+    /// address register of a CIE, at that field.
     RegisterNumber = 10,
-    /// An FDE's initial location plus its range is above 2^w - 1. At the address_range field.
+    /// An FDE's initial location plus its range is above 2^w - 1. Reported at the address_range
+    /// field.
     RangePastTop = 11,
-    /// An unknown instruction code. At the instruction.
+    /// An unknown instruction code. Reported at the instruction.
     UnknownInstruction = 12,
-    /// An instruction that isn't allowed in a CIE's program. At the instruction.
+    /// An instruction that isn't allowed in a CIE's program. Reported at the instruction.
     NotInCie = 13,
-    /// A set_loc's address isn't above the current location. At the instruction.
+    /// A set_loc's address isn't above the current location. Reported at the instruction.
     LocationBack = 14,
-    /// The location moves above the end of the FDE's range. At the instruction.
+    /// The location moves above the end of the FDE's range. Reported at the instruction.
     LocationPastEnd = 15,
-    /// A restore_state without a remember_state before it. At the instruction.
+    /// A restore_state without a remember_state before it. Reported at the instruction.
     RestoreWithoutRemember = 16,
-    /// A remember_state has no restore_state by the end of the program. At the program's end.
+    /// A remember_state has no restore_state by the end of the program. Reported at the program's
+    /// end.
     Unrestored = 17,
-    /// A remember_state while 16 states are remembered already. At the instruction.
+    /// A remember_state while 16 states are remembered already. Reported at the instruction.
     RememberTooDeep = 18,
-    /// An instruction changes the register or the offset of a CFA rule that doesn't have these. At
-    /// the instruction.
+    /// An instruction changes the register or the offset of a CFA rule that doesn't have these.
+    /// Reported at the instruction.
     CfaNotRegister = 19,
-    /// An offset doesn't fit 64 signed bits. At the instruction.
+    /// An offset doesn't fit 64 signed bits. Reported at the instruction.
     OffsetRange = 20,
-    /// One row gets a 129th register rule. At the instruction.
+    /// One row gets a 129th register rule. Reported at the instruction.
     TooManyRules = 21,
-    /// A row that covers an address has no CFA rule. At the instruction that advances past the row,
-    /// or at the program's end.
+    /// A row that covers an address has no CFA rule. Reported at the instruction that advances past
+    /// the row, or at the program's end.
     NoCfa = 22,
-    /// Two FDEs cover the same address. At the first byte of the later FDE.
+    /// Two FDEs cover the same address. Reported at the first byte of the later FDE.
     Overlap = 23,
-    /// An unknown opcode. At the operation.
+    /// An unknown opcode. Reported at the operation.
     UnknownOperation = 30,
-    /// An operation that isn't allowed in a CFA's or register's expression. At the operation.
+    /// An operation that isn't allowed in a CFA's or register's expression. Reported at the
+    /// operation.
     NotInFrame = 31,
-    /// A deref_size's size isn't 1, 2, 4 or 8, or is above the address size. At the operation.
+    /// A deref_size's size isn't 1, 2, 4 or 8, or is above the address size. Reported at the
+    /// operation.
     BadSize = 32,
-    /// A branch goes backward. At the branch.
+    /// A branch goes backward. Reported at the branch.
     Backward = 33,
-    /// A branch goes to a byte where no operation begins, other than the expression's end. At the
-    /// branch.
+    /// A branch goes to a byte where no operation begins, other than the expression's end. Reported
+    /// at the branch.
     TargetNotStart = 34,
-    /// The stack has fewer entries than the operation needs. At the operation.
+    /// The stack has fewer entries than the operation needs. Reported at the operation.
     Underflow = 35,
-    /// The stack has more than 128 entries. At the operation.
+    /// The stack has more than 128 entries. Reported at the operation.
     TooDeep = 36,
     /// Paths that meet have different stack heights or phases (`docs/PROFILE.md` defines a phase).
-    /// At the operation where they meet, or the expression's length.
+    /// Reported at the operation where they meet, or the expression's length.
     Mismatch = 37,
-    /// No path leads to the operation. At the operation.
+    /// No path leads to the operation. Reported at the operation.
     Unreachable = 38,
     /// An operation other than a piece follows a register location or a value; or a register
-    /// location, an implicit value or a piece finds too many stack entries. At the operation.
+    /// location, an implicit value or a piece finds too many stack entries. Reported at the
+    /// operation.
     NotAlone = 39,
-    /// The expression ends without a result. At the expression's length.
+    /// The expression ends without a result. Reported at the expression's length.
     EndsEmpty = 40,
-    /// A location has a 33rd piece. At that piece's operation.
+    /// A location has a 33rd piece. Reported at that piece's operation.
     TooManyPieces = 41,
-    /// The size or the offset of a piece is above 2^32 - 1. At the operation.
+    /// The size or the offset of a piece is above 2^32 - 1. Reported at the operation.
     PieceSize = 42,
-    /// A list table's version isn't 5. At the version field.
+    /// A list table's version isn't 5. Reported at the version field.
     ListVersion = 50,
-    /// An unknown list entry. At the entry.
+    /// An unknown list entry. Reported at the entry.
     UnknownEntry = 51,
-    /// A range begins above its end. At the entry.
+    /// A range begins above its end. Reported at the entry.
     BackRange = 52,
-    /// A list has a second default entry. At the second entry.
+    /// A list has a second default entry. Reported at the second entry.
     SecondDefault = 53,
-    /// A table ends before its last list has an end_of_list entry. At the table's end.
+    /// A table ends before its last list has an end_of_list entry. Reported at the table's end.
     NoEnd = 54,
-    /// An offset in a table's offset array isn't where one of its lists begins. At the offset's
-    /// first byte.
+    /// An offset in a table's offset array isn't where one of its lists begins. Reported at the
+    /// offset's first byte.
     BadOffsetEntry = 55,
-    /// Memory ran out. At 0.
+    /// Memory ran out. Reported at 0.
     Memory = 60,
-    /// A section of 2^32 bytes or more. At 0.
+    /// A section of 2^32 bytes or more. Reported at 0.
     SectionTooLong = 61,
-    /// An ABI has more than 127 callee-saved registers. At index 127.
+    /// An ABI has more than 127 callee-saved registers. Reported at index 127.
     AbiTooLarge = 62,
-    /// An ABI names a register twice. At the index of the second one among the callee-saved
-    /// registers; the stack pointer's index is their count.
+    /// An ABI names a register twice. Reported at the index of the second one among the
+    /// callee-saved registers; the stack pointer's index is their count.
     AbiTwice = 63,
-    /// A certificate's number of states isn't the expression's number of operations. At 0.
+    /// A certificate's number of states isn't the expression's number of operations. Reported at 0.
     CertLength = 70,
-    /// A certificate's state for an operation isn't the one that the check finds. At the operation.
+    /// A certificate's state for an operation isn't the one that the check finds. Reported at the
+    /// operation.
     CertState = 71,
 }
 
