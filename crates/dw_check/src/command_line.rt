@@ -109,7 +109,7 @@ How state files are written: docs/OUTPUT.md.";
 const EVAL_EXAMPLE: &str = "\
 Example:
   echo 77 08 > e; echo reg 7 0x7ffe0000 > s
-  dwcheck eval --hex --state s register e
+  dwcheck eval --hex --state s cfa e
 
 How state files are written: docs/OUTPUT.md.";
 
