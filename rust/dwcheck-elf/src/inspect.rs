@@ -107,7 +107,8 @@ fn unread_frames<'data>(error: FramesError) -> Result<Inspected<'data>, InspectE
         FramesError::Bridge(error) => (Name::EhFrame, Defect::of_bridge(&error)),
         FramesError::TooLong(name) => {
             let reason = crate::bridge::Reason::TooLong;
-            (name, Defect::of_bridge(&BridgeError { record: 0, field: 0, reason }))
+            let defect = Defect::of_bridge(&BridgeError { record: 0, field: 0, reason });
+            (name, Defect { section: name, ..defect })
         }
     };
     Ok(Inspected { name, bytes: 0, frames: None, verdict: Verdict::Refused(vec![defect]) })

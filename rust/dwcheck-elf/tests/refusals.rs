@@ -119,6 +119,77 @@ fn empty_records_of_debug_frame_are_left_out() {
     assert!(rows.lines()[3].starts_with("fde 0x0000003c cie 0x0000002c "), "{}", rows.out);
 }
 
+/// The commands that show rows and callers, with what follows the program.
+const COMMANDS: [(&str, &str); 4] =
+    [("rows", ""), ("row", " _start+1"), ("unwind", " _start+1 state"), ("backtrace", " _start+1 state 9")];
+
+/// Links programs with refused sections. The `.debug_frame` is refused of `debug`, the `.eh_frame`
+/// of `eh`, and both of `both`. `debug_alone` and `eh_alone` each have one section of `debug`.
+fn refused_sections(folder: &Folder) {
+    let (good, unknown, remember) = (".cfi_def_cfa_offset 16", ".cfi_escape 0x3f", "0x0a");
+    for (name, directive, program) in [("debug", good, remember), ("eh", unknown, "0"), ("both", unknown, remember)] {
+        let function = format!("_start: .cfi_startproc\n nop\n {}\n nop\n nop\n .cfi_endproc\n", directive);
+        let cie = ".long 12\n .long -1\n .byte 1, 0, 1, 0x78, 16, 0x0c, 7, 8\n";
+        let fde = format!(".long 28\n .long 0\n .quad _start\n .quad 3\n .quad {}\n", program);
+        folder.write("a.s", format!(".globl _start\n{}.section .debug_frame\n{}{}", function, cie, fde));
+        folder.run(&format!("as a.s -o a.o && ld a.o -o {}", name));
+    }
+    folder.run("objcopy -R .eh_frame debug debug_alone; objcopy -R .debug_frame debug eh_alone");
+    folder.write("state", "keep 3\nsp 7\nreg 7 0x7f00\nmem 0x7f00 00000000000000000000000000000000\n");
+}
+
+/// The commands that show rows and callers use `.eh_frame` if `.debug_frame` is refused.
+#[test]
+fn eh_frame_is_used_if_debug_frame_is_refused() {
+    let folder = Folder::new("used-sections");
+    refused_sections(&folder);
+    let check = dwcheck_elf(&folder, "check debug");
+    assert_eq!((check.status, check.error.as_str(), check.lines()[2]), (1, "", "debug: .eh_frame: accepted"));
+    let fault = check.lines()[0].strip_prefix("debug: ").unwrap();
+    assert!(fault.starts_with(".debug_frame+0x10: Unrestored: the end of the program, FDE "), "{}", fault);
+    let survey = dwcheck_elf(&folder, "survey debug");
+    assert!(survey.error.is_empty() && survey.out.contains("sections 2 accepted 1 refused 1 "), "{}", survey.out);
+    let note = format!("dwcheck-elf: debug: .debug_frame is refused, so .eh_frame is used: {}\n", fault);
+    for (command, rest) in COMMANDS {
+        let run = |program| dwcheck_elf(&folder, &format!("{} {}{}", command, program, rest));
+        let (ours, expected) = (run("debug"), run("eh_alone"));
+        assert_eq!((ours.status, &ours.error, &ours.out), (0, &note, &expected.out));
+        assert!(expected.error.is_empty() && expected.out != "none\n", "{}", expected.out);
+        for refused in ["debug_alone", "both"] {
+            let ran = run(refused);
+            assert_eq!((ran.status, ran.error.as_str()), (1, ""));
+            assert_eq!((ran.lines()[0], ran.lines().len()), (format!("{}: {}", refused, fault).as_str(), 2));
+        }
+    }
+}
+
+/// An accepted `.debug_frame` isn't used alone if `.eh_frame` is refused.
+#[test]
+fn a_refused_eh_frame_is_the_answer() {
+    let folder = Folder::new("refused-eh-frame");
+    refused_sections(&folder);
+    assert_eq!(dwcheck_elf(&folder, "check eh").lines()[0], "eh: .debug_frame: accepted");
+    for (command, rest) in COMMANDS {
+        let ran = dwcheck_elf(&folder, &format!("{} eh{}", command, rest));
+        assert_eq!((ran.status, ran.error.as_str(), ran.lines().len()), (1, "", 2));
+        assert!(ran.out.starts_with("eh: .eh_frame+0x18: UnknownInstruction: "), "{}", ran.out);
+    }
+}
+
+/// The sections of each module of a walk are chosen alone.
+#[test]
+fn the_sections_of_a_module() {
+    let folder = Folder::new("sections-of-modules");
+    refused_sections(&folder);
+    let with = |module| dwcheck_elf(&folder, &format!("unwind --module 0x10000={} eh_alone _start+1 state", module));
+    let ran = with("debug");
+    assert_eq!((ran.status, &ran.out), (0, &dwcheck_elf(&folder, "unwind eh_alone _start+1 state").out));
+    let note = "dwcheck-elf: debug: .debug_frame is refused, so .eh_frame is used: ";
+    assert!(ran.error.starts_with(note), "{}", ran.error);
+    let ran = with("both");
+    assert!(ran.status == 1 && ran.out.starts_with("both: .debug_frame+0x10: "), "{}", ran.out);
+}
+
 /// GNU as begins CIEs for these machines with DW_CFA_def_cfa_register, before the CFA has a rule.
 /// Most readers accept that.
 #[test]

@@ -4,7 +4,7 @@ use crate::end::Failure;
 use dwcheck::{Error, Process};
 use dwcheck_elf::bridge::Options;
 use dwcheck_elf::fault::Defect;
-use dwcheck_elf::frames::Frames;
+use dwcheck_elf::frames::{Frames, Name};
 use dwcheck_elf::functions::Functions;
 use dwcheck_elf::inspect::{inspect_frame_sections, Check, InspectError, Verdict};
 use dwcheck_elf::names::Spot;
@@ -30,8 +30,9 @@ pub fn program<'data>(path: &Path, data: &'data [u8]) -> Result<Program<'data>, 
     Program::read(data).map_err(|error| Failure::File(format!("{}: {}", path.display(), error)))
 }
 
-/// The frame sections of a program if all are accepted, else the fault of the first one that is
-/// refused. The rows of rewritten sections are compared with gimli's.
+/// The frame sections of a program if all are accepted. If `.debug_frame` is refused and `.eh_frame`
+/// is accepted, only `.eh_frame`, and a note on standard error says so. Else the fault of the first
+/// one that is refused. The rows of rewritten sections are compared with gimli's.
 pub fn accepted_frames<'data>(
     path: &Path,
     program: &Program<'data>,
@@ -40,13 +41,28 @@ pub fn accepted_frames<'data>(
     let check = Check { bridge: options, all: false };
     let sections = inspect_frame_sections(program, check).map_err(|error| Failure::judging(path, &error))?;
     let mut accepted = Vec::new();
+    let mut refused = Vec::new();
     for section in sections {
-        if let Verdict::Refused(mut defects) = section.verdict {
-            return Ok(Err(defects.swap_remove(0)));
+        match section.verdict {
+            Verdict::Refused(mut defects) => refused.push(defects.swap_remove(0)),
+            _ => accepted.extend(section.frames),
         }
-        accepted.extend(section.frames);
     }
-    Ok(Ok(accepted))
+    match refused.into_iter().next() {
+        None => Ok(Ok(accepted)),
+        Some(defect) if defect.section == Name::DebugFrame && !accepted.is_empty() => {
+            note_eh_frame(path, &defect);
+            Ok(Ok(accepted))
+        }
+        Some(defect) => Ok(Err(defect)),
+    }
+}
+
+/// Says, on standard error, that `.debug_frame` is refused and `.eh_frame` is used.
+fn note_eh_frame(path: &Path, defect: &Defect) {
+    let note = format!(".debug_frame is refused, so .eh_frame is used: {}", defect);
+    // If standard error is closed, nobody can read the note, so errors don't matter.
+    let _ = writeln!(io::stderr(), "dwcheck-elf: {}: {}", path.display(), note);
 }
 
 /// Writes a fault in two lines: its record, and its offset with the rule that it breaks.
