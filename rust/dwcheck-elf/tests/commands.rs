@@ -100,6 +100,21 @@ fn check_counts_what_dwcheck_counts() {
     }
 }
 
+/// gcc writes view numbers into the location lists, which are refused.
+#[test]
+fn check_without_location_lists() {
+    let folder = Folder::new("command-no-lists");
+    folder.write("a.c", C);
+    folder.run("gcc -g -gdwarf-5 -O2 a.c -o program && objcopy -R .eh_frame program without");
+    let both = dwcheck_elf(&folder, "check program");
+    assert!(both.status == 1 && both.out.contains("program: .debug_loclists+0x"), "{}", both.out);
+    let frames = dwcheck_elf(&folder, "check --no-lists program");
+    assert_eq!((frames.status, frames.lines()[0]), (0, "program: .eh_frame: accepted"));
+    assert!(both.out.starts_with(&frames.out) && !frames.out.contains("lists"), "{}", frames.out);
+    let none = dwcheck_elf(&folder, "check --no-lists without");
+    assert_eq!((none.status, none.out.as_str()), (0, "without: no .debug_frame or .eh_frame\n"));
+}
+
 #[test]
 fn walks_are_those_of_dwcheck() {
     let folder = Folder::new("command-walks");

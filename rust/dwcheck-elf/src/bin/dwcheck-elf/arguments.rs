@@ -83,6 +83,9 @@ pub struct CheckWords {
     /// Go on after the first fault: check each FDE alone, and list every one that is refused
     #[arg(long)]
     pub all: bool,
+    /// Leave .debug_loclists out. Compilers write entries in it that are refused (see the manual page)
+    #[arg(long)]
+    pub no_lists: bool,
     #[command(flatten)]
     pub reading: Reading,
     #[command(flatten)]

@@ -7,7 +7,7 @@ use dwcheck_elf::bridge::{Bridged, Counts};
 use dwcheck_elf::debug_frame::{instructions, records, Kind};
 use dwcheck_elf::expression::Measure;
 use dwcheck_elf::frames::{Frames, Name};
-use dwcheck_elf::inspect::{inspect, source_offset, Inspected, Verdict};
+use dwcheck_elf::inspect::{inspect, inspect_frame_sections, source_offset, Inspected, Verdict};
 use dwcheck_elf::loclists::Contents;
 use dwcheck_elf::program::Program;
 use dwcheck_elf::target::Target;
@@ -37,10 +37,14 @@ fn check_one(words: &CheckWords, path: &Path, out: &mut impl Write) -> Result<Do
     let data = read(path)?;
     let program = program(path, &data)?;
     let check = words.reading.check(words.all);
-    let sections = inspect(&program, check).map_err(|error| Failure::judging(path, &error))?;
+    let (sections, names) = match words.no_lists {
+        true => (inspect_frame_sections(&program, check), ".debug_frame or .eh_frame"),
+        false => (inspect(&program, check), ".debug_frame, .eh_frame or .debug_loclists"),
+    };
+    let sections = sections.map_err(|error| Failure::judging(path, &error))?;
     let mut done = Done::Accepted;
     if sections.is_empty() {
-        writeln!(out, "{}: no .debug_frame, .eh_frame or .debug_loclists", path.display())?;
+        writeln!(out, "{}: no {}", path.display(), names)?;
     }
     for section in &sections {
         if let Verdict::Refused(defects) = &section.verdict {
