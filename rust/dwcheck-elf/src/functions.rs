@@ -1,6 +1,7 @@
 //! The functions of a file: names by address, addresses by name.
 
 use crate::layout::Layout;
+use crate::names::is_shown_as;
 use crate::target::Target;
 use object::elf;
 use object::read::{Object, ObjectSection, ObjectSymbol, SymbolSection};
@@ -89,13 +90,28 @@ impl<'data> Functions<'data> {
         Some((found, address - found.begin))
     }
 
-    /// The address of a function by its exact name. If several symbols have the name, functions are
+    /// The address of a function by its exact name: as it is in the file, or else demangled, as
+    /// [`Spot`](crate::names::Spot) shows it. If several symbols have the name, functions are
     /// preferred to labels, then global symbols to weak ones and those to local ones.
     pub fn address_of(&self, name: &str) -> Result<u64, NameError> {
-        let named = || self.functions.iter().filter(|function| function.name == name);
-        let best = named().map(|function| function.rank).max();
+        match self.address_of_symbol(name) {
+            Err(NameError::Unknown(_)) => self.only(name, |symbol| is_shown_as(symbol, name)),
+            found => found,
+        }
+    }
+
+    /// The address of a function by its name as it is in the file.
+    fn address_of_symbol(&self, name: &str) -> Result<u64, NameError> {
+        self.only(name, |symbol| symbol == name)
+    }
+
+    /// The one address of the functions whose symbols have a name. `has_name` says which these are.
+    fn only(&self, name: &str, has_name: impl Fn(&str) -> bool) -> Result<u64, NameError> {
+        let named: Vec<_> = self.functions.iter().filter(|function| has_name(function.name)).collect();
+        let best = named.iter().map(|function| function.rank).max();
         let best = best.ok_or_else(|| NameError::Unknown(name.to_string()))?;
-        let mut addresses: Vec<_> = named().filter(|function| function.rank == best).map(|found| found.begin).collect();
+        let preferred = named.iter().filter(|function| function.rank == best);
+        let mut addresses: Vec<_> = preferred.map(|function| function.begin).collect();
         addresses.dedup();
         match addresses.as_slice() {
             [address] => Ok(*address),
@@ -104,17 +120,35 @@ impl<'data> Functions<'data> {
     }
 
     /// The address that a text means: a function's name, or a name, a plus sign and a number, such
-    /// as `main+4` or `main+0x4`.
+    /// as `main+4`, `main+0x4` or `twice(int)+4`. The number follows the last plus sign. If no
+    /// number follows it, it is part of the name, as in `operator+(A, A)`.
     pub fn parse(&self, text: &str) -> Result<u64, NameError> {
-        match (self.address_of(text), text.rsplit_once('+')) {
-            (Err(NameError::Unknown(_)), Some((name, offset))) => {
-                let begin = self.address_of(name.trim_end())?;
-                let offset = number(offset.trim_start()).ok_or_else(|| NameError::Offset(text.to_string()))?;
-                begin.checked_add(offset).ok_or_else(|| NameError::Offset(text.to_string()))
-            }
-            (found, _) => found,
+        // A symbol's own name may end with a plus sign and a number.
+        match self.address_of_symbol(text) {
+            Err(NameError::Unknown(_)) => {}
+            found => return found,
+        }
+        let bad_offset = || NameError::Offset(text.to_string());
+        let (name, offset) = split_offset(text);
+        match self.address_of(name) {
+            Ok(begin) => begin.checked_add(offset).ok_or_else(bad_offset),
+            Err(NameError::Unknown(_)) if self.names_before_plus(name) => Err(bad_offset()),
+            Err(error) => Err(error),
         }
     }
+
+    /// Whether a function has the name that comes before a text's last plus sign.
+    fn names_before_plus(&self, text: &str) -> bool {
+        let before = text.rsplit_once('+').map(|(name, _)| name.trim_end());
+        before.map_or(false, |name| !matches!(self.address_of(name), Err(NameError::Unknown(_))))
+    }
+}
+
+/// The name and the offset of a text. If no number follows the last plus sign, the name is the whole
+/// text, and the offset 0.
+fn split_offset(text: &str) -> (&str, u64) {
+    let split = text.rsplit_once('+').and_then(|(name, offset)| Some((name.trim_end(), number(offset.trim_start())?)));
+    split.unwrap_or((text, 0))
 }
 
 fn number(text: &str) -> Option<u64> {

@@ -43,6 +43,16 @@ fn cpp(name: &str, text: &mut Bounded) -> bool {
     parsed.map_or(false, |symbol| symbol.structured_demangle(text, &options).is_ok())
 }
 
+/// The characters of a demangled name that are shown. A line feed in a name would begin a new line.
+fn shown(demangled: &str) -> impl Iterator<Item = char> + '_ {
+    demangled.chars().filter(|c| !c.is_control())
+}
+
+/// Whether the function with the name `symbol` in the file is shown as `name`.
+pub(crate) fn is_shown_as(symbol: &str, name: &str) -> bool {
+    shown(&demangled(symbol)).eq(name.chars())
+}
+
 /// A string that refuses to get longer than [`LONGEST`] bytes.
 struct Bounded(String);
 
@@ -83,8 +93,7 @@ impl<'a> Spot<'a> {
 
 impl fmt::Display for Spot<'_> {
     fn fmt(&self, f: &mut fmt::Formatter<'_>) -> fmt::Result {
-        // A line feed in a name would begin a new line.
-        demangled(self.name).chars().filter(|c| !c.is_control()).try_for_each(|c| f.write_char(c))?;
+        shown(&demangled(self.name)).try_for_each(|c| f.write_char(c))?;
         if self.offset == 0 {
             Ok(())
         } else {

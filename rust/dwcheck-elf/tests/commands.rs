@@ -3,8 +3,8 @@
 
 mod common;
 
-use common::run::{by_dwcheck, dwcheck_elf};
-use common::{hex, Folder, C};
+use common::run::{by_dwcheck, dwcheck_elf, dwcheck_elf_words};
+use common::{hex, Folder, C, CXX};
 
 /// A program with `.debug_frame`, `.debug_loclists`, and a rule that is an expression, linked at fixed addresses.
 fn program(folder: &Folder) {
@@ -69,6 +69,21 @@ fn a_row_by_number_and_by_symbol() {
     if let Some(theirs) = by_dwcheck(&folder, &format!("row frame {:#x}", f + 4)) {
         assert_eq!(nameless(&ours.out), theirs);
     }
+}
+
+/// The name that is shown leads back to the same row. `Loud` has two destructors with one name.
+#[test]
+fn a_row_by_the_name_that_is_shown() {
+    let folder = Folder::new("command-demangled");
+    folder.write("a.cc", format!("{}struct Louder : Loud {{ virtual ~Louder(); }};\nLouder::~Louder() {{}}\n", CXX));
+    folder.run("g++ -O1 a.cc -o program");
+    let name = "middle(int, int, int, int, int, int, int, int)+0x1";
+    let ours = dwcheck_elf_words(&folder, &["row", "program", name]);
+    assert!(ours.status == 0 && ours.out.ends_with(&format!(" ({})\n", name)), "{}{}", ours.out, ours.error);
+    assert_eq!(dwcheck_elf(&folder, "row program _Z6middleiiiiiiii+1").out, ours.out);
+    let both = dwcheck_elf(&folder, "row program Louder::~Louder()");
+    assert_eq!((both.status, both.out.as_str()), (2, ""));
+    assert!(both.error.contains("2 functions have the name Louder::~Louder(): 0x"), "{}", both.error);
 }
 
 #[test]

@@ -4,6 +4,7 @@ mod common;
 
 use common::{has, hex, Folder, C};
 use dwcheck_elf::functions::NameError;
+use dwcheck_elf::names::Spot;
 use dwcheck_elf::program::{Kind, Program, ProgramError};
 use dwcheck_elf::target::{AddressSize, Order};
 
@@ -90,6 +91,77 @@ fn names_that_repeat() {
     let shown = folder.run("readelf -sW three | grep FUNC | grep -w same | awk '{print $2}' | sort");
     let both: Vec<_> = shown.lines().map(address).collect();
     assert_eq!(three.address_of("same"), Err(NameError::Ambiguous("same".into(), both)));
+}
+
+/// Functions of C++ by the names that nm and this library show. A deleting destructor has the name
+/// of the other one.
+#[test]
+fn names_that_are_demangled() {
+    let folder = Folder::new("demangled");
+    folder.write(
+        "a.cc",
+        "struct A { int n; A operator++(int); virtual ~A(); };
+A::~A() { n = 1; }
+A A::operator++(int) { A old = *this; n++; return old; }
+A operator+(const A &a, const A &b) { A sum; sum.n = a.n + b.n; return sum; }
+static __attribute__((noinline, used)) int twice(int x) { return x + x; }
+template <typename T> __attribute__((noinline)) T thrice(T x) { return x * 3; }
+int main(int argc, char **) { return thrice(argc); }
+",
+    );
+    folder.run("g++ -O1 a.cc -o linked");
+    let bytes = folder.bytes("linked");
+    let functions = Program::read(&bytes).unwrap().functions();
+    let shown = folder.run("nm -C linked");
+    let address = |name: &str| hex(shown.lines().find(|line| line.ends_with(name)).unwrap().split(' ').next().unwrap());
+    for name in ["twice(int)", "operator+(A const&, A const&)", "A::operator++(int)", "int thrice<int>(int)"] {
+        let begin = address(name);
+        assert_eq!(functions.address_of(name), Ok(begin), "{}", name);
+        assert_eq!(functions.parse(name), Ok(begin), "{}", name);
+        assert_eq!(functions.parse(&format!("{}+0x4", name)), Ok(begin + 4), "{}", name);
+        assert_eq!(functions.parse(&format!("{} + 1", name)), Ok(begin + 1), "{}", name);
+        assert_eq!(Spot::at(&functions, begin + 1).unwrap().to_string(), format!("{}+0x1", name));
+    }
+    assert_eq!(functions.parse("_ZL5twicei+4"), Ok(address("twice(int)") + 4));
+    for unknown in ["twice", "twice(long)", "operator+", "operator+(A)", "operator+(int, int)"] {
+        assert_eq!(functions.parse(unknown), Err(NameError::Unknown(unknown.into())));
+    }
+    assert_eq!(functions.parse("twice(int)+x"), Err(NameError::Offset("twice(int)+x".into())));
+    let mut both: Vec<_> = ["_ZN1AD0Ev", "_ZN1AD1Ev"].iter().map(|name| functions.address_of(name).unwrap()).collect();
+    both.sort_unstable();
+    assert_eq!(functions.parse("A::~A()+4"), Err(NameError::Ambiguous("A::~A()".into(), both)));
+}
+
+/// Functions of Rust, in both kinds of mangled names. The shown names have no hash, so they may
+/// repeat.
+#[test]
+fn names_of_rust_that_are_demangled() {
+    let folder = Folder::new("rust-names");
+    let hashed = |name: &str, hash: char| format!("_ZN4prog4{}17h{}E", name, hash.to_string().repeat(16));
+    let names = [hashed("main", 'a'), hashed("next", 'b'), hashed("next", 'c'), "_RNvC4prog4last".to_string()];
+    let functions = names.map(|name| format!(".globl {0}\n.type {0}, @function\n{0}: nop\n.size {0}, 1\n", name));
+    folder.write("a.s", functions.concat());
+    folder.run("as a.s -o a.o; ld -e 0 -Ttext=0x1000 a.o -o linked");
+    let bytes = folder.bytes("linked");
+    let functions = Program::read(&bytes).unwrap().functions();
+    assert_eq!(functions.parse("prog::main+1"), Ok(0x1001));
+    assert_eq!(functions.parse("prog::last"), Ok(0x1003));
+    let both = vec![0x1001, 0x1002];
+    assert_eq!(functions.parse("prog::next"), Err(NameError::Ambiguous("prog::next".into(), both)));
+}
+
+/// A symbol whose own name ends with a plus sign and a number, as linkers make them.
+#[test]
+fn a_number_that_is_part_of_a_name() {
+    let folder = Folder::new("stub");
+    folder.write("a.s", ".globl _start\n_start: nop\n\"stub.f+4\": nop\n\"f\": nop\n");
+    folder.run("as a.s -o a.o; ld a.o -o linked");
+    let bytes = folder.bytes("linked");
+    let functions = Program::read(&bytes).unwrap().functions();
+    let start = functions.address_of("_start").unwrap();
+    assert_eq!(functions.parse("stub.f+4"), Ok(start + 1));
+    assert_eq!(functions.parse("stub.f+4+1"), Ok(start + 2));
+    assert_eq!(functions.parse("f+4"), Ok(start + 6));
 }
 
 #[test]

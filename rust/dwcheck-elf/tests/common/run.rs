@@ -20,8 +20,13 @@ impl Ran {
 
 /// Runs the program in a folder. The words of its command line are separated by single spaces.
 pub fn dwcheck_elf(folder: &Folder, words: &str) -> Ran {
+    dwcheck_elf_words(folder, &words.split(' ').collect::<Vec<_>>())
+}
+
+/// Runs the program in a folder with words that may contain spaces.
+pub fn dwcheck_elf_words(folder: &Folder, words: &[&str]) -> Ran {
     let mut command = Command::new(env!("CARGO_BIN_EXE_dwcheck-elf"));
-    let output = command.args(words.split(' ')).current_dir(folder.path()).output().unwrap();
+    let output = command.args(words).current_dir(folder.path()).output().unwrap();
     let ran = Ran {
         status: output.status.code().expect("the program isn't ended by a signal"),
         out: String::from_utf8_lossy(&output.stdout).into_owned(),

@@ -106,7 +106,7 @@ pub struct RowsWords {
 pub struct RowWords {
     /// An ELF file
     pub program: PathBuf,
-    /// An address, such as 0x1130, or a function, such as main or main+4
+    /// An address, such as 0x1130, or a function, such as main, main+4 or 'twice(int)+4'
     pub address: String,
     /// Where the program is loaded
     #[arg(long, value_name = "ADDRESS", default_value = "0x0")]
@@ -132,7 +132,7 @@ pub struct Modules {
 pub struct UnwindWords {
     /// An ELF file
     pub program: PathBuf,
-    /// An address, such as 0x1130, or a function, such as main or main+4
+    /// An address, such as 0x1130, or a function, such as main, main+4 or 'twice(int)+4'
     pub address: String,
     /// A state file: registers, memory, and which registers are callee-saved
     pub state: PathBuf,
@@ -156,7 +156,7 @@ pub struct LocsWords {
     pub list: String,
     /// The base address of the list's unit, such as 0x1130, or a function
     pub base: String,
-    /// An address, such as 0x1130, or a function, such as main or main+4
+    /// An address, such as 0x1130, or a function, such as main, main+4 or 'twice(int)+4'
     pub address: String,
     /// A state file: registers, memory and context
     #[arg(long, value_name = "FILE")]
