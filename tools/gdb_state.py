@@ -9,9 +9,9 @@ STOP is a gdb script that stops the program; in a session of gdb, `source tools/
 
 FILE gets the lines `keep` and `sp` of the target (tools/abi), the registers by DWARF's numbers, and
 the red zone with the stack above it: BYTES of the stack, or as much of 256 KiB as gdb can read.
-Then the command prints what to run next, with the load address of each module: an objcopy command
-for each module that has a .debug_frame section, `dwcheck backtrace` for these modules, and
-`dwcheck-elf backtrace` for all modules.
+Then the command prints what to run next, with the load address of each module: a command of the
+target's objcopy for each module that has a .debug_frame section, `dwcheck backtrace` for these
+modules, and `dwcheck-elf backtrace` for all modules.
 
 Targets: x86-64, x32, i386, aarch64, arm, powerpc, powerpc64, s390x, riscv, mips. On another machine's program use
 gdb-multiarch, for example with `qemu-aarch64 -g 1234 PROGRAM`. This script isn't proved. --help
@@ -51,32 +51,40 @@ def mips(size):
 
 
 class Target:
-    """A target: its file in tools/abi, gdb's names of its registers, and which of them is the stack
-    pointer."""
+    """A target: its file in tools/abi, gdb's names of its registers, which of them is the stack
+    pointer, and Debian's name of the target, with which the names of its binutils begin."""
 
-    def __init__(self, abi, registers, pointer):
-        self.abi, self.registers, self.pointer = abi, registers, pointer
+    def __init__(self, abi, registers, pointer, debian):
+        self.abi, self.registers, self.pointer, self.debian = abi, registers, pointer, debian
+
+    def objcopy(self):
+        """The objcopy that reads the target's files: this machine's own if it does."""
+        cpu, machine = self.debian.split("-")[0], os.uname().machine
+        is_own = cpu == machine or (cpu, machine) == ("i686", "x86_64")
+        return "objcopy" if is_own else f"{self.debian}-objcopy"
 
 
-def target_of(architecture, size):
-    """The target for gdb's name of an architecture, and the size of an address in bytes."""
-    name = architecture.lower()
+def target_of(architecture, size, is_big):
+    """The target for gdb's name of an architecture, the size of an address in bytes, and whether it
+    is big-endian."""
+    name, wide = architecture.lower(), "64" if size == 8 else ""
     if name.startswith(("i386:x86-64", "i386:x64-32")):
-        return Target("x86-64", X86_64, "rsp")
+        return Target("x86-64", X86_64, "rsp", "x86_64-linux-gnu")
     if name.startswith("i386"):
-        return Target("i386", [(0, "eax ecx edx ebx esp ebp esi edi eip".split())], "esp")
+        return Target("i386", [(0, "eax ecx edx ebx esp ebp esi edi eip".split())], "esp", "i686-linux-gnu")
     if name.startswith("aarch64"):
-        return Target("aarch64", [(0, [f"x{i}" for i in range(31)] + ["sp", "pc"])], "sp")
+        return Target("aarch64", [(0, [f"x{i}" for i in range(31)] + ["sp", "pc"])], "sp", "aarch64-linux-gnu")
     if name.startswith("arm"):
-        return Target("arm", [(0, [f"r{i}" for i in range(13)] + ["sp", "lr", "pc"])], "sp")
+        return Target("arm", [(0, [f"r{i}" for i in range(13)] + ["sp", "lr", "pc"])], "sp", "arm-linux-gnueabihf")
     if name.startswith(("powerpc", "rs6000")):
-        return Target("powerpc", POWERPC, "r1")
+        return Target("powerpc", POWERPC, "r1", f"powerpc{wide if is_big else '64le'}-linux-gnu")
     if name.startswith("s390"):
-        return Target("s390x", [(0, [f"r{i}" for i in range(16)])], "r15")
+        return Target("s390x", [(0, [f"r{i}" for i in range(16)])], "r15", "s390x-linux-gnu")
     if name.startswith("riscv"):
-        return Target("riscv", [(0, [f"x{i}" for i in range(32)])], "x2")
+        return Target("riscv", [(0, [f"x{i}" for i in range(32)])], "x2", "riscv64-linux-gnu")
     if name.startswith("mips"):
-        return Target("mips", mips(size), "sp")
+        debian = f"mips{wide}{'' if is_big else 'el'}-linux-gnu{'abi64' if wide else ''}"
+        return Target("mips", mips(size), "sp", debian)
     raise gdb.GdbError(f"no ABI is known for {architecture}: write the lines keep and sp yourself")
 
 
@@ -202,15 +210,14 @@ def walk(program, flags, files, state, address):
     return " ".join([*words, files[0][1], f"{address:#x}", shlex.quote(state), "64"])
 
 
-def next_commands(state, address, size):
+def next_commands(state, address, size, is_big, objcopy):
     """The commands that dump sections and walk over them, and the command that walks over the files
     themselves."""
-    is_big = "big endian" in gdb.execute("show endian", to_string=True)
     flags = ["--big"] * is_big + ["--addr4"] * (size == 4)
     found = list(modules())
     framed = [module for module in found if module.has_frame]
     for module in framed:
-        yield f"objcopy --dump-section .debug_frame={module.frame} {module.file} /dev/null"
+        yield f"{objcopy} --dump-section .debug_frame={module.frame} {module.file} /dev/null"
     if framed:
         yield walk("dwcheck", flags, [(module, module.frame) for module in framed], state, address)
     yield walk("dwcheck-elf", [], [(module, module.file) for module in found], state, address)
@@ -231,7 +238,8 @@ class WriteState(gdb.Command):
         if not 1 <= len(words) <= 2 or not all(word.isdigit() for word in words[1:]):
             raise gdb.GdbError("usage: dwcheck-state FILE [BYTES]")
         frame, size = gdb.selected_frame(), address_size()
-        target = target_of(frame.architecture().name(), size)
+        is_big = "big endian" in gdb.execute("show endian", to_string=True)
+        target = target_of(frame.architecture().name(), size, is_big)
         pointer = word_of(frame.read_register(target.pointer), size)
         below = min(RED_ZONE, pointer)
         most = int(words[1]) + below if len(words) > 1 else MOST_STACK
@@ -241,7 +249,7 @@ class WriteState(gdb.Command):
         lines += [*register_lines(frame, target, size), *memory_lines(pointer - below, held)]
         with open(words[0], "w", encoding="ascii") as file:
             file.write("\n".join(lines) + "\n")
-        for line in next_commands(words[0], frame.pc(), size):
+        for line in next_commands(words[0], frame.pc(), size, is_big, target.objcopy()):
             print(line)
 
 
