@@ -4,7 +4,8 @@
 #                   dwcheck-elf
 #   make install    into $(DESTDIR)$(PREFIX)
 # It needs the kit's rt, and cc and ar; dwcheck-elf needs cargo and the packages that `rust/cargo.sh packages` names, and
-# is left out where these aren't there. Nothing here proves anything: the gate is `rt ci`.
+# is left out where these aren't there. JOBS is the number of cargo's jobs, 1 if not given. rt proves what it builds; the
+# tests and the wrong bodies, which the prover has to refuse, are tried by the gate, `rt ci`.
 PREFIX ?= /usr/local
 BINDIR ?= $(PREFIX)/bin
 LIBDIR ?= $(PREFIX)/lib
@@ -27,7 +28,8 @@ all: $(built) build/dwcheck-elf
 build:
 	mkdir -p $@
 
-# rt builds again only what has changed.
+# rt proves again only what has changed. But it makes the library for C anew each time, and cargo then builds dwcheck-elf
+# anew: with nothing changed, `make` and `make install` take a minute.
 build/dwcheck: FORCE | build
 	(cd crates/dwcheck && rt run -- rows --hex data/frame.hex) >build/log 2>&1 || { tail -n 5 build/log >&2; exit 1; }
 	cp crates/dwcheck/out/dwcheck $@
@@ -55,7 +57,7 @@ elf = missing=$$(rust/cargo.sh packages | tr '\n' ' '); \
     cd rust/dwcheck-elf && \
     DWCHECK_LIB_DIR=$(CURDIR)/build CARGO_TARGET_DIR=$(CURDIR)/build/cargo DWCHECK=$(CURDIR)/build/dwcheck ../cargo.sh
 
-# cargo builds again only what has changed. An old program doesn't stay where a new one can't be built.
+# An old program doesn't stay where a new one can't be built.
 build/dwcheck-elf: build/libdwcheck.a FORCE
 	rm -f $@
 	@$(elf) build --quiet --release --bin dwcheck-elf && cp $(CURDIR)/build/cargo/release/dwcheck-elf $(CURDIR)/$@
