@@ -35,7 +35,7 @@ block           one FDE whose expression is said to have 2^32 - 1 bytes, and has
 
 Lists:
 lists           N lists of one entry
-ends            N lists of no entry
+empty_lists     N lists of no entry
 entries         one list of N entries
 tables          N tables of no list
 array           an array of N offsets of one list
@@ -174,7 +174,7 @@ def table(lists, offsets=b""):
 
 LISTS = {
     "lists": lambda n: table(b"\x04\x00\x10\x01\x50\x00" * n),
-    "ends": lambda n: table(b"\x00" * n),
+    "empty_lists": lambda n: table(b"\x00" * n),
     "entries": lambda n: table(b"\x04\x00\x10\x01\x50" * n + b"\x00"),
     "tables": lambda n: table(b"") * n,
     "array": lambda n: table(b"\x04\x00\x10\x01\x50\x00", struct.pack("<I", 4 * n) * n),

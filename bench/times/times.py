@@ -29,7 +29,7 @@ SECTIONS = [
     ("check", "branches", 20000), ("check", "branches", 200000), ("check", "one_target", 25000), ("check", "one_target", 250000),
     ("check", "targets", 25000), ("check", "targets", 250000), ("check", "expressions", 1000), ("check", "expressions", 20000),
     ("check", "block", 1000000),
-    ("check", "lists", 100000), ("check", "lists", 1000000), ("check", "ends", 1000000), ("check", "ends", 6000000),
+    ("check", "lists", 100000), ("check", "lists", 1000000), ("check", "empty_lists", 1000000), ("check", "empty_lists", 6000000),
     ("check", "entries", 100000), ("check", "entries", 1000000), ("check", "tables", 50000), ("check", "tables", 500000),
     ("check", "array", 100000), ("check", "array", 1000000), ("check", "count", 6000000), ("check", "sizes", 600000),
 ]
