@@ -8,6 +8,8 @@ here=$(cd "$(dirname "$0")" && pwd)
 work=$(mktemp -d)
 trap 'rm -rf "$work"' EXIT
 (cd "$here" && ../../rust/cargo.sh build --quiet --release)
+libraries=${DWCHECK_LIB_DIR:-$(pkg-config --variable=libdir dwcheck)}
+export LD_LIBRARY_PATH=$libraries${LD_LIBRARY_PATH:+:$LD_LIBRARY_PATH}
 gcc -O1 -g "$here/crash.c" -o "$work/crash" -pthread
 cd "$work"
 gdb --batch -ex 'set startup-with-shell off' -ex run -ex 'gcore core' ./crash < /dev/null > gdb.log 2>&1
