@@ -2,6 +2,7 @@
 
 mod files;
 mod json;
+mod sparse;
 mod totals;
 
 use crate::arguments::SurveyWords;
@@ -92,12 +93,25 @@ fn progress(count: u64) -> ProgressBar {
     style.map_or(bar.clone(), |style| bar.with_style(style))
 }
 
+/// Checks a file. Reads only its frame sections if these are accepted, and else the whole file, whose
+/// symbols name the functions of refused FDEs.
 fn inspected(path: PathBuf, check: Check, has_lists: bool) -> Surveyed {
-    let data = match content(&path) {
-        Ok(data) => data,
-        Err(error) => return Surveyed { path, machine: None, outcome: Err(format!("cannot read: {}", error)) },
-    };
-    let program = match Program::read(&data) {
+    if !has_lists {
+        if let Ok(Some(data)) = sparse::frame_content(&path) {
+            let surveyed = inspected_bytes(path.clone(), &data, check, has_lists);
+            if surveyed.is_accepted() {
+                return surveyed;
+            }
+        }
+    }
+    match content(&path) {
+        Ok(data) => inspected_bytes(path, &data, check, has_lists),
+        Err(error) => Surveyed { path, machine: None, outcome: Err(format!("cannot read: {}", error)) },
+    }
+}
+
+fn inspected_bytes(path: PathBuf, data: &[u8], check: Check, has_lists: bool) -> Surveyed {
+    let program = match Program::read(data) {
         Ok(program) => program,
         Err(error) => return Surveyed { path, machine: None, outcome: Err(error.to_string()) },
     };
@@ -105,6 +119,13 @@ fn inspected(path: PathBuf, check: Check, has_lists: bool) -> Surveyed {
     let sections = sections.map_err(|error| error.to_string());
     let outcome = sections.map(|sections| sections.into_iter().map(Section::of).collect());
     Surveyed { path, machine: Some(program.machine()), outcome }
+}
+
+impl Surveyed {
+    /// Whether all sections that were checked are accepted.
+    fn is_accepted(&self) -> bool {
+        self.outcome.as_ref().map_or(false, |sections| sections.iter().all(|section| section.defects.is_empty()))
+    }
 }
 
 impl Section {

@@ -10,7 +10,7 @@ use std::os::unix::fs::MetadataExt;
 use std::path::{Path, PathBuf};
 
 /// A larger file isn't read: some system files stand for all of memory.
-const LARGEST: u64 = 4 << 30;
+pub const LARGEST: u64 = 4 << 30;
 
 /// What an ELF file begins with.
 const MAGIC: &[u8; 4] = b"\x7fELF";
