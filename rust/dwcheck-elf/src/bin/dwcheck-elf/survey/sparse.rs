@@ -1,7 +1,6 @@
 //! Reads the parts of an ELF file that a check of its frame sections needs, and no others.
 //!
-//! Frame sections are a few percent of a program's bytes. For files that aren't in the system's
-//! cache, reading the rest takes most of a survey's time.
+//! Frame sections are a few percent of a program's bytes, so a survey reads and stores far less.
 
 use super::files::LARGEST;
 use object::elf::ET_REL;
@@ -14,9 +13,9 @@ use std::path::Path;
 /// The longest ELF header.
 const HEADER: usize = 64;
 
-/// The bytes of a file, each at its offset. Those that a check of frame sections doesn't need are 0,
-/// and take no memory. `None` if it needs the whole file: for an unlinked object, whose relocations
-/// name symbols, or if the headers aren't plain.
+/// The bytes of a file, each at its offset. Bytes that a check of frame sections doesn't need are 0,
+/// and take no memory. `None` if the check needs the whole file: for an unlinked object, whose
+/// relocations name symbols, or if the header doesn't say where the sections are.
 pub fn frame_content(path: &Path) -> io::Result<Option<Vec<u8>>> {
     let file = File::open(path)?;
     let size = file.metadata()?.len();
@@ -78,8 +77,8 @@ struct Header {
 }
 
 impl Header {
-    /// Reads the header. `None` if the table of sections is counted in another way, as if it had
-    /// 65,280 entries or more.
+    /// Reads the header. `None` if it doesn't have the number of sections or the index of their
+    /// names: with 65,280 sections or more, these are in the table of sections.
     fn of(bytes: &[u8]) -> Option<Header> {
         let (is_64, is_little) = (bytes[4] == 2, bytes[5] == 1);
         let number = |at: usize, size: usize| number(bytes, is_little, at, size);
