@@ -1,4 +1,4 @@
-//! A checked `.debug_frame` section: the check, and look-ups in it.
+//! A checked `.debug_frame` section: the check of the section, and look-ups of its FDEs and rows.
 
 ghost use Rattle.std.specs.Prelude.{◌≡◌, ◌+◌, ◌*◌, ◌<◌, ◌≤◌, ◌^◌, None, Some, Contains, length, map, option_map, IfOk, IfErr, IfSome, IfNone};
 ghost use Rattle.std.specs.Prelude.{find};
@@ -63,10 +63,10 @@ pub struct CheckedFrame<'a> {
     target: Target,
     section: &'a [u8],
     cies: Vec<CommonInformationEntry<'a>>,
-    /// For each CIE: the rules that its initial instructions leave.
+    /// For each CIE, in the order of `cies`: the rules in force after its initial instructions.
     initial: InitialRules,
     fdes: Vec<FrameDescriptionEntry<'a>>,
-    /// The FDEs that cover at least one address, in order of address.
+    /// An index entry for each FDE that covers at least one address, in order of address.
     index: Vec<IndexEntry>,
     /// The checked expressions of all programs, each with the offset of its first byte in the
     /// section. Those of the CIEs come first.
@@ -102,8 +102,8 @@ impl<'a> Model for CheckedFrame<'a> {
         }) c.initial c.index.items c.in_cies };
 }
 
-/// FDEs that compilers write have at least this many bytes. So the list of FDEs gets its full
-/// capacity at once: one FDE for each `USUAL_FDE` bytes of the section.
+/// Compilers usually write FDEs of at least this many bytes. The list of FDEs is allocated with
+/// room for one FDE for each `USUAL_FDE` bytes of the section, so it rarely has to grow.
 const USUAL_FDE: usize = 48;
 
 /// Reads the records of a section in one pass, and returns its CIEs and its FDEs.
@@ -155,10 +155,11 @@ fn check_overlap(fdes: &[FrameDescriptionEntry<'_>], index: &[IndexEntry]) -> Re
 /// What the check of a section's programs returns.
 #[derive(Drop)]
 struct JudgedPrograms<'a> {
-    /// For each CIE: the rules that its initial instructions leave.
+    /// For each CIE, in the order of the section: the rules in force after its initial
+    /// instructions.
     initial: InitialRules,
-    /// The checked expressions, each with the offset of its first byte. Those of the CIEs come
-    /// first.
+    /// The checked expressions, each with the offset of its first byte in the section. Those of the
+    /// CIEs come first.
     expressions: Vec<(u32, CheckedExpression<'a>)>,
     /// How many of the expressions belong to CIEs.
     in_cies: usize,
@@ -191,8 +192,8 @@ fn check_programs<'a>(
     })
 }
 
-/// Checks the CIE_pointers, then the programs, then that no address is covered twice. Returns what
-/// the programs' check returns, and the FDEs in order of address.
+/// Checks the CIE_pointers, then the programs, then that no address is covered by two FDEs. Returns
+/// what `check_programs` returns, and the index of the FDEs in order of address.
 #[tactic(auto, unfolding(crate::specs::Section::parts_fault))]
 fn check_parts<'a>(
     alloc: Global,
@@ -216,9 +217,9 @@ fn check_parts<'a>(
 }
 
 /// Checks a section of fewer than 2^32 bytes: its records, the CIE_pointer of each FDE, the
-/// programs of the CIEs, those of the FDEs, and that no address is covered twice.
+/// programs of the CIEs, those of the FDEs, and that no address is covered by two FDEs.
 ///
-/// A refusal is the first fault in that order: a fault of `entries`; `NoSuchCie` (9) at a
+/// The error is the first fault in that order: a fault of `entries`; `NoSuchCie` (9) at a
 /// CIE_pointer; a fault of `check_cie` or `check_fde`; `Overlap` (23) at the first FDE that shares
 /// an address with an FDE before it in the section. `Memory` (60) has offset 0.
 #[tactic(auto, unfolding(crate::specs::Section::section_fault))]
@@ -259,7 +260,7 @@ impl<'a> CheckedFrame<'a> {
         self.target
     }
 
-    /// The bytes of the section. The section has no fault.
+    /// The bytes of the section, which has passed its check.
     pub fn section(&self) -> &'a [u8]
         ensures section { result.now ≡ self.now.section }
         ensures checked { IsChecked self.now }
@@ -286,7 +287,7 @@ impl<'a> CheckedFrame<'a> {
     }
 
     /// The checked expressions of all programs, each with the offset of its first byte in the
-    /// section. Those of the CIEs come first, then those of the FDEs, each in the order of the
+    /// section. Those of the CIEs come first, then those of the FDEs. Both are in the order of the
     /// section.
     pub fn expressions(&self) -> &[(u32, CheckedExpression<'a>)]
         ensures { all_located result.now ≡ self.now.expressions }
@@ -294,8 +295,8 @@ impl<'a> CheckedFrame<'a> {
         self.expressions.as_slice()
     }
 
-    /// The FDE that covers an address, or none. No two FDEs cover one address. The FDE is found by
-    /// binary search.
+    /// The FDE that covers an address, or `None` if no FDE covers it. At most one FDE covers an
+    /// address. The FDE is found by binary search.
     pub fn fde_for_address(&self, address: u64) -> Option<FrameDescriptionEntry<'a>>
         ensures only { IsCoverOf self.now.fdes address (option_map fde_of result) }
         ensures fit { IfSome result (λ fde. fde.initial_location + fde.address_range
@@ -318,9 +319,10 @@ impl<'a> CheckedFrame<'a> {
         }
     }
 
-    /// Returns the CIE of one of this section's FDEs, and stores in `state` the rules that the
-    /// CIE's program leaves: the FDE's program begins with them. The search tries the CIE at index
-    /// `near` and the next one first, and sets `near` to the index of the CIE.
+    /// Returns the CIE of one of this section's FDEs, and stores in `state`, as the initial rules,
+    /// the rules that the CIE's program leaves: the FDE's program begins with them. The search
+    /// tries the CIE at index `near` and the next one first, and sets `near` to the index of the
+    /// FDE's CIE.
     pub(crate) fn begin_with_cie(
         &self,
         state: &mut UnwindState,
@@ -339,7 +341,7 @@ impl<'a> CheckedFrame<'a> {
         }
     }
 
-    /// The FDEs that cover at least one address, in order of address.
+    /// An index entry for each FDE that covers at least one address, in order of address.
     pub(crate) fn index(&self) -> &[IndexEntry]
         ensures index { IsAddressIndex self.now.fdes result.now }
         ensures checked { IsChecked self.now }
@@ -347,18 +349,19 @@ impl<'a> CheckedFrame<'a> {
         self.index.as_slice()
     }
 
-    /// Compiles the rows of all FDEs into a table, for millions of look-ups. The table borrows
-    /// nothing, so the section may be dropped.
+    /// Compiles the rows of all FDEs into a table, which makes millions of look-ups cheap. The
+    /// table borrows nothing, so the section may be dropped.
     ///
     /// `room` is the number of bytes that the table's rows and their rules may take. The rows of a
-    /// section of N bytes may take 700 times N. `Ok(None)` means that they would take more than
-    /// `room`; then nothing is stored. That never happens if `room` is enough for all rows with no
-    /// rules shared: 80 bytes for each row, 16 for each of its register rules, 80 for each FDE, and
-    /// 80 more. Proved: this, and that the table has at most one row for every 16 bytes of `room`.
-    /// That its rules fit in `room` as well is tested, not proved.
+    /// section of N bytes may take 700 times N bytes. `Ok(None)` means that the rows would take
+    /// more than `room`, and that no table was made. The result is never `Ok(None)` if `room` is at
+    /// least 80 bytes for each row, 16 for each register rule of each row, 80 for each FDE, and 80
+    /// more, which is enough even if no rows share rules. It is proved that this `room` is enough,
+    /// and that the table has at most one row for every 16 bytes of `room`. That the rules fit in
+    /// `room` as well is tested, not proved.
     ///
-    /// The only fault is `Memory`, with offset 0. Each program is run once. For n rows it takes O(n
-    /// log n) time.
+    /// The only fault is `Memory`, with offset 0. Each program is run once. Compiling n rows takes
+    /// O(n log n) time.
     pub fn compile(&self, alloc: Global, room: usize) -> Result<Option<UnwindTable>, Fault>
         ensures table { IfOk result (λ made. IfSome made (IsTableOf self.now)) }
         ensures room { IfOk result
@@ -381,7 +384,8 @@ impl<'a> CheckedFrame<'a> {
         BorrowedExpressions::new(cies, fdes)
     }
 
-    /// The section's checked expressions, in the form that rows refer to.
+    /// The section's checked expressions, borrowed, in the type that a row stores. A row's
+    /// expressions can also be those that a compiled table owns.
     pub(crate) fn lent(&self) -> LentExpressions<'_, 'a>
         ensures { lent_by result ≡ self.now.expressions }
     {
@@ -389,8 +393,8 @@ impl<'a> CheckedFrame<'a> {
     }
 
     /// The rows of one of this section's FDEs, in order of address. The iterator runs the FDE's
-    /// program again, as the rows are requested, starting from the stored rules of its CIE. It
-    /// allocates no memory.
+    /// program again, one row at a time, starting from the stored rules that the CIE's program
+    /// leaves. It allocates no memory.
     #[inline(always)]
     pub fn rows(&self, fde: &FrameDescriptionEntry<'a>) -> Rows<'_, 'a>
         requires { Contains self.now.fdes (fde_of fde.now) }
@@ -399,8 +403,8 @@ impl<'a> CheckedFrame<'a> {
         Rows::of(self, fde)
     }
 
-    /// Restarts `rows` at the first row of another of this section's FDEs, so that it gives what
-    /// the method `rows` would. Returns the FDE's CIE.
+    /// Restarts `rows` at the first row of another of this section's FDEs. Then `rows` gives the
+    /// same rows as an iterator that the method `rows` returns for that FDE. Returns the FDE's CIE.
     pub fn rows_into<'f>(
         &'f self,
         fde: &FrameDescriptionEntry<'a>,
@@ -414,9 +418,9 @@ impl<'a> CheckedFrame<'a> {
         rows.restart_in(self, fde)
     }
 
-    /// The row of an address, or none if no FDE covers the address. It allocates no memory. The FDE
-    /// is found by binary search, and its program is run up to that row, starting from the stored
-    /// rules of its CIE.
+    /// The row of an address, or `None` if no FDE covers the address. Finding it allocates no
+    /// memory. The FDE is found by binary search. Its program is run up to that row, starting from
+    /// the stored rules that the CIE's program leaves.
     pub fn row_for_address(&self, address: u64) -> Option<UnwindTableRow<'_, 'a>>
         ensures row { result ≡ row_of self.now address }
         ensures fit { IfSome result (λ row. (row.start ≤ top_of self.now.target)
@@ -427,9 +431,9 @@ impl<'a> CheckedFrame<'a> {
         Some(row)
     }
 
-    /// Overwrites `row` with the row of an address, and returns the CIE and the FDE that covers the
-    /// address. If no FDE covers the address, the result is none, and `row` is unchanged. The FDE
-    /// and the CIE are each found by one binary search.
+    /// Overwrites `row` with the row of an address, and returns the FDE that covers the address,
+    /// preceded by its CIE. If no FDE covers the address, the result is `None`, and `row` is
+    /// unchanged. The FDE and the CIE are each found by one binary search.
     pub fn row_for_address_into<'f>(
         &'f self,
         address: u64,
@@ -450,8 +454,8 @@ impl<'a> CheckedFrame<'a> {
     }
 
     /// Overwrites `row` with the row of `address`, which `fde` must cover, and returns the FDE's
-    /// CIE. It isn't inlined, since an `UnwindState` is large: this way its stack memory is taken
-    /// only once an FDE is found.
+    /// CIE. This function isn't inlined, since an `UnwindState` is large: this way its stack memory
+    /// is taken only once an FDE is found.
     #[inline(never)]
     fn write_row_of<'f>(
         &'f self,

@@ -1,4 +1,4 @@
-//! The stack of remember_state and restore_state: rules that are remembered.
+//! The stack of rules that remember_state saves and restore_state takes back.
 
 ghost use Rattle.std.specs.Prelude.{◌≡◌, ◌<◌, [], ◌∷◌, length, Some};
 ghost use Rattle.std.specs.Bool.{OnTrue, OnFalse};
@@ -6,11 +6,12 @@ ghost use Rattle.std.specs.Bool.{OnTrue, OnFalse};
 use crate::rule_set::RuleSet;
 use std::marker::Model;
 
-/// At most this many remember_states may be open at a time.
+/// How many remember_states may be waiting for their restore_state at any one time.
 pub const MAX_REMEMBERED: usize = 16;
 
-/// The rules that remember_state has saved. The model lists them with the last one first. A slot is
-/// filled in only when rules are first pushed to it.
+/// The rules that remember_states have saved and no restore_state has taken back. The model is the
+/// list of the saved rule sets, with the one saved last first. A slot of `rows` is `None` until
+/// rules are first pushed to it.
 #[derive(Drop)]
 pub struct RememberStack {
     rows: [Option<RuleSet>; MAX_REMEMBERED],
@@ -56,8 +57,8 @@ impl RememberStack {
         self.depth = 0;
     }
 
-    /// Pushes a copy of `rules`. The stack must not be full. A slot that was used before is
-    /// overwritten.
+    /// Pushes a copy of `rules`. The stack must not be full. If an earlier push left rules in the
+    /// slot, they are overwritten.
     pub fn push(&mut self, rules: &RuleSet)
         requires { length self.old < MAX_REMEMBERED }
         ensures { self.new ≡ rules.now ∷ self.old }
@@ -66,8 +67,8 @@ impl RememberStack {
         self.depth += 1;
     }
 
-    /// Pops the rules that were remembered last into `rules`, and returns `true`. If there are
-    /// none, it returns `false`.
+    /// Removes the rules that were remembered last, copies them to `rules`, and returns `true`. If
+    /// the stack is empty, it returns `false`.
     pub fn pop(&mut self, rules: &mut RuleSet) -> bool
         ensures some { OnTrue result (self.old ≡ rules.new ∷ self.new) }
         ensures none { OnFalse result (self.old ≡ []) }
@@ -84,7 +85,8 @@ impl RememberStack {
     }
 }
 
-/// Writes rules into a slot. If the slot had rules before, only the new rules are copied.
+/// Writes `rules` into a slot. If the slot already has a rule set, only the entries of `rules` are
+/// copied. Entries past them are left as they were in the array, which saves time.
 #[inline(always)]
 fn write_into(place: &mut Option<RuleSet>, rules: &RuleSet)
     ensures { place.new ≡ Some rules.now }

@@ -15,12 +15,13 @@ use dw_frame::{CommonInformationEntry, FrameDescriptionEntry, Instructions};
 use std::iter::FusedIterator;
 use std::marker::Model;
 
-/// An iterator over the rows of an FDE, in order of address. It runs the FDE's program again, and
-/// allocates no memory. `'f` is the borrow of the checked section and `'a` that of its bytes.
+/// An iterator over the rows of an FDE, in order of address. It runs the FDE's program from one row
+/// to the next, and allocates no memory. `'f` is the lifetime of the borrow of the checked section,
+/// and `'a` that of the section's bytes.
 #[derive(Drop)]
 pub struct Rows<'f, 'a> {
     cie: CommonInformationEntry<'a>,
-    /// Where to begin the search for the next FDE's CIE: the index of this CIE.
+    /// The index of `cie` among the section's CIEs. The search for the next FDE's CIE begins there.
     near: usize,
     fde: FrameDescriptionEntry<'a>,
     context: UnwindContext,
@@ -56,7 +57,7 @@ impl<'f, 'a> Rows<'f, 'a> {
     ghost use Rattle.dw_rows.specs.UnwindRows.{rows_of};
     ghost use Rattle.dw_rows.specs.Section.{cie_in, rows_in};
 
-    /// All rows of an FDE of a checked section.
+    /// The iterator over all rows of an FDE of a checked section.
     #[inline(always)]
     pub(crate) fn of(frame: &'f CheckedFrame<'a>, fde: &FrameDescriptionEntry<'a>) -> Self
         requires { Contains frame.now.fdes (fde_of fde.now) }
@@ -77,7 +78,8 @@ impl<'f, 'a> Rows<'f, 'a> {
         }
     }
 
-    /// Restarts at the first row of another FDE of a checked section, and returns that FDE's CIE.
+    /// Restarts the iterator at the first row of another FDE of a checked section, and returns that
+    /// FDE's CIE.
     pub(crate) fn restart_in(
         &mut self,
         frame: &'f CheckedFrame<'a>,
@@ -97,9 +99,9 @@ impl<'f, 'a> Rows<'f, 'a> {
         cie
     }
 
-    /// Overwrites `row` with the next row, and returns `true`. If there is none, it returns
-    /// `false`, and `row` is unchanged. Only rules that exist are copied, so reusing one `row` is
-    /// cheap.
+    /// Overwrites `row` with the next row, and returns `true`. If no row is left, it returns
+    /// `false`, and `row` is unchanged. Only the rules that the next row has are copied, so reusing
+    /// one `row` is cheap.
     #[inline(always)]
     pub fn next_into(&mut self, row: &mut UnwindTableRow<'f, 'a>) -> bool
         ensures some { OnTrue result (self.old ≡ row.new ∷ self.new) }

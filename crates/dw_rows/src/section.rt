@@ -1,4 +1,5 @@
-//! The checks of a section's CIE_pointers, of its CIEs' programs, and of its FDEs' programs.
+//! The checks of a section's CIE_pointers, of its CIEs' programs, and of its FDEs' programs; and
+//! the search for the CIE at an offset.
 
 ghost use Rattle.std.specs.Prelude.{◌≡◌, ◌<◌, ◌++◌, None, Some, option_map, map, length, slice_get, MatchOption, IfSome, IfOk, OnOk};
 ghost use Rattle.dw_bytes.specs.Answers.{Judges, Answers};
@@ -20,7 +21,8 @@ use dw_bytes::{Fault, FaultKind};
 use dw_frame::{CommonInformationEntry, FrameDescriptionEntry};
 use std::alloc::Global;
 
-/// The index of the CIE that begins at `offset`, by binary search. The CIEs are in order of offset.
+/// Finds the CIE that begins at `offset`, by binary search, and returns its index in `cies`. `None`
+/// means that no CIE begins there. The CIEs must be in order of offset.
 fn place_of_cie(cies: &[CommonInformationEntry<'_>], offset: u64) -> Option<usize>
     requires { Ascends cie_offset (map cie_of cies.now) }
     ensures { MatchOption result
@@ -34,9 +36,10 @@ fn place_of_cie(cies: &[CommonInformationEntry<'_>], offset: u64) -> Option<usiz
     }
 }
 
-/// Like `place_of_cie`, but tries the indices `near` and `near + 1` before the binary search.
-/// Callers pass where they found the last CIE, since most FDEs have the CIE of the FDE before them,
-/// or the next CIE.
+/// Finds the CIE that begins at `offset`, and returns its index in `cies`. `None` means that no CIE
+/// begins there. The indices `near` and `near + 1` are tried before the binary search. Callers pass
+/// the index at which they found the last CIE, since most FDEs have the same CIE as the FDE before
+/// them, or the CIE after it.
 #[inline(always)]
 fn place_near(cies: &[CommonInformationEntry<'_>], near: usize, offset: u64) -> Option<usize>
     requires { Ascends cie_offset (map cie_of cies.now) }
@@ -54,7 +57,7 @@ fn place_near(cies: &[CommonInformationEntry<'_>], near: usize, offset: u64) -> 
     place_of_cie(cies, offset)
 }
 
-/// The CIE that begins at `offset`, by binary search.
+/// The CIE that begins at `offset`, found by binary search, or `None` if no CIE begins there.
 pub fn find_cie<'a>(
     cies: &[CommonInformationEntry<'a>],
     offset: u64,
@@ -66,9 +69,10 @@ pub fn find_cie<'a>(
     Some(cies[place])
 }
 
-/// Returns the CIE that begins at `offset`, and stores in `state` the rules that its program
-/// leaves: the programs of its FDEs begin with them. The search tries the indices `near` and `near
-/// + 1` first, and sets `near` to the CIE's index.
+/// Returns the CIE that begins at `offset`, or `None` if no CIE begins there. Stores the rules that
+/// the CIE's program leaves in `state`, as the initial rules: the programs of this CIE's FDEs begin
+/// with them. The search tries the indices `near` and `near + 1` first. `near` is set to the CIE's
+/// index.
 pub fn begin_with_rules_of_cie<'a>(
     state: &mut UnwindState,
     cies: &[CommonInformationEntry<'a>],
@@ -87,7 +91,7 @@ pub fn begin_with_rules_of_cie<'a>(
     Some(cies[place])
 }
 
-/// A CIE that was found, with the offset at which it begins and its index.
+/// A CIE that a search found, with the offset at which it begins and its index among the CIEs.
 #[derive(Clone, Copy)]
 struct FoundCie<'a> {
     offset: u64,
@@ -95,8 +99,10 @@ struct FoundCie<'a> {
     cie: CommonInformationEntry<'a>,
 }
 
-/// Like `begin_with_rules_of_cie`, where `last` is the CIE of the FDE before. If this is the same
-/// CIE, `state` already has its rules. If it is the next CIE, no binary search is needed.
+/// Finds the CIE that begins at `offset`, or `None` if no CIE begins there. Stores the rules that
+/// the CIE's program leaves in `state`, as the initial rules. `last` is the CIE of the previous
+/// FDE, or `None` for the first FDE. If `last` is the CIE at `offset`, `state` already has its
+/// rules. If the CIE after `last` is at `offset`, no binary search is needed.
 #[inline(always)]
 fn begin_with_rules_again<'a>(
     state: &mut UnwindState,
@@ -130,7 +136,7 @@ fn begin_with_rules_again<'a>(
     Some(FoundCie { offset, place, cie })
 }
 
-/// Checks that each CIE_pointer is the offset of a CIE, in O(n log n) time for n records.
+/// Checks that each FDE's CIE_pointer is the offset of a CIE, in O(n log n) time for n records.
 pub fn check_pointers(
     cies: &[CommonInformationEntry<'_>],
     fdes: &[FrameDescriptionEntry<'_>],
@@ -154,8 +160,8 @@ pub fn check_pointers(
     Ok(())
 }
 
-/// Checks each CIE's program. Returns the rules that each program leaves, and adds the expressions
-/// to `judged`.
+/// Checks each CIE's program. Returns the rules in force at the end of each program, and adds the
+/// programs' expressions to `judged`.
 pub fn check_cies<'a>(
     alloc: Global,
     state: &mut UnwindState,
@@ -175,7 +181,7 @@ pub fn check_cies<'a>(
 }
 
 /// Checks each FDE's program, starting from the rules that its CIE's program leaves, and adds the
-/// expressions to `judged`. Each CIE_pointer must be the offset of a CIE.
+/// programs' expressions to `judged`. Each CIE_pointer must be the offset of a CIE.
 pub fn check_fdes<'a>(
     context: &mut UnwindContext,
     judged: &mut JudgedExpressions<'a>,
