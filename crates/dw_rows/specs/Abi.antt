@@ -46,23 +46,24 @@ abbrev pub or_rule : {E : Type 0} → RuleOver E → RuleOver E → RuleOver E
 or_rule default other = other
 or_rule rule other = rule
 
--- the row's rule for a register, or the ABI's if the row has none
+-- the row's rule for a register, or the rule that the ABI gives it if the row has none
 abbrev pub rule_under : Abi → List (ℕ × Rule) → ℕ → Rule
 rule_under abi rules r = or_rule (rule_in rules r) (rule_of_role (abi r))
 
--- the rules under an ABI other than default, by ascending registers
+-- each register whose rule under an ABI isn't default, with that rule, in ascending order of
+-- registers
 abbrev pub rules_under : Abi → List (ℕ × Rule) → List (ℕ × Rule)
 rules_under abi rules = rule_list (rule_under abi rules)
 
 -- ---- what can be an ABI
 
--- There are at most MAX_KEPT callee-saved registers, and no number occurs twice, the stack
--- pointer's included.
+-- There are at most MAX_KEPT callee-saved registers, and no register number occurs twice among them
+-- and the stack pointer.
 pub record CanBeAbi (registers : List ℕ) (pointer : Option ℕ) : Type 0 where
   pub few : length registers ≤ MAX_KEPT
   pub distinct : IsDistinct nat_eq (registers ++ option_to_list pointer)
 
--- the number at index `place` is the first one that has occurred before
+-- `place` is the index of the first number that occurs earlier in the list
 pub record StandsAgain (numbers : List ℕ) (place : ℕ) : Type 0 where
   pub number : ℕ
   pub here : slice_get numbers place ≡ Some number
@@ -71,13 +72,15 @@ pub record StandsAgain (numbers : List ℕ) (place : ℕ) : Type 0 where
 
 -- ---- the first fault
 
--- The index of the first number that has occurred before. `before` has the numbers up to here.
+-- The index of the first number of `before ++ rest` that occurs earlier in that list, or none.
+-- `before` has the numbers that were looked at already, none of which occurs twice.
 abbrev pub place_of_second : List ℕ → List ℕ → Option ℕ
 place_of_second before [] = None
 place_of_second before (n ∷ rest) = if is_among n before then Some (length before) else place_of_second (before ++ n ∷ []) rest
 
--- Too many callee-saved registers are refused first, and then a number that has occurred before.
--- The stack pointer counts as the last number.
+-- The fault of an ABI, or none: first AbiTooLarge if there are too many callee-saved registers, and
+-- then AbiTwice at the index of the first number that occurs earlier in the list. The stack pointer
+-- is the last number of that list.
 abbrev pub abi_fault : List ℕ → Option ℕ → Option Fault
 abi_fault registers pointer =
     if nat_lt MAX_KEPT (length registers) then Some (record { kind = AbiTooLarge; at = MAX_KEPT })

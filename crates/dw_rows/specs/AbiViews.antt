@@ -1,4 +1,5 @@
--- The ABI that the code's table of rules stands for: the role of each register.
+-- Which ABI a value of the code's type `Abi` stands for. The code stores an ABI as a table of
+-- rules; here each rule is taken back to the role of its register.
 use Rattle.std.specs.Prelude.{◌≡◌, ℕ, List}
 use Rattle.dw_rows.specs.Abi.{Abi, Role, unnamed, kept, stack_pointer, rule_of_role}
 use Rattle.dw_rows.specs.Rules.{PlacedRule, default, val_offset, rule_in}
@@ -11,6 +12,7 @@ role_of_rule rule = kept
 abbrev pub roles_of : List (ℕ × PlacedRule) → Abi
 roles_of rules r = role_of_rule (rule_in rules r)
 
--- each rule in the table is the rule of some role
+-- each rule in the table, default included, is the one that `rule_of_role` gives for its register's
+-- role
 abbrev pub AreRoles : List (ℕ × PlacedRule) → Type 0
 AreRoles rules = (r : ℕ) → rule_in rules r ≡ rule_of_role (roles_of rules r)

@@ -17,11 +17,11 @@ use Rattle.dw_rows.specs.UnwindRows.{rows_of}
 use Rattle.dw_rows.specs.Section.{FrameSection, IsChecked, IsReturnRegister, cie_in, row_of}
 use Rattle.dw_rows.specs.UnwindTables.{has}
 
--- the numbers at these distances from `base`
+-- each offset added to `base`
 abbrev pub based : ℕ → List ℕ → List ℕ
 based base offsets = map (λ o. base + o) offsets
 
--- table entries, from a list of starts and a list of rule set numbers
+-- table entries: each start with the rule set number at the same index
 abbrev pub paired : List ℕ → List ℕ → List TableEntry
 paired [] sets = []
 paired (start ∷ starts) [] = []
@@ -29,12 +29,12 @@ paired (start ∷ starts) (set ∷ sets) = record { start = start; set = set } �
 
 -- ---- rows by where they begin
 
--- a rule set, with the return address register that the CIE names
+-- a rule set, and the return address register of the CIE whose FDEs have rows with it
 pub record KeptSet : Type 0 where
   pub rules : KeptRules
   pub register : ℕ
 
--- rule sets with their registers, from a list of each
+-- rule sets with their return address registers: each rule set with the register at the same index
 abbrev pub zipped : List KeptRules → List ℕ → List KeptSet
 zipped [] registers = []
 zipped (k ∷ rules) [] = []
@@ -47,11 +47,12 @@ no_rules = record { cfa = None; rules = [] }
 abbrev pub no_set : KeptSet
 no_set = record { rules = no_rules; register = 0 }
 
--- the rule set with a number
+-- the rule set with the number n, which is its index in `sets`
 abbrev pub set_numbered : List KeptSet → ℕ → KeptSet
 set_numbered sets n = slice_index_or sets n no_set
 
--- the row from `start` to `to` with these rules and its register, or no row if there is no CFA rule
+-- the row from `start` to `to` with the rules and the return address register of `k`, as a list of
+-- one element; an empty list if there is no CFA rule
 abbrev pub row_if : Option PlacedCfa → ℕ → ℕ → KeptSet → List (PlacedRow × ℕ)
 row_if None start to k = []
 row_if (Some c) start to k = (row_between start to k.rules, k.register) ∷ []
@@ -66,8 +67,8 @@ abbrev pub next_start : List TableEntry → ℕ → ℕ
 next_start [] to = to
 next_start (e ∷ rest) to = e.start
 
--- The rows of the entries, with their registers. Each row ends where the next entry begins, and the
--- last one ends at `to`.
+-- The rows of the entries, with their return address registers. Each row ends where the next entry
+-- begins, and the last one ends at `to`. An entry whose rule set has no CFA rule gives no row.
 abbrev pub rows_to : List KeptSet → List TableEntry → ℕ → List (PlacedRow × ℕ)
 rows_to sets [] to = []
 rows_to sets (e ∷ rest) to = row_from sets e (next_start rest to) ++ rows_to sets rest to
@@ -101,28 +102,28 @@ rows_of_each s (f ∷ fdes) = placed_rows s f ++ rows_of_each s fdes
 abbrev pub LendsSet : List LocatedExpression → KeptSet → Type 0
 LendsSet es k = LendsRules es k.rules
 
--- Entries in order, none beyond `last`. Each refers to a stored rule set, and the expressions that
--- rule sets name are among `es`.
+-- The entries are in order, and none begins above `last`. Each refers to a stored rule set, and the
+-- expressions that the rule sets refer to are among `es`.
 pub record IsTableUpTo (es : List LocatedExpression) (last : ℕ) (entries : List TableEntry) (sets : List KeptSet) : Type 0 where
   pub sorted : IsNonDecreasingBy entry_start entries
   pub below : (k : ℕ) (d : TableEntry) → k < length entries → (slice_index_or entries k d).start ≤ last
   pub within : (k : ℕ) (d : TableEntry) → k < length entries → (slice_index_or entries k d).set < length sets
   pub lends : All (LendsSet es) sets
 
--- the table's last row is now ended at `end`, so that no row covers later addresses
+-- the table's last row now ends at `end`, and no row of the table covers an address from there on
 pub record IsClosedAt (end : ℕ) (old : List TableEntry) (old_sets : List KeptSet) (new : List TableEntry) (new_sets : List KeptSet)
     : Type 0 where
   pub table : (es : List LocatedExpression) → IsTableUpTo es end old old_sets → IsTableUpTo es end new new_sets
   pub rows : (es : List LocatedExpression) → IsTableUpTo es end old old_sets → (to : ℕ) → rows_to new_sets new to ≡ rows_to old_sets old end
 
--- the table's last row ended at `end`, and the table is ready for a row that begins at `start`
+-- the table's last row ends at `end`, and the table is ready for a row that begins at `start`
 pub record IsBegunAt (end start : ℕ) (old : List TableEntry) (old_sets : List KeptSet) (new : List TableEntry) (new_sets : List KeptSet)
     : Type 0 where
   pub table : (es : List LocatedExpression) → IsTableUpTo es end old old_sets → end ≤ start → IsTableUpTo es start new new_sets
   pub rows : (es : List LocatedExpression) → IsTableUpTo es end old old_sets → rows_to new_sets new start ≡ rows_to old_sets old end
 
--- The rule set `k` has the number `n`: it is either one of the old rule sets, or was added after
--- them.
+-- The rule set `k` has the number `n` in the new list. Either it has been in the old list already,
+-- or it was added at the end.
 pub record IsNumbered (old : List KeptSet) (k : KeptSet) (n : ℕ) (new : List KeptSet) : Type 0 where
   pub found : slice_get new n ≡ Some k
   pub inside : n < length new
@@ -137,14 +138,14 @@ pub record IsPushed (old : List TableEntry) (old_sets : List KeptSet) (start : �
   pub entries : new ≡ old ++ record { start = start; set = number } ∷ []
   pub numbered : IsNumbered old_sets k number new_sets
 
--- the rows in the table, followed by the rows that the cursor hasn't reached, are `rows`
+-- the rows in the table, followed by the rows that the cursor hasn't reached yet, are `rows`
 pub record IsFilling (c : Cie) (f : Fde) (rows : List (PlacedRow × ℕ)) (w : RowCursor) (entries : List TableEntry) (sets : List KeptSet)
     : Type 0 where
   pub before : List Effect
   pub is_at : StandsBehind c f before w
   pub all : rows_to sets entries w.context.location ++ returning c.return_address_register (rows_left c f before w) ≡ rows
 
--- the FDE's rows were added after the old ones, which end at `last`
+-- the FDE's rows were added after the old rows, which end at `last`
 pub record IsFilled (s : FrameSection) (f : Fde) (last : ℕ) (old : List TableEntry) (old_sets : List KeptSet) (new : List TableEntry)
     (new_sets : List KeptSet) : Type 0 where
   pub table : IsTableUpTo s.expressions (f.initial_location + f.address_range) new new_sets
@@ -152,12 +153,12 @@ pub record IsFilled (s : FrameSection) (f : Fde) (last : ℕ) (old : List TableE
 
 -- ---- the room that a table may take
 
--- If the reason is a lack of room, `room` is less than `most`.
+-- The reason is a lack of memory, or it is a lack of room and `room` is less than `most`.
 abbrev pub LacksRoom : Unmade → ℕ → ℕ → Type 0
 LacksRoom Memory room most = Unit {0}
 LacksRoom Room room most = room < most
 
--- how many bytes a rule set takes, without and with the entry of a row that has it
+-- how many bytes a rule set takes, and how many it takes together with an entry that has it
 abbrev pub set_bytes : KeptRules → ℕ
 set_bytes k = 64 + 16 * length k.rules
 
@@ -185,16 +186,17 @@ pub record AreEntries (entries : List TableEntry) (sets : List KeptSet) : Type 0
 
 -- ---- rows, and the expressions that they name
 
--- each expression that the row names is among `es`
+-- each expression that the row refers to is among `es`, and has the kind that its rule needs
 pub record LendsFound (es : List LocatedExpression) (found : PlacedRow × ℕ) : Type 0 where
   pub cfa : IfSome found.0.cfa (LendsCfa es)
   pub rules : LendsEach es found.0.rules
 
--- the row with its expressions instead of their offsets, and its register
+-- the row with its expressions in place of their offsets, and its return address register
 abbrev pub given_found : List LocatedExpression → PlacedRow × ℕ → Row × ℕ
 given_found es found = (given_row es found.0, found.1)
 
--- what was found at an address is the section's row there, with its CIE's return address register
+-- What was found at the address a is the section's row there, with the return address register of
+-- the row's CIE. If nothing was found, the section has no row there.
 abbrev pub IsPlacedAt : FrameSection → ℕ → Option (PlacedRow × ℕ) → Type 0
 IsPlacedAt s a None = row_of s a ≡ None
 IsPlacedAt s a (Some found) = (row_of s a ≡ Some (given_row s.expressions found.0)) × IsReturnRegister s a found.1

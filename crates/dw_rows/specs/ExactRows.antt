@@ -1,4 +1,5 @@
--- The one row of an address in a section that is accepted, in the standard's words (DWARF 5, section 6.4.1).
+-- The one row of an address in a section that is accepted, in the standard's words (DWARF 5,
+-- section 6.4.1).
 use Rattle.std.specs.Prelude.{◌≡◌, ℕ, [], ◌∷◌, Some, IfSome, Contains, filter}
 use Rattle.dw_frame.specs.Records.{Cie, Fde}
 use Rattle.dw_rows.specs.Rules.{PlacedRow, Row}
@@ -8,7 +9,7 @@ use Rattle.dw_rows.specs.Good.{IsLast, IsGoodFdeProgram}
 use Rattle.dw_rows.specs.Clauses.{IsRowAt, start_in, program_in}
 use Rattle.dw_rows.specs.Section.{FrameSection, IsCoverOf, rows_in, row_of}
 
--- The address has exactly one row, and it is the standard's.
+-- The address has exactly one row, and it is the one that the standard gives.
 pub record HasOneRow (s : FrameSection) (a : ℕ) : Type 0 where
   -- exactly one FDE covers the address, and its CIE_pointer is the offset of this CIE
   pub fde : Fde
@@ -18,19 +19,19 @@ pub record HasOneRow (s : FrameSection) (a : ℕ) : Type 0 where
   pub pointed : cie.offset ≡ fde.cie_pointer
   -- the programs of the FDE and of the CIE are good
   pub good : IsGoodFdeProgram cie fde
-  -- exactly one of the FDE's rows has the address
+  -- exactly one of the FDE's rows covers the address
   pub row : Row
   pub one : filter (has_address a) (rows_in s fde) ≡ row ∷ []
   -- The row has the rules after the longest prefix of the program whose location is at most the
-  -- address. Its range is all covered addresses with that prefix.
+  -- address. It covers all of the FDE's addresses that have the same longest prefix.
   pub last : ℕ
   pub longest : IsLast (start_in cie fde good) (program_in cie fde good) a last
   pub placed : PlacedRow
   pub standard : IsRowAt (start_in cie fde good) (program_in cie fde good) last placed
-  -- no other row has the rules after that prefix and that range
+  -- no other row has both the rules after that prefix and those addresses
   pub only : (other : PlacedRow) → IsRowAt (start_in cie fde good) (program_in cie fde good) last other → other ≡ placed
-  -- In `row` the offsets of expressions are replaced by the section's expressions that begin there.
-  -- Each has the kind that its rule needs.
+  -- `row` is `placed` with the section's expressions in place of their offsets. Each expression has
+  -- the kind that its rule needs.
   pub given : row ≡ given_row s.expressions placed
   pub cfa_lent : IfSome placed.cfa (LendsCfa s.expressions)
   pub lent : LendsEach s.expressions placed.rules

@@ -5,16 +5,18 @@ use Rattle.dw_rows.specs.Rules.{RuleOver, PlacedRule, IsTable, rule_in, rule_lis
 use Rattle.dw_rows.specs.GivenRows.{LendsEntry, LendsEach}
 use Rattle.dw_stack.specs.Located.{LocatedExpression}
 
--- the rule of a register in the first table, or in the second if the first has none
+-- the rule of register r in the first table, or, if that is default, in the second table
 abbrev pub rule_of_either : {E : Type 0} → List (ℕ × RuleOver E) → List (ℕ × RuleOver E) → ℕ → RuleOver E
 rule_of_either rules others r = or_rule (rule_in rules r) (rule_in others r)
 
--- the rules of both tables other than default, by ascending registers
+-- each register that has a rule other than default in either table, with its rule, in ascending
+-- order of registers
 abbrev pub rules_of_either : {E : Type 0} → List (ℕ × RuleOver E) → List (ℕ × RuleOver E) → List (ℕ × RuleOver E)
 rules_of_either rules others = rule_list (rule_of_either rules others)
 
--- `entry` is the first of the rules of both tables, and `left` and `left_others` have all later
--- ones. If both tables name only expressions among `es`, so do `entry` and what remains.
+-- `entry` is the first of the rules of both tables taken together, and `left` and `left_others`
+-- taken together have all later rules. If the expressions that both tables refer to are among `es`,
+-- so are those that `entry`, `left` and `left_others` refer to.
 pub record IsLowest (entries others : List (ℕ × PlacedRule)) (entry : ℕ × PlacedRule)
     (left left_others : List (ℕ × PlacedRule)) : Type 0 where
   pub first : rules_of_either entries others ≡ entry ∷ rules_of_either left left_others

@@ -8,19 +8,19 @@ use Rattle.dw_stack.specs.Located.{LocatedExpression}
 use Rattle.dw_rows.specs.Rules.{Rule, Cfa, Row, expression, val_expression, cfa_expression}
 use Rattle.dw_rows.specs.GivenRows.{IsOfKind}
 
--- The expression `e` is one of a section's expressions, is of this kind, and is good.
+-- The expression `e` is one of a section's expressions, has the kind `kind`, and is good.
 pub record IsGoodAmong (expressions : List LocatedExpression) (kind : Kind) (e : LocatedExpression) : Type 0 where
   pub among : Contains expressions e
   pub of_kind : IsOfKind kind e
   pub good : IsGoodExpression e.kind e.target e.bytes
 
--- if a register's rule has an expression, it is good, and one of the section's
+-- if a register's rule has an expression, that expression is good, and one of the section's
 abbrev pub IsGoodRule : List LocatedExpression → Rule → Type 0
 IsGoodRule expressions (expression e) = IsGoodAmong expressions FrameRegister e
 IsGoodRule expressions (val_expression e) = IsGoodAmong expressions FrameRegister e
 IsGoodRule expressions _ = Unit {0}
 
--- if the CFA's rule has an expression, it is good, and one of the section's
+-- if the CFA's rule has an expression, that expression is good, and one of the section's
 abbrev pub IsGoodCfa : List LocatedExpression → Cfa → Type 0
 IsGoodCfa expressions (cfa_expression e) = IsGoodAmong expressions FrameCfa e
 IsGoodCfa expressions _ = Unit {0}

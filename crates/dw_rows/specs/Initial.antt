@@ -12,7 +12,7 @@ use Rattle.dw_rows.specs.RuleSet.{KeptRules}
 use Rattle.dw_rows.specs.Views.{kept_cfa_of, entries_of}
 use Rattle.dw_rows.specs.ProgramState.{IsLeftBy}
 
--- the rule sets that the CIEs' programs leave, one for each CIE, in their order
+-- one rule set for each CIE, in the order of the CIEs: the rules that the CIE's program leaves
 abbrev pub AreLeftBy : List Cie → List KeptRules → Type 0
 AreLeftBy [] [] = Unit {0}
 AreLeftBy (c ∷ cies) (k ∷ left) = IsLeftBy c k × AreLeftBy cies left
@@ -21,7 +21,8 @@ AreLeftBy (c ∷ cies) [] = ⊥
 
 -- ---- rule sets that share one list of entries
 
--- the rule set that a span of the entries stands for
+-- The rule set that a span stands for. Its register rules are the entries from the span's start up
+-- to but not including its end.
 abbrev pub kept_in_span : List RuleEntry → RuleSpan → KeptRules
 kept_in_span entries s = record { cfa = option_map kept_cfa_of s.cfa; rules = entries_of (slice_range entries s.start s.end) }
 

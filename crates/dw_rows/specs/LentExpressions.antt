@@ -1,11 +1,12 @@
--- The checked expressions that the rules of a row refer to.
+-- Which expressions a value of the code's type `LentExpressions` stands for: those that the rules
+-- of a row can refer to.
 use Rattle.std.specs.Prelude.{List}
 use Rattle.dw_stack.specs.Located.{LocatedExpression}
 use Rattle.dw_rows.specs.declared.expressions.LentExpressions.{LentExpressions}
 use Rattle.dw_rows.specs.declared.expressions.LentExpressions.TheVariants.{Borrowed, Owned}
 use Rattle.dw_rows.specs.BorrowedExpressions.{borrowed_by}
 
--- those borrowed from a checked section, or those that a compiled table owns
+-- the expressions borrowed from a checked section, or those that a compiled table owns
 abbrev pub lent_by : LentExpressions → List LocatedExpression
 lent_by (Borrowed x) = borrowed_by x
 lent_by (Owned x) = x.now

@@ -6,11 +6,11 @@ use Rattle.dw_stack.specs.Expressions.{IsChecked}
 use Rattle.dw_stack.specs.Located.{LocatedExpression}
 use Rattle.dw_rows.specs.declared.owned_expressions.OwnedExpression.{OwnedExpression}
 
--- the bytes of one expression, cut out of the bytes of all expressions
+-- the bytes of the expression `k`, cut out of the bytes of all expressions
 abbrev pub bytes_in : List ℕ → OwnedExpression → List ℕ
 bytes_in bytes k = take k.length (drop k.start bytes)
 
--- the expression `k` with its bytes, and its offset in the section
+-- the expression `k`, with its bytes and its offset in the section
 abbrev pub owned_in : List ℕ → OwnedExpression → LocatedExpression
 owned_in bytes k = record { offset = k.offset; kind = k.kind; target = k.target; bytes = bytes_in bytes k }
 

@@ -68,7 +68,7 @@ abbrev pub IsCoverOf : List Fde → ℕ → Option Fde → Type 0
 IsCoverOf fdes a None = (f : Fde) → Contains fdes f → ¬ Covers f a
 IsCoverOf fdes a (Some f) = Contains fdes f × Covers f a × ((g : Fde) → Contains fdes g → Covers g a → g ≡ f)
 
--- ---- the first fault of the records, once they were read
+-- ---- the first fault that is found once all records have been read
 
 -- the fault of the first element that has one
 abbrev pub first_fault : {X : Type 0} → (X → Option Fault) → List X → Option Fault
@@ -79,7 +79,7 @@ first_fault test (x ∷ xs) = option_or (test x) (first_fault test xs)
 abbrev pub cie_at : List Cie → ℕ → Option Cie
 cie_at cies at = find (λ c. c.offset == at) cies
 
--- a fault if the FDE's CIE_pointer isn't the offset of a CIE
+-- a fault of the FDE if its CIE_pointer isn't the offset of a CIE
 abbrev pub pointer_fault : List Cie → Fde → Option Fault
 pointer_fault cies f = if is_some (cie_at cies f.cie_pointer) then None else Some (record { kind = NoSuchCie; at = f.cie_pointer_offset })
 
@@ -87,31 +87,32 @@ abbrev pub fault_behind : Option Cie → Fde → Option Fault
 fault_behind None f = None
 fault_behind (Some c) f = fde_fault c f
 
--- the first fault of an FDE's program, which begins with the rules that its CIE's program leaves
+-- The first fault of an FDE's program, which begins with the rules that its CIE's program leaves.
+-- None if the CIE_pointer isn't the offset of a CIE.
 abbrev pub program_fault : List Cie → Fde → Option Fault
 program_fault cies f = fault_behind (cie_at cies f.cie_pointer) f
 
--- the FDEs share an address: each begins before the other ends, and neither is empty
+-- whether two FDEs share an address: each begins before the other ends, and neither is empty
 abbrev pub shares : Fde → Fde → Bool
 shares f g = nat_lt 0 f.address_range && nat_lt 0 g.address_range
     && nat_lt f.initial_location (g.initial_location + g.address_range)
     && nat_lt g.initial_location (f.initial_location + f.address_range)
 
--- a fault if an FDE before this one in the section shares an address with it
+-- a fault of the FDE g if an FDE before it in the section shares an address with it
 abbrev pub overlap_fault : List Fde → Fde → Option Fault
 overlap_fault fdes g = if list_any (λ f. nat_lt f.offset g.offset && shares f g) fdes then Some (record { kind = Overlap; at = g.offset })
     else None
 
--- the first fault of the CIE_pointers, else of the CIEs' programs, else of the FDEs' programs
+-- the first fault of the CIE_pointers, or else of the CIEs' programs, or else of the FDEs' programs
 abbrev pub programs_fault : List Cie → List Fde → Option Fault
 programs_fault cies fdes = option_or (first_fault (pointer_fault cies) fdes)
     (option_or (first_fault cie_fault cies) (first_fault (program_fault cies) fdes))
 
--- the first fault of CIE_pointers and programs, else the first overlap of FDEs
+-- the first fault of the CIE_pointers and the programs, or else the first overlap of FDEs
 unfoldable pub parts_fault : List Cie → List Fde → Option Fault
 parts_fault cies fdes = option_or (programs_fault cies fdes) (first_fault (overlap_fault fdes) fdes)
 
--- the first fault of a section: of reading its records, else of the records that were read
+-- the first fault of a section: of reading its records, or else of the records that were read
 unfoldable pub section_fault : Target → List ℕ → Option Fault
 section_fault target section = option_or (fault_in (entries_of target section))
     (parts_fault (frame_of target section).cies (frame_of target section).fdes)
@@ -124,7 +125,7 @@ pub record IsChecked (s : FrameSection) : Type 0 where
 
 -- ---- rows
 
--- the CIE of an FDE
+-- the CIE that an FDE's CIE_pointer refers to, if there is one
 abbrev pub cie_in : FrameSection → Fde → Option Cie
 cie_in s f = cie_at s.cies f.cie_pointer
 
@@ -132,7 +133,7 @@ abbrev pub rows_behind : Option Cie → Fde → List PlacedRow
 rows_behind None f = []
 rows_behind (Some c) f = rows_of c f
 
--- the rows of an FDE, with the expressions that their rules name
+-- the rows of an FDE, with the expressions in place of their offsets
 abbrev pub rows_in : FrameSection → Fde → List Row
 rows_in s f = map (given_row s.expressions) (rows_behind (cie_in s f) f)
 
@@ -141,7 +142,7 @@ rows_in s f = map (given_row s.expressions) (rows_behind (cie_in s f) f)
 abbrev pub covers : ℕ → Fde → Bool
 covers a f = nat_le f.initial_location a && nat_lt a (f.initial_location + f.address_range)
 
--- the row of the address a in the FDE that covers it, if an FDE does
+-- The row of the address a, which is a row of the FDE that covers a. None if no FDE covers a.
 abbrev pub row_of : FrameSection → ℕ → Option Row
 row_of s a = option_and_then (λ f. find (has_address a) (rows_in s f)) (find (covers a) s.fdes)
 
