@@ -1,4 +1,5 @@
--- Rows as callers get them: with expressions, where programs have the expressions' offsets.
+-- Rows as callers get them: with the expressions themselves, where programs only have the
+-- expressions' offsets in the section.
 use Rattle.std.specs.Prelude.{◌≡◌, ℕ, List, [], map, Option, Some, None, All}
 use Rattle.std.specs.Option.{option_map}
 use Rattle.dw_bytes.specs.declared.target.Order.TheVariants.{Little}
@@ -10,7 +11,8 @@ use Rattle.dw_rows.specs.Expressions.{expression_at}
 use Rattle.dw_rows.specs.Rules.{PlacedRule, PlacedCfa, PlacedRow, Rule, Cfa, Row, default, undefined, same_value, offset, val_offset}
 use Rattle.dw_rows.specs.Rules.{register, expression, val_expression, register_and_offset, cfa_expression}
 
--- A placeholder for the expression at an offset where none begins. No rule names such an offset.
+-- A placeholder that `located_at` gives for an offset at which no expression begins. No rule of an
+-- accepted section refers to such an offset.
 abbrev pub nowhere : LocatedExpression
 nowhere = record { offset = 0; kind = FrameCfa; target = record { order = Little; address_size = Four }; bytes = [] }
 
@@ -18,7 +20,7 @@ abbrev pub or_nowhere : Option LocatedExpression → LocatedExpression
 or_nowhere None = nowhere
 or_nowhere (Some e) = e
 
--- the expression that begins at the offset `at`
+-- the expression in the list that begins at the offset `at`
 abbrev pub located_at : List LocatedExpression → ℕ → LocatedExpression
 located_at expressions at = or_nowhere (expression_at expressions at)
 
@@ -68,9 +70,9 @@ IsCfaOfKind _ = Unit {0}
 abbrev pub IsEntryOfKind : ℕ × Rule → Type 0
 IsEntryOfKind entry = IsRuleOfKind entry.1
 
--- ---- each expression that a rule names is among these
+-- ---- each expression that a rule refers to is in a list of expressions
 
--- an expression of this kind begins at the offset `at`
+-- an expression in the list begins at the offset `at`, and has the kind `kind`
 pub record IsLent (expressions : List LocatedExpression) (kind : Kind) (at : ℕ) : Type 0 where
   pub lent : LocatedExpression
   pub found : expression_at expressions at ≡ Some lent

@@ -1,5 +1,5 @@
 -- FDEs in order of offset and in order of address, and what a checked section stores. No contract
--- of a public call mentions these.
+-- of a public call mentions this.
 use Rattle.std.specs.Prelude.{◌≡◌, ℕ, ◌+◌, ◌*◌, ◌<◌, ◌≤◌, List, [], length, map, All, Contains, slice_index_or}
 use Rattle.dw_bytes.specs.declared.target.Format.TheVariants.{Dwarf32}
 use Rattle.dw_bytes.specs.declared.target.Order.TheVariants.{Little}
@@ -21,7 +21,8 @@ cie_offset c = c.offset
 abbrev pub initial_of : Fde → ℕ
 initial_of f = f.initial_location
 
--- x is the first element, in order of `at`, that fails; all elements before it pass
+-- x is the first element, in ascending order of `at`, for which `Fails` holds. For all elements
+-- before it `Passes` holds.
 pub record IsFirst {X : Type 0} (at : X → ℕ) (Passes Fails : X → Type 0) (xs : List X) (x : X) : Type 0 where
   pub among : Contains xs x
   pub fails : Fails x
@@ -40,7 +41,8 @@ AreApart fdes = (f : Fde) → Contains fdes f → IsApart fdes f
 abbrev pub IsFirstOverlap : List Fde → Fde → Type 0
 IsFirstOverlap fdes g = IsFirst fde_offset (IsApart fdes) (Overlaps fdes) fdes g
 
--- two FDEs with offsets up to `last` share an address; and the opposite: no two of them do
+-- `ClashWithin`: two FDEs with offsets up to `last` share an address. `ApartWithin` is the
+-- opposite: no two such FDEs share an address.
 pub record ClashWithin (fdes : List Fde) (last : ℕ) : Type 0 where
   pub f : Fde
   pub g : Fde
@@ -53,14 +55,14 @@ pub record ClashWithin (fdes : List Fde) (last : ℕ) : Type 0 where
 abbrev pub ApartWithin : List Fde → ℕ → Type 0
 ApartWithin fdes last = (f g : Fde) → Contains fdes f → Contains fdes g → f.offset < g.offset → g.offset ≤ last → ¬ SharesAddress f g
 
--- FDEs in order of address, each of which covers an address, and none of which occurs twice
+-- the FDEs are in order of address, each covers at least one address, and none occurs twice
 pub record IsOrdered (index : List Fde) : Type 0 where
   pub some : (f : Fde) → Contains index f → 0 < f.address_range
   pub distinct : (i j : ℕ) (d : Fde) → i < length index → j < length index
       → (slice_index_or index i d).offset ≡ (slice_index_or index j d).offset → i ≡ j
   pub sorted : IsNonDecreasingBy initial_of index
 
--- `index` has exactly the FDEs that cover an address, in order of address
+-- `index` has exactly those of the FDEs that cover at least one address, in order of address
 pub record IsIndexOf (fdes index : List Fde) : Type 0 where
   pub from : (f : Fde) → Contains index f → Contains fdes f
   pub to : (f : Fde) → Contains fdes f → 0 < f.address_range → Contains index f
@@ -68,7 +70,8 @@ pub record IsIndexOf (fdes index : List Fde) : Type 0 where
 
 -- ---- the index as it is stored: where each FDE begins, and its index among all FDEs
 
--- A placeholder for an index past the end, which no entry has. It is an FDE that covers nothing.
+-- A placeholder for the FDE at an index past the end. No index entry refers to such an index. The
+-- placeholder covers no address.
 abbrev pub no_fde : Fde
 no_fde = record {
   offset = 0;
@@ -88,26 +91,28 @@ pub record IsEntry (fdes : List Fde) (e : IndexEntry) : Type 0 where
   pub within : e.place < length fdes
   pub start : e.start ≡ (fde_at fdes e).initial_location
 
--- the entries refer to exactly the FDEs that cover an address, in order of address
+-- the entries refer to exactly those of the FDEs that cover at least one address, in order of
+-- address
 pub record IsAddressIndex (fdes : List Fde) (entries : List IndexEntry) : Type 0 where
   pub each : All (IsEntry fdes) entries
   pub index_of : IsIndexOf fdes (map (fde_at fdes) entries)
 
--- The entry `stride` after `low` begins at or below the address `a`, unless `stride` is 0. The
--- entry a quarter further begins above it, unless `stride` is three quarters.
+-- `low` and `stride` are counted in entries. The entry at index `low + stride` begins at or below
+-- the address `a`, unless `stride` is 0. The entry at index `low + stride + quarter` begins above
+-- `a`, unless `stride` is three times `quarter`.
 pub record IsStride (entries : List IndexEntry) (low quarter a stride : ℕ) : Type 0 where
   pub bound : stride ≤ 3 * quarter
   pub below : (d : IndexEntry) → 0 < stride → (slice_index_or entries (low + stride) d).start ≤ a
   pub above : (d : IndexEntry) → stride < 3 * quarter → a < (slice_index_or entries (low + stride + quarter) d).start
 
--- exactly `count` entries begin at or below the address `a`
+-- exactly the first `count` entries begin at or below the address `a`
 pub record IsCountUpTo (entries : List IndexEntry) (a count : ℕ) : Type 0 where
   pub bound : count ≤ length entries
   pub below : (k : ℕ) (d : IndexEntry) → k < count → (slice_index_or entries k d).start ≤ a
   pub above : (k : ℕ) (d : IndexEntry) → count ≤ k → k < length entries → a < (slice_index_or entries k d).start
 
--- What a checked section stores: its records, the rules that its CIEs leave, its FDEs in order of
--- address, and how many of its expressions belong to CIEs.
+-- What a checked section stores: its records, the rules that the CIEs' programs leave (`left`), an
+-- index of its FDEs in order of address, and how many of its expressions belong to CIEs.
 pub record IsKept (s : FrameSection) (left : List KeptRules) (index : List IndexEntry) (count : ℕ) : Type 0 where
   pub checked : IsChecked s
   pub left_by : AreLeftBy s.cies left

@@ -1,4 +1,5 @@
--- Compiled tables: they store the rows of a section, and nothing of the section is needed any more.
+-- Compiled tables. A compiled table stores all rows of a section, so that look-ups no longer need
+-- the section.
 use Rattle.std.specs.Prelude.{◌≡◌, ℕ, ◌+◌, ◌*◌, Bool, List, All, Contains, IfSome, Option, Some, None, find, length}
 use Rattle.std.specs.List.{sum_by}
 use Rattle.dw_bytes.specs.declared.target.Target.{Target}
@@ -13,16 +14,17 @@ pub record RowTable : Type 0 where
   pub target : Target
   pub rows : List (Row × ℕ)
 
--- the row of such a pair has the address
+-- whether the row of a pair covers the address
 abbrev pub has : {E : Type 0} → ℕ → RowOver E × ℕ → Bool
 has address found = has_address address found.0
 
--- the row of an address in a table, with its return address register
+-- the row of an address in a table, with the row's return address register; None if no row covers
+-- the address
 abbrev pub row_at : RowTable → ℕ → Option (Row × ℕ)
 row_at t address = find (has address) t.rows
 
 -- What was found at an address is the section's row there, with the return address register that
--- its CIE names. If nothing was found, no FDE covers the address.
+-- the CIE of the covering FDE names. If nothing was found, no FDE covers the address.
 abbrev pub IsFoundAt : FrameSection → ℕ → Option (Row × ℕ) → Type 0
 IsFoundAt s address None = (f : Fde) → Contains s.fdes f → ¬ Covers f address
 IsFoundAt s address (Some found) = (row_of s address ≡ Some found.0) × IsReturnRegister s address found.1
@@ -33,21 +35,21 @@ pub record IsTableOf (s : FrameSection) (t : RowTable) : Type 0 where
   pub target : t.target ≡ s.target
   pub row : (address : ℕ) → IsFoundAt s address (row_at t address)
 
--- ---- how many bytes are always enough for a table; less is enough if rows share their rules
+-- ---- how many bytes of room are enough for a table, even if no rows share their rules
 
--- for a row: 80, and 16 more for each register that has a rule
+-- for a row: 80 bytes, and 16 more for each register that has a rule other than default
 abbrev pub row_bytes : {E : Type 0} → RowOver E → ℕ
 row_bytes row = 80 + 16 * length row.rules
 
--- for the rows of an FDE, and 80 for the entry that ends the rows before it
+-- for the rows of an FDE: the bytes of each row, and 80 for an entry that ends the row before them
 abbrev pub fde_bytes : FrameSection → Fde → ℕ
 fde_bytes s f = 80 + sum_by row_bytes (rows_in s f)
 
--- for the rows of all FDEs, and 80 for the entry that ends the last row
+-- for the rows of all FDEs: the bytes of each FDE, and 80 for an entry that ends the last row
 abbrev pub table_bytes : FrameSection → ℕ
 table_bytes s = 80 + sum_by (fde_bytes s) s.fdes
 
--- ---- the target of a row's expressions
+-- ---- the target that the expressions in a row were read with
 
 abbrev pub IsUnder : Target → LocatedExpression → Type 0
 IsUnder target e = e.target ≡ target
