@@ -12,8 +12,8 @@ use crate::map::{MAX_RULES, RegisterRuleMap, RuleEntry};
 use dw_bytes::{Fault, FaultKind};
 use std::marker::Model;
 
-/// An `Abi` can name at most this many callee-saved registers. It is one less than `MAX_RULES`, so
-/// that the stack pointer's rule fits into the same table.
+/// An `Abi` can name at most this many callee-saved registers. This is one less than `MAX_RULES`,
+/// so that the stack pointer's rule fits into the same table.
 pub const MAX_KEPT: usize = MAX_RULES - 1;
 
 /// What an ABI says about registers without a rule: which registers are callee-saved (a call
@@ -62,7 +62,7 @@ fn add_abi_rule(rules: &mut RegisterRuleMap, number: u16, rule: KeptRule) -> boo
 }
 
 impl Abi {
-    /// An ABI that says nothing: every register without a rule is undefined.
+    /// An ABI that says nothing: every register without a rule in a row is undefined.
     pub fn none() -> Abi
         ensures { roles_of result ≡ no_abi }
     {
@@ -121,7 +121,7 @@ impl Abi {
     }
 }
 
-/// The fault that the number at index `place` has occurred before.
+/// The fault of an ABI if the number at index `place` occurs earlier as well.
 fn abi_twice_at(place: usize) -> Fault
     requires { place ≤ MAX_KEPT }
     ensures { result ≡ record { kind = FaultKind.AbiTwice; at = place } }

@@ -43,8 +43,8 @@ impl<'f, 'a> BorrowedExpressions<'f, 'a> {
         BorrowedExpressions { cies, fdes }
     }
 
-    /// The expression that begins at an offset of the section. It searches the CIEs' expressions
-    /// first, since there are few of them. Both searches are binary.
+    /// The expression that begins at an offset of the section, or `None` if none begins there. The
+    /// CIEs' expressions are searched first, since there are few of them. Both searches are binary.
     pub(crate) fn at(&self, offset: u32) -> Option<CheckedExpression<'a>>
         ensures { MatchOption result
             (expression_at (borrowed_by self.now) offset ≡ None)
@@ -58,7 +58,8 @@ impl<'f, 'a> BorrowedExpressions<'f, 'a> {
     }
 }
 
-/// The expression that begins at an offset of the section, by binary search.
+/// The expression that begins at an offset of the section, found by binary search, or `None` if
+/// none begins there.
 fn find_lent<'a>(
     expressions: &[(u32, CheckedExpression<'a>)],
     offset: u32,

@@ -1,4 +1,4 @@
-//! What a call frame instruction does, with its offsets computed.
+//! What a call frame instruction does, with the CIE's alignment factors applied to its operands.
 
 ghost use Rattle.std.specs.Prelude.{◌≡◌, ℤ, pos, ◌*◌, ◌*ℤ◌};
 ghost use Rattle.dw_frame.specs.Views.{cie_of, instruction_of};

@@ -26,7 +26,7 @@ impl<'f, 'a> LentExpressions<'f, 'a> {
         LentExpressions::Borrowed(BorrowedExpressions::empty())
     }
 
-    /// The expression that begins at an offset of the section.
+    /// The expression that begins at an offset of the section, or `None` if none begins there.
     pub(crate) fn at(&self, offset: u32) -> Option<CheckedExpression<'a>>
         ensures { MatchOption result
             (expression_at (lent_by self.now) offset ≡ None)

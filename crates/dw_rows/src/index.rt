@@ -1,4 +1,5 @@
-//! An index of FDEs in order of address: overlaps, and the FDE of an address.
+//! An index of FDEs in order of address: how it is made, and how it finds overlaps and the FDE of
+//! an address.
 
 ghost use Rattle.std.specs.Prelude.{◌≡◌, ◌+◌, ◌*◌, ◌<◌, ◌≤◌, length, map, All, MatchBool, MatchOption, IfOk, filter, nat_lt, option_map};
 ghost use Rattle.dw_frame.specs.Views.{fde_of};
@@ -12,8 +13,8 @@ ghost use Rattle.dw_rows.specs.declared.index.IndexEntry.{IndexEntry};
 use dw_frame::FrameDescriptionEntry;
 use std::alloc::{AllocError, Global};
 
-/// Where an FDE begins in the address space, and its index among all FDEs. The entry has a copy of
-/// the FDE's start (16 bytes in all), so that a search doesn't read the FDEs.
+/// An FDE's initial location, and the index of the FDE among all FDEs. The initial location is
+/// copied so that a search reads only index entries, which have 16 bytes each, and no FDEs.
 #[derive(Clone, Copy)]
 pub struct IndexEntry {
     pub start: u64,
@@ -39,8 +40,8 @@ fn covering_some(
     Ok(index)
 }
 
-/// The index of the FDEs that cover at least one address, in order of address. It takes O(n log n)
-/// time for n FDEs.
+/// Index entries of the FDEs that cover at least one address, in order of address. Making them
+/// takes O(n log n) time for n FDEs.
 pub fn index_of(
     alloc: Global,
     fdes: &[FrameDescriptionEntry<'_>],
@@ -53,8 +54,8 @@ pub fn index_of(
     Ok(index)
 }
 
-/// Whether two FDEs with offsets up to `last` share an address. It is one pass over the FDEs in
-/// order of address.
+/// Whether two FDEs with offsets up to and including `last` share an address. This takes one pass
+/// over the FDEs in order of address.
 fn overlaps(fdes: &[FrameDescriptionEntry<'_>], index: &[IndexEntry], last: u32) -> bool
     requires { IsAddressIndex (map fde_of fdes.now) index.now }
     ensures { MatchBool result (ClashWithin (map (fde_at (map fde_of fdes.now)) index.now) last)
@@ -73,9 +74,9 @@ fn overlaps(fdes: &[FrameDescriptionEntry<'_>], index: &[IndexEntry], last: u32)
     false
 }
 
-/// The first FDE, in order of offset, that shares an address with an FDE before it. If FDEs up to
-/// one offset overlap, so do the FDEs up to any later offset. So a binary search finds the first
-/// such FDE, in O(n log n) time for n FDEs.
+/// The first FDE, in order of offset, that shares an address with an FDE before it, or `None` if no
+/// FDE does. If FDEs up to some offset overlap, so do the FDEs up to any later offset. So a binary
+/// search finds that first FDE, in O(n log n) time for n FDEs.
 pub fn first_overlap<'a>(
     fdes: &[FrameDescriptionEntry<'a>],
     index: &[IndexEntry],
@@ -102,9 +103,10 @@ pub fn first_overlap<'a>(
     Some(fdes[high])
 }
 
-/// One step of the search for the last entry that begins at or below `address`: how far to move on
-/// from `low`, by zero, one, two or three times `quarter`. It adds comparison results instead of
-/// branching, since a branch would be mispredicted at every other step.
+/// One step of the search for the last entry that begins at or below `address`. Returns how many
+/// entries to move up from index `low`: zero, one, two or three times `quarter`. The step adds
+/// results of comparisons instead of branching, since a branch would be mispredicted about half of
+/// the time.
 #[inline(always)]
 fn stride(index: &[IndexEntry], low: usize, quarter: usize, address: u64) -> usize
     requires sorted { IsNonDecreasingBy (λ (e : IndexEntry). e.start) index.now }
@@ -136,7 +138,8 @@ fn count_up_to(index: &[IndexEntry], address: u64) -> usize
     low
 }
 
-/// The FDE that covers `address`, or none, by binary search in the index.
+/// The FDE that covers `address`, or `None` if no FDE covers it. The index is searched in O(log n)
+/// steps for n FDEs.
 pub fn covering<'a>(
     fdes: &[FrameDescriptionEntry<'a>],
     index: &[IndexEntry],

@@ -1,5 +1,5 @@
-//! A list of rule sets that shares one array of entries. It holds what the initial instructions of
-//! CIEs leave.
+//! A list of rule sets that share one array of entries. In a checked section it holds the rules
+//! that the initial instructions of each CIE leave.
 
 ghost use Rattle.std.specs.Prelude.{◌≡◌, ◌<◌, ◌≤◌, [], ◌∷◌, ◌++◌, length, Some, slice_get, MatchResult};
 ghost use Rattle.std.specs.Bool.{OnTrue};
@@ -13,7 +13,8 @@ use crate::rule_set::RuleSet;
 use std::alloc::{AllocError, Global};
 use std::marker::Model;
 
-/// Where the register rules of one rule set are in the shared array of entries, and its CFA rule.
+/// The CFA rule of a rule set, and where its register rules are in the shared array of entries:
+/// from index `start` up to but not including `end`.
 #[derive(Clone, Copy)]
 pub struct RuleSpan {
     pub cfa: Option<KeptCfa>,
@@ -73,7 +74,7 @@ impl InitialRules {
         Ok(())
     }
 
-    /// Moves the list into memory of exactly its size.
+    /// Moves the list into arrays without spare capacity.
     pub fn cut(&mut self, alloc: Global) -> Result<(), AllocError>
         ensures { self.new ≡ self.old }
     {

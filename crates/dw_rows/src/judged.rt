@@ -1,4 +1,4 @@
-//! The expressions of programs, which are checked as the programs are read.
+//! The expressions that were found good so far, while programs are being checked.
 
 ghost use Rattle.std.specs.Prelude.{◌≡◌, [], ◌∷◌, ◌++◌, Some, OnOk};
 ghost use Rattle.dw_bytes.specs.Answers.{Answers};
@@ -50,14 +50,15 @@ impl<'a> JudgedExpressions<'a> {
         self.kept.len()
     }
 
-    /// Returns all expressions.
+    /// Returns all expressions, in the order in which they were checked.
     pub fn into_kept(self) -> Vec<(u32, CheckedExpression<'a>)>
         ensures { all_located result.items ≡ self.entry }
     {
         self.kept
     }
 
-    /// Checks the expression of an instruction, if it has one, and stores it.
+    /// Checks the expression of an instruction, if the instruction has one, and appends the
+    /// expression to the list.
     #[inline(always)]
     pub fn judge(&mut self, instruction: &CallFrameInstruction<'a>) -> Result<(), Fault>
         ensures answer { Answers (located_fault (expression_in (instruction_of instruction.now)))
@@ -79,8 +80,8 @@ impl<'a> JudgedExpressions<'a> {
         }
     }
 
-    /// Checks an expression as an expression of kind `kind`, and stores it. A fault has its offset
-    /// in the section.
+    /// Checks an expression under the kind `kind`, and appends it to the list. A fault has its
+    /// offset in the section.
     fn judge_as(&mut self, kind: Kind, found: UnwindExpression<'a>) -> Result<(), Fault>
         ensures answer { Answers
             (located_fault (Some (located_as kind (expression_of found.entry)))) result }

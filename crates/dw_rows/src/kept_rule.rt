@@ -1,12 +1,12 @@
-//! Rules as they are stored. They name an expression by its offset in the section.
+//! Rules as the code stores them. They refer to an expression by its offset in the section.
 
 /// How to find the caller's value of a register (DWARF 5, section 6.4.1). Offsets count from the
 /// CFA.
 #[derive(Clone, Copy)]
 pub enum KeptRule {
-    /// No rule is in force. Either no instruction has set one, or a restore went back to what the
-    /// CIE's program left, which was no rule. The register is undefined unless an ABI says
-    /// otherwise.
+    /// No rule is in force. Either no instruction has set one, or a DW_CFA_restore has brought back
+    /// the register's rule at the end of the CIE's program, and there it had none. The register is
+    /// undefined unless an ABI says otherwise.
     Default,
     /// The caller's value can't be recovered.
     Undefined,

@@ -33,9 +33,10 @@ ghost use Rattle.dw_rows.specs.declared.abi.TheConstants.{MAX_KEPT};
 ghost use Rattle.dw_rows.specs.declared.map.TheConstants.{MAX_RULES};
 ghost use Rattle.dw_rows.specs.declared.remember_stack.TheConstants.{MAX_REMEMBERED};
 
-/// After each instruction the rules are those that the instruction gives. After a restore_state
-/// they are those before the matching remember_state. If each restore_state has a match, no other
-/// rules meet these conditions.
+/// The rules after each number of instructions (`rule_after` and `cfa_after`, Good.antt) follow
+/// from the earlier ones as the standard says for each kind of instruction (`AreRules`,
+/// Clauses.antt). For example, the rules after a restore_state are those before the matching
+/// remember_state. If each restore_state has a match, no other rules meet these conditions.
 pub fn rules_by_instruction()
     ensures meet { (s : Start) (program : List Effect)
         → AreRules s program (rule_after s program) (cfa_after s program) }
@@ -48,16 +49,17 @@ pub fn rules_by_instruction()
 {}
 
 /// A CIE's program has no fault if and only if it meets the conditions of `IsGoodCieProgram`. If
-/// the CIE's program has no fault, the same holds for an FDE's program and `IsGoodFdeProgram`.
+/// the CIE's program has no fault, then an FDE's program has no fault if and only if it meets the
+/// conditions of `IsGoodFdeProgram`.
 pub fn good_programs_have_no_fault()
     ensures cie { (cie : Cie) → (cie_fault cie ≡ None) ↔ IsGoodCieProgram cie }
     ensures fde { (cie : Cie) (fde : Fde) → cie_fault cie ≡ None
         → (fde_fault cie fde ≡ None) ↔ IsGoodFdeProgram cie fde }
 {}
 
-/// If an instruction has an expression, and no instruction before it was refused, then none of the
-/// tests that come before the check of its expression refuses it. So its expression can be checked
-/// first.
+/// If an instruction has an expression, and the location before it isn't past the end, then only
+/// the last test, `TooManyRules`, can refuse the instruction. A CIE may contain the instruction. So
+/// its expression, which is checked before the last test, can be checked before all tests.
 pub fn expressions_are_judged_in_their_place()
     ensures behind { (s : Start) (before : List Effect) (cie : Cie) (i : Instruction)
         (e : LocatedExpression) → expression_in i ≡ Some e → location_of s before ≤ s.end
@@ -67,17 +69,18 @@ pub fn expressions_are_judged_in_their_place()
         → expression_in i ≡ Some e → is_barred (effect_of cie i) ≡ false }
 {}
 
-/// If an FDE's program is good, its rows are those of the addresses that the FDE covers. For a
-/// covered address, take the longest prefix of the program whose location is at most the address:
-/// the row has the rules after that prefix, and consists of all covered addresses with the same
-/// prefix.
+/// If an FDE's program is good, `rows_of` gives its rows as the standard describes them
+/// (`AreRowsOf`, Clauses.antt). For an address that the FDE covers, take the longest prefix of the
+/// program whose location is at most the address. The row of the address has the rules after that
+/// prefix, and covers all of the FDE's addresses that have the same longest prefix.
 pub fn rows_are_those_of_addresses()
     ensures { (cie : Cie) (fde : Fde) → (good : IsGoodFdeProgram cie fde)
         → AreRowsOf cie fde good (rows_of cie fde) }
 {}
 
-/// If an FDE's program is good, its rows follow each other without gaps, and together cover exactly
-/// what the FDE covers. Each covered address is in exactly one row.
+/// If an FDE's program has no fault, each of its rows begins where the row before it ends, and
+/// together the rows cover exactly what the FDE covers. Each covered address is in exactly one row.
+/// Rows without gaps still have none once expressions are put in place of their offsets.
 pub fn rows_cover()
     ensures cover { (cie : Cie) (fde : Fde) → fde_fault cie fde ≡ None
         → Cover fde.initial_location (rows_of cie fde) (fde.initial_location + fde.address_range) }
@@ -89,7 +92,8 @@ pub fn rows_cover()
 {}
 
 /// A list of rules in ascending order of registers, and the function from registers to rules that
-/// it represents, can be converted into each other without loss.
+/// it stands for, can be converted into each other without loss (`rule_in` and `rule_list`,
+/// Rules.antt).
 pub fn rule_lists_are_rules()
     ensures list { (entries : List (ℕ × PlacedRule)) → IsTable 0 entries
         → rule_list (rule_in entries) ≡ entries }
@@ -98,9 +102,9 @@ pub fn rule_lists_are_rules()
     ensures table { (rules : ℕ → PlacedRule) → IsTable 0 (rule_list rules) }
 {}
 
-/// The rules of a row under an ABI are a list in ascending order of registers. Each entry of the
-/// list, and the list's rule for each register, is the row's rule, or else the ABI's. Under an ABI
-/// that says nothing, a row has its own rules.
+/// The rules of a row under an ABI are a list in ascending order of registers. Each register's rule
+/// in the list is the row's rule, or, if the row has none, the ABI's. Under an ABI that says
+/// nothing, a row's rules are unchanged.
 pub fn rules_under_abis()
     ensures each { (abi : Abi) (rules : List (ℕ × Rule))
         → All (λ entry. entry.1 ≡ rule_under abi rules entry.0) (rules_under abi rules) }
@@ -110,9 +114,10 @@ pub fn rules_under_abis()
     ensures none { (rules : List (ℕ × Rule)) → IsTable 0 rules → rules_under no_abi rules ≡ rules }
 {}
 
-/// The register numbers given for an ABI have no fault if and only if there are at most `MAX_KEPT`
-/// callee-saved ones, and no number occurs twice. If a number is refused because it occurs twice,
-/// it is the first one that has occurred before.
+/// The register numbers of an ABI have no fault if and only if there are at most `MAX_KEPT`
+/// callee-saved registers, and no number occurs twice among them and the stack pointer. If the
+/// fault is `AbiTwice`, its index is that of the first number that occurs earlier in the list of
+/// the callee-saved registers and the stack pointer.
 pub fn abis_without_fault_are_distinct()
     ensures good { (registers : List ℕ) (pointer : Option ℕ)
         → (abi_fault registers pointer ≡ None) ↔ CanBeAbi registers pointer }
@@ -129,9 +134,10 @@ pub fn frame_sections_without_fault_are_well_formed()
         → (section_fault target section ≡ None) ↔ IsWellFormed target section }
 {}
 
-/// In an accepted section, each address that an FDE covers has exactly one row, the standard's: one
-/// FDE covers the address, one of that FDE's rows has it, and a look-up returns that row. Any other
-/// address has no row.
+/// In an accepted section, each address that an FDE covers has exactly one row, and it is the one
+/// that the standard gives (`HasOneRow`, ExactRows.antt). Exactly one FDE covers the address,
+/// exactly one of that FDE's rows covers it, and a look-up returns that row. An address that no FDE
+/// covers has no row.
 pub fn exact_rows()
     ensures covered { (s : FrameSection) (a : ℕ) → IsChecked s → (f : Fde) → Contains s.fdes f
         → Covers f a → HasOneRow s a }
@@ -139,9 +145,9 @@ pub fn exact_rows()
         → row_of s a ≡ None }
 {}
 
-/// What an accepted section has: programs that are good, lie inside the section and have its
-/// target, in order of offset; and expressions that are good, lie inside the section and have its
-/// target. No two expressions begin at the same offset.
+/// An accepted section is well formed. Its CIEs and its FDEs are each in ascending order of offset,
+/// lie inside the section and have its target. Its expressions are good, lie inside the section and
+/// have its target. No two expressions begin at the same offset.
 pub fn checked_frame_sections()
     ensures well_formed { (s : FrameSection) → IsChecked s → IsWellFormed s.target s.section }
     ensures cies { (s : FrameSection) → IsChecked s → (c : Cie) → Contains s.cies c
@@ -161,7 +167,7 @@ pub fn checked_frame_sections()
 
 /// In an accepted section, each expression in a row is one of the section's, is good, and has the
 /// kind that its rule needs. This holds for the rows of each FDE, and so for the row of each
-/// address. The expression has the section's target.
+/// address. Each expression in the row of an address has the section's target.
 pub fn rows_have_good_expressions()
     ensures rows { (s : FrameSection) → IsChecked s → (f : Fde) → Contains s.fdes f → (row : Row)
         → Contains (rows_in s f) row → HasGoodExpressions s.expressions row }
@@ -171,8 +177,9 @@ pub fn rows_have_good_expressions()
         → row_of s a ≡ Some row → IsRowUnder s.target row }
 {}
 
-/// The rows in a table of an accepted section have only addresses of the section's target. Two
-/// tables of the same section return the same row for each address.
+/// The row that a table of an accepted section has at an address begins and ends at or below the
+/// highest address of the section's target. Two tables of the same section have the same row at
+/// each address, with the same return address register.
 pub fn tables_of_sections()
     ensures fit { (s : FrameSection) (t : RowTable) → IsChecked s → IsTableOf s t → (a : ℕ)
         → IfSome (row_at t a) (λ found. ((found.0).start ≤ top_of s.target)
@@ -190,15 +197,17 @@ pub fn matches_are_unique()
 {}
 
 /// The limits: how many registers in a row may have a rule other than default, how many
-/// callee-saved registers an ABI may have, and how many remember_states may be open at once.
+/// callee-saved registers an ABI may have, and how many remember_states may be waiting for their
+/// restore_state at any one time.
 pub fn row_limits()
     ensures rules { MAX_RULES ≡ 128 }
     ensures kept { MAX_KEPT ≡ 127 }
     ensures remembered { MAX_REMEMBERED ≡ 16 }
 {}
 
-/// The offset of each fault of a program is inside the program or at its end. Likewise for a
-/// section; and for an ABI, the index of a fault is among the numbers or just after them.
+/// The offset of a fault of a program is inside the program or at its end. The offset of a fault of
+/// a section is at most the section's length. The index of a fault of an ABI is at most the number
+/// of callee-saved registers.
 pub fn frame_faults_stand_inside()
     ensures cie { (cie : Cie) (fault : Fault) → cie_fault cie ≡ Some fault
         → StandsIn cie.program (Err fault) }

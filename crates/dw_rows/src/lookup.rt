@@ -17,8 +17,8 @@ use crate::row_cursor::{Next, begin_rows_at, next_plain};
 use crate::unwind_state::UnwindState;
 use dw_frame::{CommonInformationEntry, FrameDescriptionEntry, Instructions};
 
-/// Overwrites `row` with the row of `address`. `fde` must cover the address, and `state` must have
-/// the rules that the CIE's program leaves.
+/// Overwrites `row` with the row of `address`. `fde` must cover the address, and the initial rules
+/// in `state` must be those that the CIE's program leaves.
 pub(crate) fn write_row_at<'f, 'a>(
     state: &mut UnwindState,
     cie: &CommonInformationEntry<'a>,
@@ -64,10 +64,11 @@ pub(crate) fn write_row_at<'f, 'a>(
     }
 }
 
-/// Searches one remember/restore pair, starting just after its remember_state. The result is `true`
-/// if the row was found and written. Otherwise `instructions` is just past the matching
-/// restore_state, and the rules from before the pair are in force again. Each call remembers the
-/// rules of one pair, and calls itself for a nested pair.
+/// Searches for the row of `address` between a remember_state and the matching restore_state.
+/// `instructions` must be just after the remember_state. The result is `true` if the row was found
+/// and written. Otherwise `instructions` is just past the matching restore_state, and the rules
+/// from before the pair are in force again. Each call stores the rules at its remember_state, and
+/// calls itself for a nested pair.
 #[inline(never)]
 fn write_row_in_bracket<'f, 'a>(
     state: &mut UnwindState,

@@ -54,7 +54,7 @@ impl Default for RuleEntry {
     }
 }
 
-/// The entry of a register with this rule.
+/// An entry that gives `register` the rule `rule`.
 #[inline(always)]
 fn entry_with_rule(register: u16, rule: KeptRule) -> RuleEntry
     ensures { entry_of result ≡ (register, kept_rule_of rule) }
@@ -77,7 +77,7 @@ fn entry_with_rule(register: u16, rule: KeptRule) -> RuleEntry
     }
 }
 
-/// The rule of an entry.
+/// The rule that an entry stands for.
 #[inline(always)]
 pub fn rule_of_entry(entry: &RuleEntry) -> KeptRule
     ensures { kept_rule_of result ≡ rule_by entry.now }
@@ -162,7 +162,8 @@ impl EntryTable {
         self.count = 0;
     }
 
-    /// Replaces all entries by the entries of a slice. It copies only these.
+    /// Replaces all entries by those of a slice. Array elements past the new entries are left as
+    /// they were, which saves time.
     #[inline(always)]
     fn assign(&mut self, entries: &[RuleEntry])
         requires { length entries.now ≤ MAX_RULES }
@@ -206,8 +207,8 @@ impl fmt::Debug for EntryTable {
     }
 }
 
-/// Inserts an entry at index `place`, and moves the later entries up. The last entry is
-/// overwritten.
+/// Inserts an entry at index `place`, and moves the later entries up by one. The last entry of the
+/// slice is overwritten.
 #[inline(always)]
 fn insert_into(entries: &mut [RuleEntry], place: usize, entry: RuleEntry)
     requires { place < length entries.old }
@@ -221,7 +222,7 @@ fn insert_into(entries: &mut [RuleEntry], place: usize, entry: RuleEntry)
     }
 }
 
-/// Moves the entries from `start` up to `end` to the end of the slice.
+/// Moves the entries from `start` up to but not including `end` to the end of the slice.
 fn move_to_end(entries: &mut [RuleEntry], start: usize, end: usize)
     requires order { start ≤ end }
     requires in_bounds { end ≤ length entries.old }
@@ -260,7 +261,7 @@ impl RegisterRuleMap {
         }
     }
 
-    /// The rule of a register, `Default` if it has no entry.
+    /// The rule of a register, or `Default` if it has no entry.
     #[inline(always)]
     pub fn register(&self, number: u16) -> KeptRule
         ensures { kept_rule_of result ≡ rule_in self.now number }
@@ -268,7 +269,8 @@ impl RegisterRuleMap {
         rule_of_register(self.entries.as_slice(), number)
     }
 
-    /// A copy. It writes a whole new table, and then the rules.
+    /// A copy. It writes all elements of a new array before it copies the entries, so `copy_from`
+    /// is faster.
     pub fn copy(&self) -> Self
         ensures { result ≡ self.now }
     {
@@ -284,14 +286,16 @@ impl RegisterRuleMap {
         self.entries.clear();
     }
 
-    /// Replaces all rules by those of `other`. It copies only these.
+    /// Replaces all rules by those of `other`. Entries past the new ones are left as they were in
+    /// the array, which saves time.
     pub fn copy_from(&mut self, other: &RegisterRuleMap)
         ensures { self.new ≡ other.now }
     {
         self.entries.assign(other.entries.as_slice());
     }
 
-    /// Replaces all rules by those of `entries`. It copies only these.
+    /// Replaces all rules by those of `entries`. Entries past the new ones are left as they were in
+    /// the array, which saves time.
     pub fn assign(&mut self, entries: &[RuleEntry])
         requires few { length entries.now ≤ MAX_RULES }
         requires table { IsTable 0 (entries_of entries.now) }
@@ -327,7 +331,7 @@ impl RegisterRuleMap {
     }
 }
 
-/// The rule of a register, `Default` if it has no entry. The search is linear.
+/// The rule of a register, or `Default` if it has no entry. The search is linear.
 #[inline(always)]
 pub fn rule_of_register(entries: &[RuleEntry], register: u16) -> KeptRule
     ensures { kept_rule_of result ≡ rule_in (entries_of entries.now) register }
@@ -340,8 +344,8 @@ pub fn rule_of_register(entries: &[RuleEntry], register: u16) -> KeptRule
     KeptRule::Default
 }
 
-/// The index at which the register's entry is or would be inserted: how many entries have a lower
-/// register.
+/// The index of the register's entry, or, if it has none, the index at which its entry would be
+/// inserted. This is the number of entries with a lower register.
 #[inline(always)]
 fn place_of_register(entries: &[RuleEntry], register: u16) -> usize
     ensures value { result ≡ place_in register (entries_of entries.now) }
@@ -373,8 +377,8 @@ fn clear_rule(table: &mut EntryTable, register: u16) -> usize
     place
 }
 
-/// Gives the register the rule, and returns `true`. If the table is full and the register has no
-/// entry in it, the result is `false`, and nothing changes.
+/// Gives the register the rule, and returns `true`. If the rule isn't `Default`, the table is full,
+/// and the register has no entry in it, the result is `false`, and nothing changes.
 #[inline(always)]
 fn put_rule(table: &mut EntryTable, register: u16, rule: KeptRule) -> bool
     requires { IsTable 0 (entries_of table.old.items) }

@@ -14,15 +14,16 @@ use dw_stack::{CheckedExpression, Kind};
 use std::alloc::{AllocError, Global};
 use std::marker::Model;
 
-/// A checked expression, except for its bytes: those are in the array of an `ExpressionList`.
+/// A checked expression, except for its bytes: those are in the array `bytes` of an
+/// `ExpressionList`.
 #[derive(Clone, Copy, Debug)]
 pub struct OwnedExpression {
     /// The offset in the section at which the expression begins.
     pub offset: u32,
-    /// The index of its first byte in the array that has the bytes of all expressions.
+    /// The index of the expression's first byte in the array that has the bytes of all expressions.
     pub start: u32,
     pub length: u32,
-    /// The number of its operations.
+    /// The number of operations of the expression.
     pub count: u32,
     pub depth: u8,
     pub kind: Kind,
@@ -86,7 +87,8 @@ impl ExpressionList {
         Ok(())
     }
 
-    /// The expression that began at an offset of the section, by binary search.
+    /// The expression that begins at an offset of the section, found by binary search, or `None` if
+    /// none begins there.
     pub fn at(&self, offset: u32) -> Option<CheckedExpression<'_>>
         requires { Ascends expression_offset self.now }
         ensures { MatchOption result (expression_at self.now offset ≡ None)
@@ -124,7 +126,7 @@ fn list_of(
 }
 
 /// The checked expressions of a section with a copy of their bytes. The model is the list of the
-/// expressions: first those of the CIEs, then those of the FDEs, each in order of offset.
+/// expressions: first those of the CIEs, then those of the FDEs. Both are in order of offset.
 #[derive(Debug, Drop)]
 pub struct OwnedExpressions {
     cies: ExpressionList,
@@ -155,8 +157,8 @@ impl OwnedExpressions {
         Ok(OwnedExpressions { cies, fdes })
     }
 
-    /// The expression that began at an offset of the section. It searches the CIEs' expressions
-    /// first, since there are few of them. Both searches are binary.
+    /// The expression that begins at an offset of the section, or `None` if none begins there. The
+    /// CIEs' expressions are searched first, since there are few of them. Both searches are binary.
     pub fn at(&self, offset: u32) -> Option<CheckedExpression<'_>>
         ensures { MatchOption result (expression_at self.now offset ≡ None)
             (λ checked. expression_at self.now offset ≡ Some (located_of (offset, checked))) }

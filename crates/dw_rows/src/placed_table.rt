@@ -1,4 +1,5 @@
-//! All rows of a section in order of address. Their rules name expressions by offset.
+//! All rows of a section in order of address, as a compiled table stores them. The rules refer to
+//! an expression by its offset in the section.
 
 ghost use Rattle.std.specs.Prelude.{◌≡◌, ◌+◌, ◌*◌, ◌≤◌, Contains, IfOk, IfErr, All, find, length};
 ghost use Rattle.std.specs.Option.{option_map};
@@ -22,8 +23,8 @@ use dw_frame::FrameDescriptionEntry;
 use std::alloc::Global;
 use std::marker::Model;
 
-/// How many bytes of the room an entry is charged, besides those of its rule set. An entry takes no
-/// more than this, its share of the block counts included.
+/// How many bytes of the room an entry uses up, besides those of its rule set. The memory of an
+/// entry, with its share of the counts in `Blocks`, is at most this.
 pub const ROW_ROOM: usize = 16;
 
 /// A compiled table while it is being filled.
@@ -31,12 +32,13 @@ pub const ROW_ROOM: usize = 16;
 pub struct GrowingTable {
     pub entries: TableEntries,
     pub numbers: RuleNumbers,
-    /// The address after the last row so far.
+    /// The address after the last one that the rows so far cover.
     pub end: u64,
 }
 
 impl GrowingTable {
-    /// Appends an entry: from `start` on, these rules hold, with this return address register.
+    /// Appends an entry: from the address `start` on, the rules `rules` hold, and the return
+    /// address register is `register`.
     fn push(&mut self, start: u64, rules: &RuleSet, register: u16) -> Result<(), Unmade>
         ensures pushed { IfOk result (λ _. IsPushed self.old.entries self.old.numbers.sets start
             (record { rules = rules.now; register = register })
@@ -54,7 +56,8 @@ impl GrowingTable {
         Ok(())
     }
 
-    /// Appends an entry without rules at `end`: no row covers the addresses from there on.
+    /// Appends an entry without rules at `end`: no row covers the addresses from there on. If the
+    /// table has no entries, none is appended.
     fn close(&mut self) -> Result<(), Unmade>
         ensures closed { IfOk result (λ _. IsClosedAt self.old.end self.old.entries
             self.old.numbers.sets self.new.entries self.new.numbers.sets) }
@@ -89,8 +92,8 @@ impl GrowingTable {
     }
 }
 
-/// Appends the rows of one more FDE. It must not begin below `table.end`, where the rows so far
-/// end.
+/// Appends the rows of one more FDE. The FDE must not begin below `table.end`, where the rows so
+/// far end.
 fn fill(
     frame: &CheckedFrame<'_>,
     fde: &FrameDescriptionEntry<'_>,
@@ -155,7 +158,7 @@ fn fill_all(alloc: Global, frame: &CheckedFrame<'_>, room: usize) -> Result<Grow
 }
 
 /// All rows of a section in order of address, each with its return address register. The model is
-/// the list of rows. Rules name an expression by its offset in the section.
+/// the list of rows. The rules refer to an expression by its offset in the section.
 #[derive(Drop)]
 pub struct PlacedTable {
     entries: TableEntries,
@@ -176,8 +179,8 @@ impl Model for PlacedTable {
 }
 
 impl PlacedTable {
-    /// Compiles the rows of a checked section into at most `room` bytes. What the arrays take on
-    /// top while they grow isn't counted.
+    /// Compiles the rows of a checked section into at most `room` bytes. The spare capacity that
+    /// arrays have while they grow isn't counted.
     pub fn of(frame: &CheckedFrame<'_>, alloc: Global, room: usize) -> Result<Self, Unmade>
         ensures rows { IfOk result (ArePlacedRows frame.now) }
         ensures room { IfOk result (λ rows. 16 * length rows ≤ room) }
@@ -194,8 +197,8 @@ impl PlacedTable {
         })
     }
 
-    /// The row of an address and its return address register, or none. The row's rules and
-    /// expressions are borrowed.
+    /// The row of an address and its return address register, or `None` if no row covers the
+    /// address. The row's rules and expressions are borrowed.
     #[inline(always)]
     pub fn find<'t, 'a>(
         &'t self,

@@ -1,4 +1,4 @@
-//! The number of bytes that a table may take.
+//! The limit on the bytes that a compiled table may take, and the reasons why no table is made.
 
 ghost use Rattle.std.specs.Prelude.{◌≡◌, ◌+◌, IfOk, IfErr};
 ghost use Rattle.dw_rows.specs.declared.room.Unmade.TheVariants.{Memory};
@@ -6,7 +6,7 @@ ghost use Rattle.dw_rows.specs.CompiledTable.{LacksRoom};
 
 use std::alloc::{AllocError, AllocFailed};
 
-/// Why a table wasn't made.
+/// Why a compiled table wasn't made.
 #[derive(Clone, Copy, Debug, PartialEq, Eq)]
 pub(crate) enum Unmade {
     /// Memory couldn't be allocated.
@@ -31,7 +31,8 @@ impl<T: Drop> From<AllocFailed<T>> for Unmade {
     }
 }
 
-/// How many of `room` bytes are left once `taken` more are used.
+/// How many of `room` bytes are left once `taken` more are used. If `room` is less than `taken`,
+/// the result is `Unmade::Room`.
 pub(crate) fn less_room(room: usize, taken: usize) -> Result<usize, Unmade>
     ensures left { IfOk result (λ left. left + taken ≡ room) }
     ensures short { IfErr result (λ why. LacksRoom why room taken) }

@@ -26,9 +26,9 @@ use std::marker::Model;
 /// CFA.
 #[derive(Clone, Copy, Debug)]
 pub enum RegisterRule<'a> {
-    /// No rule is in force. Either no instruction has set one, or a restore went back to what the
-    /// CIE's program left, which was no rule. The register is undefined unless an ABI says
-    /// otherwise.
+    /// No rule is in force. Either no instruction has set one, or a DW_CFA_restore has brought back
+    /// the register's rule at the end of the CIE's program, and there it had none. The register is
+    /// undefined unless an ABI says otherwise.
     Default,
     /// The caller's value can't be recovered.
     Undefined,
@@ -121,7 +121,7 @@ pub(crate) fn given_cfa<'a>(cfa: KeptCfa, expressions: &LentExpressions<'_, 'a>)
     }
 }
 
-/// Finds the expression at `offset`, which a rule names, by binary search.
+/// Finds the expression that begins at `offset`, by binary search. There must be one.
 #[inline(never)]
 fn given_expression<'a>(offset: u32, expressions: &LentExpressions<'_, 'a>) -> CheckedExpression<'a>
     requires { (e : LocatedExpression) × (expression_at (lent_by expressions.now) offset ≡ Some e) }
@@ -134,8 +134,8 @@ fn given_expression<'a>(offset: u32, expressions: &LentExpressions<'_, 'a>) -> C
 }
 
 /// A row of the unwind table: the addresses from `start` up to but not including `end`, and the
-/// rules that hold there. `'f` is the borrow of the checked section and `'a` that of the section's
-/// bytes. Expressions in its rules live for `'a`.
+/// rules that hold there. `'f` is the lifetime of the borrow of the checked section, and `'a` that
+/// of the section's bytes. The expressions in the row's rules live for `'a`.
 #[derive(Debug, Drop)]
 pub struct UnwindTableRow<'f, 'a> {
     start: u64,
@@ -167,7 +167,8 @@ impl<'f, 'a> Model for UnwindTableRow<'f, 'a> {
 }
 
 impl<'f, 'a> UnwindTableRow<'f, 'a> {
-    /// A row without addresses. It serves as a buffer: `Rows::next_into` overwrites it with a row.
+    /// A row that covers no address. It serves as a buffer, which `Rows::next_into` overwrites with
+    /// a row.
     #[inline(always)]
     pub fn empty() -> Self
         ensures { result ≡ record {
@@ -189,8 +190,8 @@ impl<'f, 'a> UnwindTableRow<'f, 'a> {
         }
     }
 
-    /// Overwrites the row with these addresses and rules. Each offset in the rules is that of an
-    /// expression in `expressions`.
+    /// Overwrites the row with the given addresses and rules. Each expression's offset in the rules
+    /// must be that of an expression in `expressions`.
     pub(crate) fn set(
         &mut self,
         start: u64,
@@ -300,7 +301,7 @@ impl<'f, 'a> UnwindTableRow<'f, 'a> {
 }
 
 /// An iterator over register rules, as pairs of register and rule in ascending order of registers.
-/// A rule in `others` counts only if `entries` has none for the same register.
+/// An entry in `others` is used only if `entries` has none for the same register.
 #[derive(Debug, Drop)]
 pub struct RegisterRules<'f, 'a> {
     pub(crate) entries: &'f [RuleEntry],
@@ -329,8 +330,9 @@ impl<'f, 'a> Model for RegisterRules<'f, 'a> {
         × LendsEach (lent_by r.expressions) (entries_of r.others.now) };
 }
 
-/// The entry of the lowest register, and what remains of both tables after it. If both have that
-/// register, the entry is the one in `entries`, and the one in `others` is skipped.
+/// The entry of the lowest register in both tables, and what remains of both tables after it, or
+/// `None` if both are empty. If both tables have that register, the entry is the one in `entries`,
+/// and the one in `others` is skipped.
 #[inline(always)]
 fn lowest<'f>(
     entries: &'f [RuleEntry],

@@ -104,7 +104,7 @@ impl RuleSet {
         &self.rules
     }
 
-    /// The rule of a register, `Default` if none is in force.
+    /// The rule of a register, or `Default` if none is in force.
     #[inline(always)]
     pub fn register(&self, number: u16) -> KeptRule
         ensures { kept_rule_of result ≡ rule_in self.now.rules number }
@@ -112,8 +112,8 @@ impl RuleSet {
         self.rules.register(number)
     }
 
-    /// Gives a register a rule, or refuses it with `TooManyRules` if too many registers would then
-    /// have a rule.
+    /// Gives a register a rule, or refuses it with `TooManyRules` if more than `MAX_RULES`
+    /// registers would then have a rule.
     #[inline(always)]
     pub fn set(&mut self, register: u16, rule: KeptRule) -> Result<(), FaultKind>
         ensures { Sets self.old register (kept_rule_of rule) result self.new }

@@ -13,8 +13,8 @@ use crate::rule_set::RuleSet;
 use std::alloc::{AllocError, Global};
 use std::marker::Model;
 
-/// A list of rule sets, each with the return address register that the CIE names. Rows of a table
-/// refer to them by index.
+/// A list of rule sets, each with the return address register of the CIE that its rows belong to.
+/// Rows of a table refer to a rule set by its index.
 #[derive(Drop)]
 pub struct RuleSets {
     rules: InitialRules,
@@ -59,7 +59,7 @@ impl RuleSets {
         }
     }
 
-    /// Moves the list into memory of exactly its size.
+    /// Moves the list into arrays without spare capacity.
     pub fn cut(&mut self, alloc: Global) -> Result<(), AllocError>
         ensures { self.new ≡ self.old }
     {

@@ -1,12 +1,12 @@
-//! A compact list of rule set numbers.
+//! A compact list of rule set numbers, which the entries of a compiled table have.
 
 ghost use Rattle.std.specs.Prelude.{◌≡◌, ◌<◌, [], ◌∷◌, ◌++◌, IsTrue, IfSome, MatchResult, length, slice_index_or, ℕ};
 
 use std::alloc::{AllocError, Global};
 use std::marker::Model;
 
-/// A list of numbers. Up to the first one that doesn't fit in two bytes, each takes two bytes. From
-/// that one on, each takes four bytes.
+/// A list of numbers. The numbers before the first one that doesn't fit in two bytes take two bytes
+/// each. That number and all later ones take four bytes each.
 #[derive(Drop)]
 pub struct SetNumbers {
     narrow: Vec<u16>,
@@ -21,7 +21,7 @@ impl Model for SetNumbers {
     ghost view = { λ n. n.narrow.items ++ n.wide.items };
 }
 
-/// The number in two bytes, if it fits and `may_be_narrow` allows storing it so.
+/// The number in two bytes, or `None` if it doesn't fit or `may_be_narrow` is false.
 fn narrow_number(may_be_narrow: bool, number: u32) -> Option<u16>
     ensures number { IfSome result (λ narrow. narrow ≡ number) }
     ensures narrow { IfSome result (λ _. IsTrue may_be_narrow) }
@@ -70,7 +70,7 @@ impl SetNumbers {
         self.wide.clear();
     }
 
-    /// Moves the list into memory of exactly its size.
+    /// Moves the list into arrays without spare capacity.
     pub fn cut(&mut self, alloc: Global) -> Result<(), AllocError>
         ensures { self.new ≡ self.old }
     {

@@ -1,12 +1,13 @@
-//! A compact list of ascending addresses.
+//! A compact list of addresses, at which the entries of a compiled table begin.
 
 ghost use Rattle.std.specs.Prelude.{◌≡◌, ◌+◌, ◌<◌, [], ◌∷◌, ◌++◌, IfSome, IsTrue, MatchResult, length, slice_index_or, ℕ};
 
 use std::alloc::{AllocError, Global};
 use std::marker::Model;
 
-/// A list of addresses. Up to the first one that isn't within 2^32 above `base`, each takes four
-/// bytes, as its distance from `base`. From that one on, each takes eight bytes.
+/// A list of addresses. An address is near if it is at least `base`, and less than 2^32 above it.
+/// The addresses before the first one that isn't near take four bytes each, as distances from
+/// `base`. That address and all later ones take eight bytes each.
 #[derive(Drop)]
 pub struct Starts {
     base: u64,
@@ -25,8 +26,8 @@ impl Model for Starts {
     ghost invariant = { λ s. (k d : ℕ) → k < length s.near.items → s.base + slice_index_or s.near.items k d < 2 ^ 64 };
 }
 
-/// The distance of `start` from `base`, if it fits in four bytes and `may_be_near` allows storing
-/// it so.
+/// The distance of `start` from `base`, or `None` if it doesn't fit in four bytes or `may_be_near`
+/// is false.
 fn near_offset(base: u64, may_be_near: bool, start: u64) -> Option<u32>
     ensures offset { IfSome result (λ offset. base + offset ≡ start) }
     ensures near { IfSome result (λ _. IsTrue may_be_near) }
@@ -79,7 +80,7 @@ impl Starts {
         self.far.clear();
     }
 
-    /// Moves the list into memory of exactly its size.
+    /// Moves the list into arrays without spare capacity.
     pub fn cut(&mut self, alloc: Global) -> Result<(), AllocError>
         ensures { self.new ≡ self.old }
     {
@@ -113,8 +114,8 @@ impl Starts {
         }
     }
 
-    /// The base, and the distances from it of the addresses that are stored in four bytes. They are
-    /// the first ones of the list.
+    /// `base`, and the distances from `base` of the addresses that are stored in four bytes. Those
+    /// are the first addresses of the list.
     #[inline(always)]
     pub fn near(&self) -> (u64, &[u32]) {
         (self.base, self.near.as_slice())

@@ -1,4 +1,5 @@
-//! All rows of a checked section in order of address, compiled for millions of look-ups.
+//! All rows of a checked section in order of address, compiled into a table that makes look-ups
+//! fast.
 
 ghost use Rattle.std.specs.Prelude.{◌≡◌, ◌*◌, ◌≤◌, IfOk, IfErr, IfSome, length};
 ghost use Rattle.std.specs.Option.{option_map};
@@ -76,9 +77,9 @@ impl UnwindTable {
         self.target
     }
 
-    /// The row of an address and the return address register that its CIE names, or none if no FDE
-    /// covers the address. The row's rules and expressions are borrowed from the table. It
-    /// allocates no memory, and takes O(log n) steps for n rows, mostly only a few.
+    /// The row of an address and the return address register that its CIE names, or `None` if no
+    /// FDE covers the address. The row's rules and expressions are borrowed from the table. A
+    /// look-up allocates no memory, and takes O(log n) steps for n rows, usually only a few.
     #[inline(always)]
     pub fn row_and_return_register(&self, address: u64) -> Option<(UnwindRow<'_, '_>, u16)>
         ensures row { result ≡ row_at self.now address }
@@ -90,8 +91,8 @@ impl UnwindTable {
             .find(address, LentExpressions::Owned(&self.expressions))
     }
 
-    /// The row of an address, or none if no FDE covers the address. Like `row_and_return_register`,
-    /// without the register.
+    /// The row of an address, or `None` if no FDE covers the address. The row's rules and
+    /// expressions are borrowed from the table.
     #[inline(always)]
     pub fn row_for_address(&self, address: u64) -> Option<UnwindRow<'_, '_>>
         ensures row { result ≡ option_map (λ found. found.0) (row_at self.now address) }

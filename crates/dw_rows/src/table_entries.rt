@@ -19,8 +19,9 @@ pub struct TableEntry {
     pub set: u32,
 }
 
-/// Tells a look-up where to begin: for each block of addresses, how many starts are below it. A
-/// look-up checks the answer before it uses it, so this affects only the time.
+/// Tells a look-up where to begin: for each block of addresses, how many starts are below the
+/// block. A look-up checks the answer that it gets from the blocks, so the blocks affect only the
+/// time.
 #[derive(Drop)]
 struct Blocks {
     shift: u32,
@@ -30,9 +31,9 @@ struct Blocks {
 /// About how many starts a block has on average.
 const USUAL_BLOCK: usize = 16;
 
-/// How many bits an offset is shifted right by to give its block. `span` is the greatest offset,
-/// and `blocks` the greatest block number that it may give. All blocks have the same number of
-/// addresses.
+/// By how many bits an offset is shifted to the right to give the number of its block. `span` is
+/// the greatest offset, and `blocks` the greatest block number that it may give. All blocks have
+/// the same number of addresses.
 fn block_shift(span: u64, blocks: u64) -> u32
     ensures { result < 64 }
 {
@@ -43,7 +44,7 @@ fn block_shift(span: u64, blocks: u64) -> u32
     shift
 }
 
-/// The block that an offset is in.
+/// The number of the block that an offset is in.
 #[inline(always)]
 fn block_of(shift: u32, offset: u32) -> usize
     requires { shift < 64 }
@@ -78,8 +79,8 @@ fn blocks_of(alloc: Global, offsets: &[u32]) -> Result<Blocks, AllocError> {
     Ok(Blocks { shift, counts })
 }
 
-/// How many starts are at or below `address`, if that count is between `from` and `to`. It is a
-/// binary search without branches.
+/// How many starts are at or below `address`, if that count is at least `from` and at most `to`.
+/// Otherwise the result may be wrong. The binary search has no branches that depend on comparisons.
 #[inline(always)]
 fn count_between(starts: &[u32], from: usize, to: usize, address: u32) -> usize {
     if from > to || to > starts.len() {
@@ -228,7 +229,7 @@ impl TableEntries {
         }
     }
 
-    /// Moves the entries into memory of exactly their size, and makes the blocks that speed up
+    /// Moves the entries into arrays without spare capacity, and makes the blocks that speed up
     /// look-ups.
     pub fn finish(&mut self, alloc: Global) -> Result<(), AllocError>
         ensures { self.new ≡ self.old }
@@ -240,7 +241,7 @@ impl TableEntries {
         Ok(())
     }
 
-    /// Appends an entry.
+    /// Appends an entry. If memory can't be allocated, all entries may be lost.
     pub fn push(&mut self, entry: TableEntry) -> Result<(), AllocError>
         ensures { IfOk result (λ _. self.new ≡ self.old ++ entry ∷ []) }
     {
@@ -262,7 +263,7 @@ impl TableEntries {
         self.starts.count()
     }
 
-    /// How many entries begin at or below `address`. If the blocks' answer is wrong, a binary
+    /// How many entries begin at or below `address`. If the blocks give a wrong count, a binary
     /// search over all entries follows.
     pub fn count_up_to(&self, address: u64) -> usize
         requires { IsNonDecreasingBy entry_start self.now }

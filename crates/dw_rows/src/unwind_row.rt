@@ -1,4 +1,4 @@
-//! Rows whose rules are borrowed.
+//! `UnwindRow`: a row of the unwind table with borrowed rules.
 
 ghost use Rattle.std.specs.Prelude.{◌≡◌, ◌≤◌, ◌+◌, Some, All, length};
 ghost use Rattle.dw_rows.specs.Abi.{or_rule, rule_under, rules_under};
@@ -62,8 +62,8 @@ impl<'t, 'a> Model for UnwindRow<'t, 'a> {
 }
 
 impl<'t, 'a> UnwindRow<'t, 'a> {
-    /// A row with these addresses and rules. Each offset in the rules is that of an expression in
-    /// `expressions`.
+    /// A row with the given addresses and rules. Each expression's offset in the rules must be that
+    /// of an expression in `expressions`.
     pub(crate) fn new(
         start: u64,
         end: u64,

@@ -1,4 +1,4 @@
-//! Sources of rows: the trait of what can look up the row of an address.
+//! The trait `UnwindRows` of sources of rows: what can look up the row of an address.
 
 ghost use Rattle.std.specs.Prelude.{◌≡◌, ℕ, IfSome, Option};
 ghost use Rattle.dw_bytes.specs.declared.target.Target.{Target as OfTarget};
@@ -34,8 +34,8 @@ pub trait UnwindRows {
     /// Makes a buffer for one row.
     fn slot(&self) -> Self::Slot;
 
-    /// The row of an address and the return address register that its CIE names, or none if no FDE
-    /// covers the address.
+    /// The row of an address and the return address register that its CIE names, or `None` if no
+    /// FDE covers the address.
     fn find_row<'p>(
         &'p self,
         address: u64,
