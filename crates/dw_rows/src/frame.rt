@@ -431,9 +431,9 @@ impl<'a> CheckedFrame<'a> {
         Some(row)
     }
 
-    /// Overwrites `row` with the row of an address, and returns the FDE that covers the address,
-    /// preceded by its CIE. If no FDE covers the address, the result is `None`, and `row` is
-    /// unchanged. The FDE and the CIE are each found by one binary search.
+    /// Overwrites `row` with the row of an address, and returns a pair: the CIE of the FDE that
+    /// covers the address, and that FDE. If no FDE covers the address, the result is `None`, and
+    /// `row` is unchanged. The FDE and the CIE are each found by one binary search.
     pub fn row_for_address_into<'f>(
         &'f self,
         address: u64,

@@ -69,10 +69,10 @@ pub fn find_cie<'a>(
     Some(cies[place])
 }
 
-/// Returns the CIE that begins at `offset`, or `None` if no CIE begins there. Stores the rules that
-/// the CIE's program leaves in `state`, as the initial rules: the programs of this CIE's FDEs begin
-/// with them. The search tries the indices `near` and `near + 1` first. `near` is set to the CIE's
-/// index.
+/// Returns the CIE that begins at `offset`, or `None` if no CIE begins there. Stores in `state`, as
+/// the initial rules, the rules that the CIE's program leaves: the programs of this CIE's FDEs
+/// begin with them. The search tries the indices `near` and `near + 1` first. If it finds the CIE,
+/// it sets `near` to the CIE's index.
 pub fn begin_with_rules_of_cie<'a>(
     state: &mut UnwindState,
     cies: &[CommonInformationEntry<'a>],
@@ -99,8 +99,8 @@ struct FoundCie<'a> {
     cie: CommonInformationEntry<'a>,
 }
 
-/// Finds the CIE that begins at `offset`, or `None` if no CIE begins there. Stores the rules that
-/// the CIE's program leaves in `state`, as the initial rules. `last` is the CIE of the previous
+/// Finds the CIE that begins at `offset`, or `None` if no CIE begins there. Stores in `state`, as
+/// the initial rules, the rules that the CIE's program leaves. `last` is the CIE of the previous
 /// FDE, or `None` for the first FDE. If `last` is the CIE at `offset`, `state` already has its
 /// rules. If the CIE after `last` is at `offset`, no binary search is needed.
 #[inline(always)]
