@@ -1,5 +1,5 @@
--- Which ABI a value of the code's type `Abi` stands for. The code stores an ABI as a table of
--- rules; here each rule is taken back to the role of its register.
+-- The ABI (`Abi`, Abi.antt) that a value of the code's type `Abi` stands for. The code stores a
+-- rule for each register that the ABI names. Here the register's role is derived from that rule.
 use Rattle.std.specs.Prelude.{◌≡◌, ℕ, List}
 use Rattle.dw_rows.specs.Abi.{Abi, Role, unnamed, kept, stack_pointer, rule_of_role}
 use Rattle.dw_rows.specs.Rules.{PlacedRule, default, val_offset, rule_in}

@@ -1,4 +1,4 @@
--- Which expressions a value of the code's type `BorrowedExpressions` stands for.
+-- The list of expressions that a value of the code's type `BorrowedExpressions` stands for.
 use Rattle.std.specs.Prelude.{List, ◌++◌}
 use Rattle.dw_stack.specs.Located.{LocatedExpression, all_located}
 use Rattle.dw_rows.specs.declared.borrowed_expressions.BorrowedExpressions.{BorrowedExpressions}

@@ -1,5 +1,5 @@
 -- All rows of a section in order of address, as a compiled table stores them. No contract of a
--- public call mentions this.
+-- public call uses this file.
 use Rattle.std.specs.Prelude.{map, ◌≡◌, ℕ, ◌+◌, ◌*◌, ◌<◌, ◌≤◌, List, [], ◌∷◌, ◌++◌, length, All, IfSome, Option, Some, None, find, slice_get, slice_index_or}
 use Rattle.std.specs.List.Sorted.{IsNonDecreasingBy}
 use Rattle.dw_frame.specs.Records.{Cie, Fde}
@@ -110,13 +110,15 @@ pub record IsTableUpTo (es : List LocatedExpression) (last : ℕ) (entries : Lis
   pub within : (k : ℕ) (d : TableEntry) → k < length entries → (slice_index_or entries k d).set < length sets
   pub lends : All (LendsSet es) sets
 
--- the table's last row now ends at `end`, and no row of the table covers an address from there on
+-- The table's last row, if there is one, now ends at `end`, and no row of the table covers an
+-- address from `end` on.
 pub record IsClosedAt (end : ℕ) (old : List TableEntry) (old_sets : List KeptSet) (new : List TableEntry) (new_sets : List KeptSet)
     : Type 0 where
   pub table : (es : List LocatedExpression) → IsTableUpTo es end old old_sets → IsTableUpTo es end new new_sets
   pub rows : (es : List LocatedExpression) → IsTableUpTo es end old old_sets → (to : ℕ) → rows_to new_sets new to ≡ rows_to old_sets old end
 
--- the table's last row ends at `end`, and the table is ready for a row that begins at `start`
+-- The table's last row, if there is one, ends at `end`, and the table is ready for a row that
+-- begins at `start`.
 pub record IsBegunAt (end start : ℕ) (old : List TableEntry) (old_sets : List KeptSet) (new : List TableEntry) (new_sets : List KeptSet)
     : Type 0 where
   pub table : (es : List LocatedExpression) → IsTableUpTo es end old old_sets → end ≤ start → IsTableUpTo es start new new_sets

@@ -1,5 +1,5 @@
--- Which expressions a value of the code's type `LentExpressions` stands for: those that the rules
--- of a row can refer to.
+-- The list of expressions that a value of the code's type `LentExpressions` stands for: the
+-- expressions that the rules of a row can refer to.
 use Rattle.std.specs.Prelude.{List}
 use Rattle.dw_stack.specs.Located.{LocatedExpression}
 use Rattle.dw_rows.specs.declared.expressions.LentExpressions.{LentExpressions}

@@ -1,5 +1,5 @@
 -- FDEs in order of offset and in order of address, and what a checked section stores. No contract
--- of a public call mentions this.
+-- of a public call uses this file.
 use Rattle.std.specs.Prelude.{◌≡◌, ℕ, ◌+◌, ◌*◌, ◌<◌, ◌≤◌, List, [], length, map, All, Contains, slice_index_or}
 use Rattle.dw_bytes.specs.declared.target.Format.TheVariants.{Dwarf32}
 use Rattle.dw_bytes.specs.declared.target.Order.TheVariants.{Little}
@@ -41,8 +41,8 @@ AreApart fdes = (f : Fde) → Contains fdes f → IsApart fdes f
 abbrev pub IsFirstOverlap : List Fde → Fde → Type 0
 IsFirstOverlap fdes g = IsFirst fde_offset (IsApart fdes) (Overlaps fdes) fdes g
 
--- `ClashWithin`: two FDEs with offsets up to `last` share an address. `ApartWithin` is the
--- opposite: no two such FDEs share an address.
+-- `ClashWithin`: two FDEs with offsets up to and including `last` share an address. `ApartWithin`
+-- is the opposite: no two such FDEs share an address.
 pub record ClashWithin (fdes : List Fde) (last : ℕ) : Type 0 where
   pub f : Fde
   pub g : Fde

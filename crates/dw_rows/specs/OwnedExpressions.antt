@@ -1,5 +1,5 @@
 -- Checked expressions, stored together with a copy of their bytes. No contract of a public call
--- mentions this.
+-- uses this file.
 use Rattle.std.specs.Prelude.{◌≤◌, ℕ, ◌+◌, List, length, map, take, drop}
 use Rattle.std.specs.List.{AllByRecursion}
 use Rattle.dw_stack.specs.Expressions.{IsChecked}

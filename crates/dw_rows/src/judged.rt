@@ -1,4 +1,5 @@
-//! The expressions that were found good so far, while programs are being checked.
+//! The checked expressions of a section, in a list that grows while the section's programs are
+//! checked.
 
 ghost use Rattle.std.specs.Prelude.{◌≡◌, [], ◌∷◌, ◌++◌, Some, OnOk};
 ghost use Rattle.dw_bytes.specs.Answers.{Answers};

@@ -41,7 +41,7 @@ impl RuleSet {
         }
     }
 
-    /// A copy.
+    /// A copy. It writes a whole new array of entries, so `copy_from` is faster.
     pub fn copy(&self) -> Self
         ensures { result ≡ self.now }
     {

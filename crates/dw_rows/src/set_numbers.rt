@@ -1,4 +1,4 @@
-//! A compact list of rule set numbers, which the entries of a compiled table have.
+//! A compact list of rule set numbers, one for each entry of a compiled table.
 
 ghost use Rattle.std.specs.Prelude.{◌≡◌, ◌<◌, [], ◌∷◌, ◌++◌, IsTrue, IfSome, MatchResult, length, slice_index_or, ℕ};
 
