@@ -24,7 +24,7 @@ pub struct RuleSpan {
 
 /// A list of rule sets. In a checked section they are the rules that the initial instructions of
 /// each CIE leave (DWARF 5, section 6.4.1), in the order of the CIEs. All register rules are in one
-/// array, so that a CIE needs no allocation of its own and takes only the room of its rules.
+/// array, so that a CIE needs no allocation of its own, and only as much memory as its rules take.
 #[derive(Drop)]
 pub struct InitialRules {
     entries: Vec<RuleEntry>,

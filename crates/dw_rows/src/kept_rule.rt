@@ -1,4 +1,5 @@
-//! Rules as the code stores them. They refer to an expression by its offset in the section.
+//! Rules as the code stores them. A rule refers to an expression by the expression's offset in the
+//! section.
 
 /// How to find the caller's value of a register (DWARF 5, section 6.4.1). Offsets count from the
 /// CFA.
