@@ -1,4 +1,5 @@
--- What is known of a section that has no fault.
+-- Facts about sections without a fault: which tables reading them gives, and that their lists and
+-- expressions are in order of offset.
 use Rattle.std.proofs.Common.{◌≡◌, ℕ, ◌+◌, ◌≤◌, List, [], ◌∷◌, ◌++◌, length, Option, Some, None, Result, Ok, Err, refl, ap, ◌∙◌}
 use Rattle.dw_bytes.specs.declared.target.Target.{Target}
 use Rattle.dw_bytes.specs.declared.fault.Fault.{Fault}
@@ -29,7 +30,8 @@ no-fault : (ts : List Table) → fault_in (all-read ts) ≡ None
 no-fault [] = refl
 no-fault (t ∷ ts) = no-fault ts
 
--- when the offset reaches the section's end, all tables are read
+-- if reading a section gives the tables `ts` and then those from offset `at` on, and `at` isn't
+-- before the section's end, `ts` are all tables of the section
 pub all-tables : (target : Target) (section : List ℕ) (at : ℕ) (ts : List Table)
     → tables_of target section ≡ all-read ts ++ tables_from target section at → length section ≤ at → tables_of target section ≡ all-read ts
 all-tables target section at ts is h = is ∙ (ap (λ (xs : Items). all-read ts ++ xs) (at-end target section at h) ∙ nothing (all-read ts))
@@ -42,7 +44,7 @@ pub tables-are : (target : Target) (section : List ℕ) (ts : List Table) → ta
     → values_in (tables_of target section) ≡ ts
 tables-are target section ts is = ap (λ (xs : Items). values_in xs) is ∙ values-all ts
 
--- if the next table has a fault, it is the section's fault
+-- if reading a section gives the tables `ts` and then a fault, that fault is the section's first
 pub tables-fault : (target : Target) (section : List ℕ) (ts : List Table) (items : Items) (f : Fault)
     → tables_of target section ≡ all-read ts ++ items → items ≡ Err f ∷ [] → lists_fault target section ≡ Some f
 tables-fault target section ts items f is bad = ap (λ (xs : Items). fault_in xs) is
@@ -51,7 +53,7 @@ tables-fault target section ts items f is bad = ap (λ (xs : Items). fault_in xs
 abbrev some : Fault → Option Fault
 some f = Some f
 
--- if there is no fault, all items are values that were read
+-- if no item is a fault, the items are just tables that were read
 whole : (items : Items) → fault_in items ≡ None → items ≡ all-read (values_in items)
 whole [] h = refl
 whole (Ok t ∷ items) h = ap (λ (xs : Items). Ok t ∷ xs) (whole items h)
@@ -72,7 +74,8 @@ map-append-read : (ts : List Table) (t : Table) (items : Items) → all-read ts 
 map-append-read [] t items = refl
 map-append-read (u ∷ ts) t items = ap (λ (xs : Items). Ok u ∷ xs) (map-append-read ts t items)
 
--- what is read of a section after one more table is read
+-- if reading a section gives the tables `ts` and then those from offset `at` on, and the table at
+-- `at` is t, reading gives `ts`, then t, and then the tables after t
 pub one-more : (target : Target) (section : List ℕ) (at next : ℕ) (ts : List Table) (t : Table)
     → tables_of target section ≡ all-read ts ++ tables_from target section at
     → table_at (section_from target section at) ≡ Ok (t, section_from target section next)

@@ -38,7 +38,7 @@ block-within target start at bytes b lt h = record {
   of_target = h.target_is;
 }
 
--- for a line of the table of entries: the expression among the operands is within the entry's bytes
+-- for a line of `entry_line`: if the operands include an expression, it is within the entry's bytes
 Holds : ℕ → Target → Option (Line Entry) → Type 0
 Holds start target of = (at : ℕ) (bytes : List ℕ) (e : Entry) → start < at → AreOperands target of at bytes e
     → AllWithin target start (at + length bytes) (expression_in e)
@@ -219,7 +219,8 @@ unfolding checked_entry_at
 checked-refused has_default r f read =
     ap (λ (x : Result (Entry × ReadPosition) Fault). x >>= λ y. unless_fault (entry_fault has_default r.position y.0) y) read
 
--- an offset that is before the end of an entry that was read is within the bytes that were left
+-- an offset that is at most that of an entry's first byte, or that of its expression's end, isn't
+-- past the end of the bytes from which the entry was read
 pub before-inside : (r : ReadPosition) (e : Entry) (after : ReadPosition) (n : ℕ) → entry_at r ≡ Ok (e, after) → IsBefore r.position e n
     → n ≤ r.position + length r.rest
 before-inside r e after n is before =

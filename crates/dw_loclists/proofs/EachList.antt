@@ -24,7 +24,7 @@ use Rattle.dw_loclists.specs.Kept.{KeepsMore}
 use Rattle.dw_loclists.proofs.KeptLists.{nothing, keeps-then}
 
 -- the bytes encode entries without faults and then an end_of_list; `has_default` tells whether a
--- default came before them
+-- default_location came before these entries
 abbrev pub AreEntries : Target → Bool → ℕ → List ℕ → List Entry → Type 0
 AreEntries target has_default at bytes [] = IsEntry target at bytes end_of_list
 AreEntries target has_default at bytes (e ∷ es) =
@@ -41,8 +41,8 @@ finish es r = Ok (es, r)
 abbrev pub put_before : Entry → Found → Found
 put_before e others = others >>= λ es. finish (e ∷ es.0) es.1
 
--- what reading a list returns from an entry on: the entry and the rest of the list, or nothing if
--- the entry ends the list
+-- what reading a list returns from an entry on: the entry and the entries after it, or no entries
+-- if the entry is an end_of_list
 abbrev followed : ℕ → Bool → Entry × ReadPosition → Found
 followed n has_default e = cond (is_end e.0) (finish [] e.1) (put_before e.0 (at_most_entries n (has_default || is_default e.0) e.1))
 
@@ -391,7 +391,8 @@ nothing-more : (es : List Entry) → es ++ [] ≡ es
 nothing-more [] = refl
 nothing-more (e ∷ es) = ap (λ (t : List Entry). e ∷ t) (nothing-more es)
 
--- the result of reading a whole list: after its last entry, and at an entry that is refused
+-- if reading a list gave the entries `es` and then comes to the end_of_list, the whole list has the
+-- entries `es`
 pub list-ends : (r s after : ReadPosition) (has_default : Bool) (es : List Entry)
     → entries_at false r ≡ put_all es (entries_at has_default s) → entries_at has_default s ≡ Ok ([], after)
     → list_at r ≡ Ok (listed r.position es, after)
@@ -400,6 +401,8 @@ list-ends r s after has_default es so_far is =
     ap (λ x. x >>= λ (xs : List Entry × ReadPosition). done (listed r.position xs.0) xs.1)
     (so_far ∙ (ap (put_all es) is ∙ ap (λ (t : List Entry). finish t after) (nothing-more es)))
 
+-- if reading a list gave the entries `es` and then meets a fault, reading the whole list gives that
+-- fault
 pub list-stops : (r s : ReadPosition) (has_default : Bool) (es : List Entry) (f : Fault)
     → entries_at false r ≡ put_all es (entries_at has_default s) → entries_at has_default s ≡ Err f → list_at r ≡ Err f
 unfolding list_at
@@ -410,7 +413,8 @@ pub expressions-more : (es : List Entry) (e : Entry) → expressions_of (es ++ e
 expressions-more es e = ap (map location_of) (filter_map-append expression_in es (e ∷ []))
     ∙ map-append location_of (filter_map expression_in es) (filter_map expression_in (e ∷ []))
 
--- the entries read so far after one more entry, and after the last one
+-- if reading a list gave the entries `es` and then gives e, which isn't an end_of_list, it gave
+-- `es` and then e, and continues after e
 pub next-entry : (r s after : ReadPosition) (d next : Bool) (es : List Entry) (e : Entry) → entries_at false r ≡ put_all es (entries_at d s)
     → checked_entry_at d s ≡ Ok (e, after) → is_end e ≡ false → (d || is_default e) ≡ next
     → entries_at false r ≡ put_all (es ++ e ∷ []) (entries_at next after)
@@ -418,14 +422,15 @@ next-entry r s after d next es e so_far is going or =
     so_far ∙ (ap (put_all es) (entries-more d s e after is going)
     ∙ (put-one-more es e (entries_at (d || is_default e) after) ∙ ap (λ b. put_all (es ++ e ∷ []) (entries_at b after)) or))
 
--- the expressions stored so far after one more entry, and after the last one, which has no
--- expression
+-- if the expressions of the entries `es` and then that of e were stored, the expressions of `es`
+-- with e at the end were stored
 pub keeps-entry : (es : List Entry) (e : Entry) (old mid new : List KeptExpression) → KeepsMore (expressions_of es) old mid
     → KeepsMore (expressions_of (e ∷ [])) mid new → KeepsMore (expressions_of (es ++ e ∷ [])) old new
 keeps-entry es e old mid new h k =
     subst (λ (ys : List LocatedExpression). KeepsMore ys old new) (sym (expressions-more es e))
     (keeps-then (expressions_of es) (expressions_of (e ∷ [])) old mid new h k)
 
+-- the same if e is an end_of_list: it has no expression, so only those of `es` were stored
 pub keeps-end : (es : List Entry) (e : Entry) (old mid new : List KeptExpression) → is_end e ≡ true → KeepsMore (expressions_of es) old mid
     → KeepsMore (expressions_of (e ∷ [])) mid new → KeepsMore (expressions_of es) old new
 keeps-end es e old mid new is h k =

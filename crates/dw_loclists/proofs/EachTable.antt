@@ -177,7 +177,7 @@ list-offset-exact target format array lists r same = record {
       ∙ ap (λ b. ok_unless (unless b BadOffsetEntry) r.position (v, after)) start;
 }
 
--- the array's offsets, without the condition that a list begins at each
+-- bytes that encode offsets at which lists begin also encode these offsets without that condition
 plain : (target : Target) (format : Format) (array : ℕ) (lists : List ℕ) (at : ℕ) (bytes os : List ℕ)
     → Sequence (IsListOffset target format array lists) at bytes os → Sequence (λ n. Offset target.order format) at bytes os
 plain target format array lists at bytes [] h = h
@@ -219,7 +219,7 @@ named-exact target format array lists count =
     exactly-exact target (list_offset_at format array lists) (IsListOffset target format array lists)
     (list-offset-exact target format array lists) count
 
--- both readings of the array end at the same offset
+-- both readings of the array, without and with the check of its offsets, end at the same position
 same-array : (target : Target) (format : Format) (array : ℕ) (lists : List ℕ) (count : ℕ) (r a b : ReadPosition) (os ns : List ℕ)
     → r.target ≡ target → exactly_of (offset_at format) count r ≡ Ok (os, a)
     → exactly_of (list_offset_at format array lists) count r ≡ Ok (ns, b) → a ≡ b
@@ -345,7 +345,7 @@ table-only r t after next =
     ∙ (ap (λ n. done (table-of n t.format mid.position t.offsets t.lists) after) (sym s.offset_is)
     ∙ ap (λ n. done (table-of t.offset t.format n t.offsets t.lists) after) (sym array))))))
 
--- a length takes at least a byte
+-- an encoded initial length has at least one byte
 pub some-length : (order : Order) (bytes : List ℕ) (format : Format) (v : ℕ) → Len order bytes format v → 0 < length bytes
 some-length order bytes Dwarf32 v h = omega (arith, h.0.count)
 some-length order bytes Dwarf64 v (mark, rest, parts, first, second) = omega (arith, first.count, ap length parts, length-append mark rest)
@@ -461,7 +461,7 @@ table-unnamed r after mid end format body count os ls f one two three four five 
     ∙ ap (λ (x : Result (List ℕ × ReadPosition) Fault). x >>= λ named. done (table-of r.position format mid.position named.0 ls) after)
     five)))
 
--- after the header, the reader is in the same section at a later offset
+-- after the header is read, the bytes left are those of the same section from the new position on
 pub header-leaves : (target : Target) (section : List ℕ) (start count : ℕ) (mid : ReadPosition) → start ≤ length section
     → fields_at (table_header target) (section_from target section start) ≡ Ok (count, mid) → mid ≡ section_from target section mid.position
 header-leaves target section start count mid inside is =

@@ -1,4 +1,4 @@
--- That the bytes of an expression are the section's bytes at the expression's offset.
+-- The bytes of an expression are the section's bytes at the expression's offset.
 use Rattle.std.proofs.Common.{◌≡◌, ℕ, ◌+◌, ◌≤◌, Bool, true, false, cond, List, [], ◌∷◌, ◌++◌, length, take, drop, Option, Some, None}
 use Rattle.std.proofs.Common.{refl, sym, ap, subst, ◌∙◌, append_assoc, arith}
 use Rattle.std.specs.Prelude.{◌==◌, map}
@@ -23,7 +23,8 @@ use Rattle.dw_loclists.proofs.Checked.{checked-tables}
 use Rattle.dw_loclists.proofs.KeptLists.{nothing}
 use Rattle.dw_loclists.proofs.Order.{entries-front, located-of}
 
--- x is a location of this target, and its bytes are among these, at its offset
+-- x is a location with this target, and its bytes are in `bytes`, which begin at offset `at` of the
+-- section, at the offset that x has
 pub record IsIn (target : Target) (at : ℕ) (bytes : List ℕ) (x : LocatedExpression) : Type 0 where
   pub front : List ℕ
   pub rest : List ℕ
@@ -63,7 +64,7 @@ both : (target : Target) (at : ℕ) (bytes : List ℕ) (xs ys : List LocatedExpr
 both target at bytes [] ys h k = k
 both target at bytes (x ∷ xs) ys h k = (h.0, both target at bytes xs ys h.1 k)
 
--- bytes of two parts are also bytes of three parts, of which the last is empty
+-- bytes that consist of two parts also consist of these two and an empty third part
 behind-all : (first rest bytes : List ℕ) → bytes ≡ first ++ rest → bytes ≡ first ++ (rest ++ [])
 behind-all first rest bytes parts = parts ∙ ap (λ (t : List ℕ). first ++ t) (sym (nothing rest))
 
@@ -86,7 +87,8 @@ as-located e = from (expression_in e)
     from None = refl
     from (Some b) = refl
 
--- for a line of the table of entries: the expression among the operands is in their bytes
+-- for a line of `entry_line`: if the operands include an expression, it is in their bytes, at its
+-- offset
 Holds : Target → Option (Line Entry) → Type 0
 Holds target of = (at : ℕ) (bytes : List ℕ) (e : Entry) → AreOperands target of at bytes e
     → AreIn target at bytes (located-of (expression_in e))

@@ -1,4 +1,4 @@
--- What is stored of lists and tables as they are read.
+-- What is stored about lists and tables as they are read.
 use Rattle.std.proofs.Common.{◌≡◌, ℕ, List, [], ◌∷◌, ◌++◌, map, refl, sym, ap, subst, ◌∙◌, append_assoc}
 use Rattle.std.proofs.lemmas.List.{map-append}
 use Rattle.std.proofs.lemmas.Grind.{flat_map-append}
@@ -14,7 +14,8 @@ nothing {X} (x ∷ xs) = ap (λ (t : List X). x ∷ t) (nothing xs)
 
 -- ---- expressions
 
--- what is stored after some expressions and then others are added
+-- adding what is stored about the expressions `first` and then about `second` adds what is stored
+-- about both lists together
 pub keeps-then : (first second : List LocatedExpression) (old mid new : List KeptExpression) → KeepsMore first old mid
     → KeepsMore second mid new → KeepsMore (first ++ second) old new
 keeps-then first second old mid new h k = λ xs kept.
@@ -47,7 +48,8 @@ expressions-more : (ls : List Loclist) (l : Loclist) → expressions_in (ls ++ l
 expressions-more ls l = flat_map-append (λ (m : Loclist). expressions_of m.entries) ls (l ∷ [])
     ∙ ap (λ (t : List LocatedExpression). expressions_in ls ++ t) (one-expressions l)
 
--- what is stored after one more list
+-- if the lists `ls` were added to k and then the offset of l is added, `ls` with l at the end were
+-- added to k
 pub list-kept : (k old new : Kept) (ls : List Loclist) (l : Loclist) → old ≡ with_lists k ls
     → new ≡ kept-as old.tables (old.lists ++ l.offset ∷ []) → new ≡ with_lists k (ls ++ l ∷ [])
 list-kept k old new ls l so_far more =
@@ -55,14 +57,15 @@ list-kept k old new ls l so_far more =
     ∙ ap (kept-as k.tables)
     (append_assoc k.lists (starts_of ls) (l.offset ∷ []) ∙ ap (λ (t : List ℕ). k.lists ++ t) (sym (starts-more ls l))))
 
--- the expressions that are stored after one more list
+-- if the expressions of the lists `ls` and then those of l were stored, the expressions of `ls`
+-- with l at the end were stored
 pub keeps-list : (ls : List Loclist) (l : Loclist) (old mid new : List KeptExpression) → KeepsMore (expressions_in ls) old mid
     → KeepsMore (expressions_of l.entries) mid new → KeepsMore (expressions_in (ls ++ l ∷ [])) old new
 keeps-list ls l old mid new h k =
     subst (λ (ys : List LocatedExpression). KeepsMore ys old new) (sym (expressions-more ls l))
     (keeps-then (expressions_in ls) (expressions_of l.entries) old mid new h k)
 
--- the lists of all tables after one more table
+-- the lists of tables with one more at the end are those of the tables and then those of the last
 lists-of-more : (ts : List Table) (t : Table) → lists_of (ts ++ t ∷ []) ≡ lists_of ts ++ t.lists
 lists-of-more ts t = flat_map-append (λ (u : Table). u.lists) ts (t ∷ []) ∙ ap (λ (x : List Loclist). lists_of ts ++ x) (nothing t.lists)
 
@@ -72,7 +75,8 @@ table-kept ts t =
     ∙ ap (kept-as (map (λ (u : Table). u.offset) (ts ++ t ∷ [])))
     (sym (map-append (λ (m : Loclist). m.offset) (lists_of ts) t.lists) ∙ ap starts_of (sym (lists-of-more ts t)))
 
--- the expressions that are stored after one more table
+-- if the expressions of the tables `ts` are stored and then those of t are added, the expressions
+-- of `ts` with t at the end are stored
 pub keeps-table : (ts : List Table) (t : Table) (old new : List KeptExpression) → AreKeptOf (expressions_in (lists_of ts)) old
     → KeepsMore (expressions_in t.lists) old new → AreKeptOf (expressions_in (lists_of (ts ++ t ∷ []))) new
 keeps-table ts t old new kept more =
@@ -80,7 +84,7 @@ keeps-table ts t old new kept more =
     (sym (flat_map-append (λ (l : Loclist). expressions_of l.entries) (lists_of ts) t.lists) ∙ ap expressions_in (sym (lists-of-more ts t)))
     (more (expressions_in (lists_of ts)) kept)
 
--- what is stored after a table's lists and then the table itself are added
+-- adding the offsets of a table's lists and then that of the table is adding the table
 pub behind-lists : (k new : Kept) (t : Table) (tables : List ℕ) → new ≡ with_lists k t.lists → tables ≡ new.tables ++ t.offset ∷ []
     → kept-as tables new.lists ≡ with_table k t
 behind-lists k new t tables lists table =

@@ -1,5 +1,5 @@
--- That the lists of a checked section are at their offsets, and that their expressions are
--- expressions of the section.
+-- The lists of a checked section are at their offsets, and their expressions are among the
+-- section's expressions.
 use Rattle.std.proofs.Common.{◌≡◌, ℕ, zero, suc, ◌+◌, ◌≤◌, Bool, true, false, cond, List, [], ◌∷◌, ◌++◌, length, drop, Contains, Ok, refl}
 use Rattle.std.proofs.Common.{sym, ap, subst, ◌∙◌, append_assoc, arith, inl, inr}
 use Rattle.std.specs.Prelude.{◌⊎◌, map}
@@ -175,7 +175,8 @@ given-among s l base address x l_in among =
 
 -- ---- stored expressions
 
--- if what is stored is of these expressions, each of them is among the stored ones
+-- if `ks` is what is stored about the expressions `xs`, each expression in `xs` is among the stored
+-- ones
 pub kept-among : (xs : List LocatedExpression) (ks : List KeptExpression) (x : LocatedExpression) → AreKeptOf xs ks → Contains xs x
     → IsAmong ks x
 kept-among [] ks x kept among = absurd (no-list x among)

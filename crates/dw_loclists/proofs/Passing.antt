@@ -1,4 +1,4 @@
--- Reading one more entry of a list, by the shortcut or in full.
+-- Reading one more entry of a list, by the shortcut (`check_common`) or in full (`check_next`).
 use Rattle.std.proofs.Common.{◌≡◌, ℕ, ◌<◌, ◌≤◌, Bool, true, false, List, [], ◌∷◌, ◌++◌, length, Some, None, Ok, Err, refl, sym, ap, subst, ◌∙◌, arith}
 use Rattle.std.specs.Prelude.{◌&&◌, ◌||◌}
 use Rattle.dw_bytes.specs.declared.fault.Fault.{Fault}
@@ -91,7 +91,7 @@ length-passes dflt r a b c d begin count x before after code first second third 
   kept = kept;
 }
 
--- an entry that isn't a default doesn't change whether a default was read
+-- whether a default_location was read stays the same after an entry that isn't one
 pub or-false : (b : Bool) → (b || false) ≡ b
 or-false true = refl
 or-false false = refl

@@ -1,4 +1,4 @@
--- What a binary search finds in items in ascending order of their numbers.
+-- What a binary search finds among items that are in ascending order of a number that each has.
 use Rattle.std.proofs.Common.{◌≡◌, ◌≢◌, ℕ, zero, suc, ◌+◌, ◌<◌, ◌≤◌, List, [], ◌∷◌, ◌++◌, length, get_or, map, Ok, Err, Contains, refl, sym}
 use Rattle.std.proofs.Common.{ap, subst, ◌∙◌, arith, inl, inr}
 use Rattle.std.specs.List.{AllByRecursion}
@@ -53,7 +53,7 @@ contained-map f (x ∷ xs) y (zero, lt, is) = (x, (zero, omega arith, refl), is)
 contained-map f (x ∷ xs) y (suc k, lt, is) = let rest =
     contained-map f xs y (k, omega arith, is) in (rest.0, (suc rest.1.0, omega (arith, rest.1.1), rest.1.2), rest.2)
 
--- some element, for use as a default
+-- the first element of a list that isn't empty, for use where a default value is needed
 pub some-element : {X : Type 0} (xs : List X) (i : ℕ) → i < length xs → X
 some-element [] i h = absurd (omega arith)
 some-element (x ∷ xs) i h = x
@@ -85,7 +85,7 @@ three-ways : (i j : ℕ) → (i < j) ⊎ ((i ≡ j) ⊎ (j < i))
 three-ways i j = elim (cases_lt i j)
     [ inl lt ↦ inl lt | inr le ↦ elim (cases_lt j i) [ inl lt ↦ inr (inr lt) | inr ge ↦ inr (inl (omega arith)) ] ]
 
--- two items with the same number are equal
+-- two items in the list that have the same number are equal
 pub ascending-same : {X : Type 0} (at : X → ℕ) (xs : List X) → Ascends at xs → (x y : X) → Contains xs x → Contains xs y → at x ≡ at y
     → x ≡ y
 ascending-same at xs up x y (i, i_in, i_is) (j, j_in, j_is) same =

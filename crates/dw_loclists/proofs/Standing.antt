@@ -1,4 +1,6 @@
--- Laws of well-formed sections that no other file proves.
+-- Proofs of laws about entries, lists and sections: encodings are unambiguous, sections without a
+-- fault are well formed, expressions are sound and have the section's target, and base addresses
+-- and defaults are those of the list.
 use Rattle.std.proofs.Common.{◌≡◌, ℕ, zero, suc, ◌+◌, ◌≤◌, ◌↔◌, cond, List, [], ◌∷◌, ◌++◌, length, Contains, Some, None, refl, sym, ap}
 use Rattle.std.proofs.Common.{subst}
 use Rattle.std.proofs.Common.{Option, ◌∙◌, append_assoc, arith}

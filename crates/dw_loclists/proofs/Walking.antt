@@ -1,4 +1,4 @@
--- Walking a list that can be read to its end.
+-- Going through a list that can be read to its end (`ListWalk`).
 use Rattle.std.proofs.Common.{◌≡◌, ℕ, ◌<◌, Bool, true, false, cond, List, [], ◌∷◌, ◌++◌, length, Option, Some, None, Result, Ok, Err, refl}
 use Rattle.std.proofs.Common.{ap, subst, ◌∙◌, arith, inl, inr}
 use Rattle.std.specs.Prelude.{◌&&◌, ◌||◌, IsOk, is_some}
@@ -29,11 +29,11 @@ some-bytes : (d : Bool) (r : ReadPosition) → IsOk (entries_at d r) → 0 < len
 some-bytes d r ok = elim (cases_lt 0 (length r.rest))
     [ inl lt ↦ lt | inr le ↦ absurd (not-ok (entries_at d r) (no_end r) (entries-end d r (omega arith)) ok) ]
 
--- the next entry can be read
+-- if the rest of a list can be read, its next entry can be read
 pub always-read : (d : Bool) (r : ReadPosition) (f : Fault) → IsOk (entries_at d r) → entry_at r ≡ Err f → ⊥
 always-read d r f ok is = not-ok (entries_at d r) f (entries-refused d r f (some-bytes d r ok) (checked-refused d r f is)) ok
 
--- the next entry has no fault
+-- if the rest of a list can be read, its next entry has no fault
 no-fault : (d : Bool) (r : ReadPosition) (e : Entry) (mid : ReadPosition) → IsOk (entries_at d r) → entry_at r ≡ Ok (e, mid)
     → (x : Option Fault) → entry_fault d r.position e ≡ x → entry_fault d r.position e ≡ None
 no-fault d r e mid ok is None fault = fault
@@ -87,7 +87,8 @@ held-step base address xs e es is = ap (bounded_at base address) is
 pub defaults-step : (xs : List Entry) (e : Entry) (es : List Entry) → xs ≡ e ∷ es → defaults_in xs ≡ default_of e ++ defaults_in es
 defaults-step xs e es is = ap defaults_in is
 
--- when a default is read, no default was read before
+-- if no default was read before and the next entry is the default b, the list's defaults are the
+-- same before and after b is read
 pub first-default : (old : Option declared.Block) (b : declared.Block) (es : List Entry) → (is_some old && true) ≡ false
     → default_located old ++ (location_of (block_of b) ∷ defaults_in es) ≡ default_located (Some b) ++ defaults_in es
 first-default None b es first = refl

@@ -6,39 +6,42 @@ use Rattle.dw_bytes.specs.declared.target.Target.{Target}
 use Rattle.dw_loclists.specs.Entries.{Entry, expression_in}
 use Rattle.dw_loclists.specs.Lists.{Loclist, IsList}
 
--- the offset is at most the end of the expression; false if there is no expression
+-- the offset `at` is at most the offset where the expression ends; false if there is no expression
 abbrev pub IsUpTo : ℕ → Option Block → Type 0
 IsUpTo at None = ⊥
 IsUpTo at (Some e) = at ≤ e.offset + length e.bytes
 
--- the offset is at most that of the entry's first byte, or of the end of its expression
+-- the offset `at` is at most `begin`, the offset of the entry's first byte, or at most the offset
+-- where the entry's expression ends, if it has one
 abbrev pub IsBefore : ℕ → Entry → ℕ → Type 0
 IsBefore begin entry at = (at ≤ begin) ⊎ IsUpTo at (expression_in entry)
 
--- the items ascend: each has a lower number than all items after it
+-- the items ascend: the number that `at` gives for an item is lower than those of all later items
 abbrev pub Ascends : {X : Type 0} → (X → ℕ) → List X → Type 0
 Ascends at [] = Unit {0}
 Ascends at (x ∷ xs) = AllByRecursion (λ y. at x < at y) xs × Ascends at xs
 
--- the numbers ascend, all of them from low up to, not including, high
+-- the numbers ascend, and each is at least `low` and less than `high`; if there are no numbers,
+-- `low` is at most `high`
 abbrev pub RiseWithin : ℕ → ℕ → List ℕ → Type 0
 RiseWithin low high [] = low ≤ high
 RiseWithin low high (n ∷ ns) = (low ≤ n) × RiseWithin (n + 1) high ns
 
--- the expression begins after its entry's first byte, ends where the entry ends, and has the
--- section's target
+-- the expression begins after its entry's first byte, which is at offset `at`, ends where the entry
+-- ends, at offset `end`, and has the section's target
 pub record StandsWithin (target : Target) (at end : ℕ) (b : Block) : Type 0 where
   pub behind : at < b.offset
   pub ends : b.offset + length b.bytes ≡ end
   pub of_target : b.target ≡ target
 
--- if there is an expression, it begins after its entry's first byte, ends where the entry ends, and
--- has the section's target
+-- if the entry has an expression, that expression begins after the entry's first byte, ends where
+-- the entry ends, and has the section's target
 abbrev pub AllWithin : Target → ℕ → ℕ → Option Block → Type 0
 AllWithin target at end None = Unit {0}
 AllWithin target at end (Some b) = StandsWithin target at end b
 
--- the bytes of a section have the list at its offset
+-- these bytes, which begin at offset `at` of the section, contain the encoding of the list at the
+-- list's offset
 pub record StandsIn (target : Target) (at : ℕ) (bytes : List ℕ) (l : Loclist) : Type 0 where
   pub front : List ℕ
   pub own : List ℕ

@@ -5,9 +5,9 @@ use Rattle.dw_bytes.specs.Operands.{address, unsigned, block, Block, Line, none,
 use Rattle.dw_stack.specs.declared.state.Kind.TheVariants.{Location}
 use Rattle.dw_stack.specs.Expressions.{IsGoodExpression}
 
--- One constructor per line of the table of entries, with the operands in the order of the encoding.
--- An expression is a block: its offset in the section, the target that it is read with, and its
--- bytes.
+-- An entry: one constructor for each code in `entry_line` below, with the operands in the order in
+-- which they are encoded. An expression is a block: its offset in the section, the target (byte
+-- order and address size) that it is read with, and its bytes.
 pub data Entry : Type 0 where
   end_of_list : Entry
   offset_pair : ℕ → ℕ → Block → Entry
@@ -16,8 +16,8 @@ pub data Entry : Type 0 where
   start_end : ℕ → ℕ → Block → Entry
   start_length : ℕ → ℕ → Block → Entry
 
--- The table of entries: which operands follow which code. Entries that need `.debug_addr` (codes 01
--- to 03) aren't in it.
+-- Which operands follow an entry's code. None for an unknown code, and for codes 01 to 03, whose
+-- entries need `.debug_addr` and aren't accepted.
 abbrev pub entry_line : ℕ → Option (Line Entry)
 entry_line code =
     if code == 0x00 then Some (none end_of_list)
@@ -28,7 +28,7 @@ entry_line code =
     else if code == 0x08 then Some (three address unsigned block start_length)
     else None
 
--- which bytes encode an entry at an offset of the section
+-- these bytes, which begin at this offset of the section, encode the entry
 abbrev pub IsEntry : Target → ℕ → List ℕ → Entry → Type 0
 IsEntry = Coded entry_line
 
@@ -66,7 +66,8 @@ IsRange (base_address base) = Unit {0}
 IsRange (start_end begin end e) = begin ≤ end
 IsRange (start_length begin count e) = Unit {0}
 
--- the expression, if there is one, passes the check as a location
+-- the expression, if there is one, passes the check of expressions as a location description
+-- (`IsGoodExpression`, dw_stack/specs/Expressions.antt)
 abbrev pub IsGoodLocation : Option Block → Type 0
 IsGoodLocation None = Unit {0}
 IsGoodLocation (Some e) = IsGoodExpression Location e.target e.bytes

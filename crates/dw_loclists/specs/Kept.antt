@@ -1,4 +1,5 @@
--- What the code stores of a section. No contract of a public call uses these.
+-- What the code stores about a section: the offsets of its tables and lists, and where its
+-- expressions are. No contract of a public call uses these definitions.
 use Rattle.std.specs.Prelude.{◌≡◌, ◌<◌, ◌≤◌, ◌+◌, ◌^◌, length, take, drop, ℕ, Bool, List, [], ◌∷◌, ◌++◌, map, Contains, Ok}
 use Rattle.std.specs.List.{AllByRecursion, AllZip}
 use Rattle.dw_bytes.specs.declared.target.Target.{Target}
@@ -16,24 +17,25 @@ use Rattle.dw_loclists.specs.Views.{start_of}
 
 -- ---- expressions
 
--- k is what the code stores of the expression x: where it is, its depth, and the number of its
--- operations. x passed the check.
+-- k is what the code stores about the expression x: its offset and length, its stack depth, and its
+-- number of operations. x passed the check with this depth and this number.
 pub record IsKeptOf (x : LocatedExpression) (k : KeptExpression) : Type 0 where
   pub offset_is : k.offset ≡ x.offset
   pub length_is : k.length ≡ length x.bytes
   pub checked : stack.IsChecked (record { kind = x.kind; target = x.target; bytes = x.bytes; depth = k.depth; count = k.count })
 
--- the second list is what the code stores of the expressions in the first, in order
+-- the second list has what the code stores about each expression in the first, in the same order
 abbrev pub AreKeptOf : List LocatedExpression → List KeptExpression → Type 0
 AreKeptOf = AllZip IsKeptOf
 
--- the stored expressions grew from `old` to `new`: what is stored of the expressions in `more` was
--- added at the end
+-- the stored expressions grew from `old` to `new`: what is stored about the expressions in `more`
+-- was added at the end
 abbrev pub KeepsMore : List LocatedExpression → List KeptExpression → List KeptExpression → Type 0
 KeepsMore more old new = (xs : List LocatedExpression) → AreKeptOf xs old → AreKeptOf (xs ++ more) new
 
--- An entry was read and has no fault, and its expression is stored. The flags tell whether its list
--- already had a default, whether the entry ends the list, and whether it is a default.
+-- An entry was read from `old` on, up to `new`. It has no fault, and its expression, if it has one,
+-- was added to the stored expressions. The flags tell whether the list already had a
+-- default_location, whether the entry is an end_of_list, and whether it is a default_location.
 pub record Passes (has_default ended default : Bool) (old new : ReadPosition) (before after : List KeptExpression) : Type 0 where
   pub entry : Entry
   pub read : checked_entry_at has_default old ≡ Ok (entry, new)
@@ -45,15 +47,15 @@ pub record Passes (has_default ended default : Bool) (old new : ReadPosition) (b
 abbrev pub IsAmong : List KeptExpression → LocatedExpression → Type 0
 IsAmong kept x = (k : KeptExpression) × Contains kept k × IsKeptOf x k
 
--- a stored expression together with its bytes, which are borrowed from the section
+-- the expression that k is stored for, with its bytes taken from the section
 abbrev pub lent_from : Target → List ℕ → KeptExpression → LocatedExpression
 lent_from target section k = record { offset = k.offset; kind = Location; target = target; bytes = take k.length (drop k.offset section) }
 
 abbrev pub all_lent_from : Target → List ℕ → List KeptExpression → List LocatedExpression
 all_lent_from target section kept = map (lent_from target section) kept
 
--- the section has all bytes of the stored expression k, and k is what is stored of the expression
--- that they encode
+-- all bytes of the stored expression k are inside the section, and k is what the code stores about
+-- the expression with these bytes
 pub record IsLendable (target : Target) (section : List ℕ) (k : KeptExpression) : Type 0 where
   pub inside : k.offset + k.length ≤ length section
   pub kept : IsKeptOf (lent_from target section k) k
@@ -64,7 +66,7 @@ pub record AreLendable (target : Target) (section : List ℕ) (kept : List KeptE
 
 -- ---- tables and lists
 
--- the offsets of the tables and lists that are stored
+-- what is stored about tables and lists: the offset of each one's first byte in the section
 pub record Kept : Type 0 where
   pub tables : List ℕ
   pub lists : List ℕ
@@ -75,14 +77,15 @@ kept_of c = record { tables = c.tables.items; lists = map start_of c.lists.items
 abbrev pub nothing_kept : Kept
 nothing_kept = record { tables = []; lists = [] }
 
--- k with these lists added at the end; below, k with a table and its lists added
+-- k with the offsets of these lists added at the end
 abbrev pub with_lists : Kept → List Loclist → Kept
 with_lists k lists = record { tables = k.tables; lists = k.lists ++ starts_of lists }
 
+-- k with the offset of a table, and those of its lists, added at the end
 abbrev pub with_table : Kept → Table → Kept
 with_table k t = record { tables = k.tables ++ t.offset ∷ []; lists = k.lists ++ starts_of t.lists }
 
--- what is stored of a section that has exactly these tables
+-- what is stored about a section that has exactly these tables
 abbrev pub kept_from : List Table → Kept
 kept_from tables = record { tables = map (λ (t : Table). t.offset) tables; lists = starts_of (lists_of tables) }
 
@@ -98,7 +101,8 @@ pub record KeepsTable (t : Table) (old new : Contents) : Type 0 where
   pub kept : kept_of new ≡ with_table (kept_of old) t
   pub expressions : KeepsMore (expressions_in t.lists) old.expressions.items new.expressions.items
 
--- what is stored of a checked section: all that its tables contain
+-- c is what is stored about the section s, which passed the check: the offsets of all its tables
+-- and lists, and all its expressions
 pub record IsKept (s : ListSection) (c : Contents) : Type 0 where
   pub checked : IsChecked s
   pub kept : kept_of c ≡ kept_from (tables_in s)

@@ -1,4 +1,5 @@
--- The tables and lists of a `.debug_loclists` section (DWARF 5, sections 7.7.3 and 7.29): which bytes encode which table.
+-- The tables and lists of a `.debug_loclists` section (DWARF 5, sections 7.7.3 and 7.29): which
+-- bytes encode which table.
 use Rattle.std.specs.Prelude.{◌≡◌, ◌≤◌, ◌+◌, ◌==◌, ℕ, false, count_by, List, [], ◌∷◌, ◌++◌, length, map, Contains}
 use Rattle.std.specs.List.{AllByRecursion, flat_map}
 use Rattle.dw_bytes.specs.declared.target.Target.{Target}
@@ -18,8 +19,8 @@ pub record Loclist : Type 0 where
   pub entries : List Entry
 
 -- The bytes encode the list: its entries without gaps, and then an end_of_list, which is the only
--- one. Each expression passes the check as a location. This checker's own rules: a list has at most
--- one default, and no range ends before it begins.
+-- one. Each expression passes the check as a location (`IsGoodLocation`). Two rules are this
+-- checker's own: a list has at most one default_location, and no range ends before it begins.
 pub record IsList (target : Target) (at : ℕ) (bytes : List ℕ) (l : Loclist) : Type 0 where
   pub offset_is : l.offset ≡ at
   pub encoded : Sequence (IsEntry target) at bytes (l.entries ++ end_of_list ∷ [])
@@ -30,8 +31,8 @@ pub record IsList (target : Target) (at : ℕ) (bytes : List ℕ) (l : Loclist) 
 
 -- ---- tables
 
--- A table: the offset of its first byte, the format of its length, the offset of its array, the
--- array's offsets (which count from the array's first byte), and the lists.
+-- A table: the offset of its first byte, its format (32-bit or 64-bit DWARF), the offset of its
+-- offset array, the values in that array (which count from the array's first byte), and its lists.
 pub record Table : Type 0 where
   pub offset : ℕ
   pub format : Format
@@ -49,17 +50,18 @@ table_header target =
     any (fixed 4) (λ count.
     made count))))
 
--- the offsets of the first bytes of lists
+-- the offset of each list's first byte, in order
 abbrev pub starts_of : List Loclist → List ℕ
 starts_of lists = map (λ (l : Loclist). l.offset) lists
 
--- The bytes encode an array offset v, which counts from the array's first byte. A list must begin
--- there (this checker's own rule).
+-- The bytes encode v, a value in a table's offset array, and a list begins v bytes after the
+-- array's first byte (this checker's own rule). `array` is the offset of that byte, and `starts`
+-- has the offsets of the table's lists.
 abbrev pub IsListOffset : Target → Format → ℕ → List ℕ → ℕ → List ℕ → ℕ → Type 0
 IsListOffset target format array starts at bytes v = Offset target.order format bytes v × Contains starts (array + v)
 
--- The bytes encode the table: its length, and then as many bytes, which are the header, the array
--- with the number of offsets that the header states, and lists without gaps.
+-- The bytes encode the table: its length, and then that many bytes: the header, the array with the
+-- number of offsets that the header states, and lists without gaps.
 pub record IsTable (target : Target) (at : ℕ) (bytes : List ℕ) (t : Table) : Type 0 where
   pub front : List ℕ
   pub header : List ℕ
@@ -77,7 +79,7 @@ pub record IsTable (target : Target) (at : ℕ) (bytes : List ℕ) (t : Table) :
 abbrev pub AreTables : Target → ℕ → List ℕ → List Table → Type 0
 AreTables target = Sequence (IsTable target)
 
--- all lists of tables, in order
+-- all lists of these tables, in order
 abbrev pub lists_of : List Table → List Loclist
 lists_of tables = flat_map (λ (t : Table). t.lists) tables
 

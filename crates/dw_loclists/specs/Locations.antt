@@ -7,14 +7,16 @@ use Rattle.dw_loclists.specs.Entries.{Entry, end_of_list, offset_pair, default_l
 use Rattle.dw_loclists.specs.Entries.{expression_in, is_default}
 use Rattle.dw_loclists.specs.Lists.{Loclist}
 
--- a block as an expression of a list, which is always a location
+-- the expression in a block, with its offset; in a location list it is always a location
+-- description
 abbrev pub location_of : Block → LocatedExpression
 location_of e = located_as Location e
 
--- the expressions of these entries, or of all entries of these lists, in order
+-- the expressions of these entries, in order; entries without an expression are left out
 abbrev pub expressions_of : List Entry → List LocatedExpression
 expressions_of entries = map location_of (filter_map expression_in entries)
 
+-- the expressions of all entries of these lists, in order
 abbrev pub expressions_in : List Loclist → List LocatedExpression
 expressions_in lists = flat_map (λ (l : Loclist). expressions_of l.entries) lists
 
@@ -27,7 +29,7 @@ base_after base [] = base
 base_after base (base_address other ∷ entries) = base_after other entries
 base_after base (_ ∷ entries) = base_after base entries
 
--- the address is from begin up to, not including, end
+-- whether the address is at least `begin` and less than `end`
 abbrev pub is_between : ℕ → ℕ → ℕ → Bool
 is_between begin end address = nat_le begin address && nat_lt address end
 

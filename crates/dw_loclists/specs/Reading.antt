@@ -21,11 +21,11 @@ use Rattle.dw_stack.specs.Located.{LocatedExpression, located_fault}
 
 -- ---- entries
 
--- an entry: its code, and then its operands
+-- reads an entry: its code, and then its operands
 unfoldable pub entry_at : ReadPosition → Result (Entry × ReadPosition) Fault
 entry_at r = coded_at entry_line UnknownEntry r
 
--- the entry has a range that ends before it begins
+-- whether the entry has a range that ends before it begins
 abbrev pub is_back_range : Entry → Bool
 is_back_range end_of_list = false
 is_back_range (offset_pair begin end e) = nat_lt end begin
@@ -56,12 +56,13 @@ checked_entry_at has_default r = entry_at r >>= λ entry. unless_fault (entry_fa
 
 -- ---- lists
 
--- the fault of a table that ends inside a list, at the table's end
+-- the fault if a table ends before an end_of_list; it is at the table's end, where `r` is
 abbrev pub no_end : ReadPosition → Fault
 no_end r = record { kind = NoEnd; at = r.position }
 
--- the entries up to the end of their list, if there are no more than `count`; `has_default` tells
--- whether the list already had a default
+-- Reads entries up to an end_of_list, which the result leaves out. The fault is NoEnd if neither
+-- the next `count` entries nor those up to the table's end have an end_of_list. `has_default` tells
+-- whether the list already had a default_location.
 abbrev pub at_most_entries : ℕ → Bool → ReadPosition → Result (List Entry × ReadPosition) Fault
 at_most_entries zero has_default r = Err (no_end r)
 at_most_entries (suc count) has_default r =
@@ -72,8 +73,9 @@ at_most_entries (suc count) has_default r =
     else (at_most_entries count (has_default || is_default entry.0) entry.1 >>= λ others. Ok (entry.0 ∷ others.0, others.1)))
     else Err (no_end r)
 
--- The entries up to the end of their list. `has_default` tells whether the list already had a
--- default. A list has no more entries than bytes, so the number of bytes left is a limit.
+-- Reads entries up to the end_of_list of their list. `has_default` tells whether the list already
+-- had a default_location. A list has no more entries than bytes, so the number of bytes left is
+-- enough as a limit.
 unfoldable pub entries_at : Bool → ReadPosition → Result (List Entry × ReadPosition) Fault
 entries_at has_default r = at_most_entries (length r.rest) has_default r
 
@@ -86,7 +88,7 @@ all_of [] = Ok []
 all_of (Ok x ∷ items) = all_of items >>= λ others. Ok (x ∷ others)
 all_of (Err fault ∷ items) = Err fault
 
--- lists without gaps, up to the end of the table
+-- reads lists without gaps, up to the end of their table
 unfoldable pub lists_at : ReadPosition → Result (List Loclist) Fault
 lists_at r = all_of (sequence_of list_at r)
 
@@ -100,8 +102,8 @@ abbrev pub list_offset_at : Format → ℕ → List ℕ → ReadPosition → Res
 list_offset_at format array starts r = offset_at format r >>= λ offset. ok_unless
     (unless (is_among (array + offset.0) starts) BadOffsetEntry) r.position offset
 
--- A table, read within the bytes that its length covers: the header, the array, the lists, and then
--- the array a second time, to check it against the lists.
+-- Reads a table within the bytes that its length covers: the header, the offset array, the lists,
+-- and then the array a second time, to check that each of its offsets is that of a list.
 unfoldable pub table_at : ReadPosition → Result (Table × ReadPosition) Fault
 table_at r = do
   framed ← framed_at r
@@ -111,7 +113,7 @@ table_at r = do
   named ← exactly_of (list_offset_at framed.0.0 header.1.position (starts_of lists)) header.0 header.1
   Ok (record { offset = r.position; format = framed.0.0; array = header.1.position; offsets = named.0; lists = lists }, framed.1)
 
--- the tables of a section from an offset on, up to the section's end or the first fault
+-- reads the tables of a section from an offset on, up to the section's end or the first fault
 unfoldable pub tables_from : Target → List ℕ → ℕ → List (Result Table Fault)
 tables_from target section at = sequence_of table_at (section_from target section at)
 
@@ -119,13 +121,13 @@ tables_from target section at = sequence_of table_at (section_from target sectio
 abbrev pub tables_of : Target → List ℕ → List (Result Table Fault)
 tables_of target section = tables_from target section 0
 
--- the first fault of a section
+-- the first fault of a section, if it has one
 abbrev pub lists_fault : Target → List ℕ → Option Fault
 lists_fault target section = fault_in (tables_of target section)
 
 -- ---- checked sections
 
--- A section with the target that it is read with.
+-- A section's bytes, with the target (byte order and address size) that they are read with.
 pub record ListSection : Type 0 where
   pub target : Target
   pub section : List ℕ
@@ -134,12 +136,14 @@ pub record ListSection : Type 0 where
 abbrev pub IsChecked : ListSection → Type 0
 IsChecked s = lists_fault s.target s.section ≡ None
 
--- the tables of a section, its lists, and their expressions, each in order
+-- the tables of a section, in order
 abbrev pub tables_in : ListSection → List Table
 tables_in s = values_in (tables_of s.target s.section)
 
+-- the lists of a section, in order
 abbrev pub lists_in : ListSection → List Loclist
 lists_in s = lists_of (tables_in s)
 
+-- the expressions of a section's lists, in order, each with its offset in the section
 abbrev pub located_in : ListSection → List LocatedExpression
 located_in s = expressions_in (lists_in s)

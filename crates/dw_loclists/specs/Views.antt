@@ -1,4 +1,5 @@
--- What the types of the code mean.
+-- What the code's values stand for: which entry of `Entries.antt` an `Entry` is, and which offsets
+-- lists and stored expressions have.
 use Rattle.std.specs.Prelude.{ℕ}
 use Rattle.dw_bytes.specs.Operands.{block_of}
 use Rattle.dw_loclists.specs.declared.kept.KeptExpression.{KeptExpression}

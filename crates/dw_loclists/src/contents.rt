@@ -1,4 +1,4 @@
-//! What we store of a section.
+//! What is stored about a section while it is checked, and afterwards.
 
 ghost use Rattle.std.specs.Prelude.{◌<◌, ◌^◌};
 
@@ -32,7 +32,7 @@ impl LocationList {
     }
 }
 
-/// What we store of the part of a section that was read so far: the offsets of its tables, its
+/// What is stored about the part of a section that was read so far: the offsets of its tables, its
 /// lists, and its expressions (offsets, lengths, operation counts and depths), each in order of
 /// offset.
 #[derive(Drop)]

@@ -44,9 +44,9 @@ pub enum Entry<'a> {
 }
 
 impl<'a> Entry<'a> {
-    /// Reads the next entry. An unknown code is `UnknownEntry` (51) at the entry's first byte. A
-    /// field that is missing or cut off (1), or a LEB128 number that is too long or too large (2),
-    /// is reported at the field's first byte.
+    /// Reads the next entry. An unknown code is the fault `UnknownEntry`, at the entry's first
+    /// byte. A field that is missing or cut off (`Truncated`), or a LEB128 number that is too long
+    /// or too large (`LebRange`), is reported at the field's first byte.
     #[tactic(auto, unfolding(crate::specs::Reading::entry_at))]
     #[inline(always)]
     pub fn read(cursor: &mut Cursor<'a>) -> Result<Self, Fault>
@@ -155,7 +155,7 @@ impl<'a> Entry<'a> {
     }
 
     /// Whether the entry has a range that contains `address`. `base` is the base address, from
-    /// which an `OffsetPair` counts. Sums don't wrap: one above 2^64 - 1 is above every address.
+    /// which an `OffsetPair` counts. Sums don't wrap: a sum above 2^64 - 1 is above every address.
     #[inline(always)]
     pub fn holds(&self, base: u64, address: u64) -> bool
         ensures { result ≡ holds base address (entry_of self.now) }

@@ -1,4 +1,4 @@
-//! What we store of each expression.
+//! What is stored about each expression.
 
 ghost use Rattle.std.specs.Prelude.{◌≡◌, ◌<◌, ◌≤◌, ◌+◌, ◌^◌, length};
 ghost use Rattle.dw_bytes.specs.Operands.{block_of};
@@ -13,9 +13,9 @@ use dw_bytes::{Block, Target};
 use dw_ops::Expression;
 use dw_stack::{CheckedExpression, Kind};
 
-/// What we store of an expression that passed the check as a location: where it is, how many
-/// operations it has, and its stack depth. The bytes stay in the section, so this takes only 16
-/// bytes.
+/// What is stored about an expression that passed the check as a location: where it is, how many
+/// operations it has, and its stack depth. The expression's bytes stay in the section, so a
+/// `KeptExpression` takes only 16 bytes.
 #[derive(Clone, Copy, Debug)]
 pub struct KeptExpression {
     /// The offset of the expression's first byte in the section.
@@ -28,8 +28,8 @@ pub struct KeptExpression {
 }
 
 impl KeptExpression {
-    /// Makes the entry for `block`, whose bytes were checked as a location; `checked` is the result
-    /// of that check.
+    /// What is stored about the expression in `block`, whose bytes were checked as a location;
+    /// `checked` is the result of that check.
     #[inline(always)]
     pub fn new(block: Block<'_>, checked: &CheckedExpression<'_>) -> Self
         requires checked { IsChecked (checked_of checked.now) }
@@ -44,7 +44,8 @@ impl KeptExpression {
         }
     }
 
-    /// The bytes of the expression, borrowed from the section that it was stored for.
+    /// The bytes of the expression, borrowed from `section`, the section in which the expression
+    /// was found.
     pub fn block_in<'a>(&self, section: &'a [u8], target: Target) -> Block<'a>
         requires inside { self.now.offset + self.now.length ≤ length section.now }
         requires short { length section.now < 2 ^ 32 }
@@ -59,8 +60,8 @@ impl KeptExpression {
         }
     }
 
-    /// The checked expression, with its offset in the section. `block` has its bytes, which aren't
-    /// checked again.
+    /// The expression's offset in the section, and the checked expression. `block` has the
+    /// expression's bytes, which aren't checked again.
     pub fn lend<'a>(&self, block: Block<'a>) -> (u32, CheckedExpression<'a>)
         requires { IsKeptOf (location_of (block_of block)) self.now }
         ensures { located_of result ≡ location_of (block_of block.entry) }

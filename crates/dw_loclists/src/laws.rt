@@ -1,4 +1,4 @@
-//! Laws of location lists: functions that do nothing, each with the law as its contract.
+//! Laws of location lists. Each is a function that does nothing; its contract states the law.
 
 ghost use Rattle.std.specs.Prelude.{◌≡◌, ◌+◌, ◌<◌, ◌≤◌, ◌↔◌, ℕ, List, [], ◌∷◌, ◌++◌, length, map, Contains, Ok, Err, None, Some};
 ghost use Rattle.dw_bytes.specs.declared.target.Target.{Target};
@@ -30,8 +30,8 @@ pub fn list_reads_are_exact()
     ensures tables { (r : ReadPosition) → IsExact table_at (IsTable r.target r.position) r }
 {}
 
-/// A section is read without a fault exactly if its bytes are the encodings of tables without gaps;
-/// the tables that are read are then those.
+/// Reading a section gives certain tables, without a fault, exactly if the section's bytes are the
+/// encodings of those tables without gaps.
 pub fn sections_are_tables()
     ensures { (target : Target) (section : List ℕ) (tables : List Table) →
         (tables_of target section ≡ map Ok tables) ↔ AreTables target 0 section tables }

@@ -9,9 +9,9 @@ use dw_stack::CheckedExpression;
 use std::iter::FusedIterator;
 use std::marker::Model;
 
-/// The expressions of a checked section, each with the offset of its first byte, in order. Their
-/// bytes are borrowed from the section; nothing is allocated. The model is the list of the
-/// expressions that are still to come.
+/// The expressions of a checked section, each with the offset of its first byte in the section, in
+/// order. Their bytes are borrowed from the section; nothing is allocated. The model is the list of
+/// the expressions that are still to come.
 #[derive(Debug, Drop)]
 pub struct Expressions<'c, 'a> {
     section: &'a [u8],

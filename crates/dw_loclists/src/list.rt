@@ -1,4 +1,4 @@
-//! Reads and checks lists.
+//! Reads and checks location lists.
 
 ghost use Rattle.std.specs.Prelude.{◌≡◌, ◌⊎◌, ◌<◌, ◌≤◌, ◌+◌, [], ◌∷◌, ◌++◌, length, map, IfErr, IfOk, IfSome, OnOk, Ok, Err, None, Some};
 ghost use Rattle.std.specs.Prelude.{Bool, false, MatchBool, MatchOption, MatchResult};
@@ -49,7 +49,7 @@ fn check_entry_expression(
 }
 
 /// Checks the entry at offset `at`, and stores its expression. `has_default` tells whether the list
-/// already had a default.
+/// already had a default_location.
 #[inline(always)]
 fn check_entry(
     alloc: Global,
@@ -91,7 +91,7 @@ struct Passed {
 }
 
 /// Reads the next entry, checks it, and stores its expression. `has_default` tells whether the list
-/// already had a default.
+/// already had a default_location.
 #[inline(never)]
 fn check_next(
     alloc: Global,
@@ -117,8 +117,8 @@ fn check_next(
 }
 
 /// Checks an expression as a location and stores it. If the check fails or there is no memory,
-/// returns false and changes nothing. Not inlined, so that it costs nothing if an expression is a
-/// register.
+/// returns false and changes nothing. Not inlined, since `keep_location` calls it only for the few
+/// expressions that aren't a single register.
 #[inline(never)]
 fn keep_any(alloc: Global, block: Block<'_>, expressions: &mut Vec<KeptExpression>) -> bool
     ensures { MatchBool result
@@ -140,8 +140,9 @@ fn keep_any(alloc: Global, block: Block<'_>, expressions: &mut Vec<KeptExpressio
     true
 }
 
-/// Does what `keep_any` does, but handles an expression that is a single register inline, as nearly
-/// all are.
+/// Checks an expression as a location and stores it. If the check fails or there is no memory,
+/// returns false and changes nothing. Nearly all expressions are a single register: these are
+/// handled here, inline, and all others by `keep_any`.
 #[inline(always)]
 fn keep_location(alloc: Global, block: Block<'_>, expressions: &mut Vec<KeptExpression>) -> bool
     ensures { MatchBool result
@@ -163,10 +164,11 @@ fn keep_location(alloc: Global, block: Block<'_>, expressions: &mut Vec<KeptExpr
     true
 }
 
-/// A shortcut for the common cases of `check_next`: end_of_list, base_address, and offset_pair and
-/// start_length whose LEB128 numbers have at most three bytes. Returns whether the entry ends the
-/// list. `None`, with nothing changed, for any other entry, for a fault, or if there is no memory:
-/// the caller then calls `check_next`.
+/// Reads the next entry, checks it, and stores its expression, if it is a common one: an
+/// end_of_list, a base_address, or an offset_pair or start_length whose LEB128 numbers have at most
+/// three bytes. Returns whether the entry ends the list. Returns `None`, and changes nothing, for
+/// any other entry, for an entry with a fault, or if there is no memory; the caller then calls
+/// `check_next`.
 #[inline(always)]
 fn check_common(
     alloc: Global,

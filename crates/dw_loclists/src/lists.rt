@@ -1,4 +1,4 @@
-//! Checks a whole section, and looks up its lists.
+//! Checks a whole section, finds its lists by their offsets, and looks up what holds at an address.
 
 ghost use Rattle.std.specs.Prelude.{◌≡◌, ◌<◌, ◌≤◌, ◌^◌, Contains, length, map, IfOk, IfErr, MatchOption};
 ghost use Rattle.dw_bytes.specs.Answers.{Answers};
@@ -18,8 +18,8 @@ use std::alloc::Global;
 use std::marker::Model;
 
 /// A `.debug_loclists` section that passed the check: it consists of tables without gaps, each
-/// offset in a table's array is the offset of a list, and each expression passes the check as a
-/// location. Its model is its target and its bytes.
+/// offset in a table's array leads to the first byte of a list, and each expression passes the
+/// check as a location. The model of a `CheckedLists` is the section's target and bytes.
 ///
 /// ```rust
 /// let lists = check_lists(alloc, section, target)?;
@@ -52,17 +52,19 @@ impl<'a> Model for CheckedLists<'a> {
 
 /// Checks a section of fewer than 2^32 bytes. An error is the first fault from left to right.
 ///
-/// The checks of a table, in order: its length (1, 3), whether the section has the whole body (1,
-/// at the body's first byte), the version (50), the address size (6), the segment selector size
-/// (7), whether the offset count and the offsets fit in the body (1), each entry of each list,
-/// whether the last list ends (54, at the table's end), and whether each offset is that of a list's
-/// first byte (55). The checks of an entry: its code (51), its operands (1, 2), whether it is the
-/// first default of its list (53), whether its range ends no earlier than it begins (52), and its
-/// expression, as `dw_stack` checks it, but with offsets in the section. `Memory` is at offset 0.
+/// The checks of a table, in order, with the numbers of their faults (`FaultKind`) in parentheses:
+/// its length (1, 3), whether the section has the whole body (1, at the body's first byte), the
+/// version (50), the address size (6), the segment selector size (7), whether the offset count and
+/// the offsets fit in the body (1), each entry of each list, whether the last list ends (54, at the
+/// table's end), and whether each offset leads to a list's first byte (55). The checks of an entry:
+/// its code (51), its operands (1, 2), whether it is the first default_location of its list (53),
+/// whether its range ends no earlier than it begins (52), and its expression, as `dw_stack` checks
+/// it; a fault of an expression is reported at its offset in the section. If memory runs out, the
+/// fault is `Memory` (60), at offset 0.
 ///
-/// This is one pass over the bytes. Memory grows as the pass goes on, so a refused section takes
-/// memory only for what comes before its fault. Looking up the n array offsets of a table among its
-/// m lists takes O(n log m) more.
+/// The check is one pass over the bytes. Memory grows as the pass goes on, so a refused section
+/// takes memory only for what comes before its fault. Looking up the n array offsets of a table
+/// among its m lists takes O(n log m) time in addition.
 pub fn check_lists<'a>(
     alloc: Global,
     section: &'a [u8],
@@ -95,7 +97,7 @@ impl<'a> CheckedLists<'a> {
         self.target
     }
 
-    /// The bytes of the section. They have no fault.
+    /// The bytes of the section, which have no fault.
     pub fn section(&self) -> &'a [u8]
         ensures section { result.now ≡ self.now.section }
         ensures checked { IsChecked self.now }

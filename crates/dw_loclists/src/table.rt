@@ -1,4 +1,4 @@
-//! Reads and checks tables.
+//! Reads and checks the tables of a `.debug_loclists` section.
 
 ghost use Rattle.std.specs.Prelude.{◌≡◌, ◌⊎◌, ◌<◌, ◌≤◌, ◌+◌, ◌^◌, ℕ, List, length, map, IfErr, IfOk, Ok, Err, MatchResult};
 ghost use Rattle.dw_bytes.specs.Reading.{MovesForward, ReadsPast, section_from};
@@ -18,8 +18,8 @@ use crate::list::read_list;
 use dw_bytes::{Body, Cursor, Fault, FaultKind, Format, Target};
 use std::alloc::Global;
 
-/// Reads the header fields between a table's length and its array. Returns the number of offsets in
-/// the array.
+/// Reads the header fields between a table's length and its offset array. Returns the number of
+/// offsets in the array.
 pub fn read_header(cursor: &mut Cursor<'_>, target: Target) -> Result<u32, Fault>
     ensures exact { ParsesBy (λ count. count)
         (fields_at (table_header target)) cursor.old result cursor.new }
@@ -60,8 +60,8 @@ fn read_lists(
     Ok(())
 }
 
-/// Reads the array of a table a second time, when its lists are known. Each offset counts from the
-/// array's first byte, and must lead to the first byte of a list of the table.
+/// Reads a table's offset array a second time, after the table's lists were read. Each offset
+/// counts from the array's first byte, and must lead to the first byte of a list of the table.
 fn check_array(
     cursor: &mut Cursor<'_>,
     format: Format,

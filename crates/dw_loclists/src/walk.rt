@@ -1,4 +1,4 @@
-//! Walks a list in search of the entries that hold at an address.
+//! Goes through a list in search of the entries that hold at an address.
 
 ghost use Rattle.std.specs.Prelude.{◌≡◌, ◌<◌, [], ◌∷◌, MatchOption};
 ghost use Rattle.dw_bytes.specs.Operands.{block_of};
@@ -7,8 +7,8 @@ ghost use Rattle.dw_loclists.specs.Locations.{location_of};
 use crate::entry::Entry;
 use dw_bytes::{Block, Cursor};
 
-/// The rest of a list: the entries not yet read, the base address that they count from, and the
-/// default if one was read already.
+/// The rest of a list: a cursor at the first entry not yet read, the base address there, and the
+/// expression of the list's default_location if that was already read.
 #[derive(Debug, Drop)]
 pub struct ListWalk<'a> {
     pub cursor: Cursor<'a>,

@@ -8,7 +8,7 @@ use Rattle.dw_loclists.specs.Views.{offset_of}
 use Rattle.dw_loclists.proofs.Search.{searched-found, searched-none, ascending-same}
 use Rattle.dw_loclists.proofs.find.find_expression.Goals as goal
 
--- what reading at an index out of range gives
+-- the default value for reading a list at an index, which the proofs need but never reach
 abbrev none : KeptExpression
 none = record { offset = 0; length = 0; count = 0; depth = 0 }
 

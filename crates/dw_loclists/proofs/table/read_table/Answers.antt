@@ -17,7 +17,8 @@ use Rattle.dw_loclists.proofs.Order.{starts-rise}
 use Rattle.dw_loclists.proofs.Search.{rise-ascends, ascends-back}
 use Rattle.dw_loclists.proofs.table.read_table.Goals as goal
 
--- the lists that were added after those already stored
+-- if lists with the offsets `starts` were added to `old`, the stored lists from index `first`, the
+-- length of `old`, have the offsets `starts`
 slice-starts : (items old new : List LocationList) (first : ℕ) (starts : List ℕ) → items ≡ new → first ≡ length old
     → map start_of new ≡ map start_of old ++ starts → map start_of (take (length items - first) (drop first items)) ≡ starts
 slice-starts items old new first starts same at is =

@@ -16,7 +16,7 @@ pub unreachable-requires : goal.unreachable-requires
 unreachable-requires c = always-read (is_some c.entries.self.default) c.entries.self.cursor c.in-Err.field-0 c.entries.invariant.readable
     c.in-Err.ensures.exact
 
--- the contract of `next_held` if it returns an expression
+-- the contract of `next_held` for the case that it returns an expression
 given : (old new : List LocatedExpression) (none default readable : Type 0) (o : Option declared.Block) (b : Block)
     → option_map block_of o ≡ Some b → old ≡ location_of b ∷ new → default → readable
     → MatchOption o none (λ x. (old ≡ location_of (block_of x) ∷ new) × default × readable)
