@@ -430,7 +430,8 @@ keeps-entry es e old mid new h k =
     subst (λ (ys : List LocatedExpression). KeepsMore ys old new) (sym (expressions-more es e))
     (keeps-then (expressions_of es) (expressions_of (e ∷ [])) old mid new h k)
 
--- the same if e is an end_of_list: it has no expression, so only those of `es` were stored
+-- if the expressions of the entries `es` were stored and then e was read, an end_of_list, which has
+-- no expression, just the expressions of `es` were stored
 pub keeps-end : (es : List Entry) (e : Entry) (old mid new : List KeptExpression) → is_end e ≡ true → KeepsMore (expressions_of es) old mid
     → KeepsMore (expressions_of (e ∷ [])) mid new → KeepsMore (expressions_of es) old new
 keeps-end es e old mid new is h k =

@@ -84,7 +84,7 @@ keeps-table ts t old new kept more =
     (sym (flat_map-append (λ (l : Loclist). expressions_of l.entries) (lists_of ts) t.lists) ∙ ap expressions_in (sym (lists-of-more ts t)))
     (more (expressions_in (lists_of ts)) kept)
 
--- adding the offsets of a table's lists and then that of the table is adding the table
+-- adding the offsets of a table's lists and then that of the table itself is what `with_table` adds
 pub behind-lists : (k new : Kept) (t : Table) (tables : List ℕ) → new ≡ with_lists k t.lists → tables ≡ new.tables ++ t.offset ∷ []
     → kept-as tables new.lists ≡ with_table k t
 behind-lists k new t tables lists table =

@@ -1,6 +1,6 @@
--- Proofs of laws about entries, lists and sections: encodings are unambiguous, sections without a
--- fault are well formed, expressions are sound and have the section's target, and base addresses
--- and defaults are those of the list.
+-- Proofs of laws: entries are unambiguous, sections without a fault are well formed, each
+-- expression passes the check and has the section's target, entries hold by the base address before
+-- them, and a list has at most one default_location.
 use Rattle.std.proofs.Common.{◌≡◌, ℕ, zero, suc, ◌+◌, ◌≤◌, ◌↔◌, cond, List, [], ◌∷◌, ◌++◌, length, Contains, Some, None, refl, sym, ap}
 use Rattle.std.proofs.Common.{subst}
 use Rattle.std.proofs.Common.{Option, ◌∙◌, append_assoc, arith}

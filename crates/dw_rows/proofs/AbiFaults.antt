@@ -1,5 +1,5 @@
--- Numbers without a fault can be an ABI, and a number that is refused is the first one that has
--- occurred before.
+-- Register numbers without a fault can make an ABI, and the number that AbiTwice names is the first
+-- one that occurred before.
 use Rattle.std.proofs.Common.{◌≡◌, ℕ, ◌<◌, Bool, true, false, cond, List, [], ◌∷◌, ◌++◌, length, Option, None, Some, refl, sym, ap, ◌∙◌}
 use Rattle.std.proofs.Common.{arith, ltb, ◌||◌, take, subst, append_assoc, length-append}
 use Rattle.std.specs.Prelude.{◌↔◌, nat_eq, option_map}

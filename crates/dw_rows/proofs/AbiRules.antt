@@ -17,12 +17,13 @@ use Rattle.dw_rows.specs.Abi.{kept, unnamed, stack_pointer, is_among, abi_of, ru
 use Rattle.dw_rows.specs.AbiViews.{role_of_rule, roles_of, AreRoles}
 use Rattle.dw_rows.proofs.Tables.{Clears, full-count, rule_list-table, rule_list-same, rule_in-rule_list, IsTable-rule_list}
 
--- the rule of register r under the ABI with these callee-saved registers and this stack pointer
+-- the rule of register r under the ABI with these callee-saved registers and this stack pointer;
+-- Default if r is none of them
 abbrev pub abi_rule : List ℕ → Option ℕ → ℕ → PlacedRule
 abi_rule registers pointer r =
     cond (is_among r (option_to_list pointer)) (val_offset (pos 0)) (cond (is_among r registers) same_value default)
 
--- a rule for a register without one makes the list of rules longer by one
+-- giving a rule to a register without one makes the list of rules longer by one
 pub one-more : (es : List (ℕ × PlacedRule)) (q : ℕ) (x : PlacedRule) → q < 65536 → x ≢ default → IsTable 0 es → rule_in es q ≡ default
     → length (rule_list (changed_at (rule_in es) q x)) ≡ length es + 1
 one-more es q x b some t none = full-count es es q x b some clears
@@ -63,7 +64,8 @@ named-some before rules n is b some =
     go true h = refl
     go false h = absurd (some h)
 
--- the rules after one more callee-saved register
+-- if the rules are those for the callee-saved registers `before`, giving SameValue to n makes them
+-- those for `before` with n at the end
 pub keeps-more : (before : List ℕ) (rules : List (ℕ × PlacedRule)) (n : ℕ) → rules ≡ rule_list (abi_rule before None)
     → rule_list (changed_at (rule_in rules) n same_value) ≡ rule_list (abi_rule (before ++ n ∷ []) None)
 keeps-more before rules n is = rule_list-same _ _ each
@@ -80,7 +82,8 @@ keeps-more before rules n is = rule_list-same _ _ each
         ap (λ l. rule_in l r) is ∙ rule_in-rule_list (abi_rule before None) r h in
         ap (cond (eqb n r) same_value) listed ∙ go (eqb n r) (is_among r before) ∙ ap kept-rule (sym (among-more r before n))
 
--- the rules after the stack pointer
+-- if the rules are those for the callee-saved registers `before`, giving ValOffset(0) to n makes
+-- them those for `before` with n as the stack pointer
 pub points-more : (before : List ℕ) (rules : List (ℕ × PlacedRule)) (n : ℕ) → rules ≡ rule_list (abi_rule before None)
     → rule_list (changed_at (rule_in rules) n (val_offset (pos 0))) ≡ rule_list (abi_rule before (Some n))
 points-more before rules n is = rule_list-same _ _ each
@@ -152,7 +155,8 @@ keeps-next registers behind place rules new k lt fits none is few = record {
       ∙ ap (λ l. place_of_second l (drop (place + 1) registers ++ behind)) (sym (take_more registers place 0 lt));
 }
 
--- what is known after all of them
+-- after the loop the rules are those for all callee-saved registers, and none of these registers
+-- occurred before
 pub keeps-all : (registers behind : List ℕ) (place : ℕ) (rules : List (ℕ × PlacedRule)) → KeepsUpTo registers behind place rules
     → length registers ≤ place → place ≤ length registers → (rules ≡ rule_list (abi_rule registers None))
     × (place_of_second [] (registers ++ behind) ≡ place_of_second registers behind)
@@ -181,7 +185,7 @@ none-above low (e ∷ es) r t high =
     let other : eqb e.0 r ≡ false = let below : e.0 < 65536 = t.1 in grind (arith, nat_tests, below, high) in
     rw other (none-above (e.0 + 1) es r t.3 high)
 
--- a table of these rules has these roles
+-- the roles that a table with the rules of `abi_rule` stands for are those of `abi_of`
 pub has-roles : (registers : List ℕ) (pointer : Option ℕ) (rules : List (ℕ × PlacedRule)) → AreRegisters registers
     → AreRegisters (option_to_list pointer) → rules ≡ rule_list (abi_rule registers pointer) → roles_of rules ≡ abi_of registers pointer
 has-roles registers pointer rules fit fits is = fun_ext each
@@ -239,7 +243,7 @@ pub is-none : (o : Option ℕ) → ((n : ℕ) → o ≡ Some n → ⊥) → o �
 is-none None other = refl
 is-none (Some n) other = absurd (other n refl)
 
--- there is no stack pointer
+-- without a stack pointer there is no fault, and the rules are those of `abi_rule`
 pub made-without : (registers : List ℕ) (pointer : Option ℕ) (place : ℕ) (rules : List (ℕ × PlacedRule)) → length registers ≤ MAX_KEPT
     → KeepsUpTo registers (option_to_list pointer) place rules → length registers ≤ place → place ≤ length registers → pointer ≡ None
     → (abi_fault registers pointer ≡ None) × (rules ≡ rule_list (abi_rule registers pointer))
@@ -249,7 +253,8 @@ made-without registers pointer place rules few k ge le none =
       all.0 ∙ ap (λ (o : Option ℕ). rule_list (abi_rule registers o)) (sym none),
     )
 
--- the stack pointer is also named as callee-saved
+-- if the stack pointer is also among the callee-saved registers, the fault is AbiTwice, at their
+-- count
 pub kept-pointer : (registers : List ℕ) (pointer : Option ℕ) (place : ℕ) (rules : List (ℕ × PlacedRule)) (n : ℕ)
     → length registers ≤ MAX_KEPT
     → KeepsUpTo registers (option_to_list pointer) place rules → length registers ≤ place → place ≤ length registers → pointer ≡ Some n
@@ -261,7 +266,8 @@ kept-pointer registers pointer place rules n few k ge le is fits some =
     (all.1 ∙ ap (λ (o : Option ℕ). place_of_second registers (option_to_list o)) is
     ∙ second-here registers n [] (named-some registers rules n all.0 fits some))
 
--- the stack pointer isn't named as callee-saved
+-- if the stack pointer isn't among the callee-saved registers, there is no fault, and the rules are
+-- those of `abi_rule`
 pub made-with : (registers : List ℕ) (pointer : Option ℕ) (place : ℕ) (rules new : List (ℕ × PlacedRule)) (n : ℕ)
     → length registers ≤ MAX_KEPT
     → KeepsUpTo registers (option_to_list pointer) place rules → length registers ≤ place → place ≤ length registers → pointer ≡ Some n
@@ -274,7 +280,7 @@ made-with registers pointer place rules new n few k ge le is fits none made =
       made ∙ points-more registers rules n all.0 ∙ ap (λ (o : Option ℕ). rule_list (abi_rule registers o)) (sym is),
     )
 
--- ---- the index of a number that has occurred before is among the numbers
+-- ---- the index that a fault names
 
 second-inside : (before rest : List ℕ) (at : ℕ) → place_of_second before rest ≡ Some at → at < length before + length rest
 second-inside before [] at is = absurd (cc)
@@ -293,7 +299,7 @@ few-named (Some n) = omega arith
 abbrev pub twice : ℕ → Fault
 twice at = record { kind = AbiTwice; at = at }
 
--- the index of a fault is that of a number, or the count of callee-saved registers
+-- the index that a fault names is that of a callee-saved register, or the count of these registers
 pub abi-stands : (registers : List ℕ) (pointer : Option ℕ) (fault : Fault) → abi_fault registers pointer ≡ Some fault
     → fault.at ≤ length registers
 abi-stands registers pointer fault is = go (ltb MAX_KEPT (length registers)) refl is

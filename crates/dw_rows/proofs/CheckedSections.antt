@@ -1,4 +1,4 @@
--- What is known of a checked section.
+-- Facts about frame sections that passed the check.
 use Rattle.std.proofs.Common.{◌≡◌, ℕ, ◌+◌, ◌≤◌, List, length, None, Contains, sym, subst, ap, ◌∙◌}
 use Rattle.dw_bytes.specs.declared.target.Target.{Target}
 use Rattle.dw_bytes.specs.Answers.{fault_in}
@@ -64,7 +64,7 @@ in-programs s k e among =
     let there : Contains (frame_expressions t.cies t.fdes) e = subst (λ (u : FrameSection). Contains u.expressions e) k.whole among in
     subst (λ (u : FrameSection). Contains (frame_expressions u.cies u.fdes) e) (sym k.whole) there
 
--- a checked section stores what it has to (`IsKept`)
+-- if the parts of a section have no fault, what the code stores about the section meets `IsKept`
 pub kept : (target : Target) (section : List ℕ) (cies : List Cie) (left : List KeptRules) (fdes : List Fde) (index : List IndexEntry)
     → fault_in (entries_of target section) ≡ None → cies ≡ (frame_of target section).cies → fdes ≡ (frame_of target section).fdes
     → parts_fault cies fdes ≡ None → AreLeftBy cies left → IsAddressIndex fdes index → (expressions : List LocatedExpression)

@@ -1,4 +1,4 @@
--- FDEs that share addresses: the test for it, and what the test says.
+-- FDEs that share addresses: the test `shares`, and the fault Overlap.
 use Rattle.std.proofs.Common.{◌≡◌, ℕ, zero, suc, ◌<◌, List, [], ◌∷◌, Option, Some, None, Contains, Bool, true, false, refl, sym, ap, ◌∙◌}
 use Rattle.std.proofs.Common.{subst, arith, if◌then◌else◌, inl, inr}
 use Rattle.std.specs.Prelude.{◌&&◌, ◌||◌, nat_lt}
@@ -17,7 +17,7 @@ use Rattle.dw_rows.proofs.Search.{ascending-at}
 use Rattle.dw_rows.proofs.Faults.{none-each}
 use Rattle.dw_rows.proofs.Sweeps.{covers-once}
 
--- two FDEs share the higher of their first addresses
+-- two FDEs that pass the test share an address: the higher of their initial locations
 pub shares-true : (f g : Fde) → shares f g ≡ true → SharesAddress f g
 shares-true f g e = elim (cases_lt f.initial_location g.initial_location) [
   | inl lt ↦ (g.initial_location, (omega arith, grind (arith, nat_tests)), (omega arith, grind (arith, nat_tests)))
@@ -32,7 +32,7 @@ shares-address f g (a, cf, cg) =
     let g_high = cg.1 in
     grind (arith, nat_tests)
 
--- the test whether f comes before g in the section and shares an address with it
+-- whether f comes before g in the section and shares an address with g
 abbrev pub clashes : Fde → Fde → Bool
 clashes g f = nat_lt f.offset g.offset && shares f g
 
@@ -79,7 +79,8 @@ overlaps-some fdes g (f, (k, lt, is), order, shared) =
     let any : list_any (clashes g) fdes ≡ true = list_any_at (clashes g) fdes k f lt (ap (clashes g) is ∙ test) in
     ap (overlap_if g) any
 
--- the first fault of a list in order is that of its first element with a fault
+-- in a list in ascending order, if x has a fault and no element lower than x has one, the first
+-- fault is that of x
 pub first-of : {X : Type 0} (at : X → ℕ) (t : X → Option Fault) (xs : List X) → Ascends at xs → (x : X) (f : Fault) → Contains xs x
     → t x ≡ Some f → ((y : X) → Contains xs y → at y < at x → t y ≡ None) → first_fault t xs ≡ Some f
 first-of at t [] up x f (k, lt, is) here before = absurd (omega arith)

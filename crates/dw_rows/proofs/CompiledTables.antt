@@ -1,4 +1,4 @@
--- A compiled table gives the same rows as its section, and the laws of tables.
+-- Proofs that a compiled table gives the same rows as its section, and of the laws of tables.
 use Rattle.std.proofs.Common.{◌≡◌, ℕ, zero, suc, ◌+◌, ◌-◌, ◌<◌, ◌≤◌, ◌==◌, Bool, true, false, cond, List, [], ◌∷◌, length, get_or, refl, sym, ap, ◌∙◌}
 use Rattle.std.proofs.Common.{Option, Some, None, Contains, map, subst, arith, inl, inr}
 use Rattle.std.proofs.lemmas.List.{length-append}
@@ -41,7 +41,7 @@ use Rattle.dw_rows.proofs.FilledTables.{covered-has, first-cover}
 
 -- ---- more about the row that a section has at an address
 
--- an FDE covers the address of the row
+-- if a section has a row at an address, one of its FDEs covers the address
 pub row-covered : (s : FrameSection) (a : ℕ) (row : Row) → row_of s a ≡ Some row → (f : Fde) × Contains s.fdes f × Covers f a
 row-covered s a row found = elim (first-cover a s.fdes) [
   | inl here ↦ here
@@ -54,7 +54,7 @@ row-missing s a checked none f among covered =
     let one = has-one-row s a checked f among covered in
     let wrong : None ≡ Some one.row = sym none ∙ one.found in cc
 
--- the row has only addresses of the target
+-- a section's row at an address begins and ends at addresses that the target has
 pub row-fits : (s : FrameSection) (a : ℕ) (row : Row) → IsChecked s → row_of s a ≡ Some row
     → (row.start ≤ top_of s.target) × (row.end ≤ top_of s.target)
 row-fits s a row checked found =
@@ -93,7 +93,8 @@ find-given es a (x ∷ rows) = go (has a x) (find-given es a rows)
     go true next = refl
     go false next = next
 
--- a table finds what its rows without expressions give, with their expressions
+-- looking up an address in a table gives the row that is found among the rows as stored, with
+-- expressions in place of their offsets
 pub table-finds : (t : RowTable) (target : Target) (es : List LocatedExpression) (rows : List (PlacedRow × ℕ)) (a : ℕ)
     → record { target = target; rows = map (given_found es) rows } ≡ t → option_map (given_found es) (find (has a) rows) ≡ row_at t a
 table-finds t target es rows a is = sym (find-given es a rows) ∙ ap (λ (x : RowTable). row_at x a) is
@@ -103,7 +104,8 @@ found-at : (s : FrameSection) (a : ℕ) (o : Option (PlacedRow × ℕ)) → IsCh
 found-at s a None checked h = row-missing s a checked h
 found-at s a (Some x) checked h = h
 
--- rows of a section, with its target and its expressions, are a table of the section
+-- the rows of a section, with the section's expressions in place of their offsets and with its
+-- target, are a table of the section
 pub table-of : (s : FrameSection) (target : Target) (es : List LocatedExpression) (rows : List (PlacedRow × ℕ)) → target ≡ s.target
     → es ≡ s.expressions → ArePlacedRows s rows → IsTableOf s (record { target = target; rows = map (given_found es) rows })
 table-of s target es rows same lent are = record {
@@ -113,7 +115,7 @@ table-of s target es rows same lent are = record {
       (found-at s a (find (has a) rows) are.checked (are.row a));
 }
 
--- the expressions that a found row names are among `es`
+-- if the expressions that the rows name are among `es`, so are those that a found row names
 pub found-lends : (es : List LocatedExpression) (a : ℕ) (rows : List (PlacedRow × ℕ)) (x : PlacedRow × ℕ) → All (LendsFound es) rows
     → find (has a) rows ≡ Some x → LendsFound es x
 found-lends es a rows x all = go rows (recursion_from_All (LendsFound es) rows all)

@@ -1,4 +1,5 @@
--- The rows of a program follow each other without gaps, and cover what the FDE covers.
+-- The rows of an FDE's program follow each other without gaps, and cover the addresses that the FDE
+-- covers.
 use Rattle.std.proofs.Common.{◌≡◌, ℕ, ◌+◌, ◌<◌, ◌≤◌, Bool, true, false, cond, List, [], ◌∷◌, ◌++◌, refl, arith, ltb, leb, inl, inr}
 use Rattle.std.proofs.Common.{Option, Some, None, Result, Ok, Err, subst, IsSome}
 use Rattle.std.proofs.lemmas.Bool.{cases_lt, lt-ltb, le-ltb}

@@ -28,13 +28,13 @@ use Rattle.dw_rows.specs.Section.{frame_of, cies_among, fdes_among}
 use Rattle.dw_rows.proofs.Search.{ascending-same}
 use Rattle.dw_rows.proofs.SectionOrder.{are-records}
 
--- Expressions of one target that follow each other: the first begins after `low`, each begins after
--- the end of the one before it, and none ends after `high`.
+-- Expressions with the same target that follow each other: the first begins after `low`, each
+-- begins after the end of the one before it, and none ends after `high`.
 abbrev pub Rise : Target → ℕ → ℕ → List LocatedExpression → Type 0
 Rise target low high [] = low ≤ high
 Rise target low high (e ∷ es) = (low < e.offset) × (e.target ≡ target) × Rise target (e.offset + length e.bytes) high es
 
--- one such expression begins after `low`, and doesn't end after `high`
+-- the expression has this target, begins after `low`, and doesn't end after `high`
 pub record IsInside (target : Target) (low high : ℕ) (e : LocatedExpression) : Type 0 where
   pub behind : low < e.offset
   pub ends : e.offset + length e.bytes ≤ high
@@ -97,7 +97,8 @@ rise-inside target low high (g ∷ es) up e (suc k, lt, is) =
 abbrev read-of : List (Result (ℕ × Instruction) Fault) → List LocatedExpression
 read-of items = expressions_in (values_in items)
 
--- one more instruction before the others
+-- if the expressions of some instructions follow each other, they still do with one more
+-- instruction in front
 front-rises : (target : Target) (at end high : ℕ) (i : Instruction) (items : List (ℕ × Instruction)) → at < end
     → EndsWithItsBlock target at end i → Rise target end high (expressions_in items)
     → Rise target at high (expressions_in ((at, i) ∷ items))
@@ -268,7 +269,7 @@ in-rest e g es (suc k, lt, is) other = (k, omega arith, is)
 behind : (e g : LocatedExpression) (es : List LocatedExpression) → Contains es e → Contains (g ∷ es) e
 behind e g es (k, lt, is) = (suc k, omega arith, is)
 
--- if only one expression has an offset, it is found at that offset
+-- if e is the only expression in the list that begins at the offset `at`, looking up `at` finds e
 pub found-at : (es : List LocatedExpression) (e : LocatedExpression) (at : ℕ) → Contains es e → e.offset ≡ at
     → ((g : LocatedExpression) → Contains es g → g.offset ≡ at → g ≡ e) → expression_at es at ≡ Some e
 found-at [] e at among same only = no-expression e among
@@ -279,7 +280,7 @@ found-at (x ∷ es) e at among same only = elim (x.offset == at) as
           let clash : true ≡ false = sym is ∙ no in cc)) same (λ g g_in. only g (behind g x es g_in))
     ] refl
 
--- if no expression has an offset, none is found there
+-- if no expression in the list begins at the offset `at`, looking up `at` finds none
 pub absent-at : (es : List LocatedExpression) (at : ℕ) → ((e : LocatedExpression) → Contains es e → e.offset ≢ at)
     → expression_at es at ≡ None
 absent-at [] at none = refl
@@ -289,12 +290,14 @@ absent-at (x ∷ es) at none = elim (x.offset == at) as
       | false ↦ λ no. absent-at es at (λ e among. none e (behind e x es among))
     ] refl
 
--- what is found in the first part is found in both parts together; if nothing is, the second part
--- decides
+-- if looking up an offset in `es` finds an expression, looking it up in `es` followed by `gs` finds
+-- the same one
 pub in-front : (es gs : List LocatedExpression) (at : ℕ) (e : LocatedExpression) → expression_at es at ≡ Some e
     → expression_at (es ++ gs) at ≡ Some e
 in-front es gs at e is = find-append (λ y. y.offset == at) es gs ∙ ap (λ o. option_or o (expression_at gs at)) is
 
+-- if looking up an offset in `es` finds nothing, looking it up in `es` followed by `gs` finds what
+-- `gs` has there
 pub not-in-front : (es gs : List LocatedExpression) (at : ℕ) → expression_at es at ≡ None
     → expression_at (es ++ gs) at ≡ expression_at gs at
 not-in-front es gs at is = find-append (λ y. y.offset == at) es gs ∙ ap (λ o. option_or o (expression_at gs at)) is
@@ -314,7 +317,8 @@ only-in-both es gs up next other e g e_in g_in same =
       ]
     ]
 
--- if two lists ascend and share no offset, each expression of both is found at its own offset
+-- if the offsets in two lists ascend and the lists share none, each expression of either is found
+-- at its own offset in the two lists together
 pub found-in-parts : (es gs : List LocatedExpression) → Ascends at-offset es → Ascends at-offset gs
     → ((e g : LocatedExpression) → Contains es e → Contains gs g → e.offset ≢ g.offset) → (e : LocatedExpression)
     → Contains (es ++ gs) e → expression_at (es ++ gs) e.offset ≡ Some e

@@ -1,4 +1,5 @@
--- Which expressions a program and a section have: those of their instructions, CIEs and FDEs.
+-- The expressions of a program are those of its instructions, and those of a section are those of
+-- its CIEs and FDEs.
 use Rattle.std.proofs.Common.{◌≡◌, ℕ, zero, suc, List, [], ◌∷◌, Option, Some, None, Contains, sym, ap, subst, ◌∙◌, arith}
 use Rattle.std.specs.List.{cons_option}
 use Rattle.std.proofs.lemmas.List.Elements.{Contains-append_left, Contains-append_right}

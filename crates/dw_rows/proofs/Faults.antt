@@ -1,4 +1,4 @@
--- The first fault of a list, and the CIE at an offset.
+-- The first fault among the elements of a list, and the CIE that begins at an offset.
 use Rattle.std.proofs.Common.{◌≡◌, ◌≢◌, ℕ, zero, suc, ◌+◌, ◌<◌, ◌≤◌, ◌==◌, List, [], ◌∷◌, length, get_or, drop, map, Option, Some, None}
 use Rattle.std.proofs.Common.{Contains, true, false, refl, sym, ap, ◌∙◌, subst, arith, drop-cons, if◌then◌else◌}
 use Rattle.std.specs.Prelude.{find}
@@ -28,17 +28,17 @@ from-here : {X Y : Type 0} (view : X → Y) (t : Y → Option Fault) (xs : List 
 from-here view t xs i x lt is =
     ap (λ l. first_fault t (map view l)) (drop-at xs i x lt is)
 
--- an element without a fault can be left out
+-- if the element at index i has no fault, the first fault from i on is that from i + 1 on
 pub passed : {X Y : Type 0} (view : X → Y) (t : Y → Option Fault) (xs : List X) (i : ℕ) (x : X) → i < length xs → get_or xs i x ≡ x
     → t (view x) ≡ None → first_fault t (map view (drop i xs)) ≡ first_fault t (map view (drop (i + 1) xs))
 passed view t xs i x lt is none = from-here view t xs i x lt is ∙ ap (λ o. option_or o (first_fault t (map view (drop (i + 1) xs)))) none
 
--- an element with a fault decides the first fault from its index on
+-- if the element at index i has a fault, that is the first fault from i on
 pub refused : {X Y : Type 0} (view : X → Y) (t : Y → Option Fault) (xs : List X) (i : ℕ) (x : X) (f : Fault) → i < length xs
     → get_or xs i x ≡ x → t (view x) ≡ Some f → first_fault t (map view (drop i xs)) ≡ Some f
 refused view t xs i x f lt is some = from-here view t xs i x lt is ∙ ap (λ o. option_or o (first_fault t (map view (drop (i + 1) xs)))) some
 
--- past the last element there is no fault
+-- from an index past the last element on, there is no fault
 pub ended : {X Y : Type 0} (view : X → Y) (t : Y → Option Fault) (xs : List X) (i : ℕ) → length xs ≤ i
     → first_fault t (map view (drop i xs)) ≡ None
 ended view t [] zero le = refl
@@ -52,7 +52,7 @@ Contains-rest : (c x : Cie) (xs : List Cie) → Contains (x ∷ xs) c → x.offs
 Contains-rest c x xs (zero, lt, is) other = absurd (other (ap cie_offset is))
 Contains-rest c x xs (suc k, lt, is) other = (k, omega arith, is)
 
--- a CIE among these is found at its offset
+-- each CIE in the list is found at its own offset
 pub found-at : (cies : List Cie) → Ascends cie_offset cies → (c : Cie) (at : ℕ) → Contains cies c → c.offset ≡ at → cie_at cies at ≡ Some c
 found-at [] up c at (k, lt, is) same = absurd (omega arith)
 found-at (x ∷ xs) up c at among same = elim (x.offset == at) as
@@ -62,7 +62,7 @@ found-at (x ∷ xs) up c at among same = elim (x.offset == at) as
           let clash : true ≡ false = sym no ∙ e in cc)) same
     ] refl
 
--- if no CIE has an offset, none is found there
+-- if no CIE in the list begins at an offset, none is found there
 pub absent-at : (cies : List Cie) (at : ℕ) → ((c : Cie) → Contains cies c → c.offset ≢ at) → cie_at cies at ≡ None
 absent-at [] at none = refl
 absent-at (x ∷ xs) at none = elim (x.offset == at) as
@@ -71,7 +71,7 @@ absent-at (x ∷ xs) at none = elim (x.offset == at) as
       | false ↦ λ e. absent-at xs at (λ c h. none c (suc h.0, omega (arith, h.1), h.2))
     ] refl
 
--- a CIE that is found is among these, and has the offset
+-- a CIE that is found at an offset is in the list, and begins at that offset
 pub at-found : (cies : List Cie) (at : ℕ) (c : Cie) → cie_at cies at ≡ Some c → Contains cies c × (c.offset ≡ at)
 at-found [] at c e = let nothing : Option Cie = None in let clash : nothing ≡ Some c = e in cc
 at-found (x ∷ xs) at c e = elim (x.offset == at) as

@@ -37,7 +37,8 @@ each-more s [] f = append-nil (placed_rows s f)
 each-more s (x ∷ fdes) f =
     ap (λ l. placed_rows s x ++ l) (each-more s fdes f) ∙ sym (append_assoc (placed_rows s x) (rows_of_each s fdes) (placed_rows s f))
 
--- finding a row among rows that are paired with one register
+-- finding the row of an address among rows that are all paired with register r is finding it among
+-- the rows, and then pairing it with r
 find-returning : (a r : ℕ) (rows : List PlacedRow)
     → find (has a) (returning r rows) ≡ option_map (with_register r) (find (has_address a) rows)
 find-returning a r [] = refl
@@ -49,7 +50,7 @@ find-returning a r (x ∷ rows) = go (has_address a x) (find-returning a r rows)
     go true next = refl
     go false next = next
 
--- an FDE has a row for each address that it covers, and for no other
+-- an FDE of a checked section has a CIE, and a row for each address that the FDE covers
 pub covered-has : (s : FrameSection) → IsChecked s → (f : Fde) → Contains s.fdes f → (a : ℕ) → Covers f a
     → (c : Cie) × (row : PlacedRow) × (cie_in s f ≡ Some c) × (find (has_address a) (rows_behind (cie_in s f) f) ≡ Some row)
     × (find (has a) (placed_rows s f) ≡ Some (row, c.return_address_register))
@@ -75,6 +76,7 @@ covered-has s checked f among a covered =
     some-is None some = cc
     some-is (Some row) some = (row, refl)
 
+-- an FDE of a checked section has no row for an address that the FDE doesn't cover
 uncovered-none : (s : FrameSection) → IsChecked s → (f : Fde) → Contains s.fdes f → (a : ℕ) → (Covers f a → ⊥)
     → find (has a) (placed_rows s f) ≡ None
 uncovered-none s checked f among a not_here =
@@ -104,7 +106,7 @@ covers-so a f here = grind (arith, nat_tests)
 in-later : (x y : Fde) (xs : List Fde) → Contains xs y → Contains (x ∷ xs) y
 in-later x y xs at = (suc at.0, omega (arith, at.1), at.2)
 
--- there is an FDE that covers the address, or none does
+-- either one of the FDEs covers the address, or none does
 pub first-cover : (a : ℕ) (fdes : List Fde) → ((f : Fde) × Contains fdes f × Covers f a) ⊎ ((f : Fde) → Contains fdes f → Covers f a → ⊥)
 first-cover a [] = inr (λ f among. absurd (omega (arith, among.1)))
 first-cover a (x ∷ fdes) = go (covers a x) refl (first-cover a fdes)
@@ -155,7 +157,8 @@ one-in-each s checked a (x ∷ fdes) f row from among covered found = go (covers
         (λ c. let wrong : true ≡ false = sym (covers-so a x c) ∙ e in cc))
         ∙ next (λ g at. from g (in-later x g fdes at)) (k, omega (arith, few), here) covered found
 
--- the row of an address among the rows of all FDEs is the section's row there
+-- looking up an address among the rows of all FDEs gives the section's row there, or nothing if the
+-- section has none there
 pub row-in-each : (s : FrameSection) (fdes : List Fde) → IsChecked s → IsIndexOf s.fdes fdes → (a : ℕ)
     → IsPlacedAt s a (find (has a) (rows_of_each s fdes))
 row-in-each s fdes checked index a = elim (first-cover a fdes) [
@@ -202,7 +205,8 @@ rows-lend es sets lends (e ∷ rest) within to =
 contains-at : {X : Type 0} (xs : List X) (i : ℕ) (d : X) → i < length xs → Contains xs (get_or xs i d)
 contains-at xs i d lt = (i, lt, get_or_default xs i (get_or xs i d) d lt)
 
--- of two FDEs in order of address the later one begins at or after the end of the earlier one
+-- of two FDEs in the address index, the one at the higher index begins at or after the end of the
+-- other
 index-apart : (fdes index : List Fde) → IsIndexOf fdes index → CoversOnce fdes → (i j : ℕ) (d f : Fde) → i < j → j < length index
     → get_or index i d ≡ f → f.initial_location + f.address_range ≤ (get_or index j d).initial_location
 index-apart fdes index is once i j d f lt within at =
@@ -221,8 +225,8 @@ index-apart fdes index is once i j d f lt within at =
       | inr behind ↦ behind
     ]
 
--- The table has the rows of the first k FDEs, in order of address. They end at `last`, and all
--- later FDEs begin at or after it.
+-- The table has the rows of the first k FDEs in order of address. The rows end at `last`, and all
+-- later FDEs begin at or after `last`.
 pub record IsFillingAll (s : FrameSection) (index : List Fde) (k last : ℕ) (entries : List TableEntry) (sets : List KeptSet) : Type 0 where
   pub table : IsTableUpTo s.expressions last entries sets
   pub next : (j : ℕ) (d : Fde) → k ≤ j → j < length index → last ≤ (get_or index j d).initial_location

@@ -1,4 +1,5 @@
--- The expressions of a checked section are good, and lie in it.
+-- The expressions of a checked section are good (`IsGoodExpression`), and their bytes are in the
+-- section.
 use Rattle.std.proofs.Common.{◌≡◌, ℕ, zero, suc, ◌+◌, ◌≤◌, List, [], ◌∷◌, length, map, Ok, Contains, refl, ap, subst, ◌∙◌, arith, inl, inr}
 use Rattle.std.proofs.lemmas.List.Elements.{Contains-append_cases}
 use Rattle.dw_bytes.specs.Answers.{values_in}

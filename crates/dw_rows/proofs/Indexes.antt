@@ -1,4 +1,4 @@
--- The address index: FDEs that cover an address, sorted by address.
+-- The address index: the FDEs whose address range isn't 0, sorted by initial location.
 use Rattle.std.proofs.Common.{◌≡◌, ◌≢◌, ℕ, zero, suc, ◌+◌, ◌-◌, ◌<◌, ◌≤◌, List, [], ◌∷◌, length, get_or, take, map, ◌++◌, Contains, refl}
 use Rattle.std.proofs.Common.{sym, ap, subst, ◌∙◌, arith, inl, inr, ◌⊎◌, ◌==◌, Bool, true, false, nat_lt, ltb-true, lt-ltb, leb, leb-true}
 use Rattle.std.proofs.Common.{leb-false, ◌*◌, filter, if◌then◌else◌, Option, Some, None}
@@ -32,7 +32,7 @@ distinct-ascending xs up i j d i_in j_in same =
     let high : ¬ (j < i) = λ lt. let h = ascending-at fde_offset xs up j i d lt i_in in omega (arith, h, same) in
     squeeze i j low high
 
--- the index that an element had before the elements at a and b were swapped
+-- the index that the element at m had before the elements at a and b were swapped
 abbrev stood : ℕ → ℕ → ℕ → ℕ
 stood a b m = if m == a then b else (if m == b then a else m)
 
@@ -132,7 +132,8 @@ indexed fdes index up moved sorted =
       };
     }
 
--- if the last FDE that begins at or below an address doesn't cover it, none does
+-- if the last FDE of the index that begins at or below an address doesn't cover the address, no FDE
+-- of the index does
 pub not-covered : (index : List Fde) → IsOrdered index → (place a : ℕ) (x : Fde) → CoversOnce index → 0 < place → place ≤ length index
     → get_or index (place - 1) x ≡ x → x.initial_location ≤ a
     → ((k : ℕ) (d : Fde) → place ≤ k → k < length index → a < (get_or index k d).initial_location)
@@ -163,7 +164,7 @@ none-covered index a above f (k, k_in, k_is) covered =
     let h : a < f.initial_location = subst (λ v. a < v.initial_location) k_is (above k f k_in) in
     omega (arith, h, covered.0)
 
--- if no address is covered by two FDEs, none is covered by two FDEs of the index
+-- if no address is covered by two FDEs of the section, none is covered by two FDEs of the index
 pub once-indexed : (fdes index : List Fde) → IsIndexOf fdes index → CoversOnce fdes → CoversOnce index
 once-indexed fdes index is once a f g f_in g_in = once a f g (is.from f f_in) (is.from g g_in)
 
@@ -193,7 +194,8 @@ all-one : {X : Type 0} (P : X → Type 0) (x : X) → P x → All P (x ∷ [])
 all-one P x h zero d lt = h
 all-one P x h (suc k) d lt = absurd (omega arith)
 
--- after one more FDE, whose entry was added, since it covers an address
+-- if the entries are those of the first `place` FDEs, and the next FDE covers an address, the
+-- entries with one for that FDE at the end are those of the first `place` + 1 FDEs
 pub entries-more : (fdes : List FrameDescriptionEntry) (place : ℕ) (x : FrameDescriptionEntry) (entries : List IndexEntry)
     → place < length fdes → get_or fdes place x ≡ x → 0 < x.address_range → All (IsEntry (map fde_of fdes)) entries
     → map (fde_at (map fde_of fdes)) entries ≡ filter is_some_fde (take place (map fde_of fdes))
@@ -214,6 +216,7 @@ entries-more fdes place x entries within is some all same =
           ∙ ap (filter is_some_fde) (sym next),
     )
 
+-- an FDE that covers no address adds nothing to the FDEs that have an entry
 pub entries-same : (fdes : List FrameDescriptionEntry) (place : ℕ) (x : FrameDescriptionEntry) → place < length fdes
     → get_or fdes place x ≡ x → x.address_range ≤ 0
     → filter is_some_fde (take place (map fde_of fdes)) ≡ filter is_some_fde (take (place + 1) (map fde_of fdes))
@@ -238,7 +241,7 @@ sorted-entries fdes entries all sorted =
     let h = sorted i j d le lt in
     omega arith)
 
--- the FDE index in an entry is within the list of FDEs
+-- the FDE index in an entry is less than the number of FDEs
 pub entry-within : (fdes : List FrameDescriptionEntry) (entries : List IndexEntry) (i : ℕ) (d : IndexEntry)
     → All (IsEntry (map fde_of fdes)) entries → i < length entries → (get_or entries i d).place < length fdes
 entry-within fdes entries i d all i_in =
@@ -271,7 +274,7 @@ starts-sorted fdes entries is i j d le lt =
     let h = sorted-back (fde_at fdes) initial_of entries is.index_of.ordered.sorted i j d le lt in
     omega (arith, h)
 
--- if entries begin above an address, so do their FDEs
+-- if the entries from an index on begin above an address, so do their FDEs
 pub starts-above : (fdes : List Fde) (entries : List IndexEntry) (place a : ℕ) → All (IsEntry fdes) entries
     → ((k : ℕ) (d : IndexEntry) → place ≤ k → k < length entries → a < (get_or entries k d).start)
     → (k : ℕ) (d : Fde) → place ≤ k → k < length (map (fde_at fdes) entries) → a < (get_or (map (fde_at fdes) entries) k d).initial_location
@@ -292,7 +295,7 @@ pub start-at : (entries : List IndexEntry) (i j : ℕ) (d e : IndexEntry) → i 
 start-at entries i j d e same lt = ap (λ (n : ℕ). (get_or entries n d).start) same
     ∙ ap (λ (x : IndexEntry). x.start) (get_or_default entries j d e lt)
 
--- the stride of n quarters
+-- a stride of m quarters is one of n quarters if n equals m
 so-many : (entries : List IndexEntry) (low q a n m : ℕ) → n ≡ m → IsStride entries low q a (m * q) → IsStride entries low q a (n * q)
 so-many entries low q a n m same h = subst (λ (v : ℕ). IsStride entries low q a (v * q)) (sym same) h
 

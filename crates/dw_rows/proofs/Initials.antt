@@ -50,7 +50,8 @@ spans-one : (entries : List RuleEntry) (spans : List RuleSpan) (s : RuleSpan) �
 spans-one entries [] s all one = (one, tt)
 spans-one entries (x ∷ spans) s all one = (all.0, spans-one entries spans s all.1 one)
 
--- after the entries of one more rule set, and their span, were added at the end
+-- the entries `more` of one more rule set, and their span s, were added at the end: all spans are
+-- still valid, and they stand for one more rule set
 pub record Pushed (entries more : List RuleEntry) (spans : List RuleSpan) (s : RuleSpan) : Type 0 where
   pub are : AreSpans (entries ++ more) (spans ++ s ∷ [])
   pub kept : kept_in_spans (entries ++ more) (spans ++ s ∷ []) ≡ kept_in_spans entries spans

@@ -1,4 +1,5 @@
--- A property of all rules that instructions set is a property of the rules that they leave.
+-- If all rules that a program starts with and that its instructions set have a property, so do the
+-- rules after the instructions.
 use Rattle.std.proofs.Common.{ℕ, zero, suc, List, [], ◌∷◌, Option, Some, Bool, true, false, cond, Contains, refl, arith}
 use Rattle.std.specs.Prelude.{All, IfSome, ℤ, ◌==◌}
 use Rattle.std.proofs.lemmas.List.Elements.{All-append, All-from_recursion}

@@ -1,4 +1,5 @@
--- A restore_state has at most one match, and so has a remember_state.
+-- A restore_state matches at most one remember_state, and a remember_state at most one
+-- restore_state.
 use Rattle.std.proofs.Common.{◌≡◌, ℕ, ◌+◌, ◌<◌, ◌≤◌, List, [], ◌∷◌, ◌++◌, length, refl, sym, ap, ◌∙◌, arith, inl, inr, append_assoc}
 use Rattle.std.proofs.Common.{length-append}
 use Rattle.std.proofs.lemmas.Bool.{cases_lt}

@@ -1,4 +1,4 @@
--- Checked expressions whose bytes are in one array.
+-- Checked expressions whose bytes are stored together in one array.
 use Rattle.std.proofs.Common.{◌≡◌, ℕ, zero, suc, ◌+◌, ◌<◌, ◌≤◌, List, [], ◌∷◌, ◌++◌, length, get_or, take, drop, refl, sym, ap, ◌∙◌, subst, arith}
 use Rattle.std.proofs.lemmas.List.{length-append, length-drop, drop-append-le, take-append-le}
 use Rattle.std.proofs.Math.Seq.{drop-append_seam, take-length}
@@ -60,14 +60,14 @@ pub are-more : (bytes : List ℕ) (kept : List OwnedExpression) (k : OwnedExpres
 are-more bytes [] k are is = (is, tt)
 are-more bytes (x ∷ kept) k are is = (are.0, are-more bytes kept k are.1 is)
 
--- the expression at an index
+-- if all stored expressions are owned (`IsOwned`), so is the one at an index
 pub owned-at : (bytes : List ℕ) (kept : List OwnedExpression) (n : ℕ) (k : OwnedExpression) → AreOwned bytes kept → n < length kept
     → get_or kept n k ≡ k → IsOwned bytes k
 owned-at bytes [] n k are lt at = absurd (omega arith)
 owned-at bytes (x ∷ kept) zero k are lt at = subst (IsOwned bytes) at are.0
 owned-at bytes (x ∷ kept) (suc n) k are lt at = owned-at bytes kept n k are.1 (omega arith) at
 
--- an expression passed its check, if its parts are those of a checked expression
+-- an expression passed its check if its parts are equal to those of a checked expression
 pub owned-checked : (kind also : Kind) (target one other : Target) (bytes its : List ℕ) (depth count : ℕ) → IsGoodExpression kind one its
     → one ≡ target → its ≡ bytes → also ≡ kind → other ≡ target → IsDepthOf kind target bytes depth
     → count ≡ length (operations_in target bytes)

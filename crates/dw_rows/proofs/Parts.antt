@@ -1,4 +1,5 @@
--- The parts of a section's check.
+-- The parts of a frame section's check, after its records were read: the CIE_pointers, the programs
+-- of the CIEs and of the FDEs, and overlap.
 use Rattle.std.proofs.Common.{◌≡◌, List, Option, Some, None, Contains, refl, sym, ap, ◌∙◌, if◌then◌else◌}
 use Rattle.std.specs.Prelude.{is_some}
 use Rattle.std.specs.Option.{option_or}
@@ -12,7 +13,7 @@ use Rattle.dw_frame.specs.Bounds.{Ascends}
 use Rattle.dw_rows.proofs.Faults.{option_or-none, none-each, at-found}
 use Rattle.dw_rows.proofs.Clashes.{once-covered}
 
--- none of the parts found a fault
+-- no part of the check found a fault
 pub record PartsPass (cies : List Cie) (fdes : List Fde) : Type 0 where
   pub pointers : first_fault (pointer_fault cies) fdes ≡ None
   pub cie_programs : first_fault cie_fault cies ≡ None

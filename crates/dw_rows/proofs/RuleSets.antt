@@ -1,4 +1,4 @@
--- Rule sets, each with its return address register.
+-- Rule sets, each with its return address register (`zipped`).
 use Rattle.std.proofs.Common.{◌≡◌, ℕ, zero, suc, ◌<◌, List, [], ◌∷◌, ◌++◌, length, get_or, refl, sym, ap, arith, Some}
 use Rattle.std.specs.Prelude.{slice_get}
 use Rattle.dw_rows.specs.RuleSet.{KeptRules}

@@ -1,4 +1,4 @@
--- Lists in order of offset: indices and offsets go up together.
+-- Lists in ascending order of offset: a higher index has the higher offset.
 use Rattle.std.proofs.Common.{◌≡◌, ◌≢◌, ℕ, zero, suc, ◌+◌, ◌<◌, ◌≤◌, List, [], ◌∷◌, length, get_or, Ok, Err, Contains, sym, ap, subst}
 use Rattle.std.proofs.Common.{◌∙◌, arith, inl, inr, ◌⊎◌}
 use Rattle.std.specs.List.Sorted.{IsBinarySearchResult, IsNonDecreasingBy}
@@ -18,7 +18,7 @@ three_ways i j = elim (cases_lt i j) [
       (cases_lt j i) [ inl lt ↦ inr (inr lt) | inr ge ↦ inr (inl (omega arith)) ]
 ]
 
--- k is less than i, or equal to i
+-- a number that is less than i + 1 is less than i or equal to i
 pub before_or_at : (k i : ℕ) → k < i + 1 → (k < i) ⊎ (k ≡ i)
 before_or_at k i lt = elim (cases_lt k i) [ inl low ↦ inl low | inr le ↦ inr (omega arith) ]
 
@@ -26,7 +26,7 @@ before_or_at k i lt = elim (cases_lt k i) [ inl low ↦ inl low | inr le ↦ inr
 pub squeeze : (i j : ℕ) → ¬ (i < j) → ¬ (j < i) → i ≡ j
 squeeze i j low high = elim (three_ways i j) [ inl lt ↦ absurd (low lt) | inr rest ↦ elim rest [ inl e ↦ e | inr lt ↦ absurd (high lt) ] ]
 
--- a smaller index has the lower offset
+-- of two elements, the one at the lower index has the lower offset
 pub ascending-at : {X : Type 0} (at : X → ℕ) (xs : List X) → Ascends at xs → (i j : ℕ) (d : X) → i < j → j < length xs
     → at (get_or xs i d) < at (get_or xs j d)
 ascending-at at [] up i j d lt in_range = absurd (omega arith)
@@ -35,7 +35,7 @@ ascending-at at (x ∷ xs) up zero (suc j) d lt in_range = All-from_recursion (�
 ascending-at at (x ∷ xs) up (suc i) zero d lt in_range = absurd (omega arith)
 ascending-at at (x ∷ xs) up (suc i) (suc j) d lt in_range = ascending-at at xs up.1 i j d (omega arith) (omega arith)
 
--- a lower offset has the smaller index
+-- of two elements, the one with the lower offset is at the lower index
 pub ascending-place : {X : Type 0} (at : X → ℕ) (xs : List X) → Ascends at xs → (i j : ℕ) (d : X) → i < length xs → j < length xs
     → at (get_or xs i d) < at (get_or xs j d) → i < j
 ascending-place at xs up i j d i_in j_in lt =
@@ -56,11 +56,12 @@ ascending-same at xs up x y (i, i_in, i_is) (j, j_in, j_is) same =
 index-rises : (a b k : ℕ) → a ≤ b → ordering_index (nat_cmp a k) ≤ ordering_index (nat_cmp b k)
 index-rises a b k le = grind (arith, nat_tests)
 
--- what a binary search by key finds
+-- if a binary search for a key finds an index, the element there has the key
 pub searched-found : {X : Type 0} (key : X → ℕ) (xs : List X) (k : ℕ) (d : X) (i : ℕ) → i < length xs
     → IsBinarySearchResult (λ y. nat_cmp (key y) k) xs (Ok i) → Contains xs (get_or xs i d) × (key (get_or xs i d) ≡ k)
 searched-found key xs k d i in_range found = (Contains-get_or xs i d in_range, ranked _ k _ (sym (found d)))
 
+-- if a binary search for a key finds no index, no element has the key
 pub searched-none : {X : Type 0} (key : X → ℕ) (xs : List X) → Ascends key xs → (k : ℕ) (i : ℕ) → i ≤ length xs
     → IsBinarySearchResult (λ y. nat_cmp (key y) k) xs (Err i) → (x : X) → Contains xs x → key x ≢ k
 searched-none {X} key xs up k i in_range parted =

@@ -13,7 +13,7 @@ use Rattle.dw_frame.proofs.RecordBounds.{records-ascend, entries-sound}
 use Rattle.dw_rows.specs.Section.{frame_of, cie_in_record, fde_in_record}
 use Rattle.dw_rows.specs.Overlap.{cie_offset, fde_offset}
 
--- if nothing failed to be read, the items are just their values
+-- if no item is a fault, the items are just the values that were read
 pub read-whole : {X : Type 0} (items : List (Result X Fault)) → fault_in items ≡ None → items ≡ map Ok (values_in items)
 read-whole [] e = refl
 read-whole (Ok x ∷ items) e = ap (λ l. Ok x ∷ l) (read-whole items e)
@@ -41,7 +41,7 @@ ascending-fdes [] up = tt
 ascending-fdes (cie_record c ∷ records) up = ascending-fdes records up.1
 ascending-fdes (fde_record f ∷ records) up = (all-fdes f.offset records up.0, ascending-fdes records up.1)
 
--- the records of a section without reading faults are encoded by its bytes
+-- if all records of a section can be read without a fault, the section's bytes encode these records
 pub are-records : (target : Target) (section : List ℕ) → fault_in (entries_of target section) ≡ None
     → AreRecords target 0 section (values_in (entries_of target section))
 are-records target section none = (sections-are-records target section (values_in (entries_of target section))).0
@@ -59,10 +59,11 @@ pub fdes-ascend : (target : Target) (section : List ℕ) → fault_in (entries_o
     → Ascends fde_offset (frame_of target section).fdes
 fdes-ascend target section none = ascending-fdes (values_in (entries_of target section)) (ascends target section none)
 
--- each FDE of a section was read as a record
+-- if a list contains y, it still does with x in front
 Contains-cons : {X : Type 0} (x y : X) (xs : List X) → Contains xs y → Contains (x ∷ xs) y
 Contains-cons x y xs (k, lt, is) = (suc k, omega arith, is)
 
+-- each FDE among the values that were read was read as a record
 fde-among : (items : List (Result Record Fault)) (f : Fde) → Contains (filter_map fde_in_record (values_in items)) f
     → Contains items (Ok (fde_record f))
 fde-among [] f (k, lt, is) = absurd (omega arith)
@@ -72,7 +73,7 @@ fde-among (Ok (fde_record g) ∷ items) f (zero, lt, is) = (zero, omega arith, a
 fde-among (Ok (fde_record g) ∷ items) f (suc k, lt, is) =
     Contains-cons (Ok (fde_record g)) (Ok (fde_record f)) items (fde-among items f (k, omega arith, is))
 
--- each CIE of a section was read as a record
+-- each CIE among the values that were read was read as a record
 cie_record-among : (items : List (Result Record Fault)) (c : Cie) → Contains (filter_map cie_in_record (values_in items)) c
     → Contains items (Ok (cie_record c))
 cie_record-among [] c (k, lt, is) = absurd (omega arith)
@@ -87,7 +88,8 @@ pub cies-sound : (target : Target) (section : List ℕ) (c : Cie) → Contains (
     → IsSoundCie target (length section) c
 cies-sound target section c among = entries-sound target section (Ok (cie_record c)) (cie_record-among (entries_of target section) c among)
 
--- the FDEs of a section have only addresses of its target
+-- the FDEs of a section cover only addresses that its target has, and their programs are in the
+-- section
 pub fdes-sound : (target : Target) (section : List ℕ) (f : Fde) → Contains (frame_of target section).fdes f
     → IsSoundFde target (length section) f
 fdes-sound target section f among = entries-sound target section (Ok (fde_record f)) (fde-among (entries_of target section) f among)

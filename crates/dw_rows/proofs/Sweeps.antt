@@ -7,8 +7,9 @@ use Rattle.dw_frame.specs.Bounds.{Ascends}
 use Rattle.dw_frame.specs.Records.{Fde}
 use Rattle.dw_rows.proofs.Search.{ascending-at, ascending-place, ascending-same, three_ways, before_or_at}
 
--- What is known after the first i FDEs. Of those with an offset up to `last`, the last one ends at
--- `end`, and no two share an address.
+-- What is known after a pass over the first i FDEs, in order of address. Of those whose offset is
+-- at most `last`, the one that ends last ends at `end` (0 if there are none), and no two share an
+-- address.
 pub record IsSwept (xs : List Fde) (last i end : ℕ) : Type 0 where
   pub below : (k : ℕ) (d : Fde) → k < i → (get_or xs k d).offset ≤ last
       → (get_or xs k d).initial_location + (get_or xs k d).address_range ≤ end
@@ -124,7 +125,7 @@ swept-all xs last i end swept all f g (j, j_in, j_is) (k, k_in, k_is) lt le (a, 
       ]
     ]
 
--- a range that has an address is not empty
+-- an FDE that covers an address has an address range above 0
 some-of : (f : Fde) (a : ℕ) → Covers f a → 0 < f.address_range
 some-of f a c = omega (arith, c.0, c.1)
 
@@ -174,7 +175,8 @@ covers-once fdes up apart a f g f_in g_in cf cg =
     let high : ¬ (g.offset < f.offset) = λ lt. apart f f_in g g_in lt (a, cg, cf) in
     ascending-same fde_offset fdes up f g f_in g_in (omega (arith, low, high))
 
--- if no two FDEs up to one FDE share an address, none do up to an earlier FDE
+-- if no two FDEs with offsets up to that of x share an address, no two with offsets up to that of
+-- an earlier FDE do
 pub apart-below : (fdes index : List Fde) (i : ℕ) (x : Fde) → Ascends fde_offset fdes → i < length fdes → get_or fdes i x ≡ x
     → ApartWithin index x.offset → (k : ℕ) (d : Fde) → k ≤ i → ApartWithin index (get_or fdes k d).offset
 apart-below fdes index i x up i_in i_is apart k d le f g f_in g_in order within shared =

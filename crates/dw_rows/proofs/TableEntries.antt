@@ -1,4 +1,5 @@
--- Table entries, which are stored as a list of starts and a list of rule set numbers.
+-- The entries of a compiled table, which are stored as a list of starts and a list of rule set
+-- numbers.
 use Rattle.std.proofs.Common.{◌≡◌, ℕ, zero, suc, ◌<◌, List, [], ◌∷◌, ◌++◌, length, get_or, refl, sym, ap, arith, Some}
 use Rattle.std.specs.Prelude.{slice_get}
 use Rattle.std.specs.List.Sorted.{IsNonDecreasingBy}

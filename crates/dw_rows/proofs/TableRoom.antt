@@ -1,4 +1,4 @@
--- How many bytes the rows of a table take.
+-- How many bytes the rows of a compiled table take, and when a limit on them is exceeded.
 use Rattle.std.proofs.Common.{◌≡◌, ℕ, zero, suc, ◌+◌, ◌*◌, ◌<◌, ◌≤◌, List, [], ◌∷◌, ◌++◌, length, get_or, take, map, Contains, refl, sym, ap, ◌∙◌}
 use Rattle.std.proofs.Common.{Some, None, subst, arith, Result, Ok, Err}
 use Rattle.std.specs.Result.{IfErr, IsErrAnd}
@@ -23,12 +23,13 @@ use Rattle.dw_rows.proofs.GivenRows.{length-with}
 use Rattle.dw_rows.proofs.Indexes.{AreDistinct}
 use Rattle.dw_rows.proofs.TableRows.{rows-pushed, with-cfa}
 
--- a lack of room against one bound is a lack of room against another
+-- if `room` is less than `less` only where `other` is less than `more`, a lack of `room` for `less`
+-- is a lack of `other` for `more`
 pub lacks-more : (why : Unmade) (room other less more : ℕ) → (room < less → other < more) → LacksRoom why room less → LacksRoom why other more
 lacks-more Memory room other less more up h = tt
 lacks-more Room room other less more up h = up h
 
--- a call that passes an error on has the same reason for it
+-- a call that passes an error on fails for the same reason
 pub still-lacks : {X : Type 0} (r : Result X Unmade) (why : Unmade) (room most : ℕ) → IsErrAnd r (λ e. e ≡ why) → LacksRoom why room most
     → IfErr r (λ e. LacksRoom e room most)
 still-lacks (Ok x) why room most is h = tt
@@ -65,7 +66,8 @@ fde-cost s c f pointed =
 
 -- ---- the rows of an FDE
 
--- one more row costs no more than an entry with its rule set
+-- the next row, once added to the table, adds the cost of an entry with its rule set to the cost of
+-- the table's rows
 pub cost-on : (es : List LocatedExpression) (c : Cie) (f : Fde) (rows : List (PlacedRow × ℕ)) (w w' : RowCursor)
     (entries new : List TableEntry) (sets new_sets : List KeptSet) (start end : ℕ) → IsFilling c f rows w entries sets
     → GivesNextRow w (Some (start, end)) w' → IsTableUpTo es w.context.location entries sets
@@ -86,7 +88,8 @@ cost-on es c f rows w w' entries new sets new_sets start end h step t pushed =
     ∙ sum_by-append (λ x. row_bytes x.0) (rows_to sets entries w.context.location) (row ∷ [])
     ∙ omega arith
 
--- the next row's cost is part of the cost of all rows of the FDE
+-- the cost of the rows in the table and of the next row is at most that of `rows`, the rows in the
+-- table and all that are still to be added
 pub cost-next : (c : Cie) (f : Fde) (rows : List (PlacedRow × ℕ)) (w w' : RowCursor) (entries : List TableEntry) (sets : List KeptSet)
     (start end : ℕ) → IsFilling c f rows w entries sets → GivesNextRow w (Some (start, end)) w'
     → cost (rows_to sets entries w.context.location) + entry_bytes w'.context.current ≤ cost rows
@@ -104,7 +107,7 @@ cost-next c f rows w w' entries sets start end h step =
       sum-cons (λ x. row_bytes x.0) row rest,
     )
 
--- if no row is left, the rows in the table are all that count
+-- if no row is left to add, the rows in the table cost what all rows cost
 pub cost-all : (c : Cie) (f : Fde) (rows : List (PlacedRow × ℕ)) (w w' : RowCursor) (entries : List TableEntry) (sets : List KeptSet)
     → IsFilling c f rows w entries sets → GivesNextRow w None w' → cost (rows_to sets entries w.context.location) ≡ cost rows
 cost-all c f rows w w' entries sets h step =
@@ -144,7 +147,8 @@ in-without (y ∷ xs) (suc i) zero x apart lt is = (zero, omega arith, is)
 in-without (y ∷ xs) (suc i) (suc j) x apart lt is =
     let rest = in-without xs i j x (λ same. apart (ap suc same)) (omega arith) is in (suc rest.0, omega (arith, rest.1), rest.2)
 
--- if different FDEs are all among others, their sum is no more than that of the others
+-- if the FDEs in `xs` have distinct offsets and all are in `ys`, the sum of f over `xs` is at most
+-- that over `ys`
 sum-within : (f : Fde → ℕ) (xs ys : List Fde) → AreDistinct xs → ((x : Fde) → Contains xs x → Contains ys x)
     → sum_by f xs ≤ sum_by f ys
 sum-within f [] ys distinct within = omega arith

@@ -1,4 +1,5 @@
--- The rows of a table's entries: how they grow by the rows of an FDE, and which row has an address.
+-- The rows that a compiled table's entries stand for: how the rows of an FDE are added to them, and
+-- which row has an address.
 use Rattle.std.proofs.Common.{◌≡◌, ℕ, zero, suc, ◌+◌, ◌<◌, ◌≤◌, Bool, true, false, cond, List, [], ◌∷◌, ◌++◌, length, get_or, refl, sym, ap, ◌∙◌}
 use Rattle.std.proofs.Common.{Option, Some, None, subst, arith, append_assoc, inl, inr, ◌⊎◌}
 use Rattle.std.proofs.lemmas.Bool.{cases_lt}
@@ -194,7 +195,7 @@ pub filling-lends : (es : List LocatedExpression) (c : Cie) (f : Fde) (rows : Li
 filling-lends es c f rows w w' entries sets start end h step lends =
     let p = step c f h.before h.is_at in lends-kept es c f p.after w' lends p.is_at
 
--- if no row is left, the cursor is at the end of the FDE's addresses
+-- if there is no next row, the cursor's location is the end of the FDE's address range
 pub filling-end : (c : Cie) (f : Fde) (rows : List (PlacedRow × ℕ)) (w w' : RowCursor) (entries : List TableEntry) (sets : List KeptSet)
     → IsFilling c f rows w entries sets → GivesNextRow w None w' → w.context.location ≡ f.initial_location + f.address_range
 filling-end c f rows w w' entries sets h step =
@@ -266,7 +267,7 @@ none-above sets (e ∷ es) a to above =
     (below-row k.rules.cfa a e.start (next_start es to) k (above 0 e (omega arith)))
     ∙ none-above sets es a to (λ m d lt. above (suc m) d (omega arith))
 
--- where the entry after index n begins
+-- where the entry after index n begins; `to` if n is the last index
 abbrev pub next_at : List TableEntry → ℕ → ℕ → ℕ
 next_at [] n to = to
 next_at (e ∷ es) zero to = next_start es to
@@ -304,15 +305,18 @@ row-at sets (e ∷ es) (suc n) a to d lt below above =
 
 -- ---- the row of an address, by the number of entries that begin at or below it
 
--- no entry begins at or below the address, so no row has it
+-- if no entry begins at or below the address, no row has the address
 pub placed-below : (entries : List TableEntry) (sets : List KeptSet) (a : ℕ) → IsEntryCount entries a 0
     → find (has a) (rows_to sets entries 0) ≡ None
 placed-below entries sets a count = none-above sets entries a 0 (λ k d lt. count.above k d (omega arith) lt)
 
--- the row of an address, by the rules of the last entry that begins at or below it
+-- the row from `start` to `to` with the rule set number n, if there is one and it has the address
+-- `a`
 abbrev row-of-entry : List KeptSet → ℕ → ℕ → ℕ → ℕ → Option (PlacedRow × ℕ)
 row-of-entry sets a n start to = find (has a) (row_with start to (set_numbered sets n))
 
+-- looking up an address gives the row of the last entry that begins at or below it, if that row has
+-- the address
 at-place : (entries : List TableEntry) (sets : List KeptSet) (a n : ℕ) (d : TableEntry) → IsEntryCount entries a (suc n)
     → find (has a) (rows_to sets entries 0)
     ≡ row-of-entry sets a (get_or entries n d).set (get_or entries n d).start (next_at entries n 0)
@@ -320,7 +324,7 @@ at-place entries sets a n d count =
     row-at sets entries n a 0 d (omega (arith, count.bound)) (λ k d le. count.below k d (omega arith))
     (λ k d lt there. count.above k d (omega arith) there)
 
--- all entries begin at or below the address, so it is past the last row
+-- if all entries begin at or below the address, it is past the last row, so no row has it
 pub placed-above : (entries : List TableEntry) (sets : List KeptSet) (a n : ℕ) → IsEntryCount entries a n → n ≡ length entries
     → find (has a) (rows_to sets entries 0) ≡ None
 placed-above entries sets a zero count all = placed-below entries sets a count
@@ -341,7 +345,7 @@ the-row : (o : Option PlacedCfa) (c : PlacedCfa) (a start to : ℕ) (k : KeptSet
 the-row None c a start to k e low high = cc
 the-row (Some d) c a start to k e low high = rw (here a (row_between start to k.rules) low high) refl
 
--- the last entry at or below the address has no CFA rule, so no row has the address
+-- if the last entry that begins at or below the address has no CFA rule, no row has the address
 pub placed-none : (entries : List TableEntry) (sets : List KeptSet) (a n : ℕ) (d : TableEntry) → IsEntryCount entries a (suc n)
     → (set_numbered sets (get_or entries n d).set).rules.cfa ≡ None → find (has a) (rows_to sets entries 0) ≡ None
 placed-none entries sets a n d count none =

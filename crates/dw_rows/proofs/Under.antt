@@ -1,4 +1,5 @@
--- The rules of two tables, where the second gives rules to registers that have none in the first.
+-- The rules of two tables of register rules together: the second table's rules apply to registers
+-- that have none in the first (`rules_of_either`).
 use Rattle.std.proofs.Common.{◌≡◌, ◌≢◌, ℕ, zero, suc, ◌+◌, ◌<◌, ◌≤◌, true, false, List, [], ◌∷◌, length, refl, sym, ap, ◌∙◌, subst}
 use Rattle.std.proofs.Common.{arith, eqb, inl, inr, eq-eqb, ◌-◌, take, drop, get_or, Less, Equal, Greater, nat_cmp}
 use Rattle.std.specs.Cmp.{nat_cmp_is}
@@ -20,7 +21,7 @@ use Rattle.dw_rows.proofs.GivenRows.{rule_in-with, table-with, lends-rule_in}
 use Rattle.dw_rows.proofs.NamedExpressions.{listed-have}
 use Rattle.dw_rows.proofs.Tables.{rule_in-below, rule_list-table, rule_list-same, rule_in-rule_list, IsTable-rule_list}
 
--- ---- a rule, or another one if it is default
+-- ---- a rule, or another one if the first is Default
 
 or-default : {E : Type 0} → (x : RuleOver E) → or_rule x default ≡ x
 or-default default = refl
@@ -54,7 +55,7 @@ or-with es (val_expression e) y = refl
 
 -- ---- the first entry of a table
 
--- a table whose registers are all at least `low`
+-- if no register below `low` has a rule in a table, all registers of the table are at least `low`
 table-from : {E : Type 0} → (low : ℕ) (es : List (ℕ × RuleOver E)) → IsTable 0 es → ((r : ℕ) → r < low → rule_in es r ≡ default)
     → IsTable low es
 table-from low [] t none = tt
@@ -206,7 +207,8 @@ rule_list-with es f =
     sym (rule_list-table (given_rules es (rule_list f)) (table-with es 0 (rule_list f) (IsTable-rule_list f)))
     ∙ rule_list-same _ _ (λ r h. rule_in-with es (rule_list f) r ∙ ap (given_rule es) (rule_in-rule_list f r h))
 
--- the rule that an ABI gives a role names no expression
+-- the rule that an ABI gives a role names no expression, so putting expressions in place of their
+-- offsets doesn't change it
 role-with : (es : List LocatedExpression) (x : Role) → given_rule es (rule_of_role x) ≡ rule_of_role x
 role-with es unnamed = refl
 role-with es kept = refl
@@ -240,7 +242,8 @@ lends-either es rules others h k =
     listed-have (LendsRule es) (rule_of_either rules others)
     (λ r. lends-or es (rule_in rules r) (rule_in others r) (lends-rule_in es rules r h) (lends-rule_in es others r k))
 
--- the rules of two tables, with expressions, if the second is that of an ABI
+-- if the second table has the rules of an ABI's roles, the rules of both tables together, with
+-- expressions in place of their offsets, are the first table's rules under that ABI
 pub either-with : (es : List LocatedExpression) (rules others : List (ℕ × PlacedRule)) (abi : Abi)
     → ((r : ℕ) → rule_in others r ≡ rule_of_role (abi r))
     → given_rules es (rules_of_either rules others) ≡ rules_under abi (given_rules es rules)
@@ -290,9 +293,9 @@ pub none-below : (o : ℕ × PlacedRule) (right : List (ℕ × PlacedRule)) (n :
     → (r : ℕ) → r ≤ n → rule_in (o ∷ right) r ≡ default
 none-below o right n t lt r le = rule_in-below o.0 (o ∷ right) r (from-first o right t) (omega (arith, lt, le))
 
--- ---- the same for the code's entries
+-- ---- the lemmas above, for entries as the code stores them (`RuleEntry`)
 
--- the entries after the first one
+-- taking all elements from index 1 on gives those after the first one
 behind-is : (x : RuleEntry) (rest : List RuleEntry) → take (length (x ∷ rest) - 1) (drop 1 (x ∷ rest)) ≡ rest
 behind-is x rest = let count : length (x ∷ rest) - 1 ≡ length rest = omega arith in ap (λ n. take n rest) count ∙ take-length rest
 

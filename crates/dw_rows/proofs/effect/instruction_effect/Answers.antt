@@ -1,5 +1,5 @@
--- The stored offset is the product itself, since the product fits. The code's and the definitions'
--- factors have the same names, so the search takes one for the other.
+-- Converting a factored offset, the product of an operand and the data alignment factor, to the
+-- code's 128-bit integer and back gives the same number, since the product fits.
 use Rattle.std.proofs.Common.{rules, ◌≡◌, ◌∙◌, ap, to_z, of_z}
 use Rattle.std.specs.Int.{w128}
 use Rattle.dw_rows.specs.Effects.{sets}

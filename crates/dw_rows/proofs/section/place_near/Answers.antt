@@ -12,7 +12,7 @@ use Rattle.dw_rows.proofs.section.place_near.Goals as goal
 abbrev offset_in : CommonInformationEntry → ℕ
 offset_in c = c.offset
 
--- a CIE that begins at `offset` is the one that a binary search would find
+-- if the CIE at the index `place` begins at `offset`, it is the CIE that looking up `offset` gives
 stands-at : (cies : List CommonInformationEntry) (place offset : ℕ) (x : CommonInformationEntry) → Ascends cie_offset (map cie_of cies)
     → place < length cies → get_or cies place x ≡ x → cie_offset (cie_of x) ≡ offset
     → (place < length cies) × (cie_at (map cie_of cies) offset ≡ slice_get (map cie_of cies) place)

@@ -19,7 +19,7 @@ pub returns-clause-row : goal.returns-clause-row
 returns-clause-row c = row-found c.args.self.now c.args.address
     (fde_of c.in_ok-fde.fde) c.write_row_of-cie.new.row c.in_ok-fde.ensures.only c.write_row_of-cie.ensures.row
 
--- a row that is found among rows up to an address has no addresses above it
+-- a row that is found among rows that end at or below an address ends at or below that address too
 pub returns-clause-fit : goal.returns-clause-fit
 returns-clause-fit c =
     let cie = cie_of c.write_row_of-cie.result in

@@ -22,7 +22,7 @@ returns-then-is_err c =
     rw (entries, spans) (kept-grown c.self.inside.entries.items c.as_slice.result.now c.self.inside.spans.items c.self.invariant
     ∙ c.self.view_is)
 
--- the span that is pushed
+-- the span that is added: where the rule set's entries begin and end, and its CFA rule
 abbrev span : goal.Else-is_err → RuleSpan
 span c = record { cfa = c.cfa.result; start = c.len-start.result; end = c.len.result }
 
