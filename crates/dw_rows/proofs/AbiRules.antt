@@ -156,7 +156,7 @@ keeps-next registers behind place rules new k lt fits none is few = record {
 }
 
 -- after the loop the rules are those for all callee-saved registers, and none of these registers
--- occurred before
+-- was named twice
 pub keeps-all : (registers behind : List ℕ) (place : ℕ) (rules : List (ℕ × PlacedRule)) → KeepsUpTo registers behind place rules
     → length registers ≤ place → place ≤ length registers → (rules ≡ rule_list (abi_rule registers None))
     × (place_of_second [] (registers ++ behind) ≡ place_of_second registers behind)

@@ -45,8 +45,8 @@ checked-cies-good s k = none-each cie_fault s.cies (parts-pass s.cies s.fdes (ch
 pub checked-once : (s : FrameSection) → IsChecked s → CoversOnce s.fdes
 checked-once s k = covers-once-in s.cies s.fdes (checked-fdes-ascend s k) (checked-parts s k)
 
--- the programs of a checked section have its target and lie in it, and no FDE's addresses pass the
--- target's highest one
+-- the programs of a checked section have the section's target and their bytes are in the section,
+-- and no FDE ends above the target's highest address
 pub checked-cies-sound : (s : FrameSection) → IsChecked s → (c : Cie) → Contains s.cies c → IsSoundCie s.target (length s.section) c
 checked-cies-sound s k c among = cies-sound s.target s.section c (subst (λ (t : FrameSection). Contains t.cies c) k.whole among)
 

@@ -48,7 +48,7 @@ row-covered s a row found = elim (first-cover a s.fdes) [
   | inr none ↦ let wrong : None ≡ Some row = sym (row-none s a none) ∙ found in cc
 ]
 
--- if there is no row at an address, no FDE covers it
+-- if a checked section has no row at an address, no FDE covers the address
 pub row-missing : (s : FrameSection) (a : ℕ) → IsChecked s → row_of s a ≡ None → (f : Fde) → Contains s.fdes f → Covers f a → ⊥
 row-missing s a checked none f among covered =
     let one = has-one-row s a checked f among covered in

@@ -1,4 +1,5 @@
--- The rows of a checked section have good expressions, each of the kind that its rule needs.
+-- The expressions in the rows of a checked section are good (`IsGoodExpression`), each for the kind
+-- of expression that its rule needs.
 use Rattle.std.proofs.Common.{◌≡◌, ℕ, zero, suc, ◌+◌, ◌==◌, Bool, true, false, cond, List, [], ◌∷◌, map, Option, Some, None, Contains}
 use Rattle.std.proofs.Common.{refl, sym, ap, subst, arith}
 use Rattle.std.specs.Prelude.{All, IfSome, find, option_and_then, option_map}
@@ -80,7 +81,7 @@ one-of s program from to [] row are (i, lt, is) = absurd (omega arith)
 one-of s program from to (x ∷ rows) row are (zero, lt, is) = subst (IsRow s program) is are.1
 one-of s program from to (x ∷ rows) row are (suc i, lt, is) = one-of s program x.end to rows row are.2 (i, omega arith, is)
 
--- each row of an FDE has good expressions
+-- in each row of an FDE all expressions are good (`HasGoodExpressions`)
 pub row-good : (s : FrameSection) → IsChecked s → (f : Fde) → Contains s.fdes f → (row : Row) → Contains (rows_in s f) row
     → HasGoodExpressions s.expressions row
 row-good s checked f among row inside =
@@ -100,7 +101,7 @@ row-good s checked f among row inside =
     subst (HasGoodExpressions es) placed.2
     (record { cfa = cfa-good s checked (placed.0).cfa lent.0; rules = rules-good s checked (placed.0).rules lent.1 })
 
--- the row of an address has good expressions
+-- in the row of an address all expressions are good
 pub found-good : (s : FrameSection) (a : ℕ) → IsChecked s → (row : Row) → row_of s a ≡ Some row → HasGoodExpressions s.expressions row
 found-good s a checked row is = go (find (covers a) s.fdes) refl is
   where

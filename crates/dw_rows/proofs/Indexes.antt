@@ -175,7 +175,7 @@ cover-indexed fdes index is a (Some f) only =
 
 -- ---- the entries of the index
 
--- the FDE that an index entry refers to
+-- an index entry refers to the FDE at the entry's `place` in the list of FDEs
 pub fde_at-is : (fdes : List FrameDescriptionEntry) (e : IndexEntry) (x : FrameDescriptionEntry) → e.place < length fdes
     → get_or fdes e.place x ≡ x → fde_at (map fde_of fdes) e ≡ fde_of x
 fde_at-is fdes e x within is = get_or-map fde_of fdes e.place x no_fde within ∙ ap fde_of is

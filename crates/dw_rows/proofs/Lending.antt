@@ -1,4 +1,4 @@
--- The expressions that rules name are among the section's.
+-- The expressions that the rules of a checked section name are among the section's expressions.
 use Rattle.std.proofs.Common.{◌≡◌, ℕ, zero, suc, List, [], ◌∷◌, length, reverse, take, drop, Some, Contains, refl, sym, ap, subst, ◌∙◌}
 use Rattle.std.proofs.Common.{arith, inl, inr}
 use Rattle.std.specs.Prelude.{IfSome}
@@ -39,7 +39,8 @@ start-rules es c f to r = rules-have (LendsRule es) cie_start (λ q. tt) (effect
 start-cfa : (es : List LocatedExpression) (c : Cie) (f : Fde) → LendsTo es (effects_of_cie c) → IfSome (fde_start c f).cfa (LendsCfa es)
 start-cfa es c f to = cfa-has (LendsCfa es) (λ r n. tt) cie_start tt (effects_of_cie c) to.cfas 0
 
--- the rules in force at a cursor name only expressions among `es`
+-- if the programs of the CIE and the FDE name only expressions among `es` (`Lends`), so do the
+-- rules in force at a cursor
 pub lends-kept : (es : List LocatedExpression) (c : Cie) (f : Fde) (before : List Effect) (w : RowCursor) → Lends es c f
     → StandsBehind c f before w → LendsRules es w.context.current
 lends-kept es c f before w lends h =
@@ -71,7 +72,8 @@ in-take (suc n) [] x among = absurd (omega (arith, among.1))
 in-take (suc n) (y ∷ xs) x (zero, lt, is) = (zero, omega arith, is)
 in-take (suc n) (y ∷ xs) x (suc k, lt, is) = let j = in-take n xs x (k, omega (arith, lt), is) in (suc j.0, omega (arith, j.1), j.2)
 
--- a row of a good program names only expressions among `es`
+-- if the programs of the CIE and the FDE name only expressions among `es` (`Lends`), so does a row
+-- of the FDE's good program
 pub row-lends : (es : List LocatedExpression) (c : Cie) (f : Fde) → (good : IsGoodFdeProgram c f) → (row : PlacedRow) (k : ℕ)
     → IsRowAt (start_in c f good) (program_in c f good) k row → Lends es c f → IfSome row.cfa (LendsCfa es) × LendsEach es row.rules
 row-lends es c f good row k at lends =
@@ -132,7 +134,8 @@ effect-lent es cie (Instruction.val_offset_sf a b) found = tt
 effect-lent es cie (Instruction.val_expression a b) found =
     record { lent = located_as FrameRegister b; found = found (located_as FrameRegister b) refl; of_kind = refl }
 
--- the expressions of instructions that were read are among `es`
+-- if looking up the offset of each instruction's expression in `es` finds it, the effects of the
+-- instructions name only expressions among `es`
 read-lent : (es : List LocatedExpression) (cie : Cie) (items : List (ℕ × Instruction))
     → ((item : ℕ × Instruction) (e : LocatedExpression) → Contains items item → expression_in item.1 ≡ Some e
     → expression_at es e.offset ≡ Some e) →

@@ -1,4 +1,4 @@
--- The row of an address is a row of the only FDE that covers it.
+-- The row that a section has at an address is a row of the only FDE that covers the address.
 use Rattle.std.proofs.Common.{◌≡◌, ℕ, zero, suc, List, [], ◌∷◌, ap, sym, ◌∙◌, refl, arith, cond}
 use Rattle.std.specs.Prelude.{Bool, true, false, Some, None, find, option_and_then}
 use Rattle.std.specs.List.{Contains}

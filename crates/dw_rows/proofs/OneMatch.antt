@@ -82,7 +82,8 @@ one-restore p i j k m n =
       ]
     ]
 
--- the program, split at the restore_state
+-- the program of a match is what comes before the restore_state, the restore_state, and what comes
+-- after it
 before-restore : (p : List Effect) (i j : ℕ) → (m : Match p i j) → p ≡ (m.front ++ remembers_state ∷ m.between) ++ restores_state ∷ m.back
 before-restore p i j m = m.whole ∙ sym (append_assoc m.front (remembers_state ∷ m.between) (restores_state ∷ m.back))
 

@@ -1,4 +1,5 @@
--- Each covered address of a checked section has exactly one row, the standard's.
+-- Each address that an FDE of a checked section covers has exactly one row, the one that DWARF 5
+-- gives it (`HasOneRow`).
 use Rattle.std.proofs.Common.{◌≡◌, ℕ, ◌+◌, ◌-◌, ◌<◌, ◌≤◌, Bool, true, false, cond, List, [], ◌∷◌, refl, sym, ap, ◌∙◌, subst, arith, map}
 use Rattle.std.proofs.Common.{ltb, leb, Some, Contains}
 use Rattle.std.proofs.lemmas.Bool.Decides.{nat_tests}

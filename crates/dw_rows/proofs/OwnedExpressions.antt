@@ -60,7 +60,7 @@ pub are-more : (bytes : List ℕ) (kept : List OwnedExpression) (k : OwnedExpres
 are-more bytes [] k are is = (is, tt)
 are-more bytes (x ∷ kept) k are is = (are.0, are-more bytes kept k are.1 is)
 
--- if all stored expressions are owned (`IsOwned`), so is the one at an index
+-- the stored expression at an index has its bytes in the array, and passed its check (`IsOwned`)
 pub owned-at : (bytes : List ℕ) (kept : List OwnedExpression) (n : ℕ) (k : OwnedExpression) → AreOwned bytes kept → n < length kept
     → get_or kept n k ≡ k → IsOwned bytes k
 owned-at bytes [] n k are lt at = absurd (omega arith)

@@ -23,8 +23,8 @@ use Rattle.dw_rows.proofs.GivenRows.{length-with}
 use Rattle.dw_rows.proofs.Indexes.{AreDistinct}
 use Rattle.dw_rows.proofs.TableRows.{rows-pushed, with-cfa}
 
--- if `room` is less than `less` only where `other` is less than `more`, a lack of `room` for `less`
--- is a lack of `other` for `more`
+-- an error that says, if it is a lack of room, that `room` is less than `less` also says that
+-- `other` is less than `more`, if the one implies the other
 pub lacks-more : (why : Unmade) (room other less more : ℕ) → (room < less → other < more) → LacksRoom why room less → LacksRoom why other more
 lacks-more Memory room other less more up h = tt
 lacks-more Room room other less more up h = up h
@@ -35,7 +35,7 @@ pub still-lacks : {X : Type 0} (r : Result X Unmade) (why : Unmade) (room most :
 still-lacks (Ok x) why room most is h = tt
 still-lacks (Err e) why room most is h = subst (λ w. LacksRoom w room most) (sym is) h
 
--- the sum over a list with one more element at the front
+-- the sum of f over a list with x at the front is f of x plus the sum over the rest
 pub sum-cons : {X : Type 0} (f : X → ℕ) (x : X) (xs : List X) → sum_by f (x ∷ xs) ≡ f x + sum_by f xs
 sum-cons f x xs = omega (arith, sum_by-append f (x ∷ []) xs)
 

@@ -188,7 +188,8 @@ filling-table es c f rows w w' entries new sets new_sets start end h step t push
     (table-pushed es w.context.location entries new sets new_sets start
     (record { rules = w'.context.current; register = c.return_address_register }) t pushed (omega arith) lends) (omega arith)
 
--- the rules of the next row name only expressions among `es`
+-- if the programs of the CIE and the FDE name only expressions among `es`, so do the rules of the
+-- next row
 pub filling-lends : (es : List LocatedExpression) (c : Cie) (f : Fde) (rows : List (PlacedRow × ℕ)) (w w' : RowCursor) (entries : List TableEntry)
     (sets : List KeptSet) (start end : ℕ) → IsFilling c f rows w entries sets → GivesNextRow w (Some (start, end)) w' → Lends es c f
     → LendsRules es w'.context.current
@@ -310,8 +311,8 @@ pub placed-below : (entries : List TableEntry) (sets : List KeptSet) (a : ℕ) �
     → find (has a) (rows_to sets entries 0) ≡ None
 placed-below entries sets a count = none-above sets entries a 0 (λ k d lt. count.above k d (omega arith) lt)
 
--- the row from `start` to `to` with the rule set number n, if there is one and it has the address
--- `a`
+-- the row from `start` to `to` with the rule set number n, if that set has a CFA rule and the row
+-- has the address `a`
 abbrev row-of-entry : List KeptSet → ℕ → ℕ → ℕ → ℕ → Option (PlacedRow × ℕ)
 row-of-entry sets a n start to = find (has a) (row_with start to (set_numbered sets n))
 

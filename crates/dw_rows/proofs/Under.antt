@@ -288,7 +288,7 @@ lowest-greater o es right t u none = record {
       (other.0, h, All-from_recursion (LendsEntry xs) right other.1);
 }
 
--- registers less than a table's first one have no rule
+-- no register below a table's first one has a rule in the table
 pub none-below : (o : ℕ × PlacedRule) (right : List (ℕ × PlacedRule)) (n : ℕ) → IsTable 0 (o ∷ right) → n < o.0
     → (r : ℕ) → r ≤ n → rule_in (o ∷ right) r ≡ default
 none-below o right n t lt r le = rule_in-below o.0 (o ∷ right) r (from-first o right t) (omega (arith, lt, le))
@@ -337,7 +337,7 @@ first-equal (x ∷ rest) (y ∷ behind) d some more t u same =
     IsLowest (entries_of (x ∷ rest)) (entries_of (y ∷ behind)) (entry_of x) (entries_of l) (entries_of behind))
     (sym (behind-is x rest)) (lowest-equal (entry_of x) (entry_of y) (entries_of rest) (entries_of behind) t u same))
 
--- registers less than the first entry's have no rule
+-- no register below that of the first entry has a rule in the table
 pub none-below-first : (entries : List RuleEntry) (d : RuleEntry) (n : ℕ) → 1 ≤ length entries → IsTable 0 (entries_of entries)
     → n < (entry_of (get_or entries 0 d)).0 → (r : ℕ) → r ≤ n → rule_in (entries_of entries) r ≡ default
 none-below-first [] d n some t lt r le = absurd (omega (arith, some))
