@@ -117,7 +117,7 @@ entry-within target at bytes e (code, front, operands, parts, first, second) =
     let inside = all-lines at target code (at + length front) operands e (omega (arith, first.count)) second in
     subst (λ n. AllWithin target at n (expression_in e)) (omega (arith, ap length parts, length-append front operands)) inside
 
--- ---- checking
+-- ---- the check of an entry
 
 abbrev fine : {A : Type 0} → A → Result A Fault
 fine a = Ok a
@@ -199,7 +199,7 @@ checked-only has_default r e after next fine_is =
     ap (λ (f : Option Fault). unless_fault f (e, after)) (none-if-fine has_default r.position e fine_is) in
     ap (λ (x : Result (Entry × ReadPosition) Fault). x >>= λ y. unless_fault (entry_fault has_default r.position y.0) y) read ∙ passed
 
--- what the check of an entry that was read returns: the entry if it has no fault, else its fault
+-- reading and checking an entry that can be read and has no fault returns the entry
 pub checked-none : (has_default : Bool) (r : ReadPosition) (e : Entry) (after : ReadPosition) → entry_at r ≡ Ok (e, after)
     → entry_fault has_default r.position e ≡ None → checked_entry_at has_default r ≡ Ok (e, after)
 unfolding checked_entry_at
@@ -207,6 +207,7 @@ checked-none has_default r e after read is =
     ap (λ (x : Result (Entry × ReadPosition) Fault). x >>= λ y. unless_fault (entry_fault has_default r.position y.0) y) read
     ∙ ap (λ (f : Option Fault). unless_fault f (e, after)) is
 
+-- reading and checking an entry that can be read and has a fault returns that fault
 pub checked-fault : (has_default : Bool) (r : ReadPosition) (e : Entry) (after : ReadPosition) (f : Fault) → entry_at r ≡ Ok (e, after)
     → entry_fault has_default r.position e ≡ Some f → checked_entry_at has_default r ≡ Err f
 unfolding checked_entry_at
@@ -214,6 +215,7 @@ checked-fault has_default r e after f read is =
     ap (λ (x : Result (Entry × ReadPosition) Fault). x >>= λ y. unless_fault (entry_fault has_default r.position y.0) y) read
     ∙ ap (λ (g : Option Fault). unless_fault g (e, after)) is
 
+-- reading and checking an entry that can't be read returns the fault of reading it
 pub checked-refused : (has_default : Bool) (r : ReadPosition) (f : Fault) → entry_at r ≡ Err f → checked_entry_at has_default r ≡ Err f
 unfolding checked_entry_at
 checked-refused has_default r f read =

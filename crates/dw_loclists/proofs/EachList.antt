@@ -74,7 +74,7 @@ given target has_default r es fs a b is h =
     subst (λ (p : List Entry × ReadPosition). Next (AreEntries target has_default r.position) r p.0 p.1)
     (ok-is {A = List Entry} (es, a) (fs, b) is) h
 
--- ---- exactness
+-- ---- reading entries gives exactly what the bytes encode
 
 entries-found : (target : Target) (n : ℕ) (has_default : Bool) (r : ReadPosition) (es : List Entry) (after : ReadPosition)
     → r.target ≡ target → at_most_entries n has_default r ≡ Ok (es, after) → Next (AreEntries target has_default r.position) r es after

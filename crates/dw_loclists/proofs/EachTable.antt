@@ -84,16 +84,18 @@ unfolding lists_at
 lists-only target r ls same are =
     ap (λ (items : Items). all_of items) ((sequence-exact target list_at (IsList target) (each-list target) r ls same).1 are) ∙ all-only ls
 
--- reading lists one at a time: at the end, after one more list, and at a fault
+-- where no bytes are left, reading lists gives none
 pub lists-end : (r : ReadPosition) → length r.rest ≡ 0 → lists_at r ≡ Ok []
 unfolding lists_at
 lists-end r h = ap (λ (items : Items). all_of items) (ends list_at r h)
 
+-- reading lists gives the first list and then what reading the lists after it gives
 pub lists-more : (r : ReadPosition) (l : Loclist) (after : ReadPosition) → list_at r ≡ Ok (l, after)
     → lists_at r ≡ put_list l (lists_at after)
 unfolding lists_at
 lists-more r l after is = ap (λ (items : Items). all_of items) (goes-on list_at lists-forward r l after is)
 
+-- if the first list has a fault, reading lists gives that fault
 pub lists-stop : (r : ReadPosition) (f : Fault) → 0 < length r.rest → list_at r ≡ Err f → lists_at r ≡ Err f
 unfolding lists_at
 lists-stop r f some is = ap (λ (items : Items). all_of items) (stops list_at r f some is)
@@ -111,7 +113,7 @@ pub nothing-more : (ls : List Loclist) → ls ++ [] ≡ ls
 nothing-more [] = refl
 nothing-more (l ∷ ls) = ap (λ (t : List Loclist). l ∷ t) (nothing-more ls)
 
--- ---- offsets of the array
+-- ---- the offsets in a table's array
 
 start-found : (starts : List ℕ) (at : ℕ) → is_among at starts ≡ true → Contains starts at
 start-found [] at is = absurd cc

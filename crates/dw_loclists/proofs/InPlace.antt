@@ -23,8 +23,8 @@ use Rattle.dw_loclists.proofs.Checked.{checked-tables}
 use Rattle.dw_loclists.proofs.KeptLists.{nothing}
 use Rattle.dw_loclists.proofs.Order.{entries-front, located-of}
 
--- x is a location with this target, and its bytes are in `bytes`, which begin at offset `at` of the
--- section, at the offset that x has
+-- x is a location with this target; `bytes`, which begin at offset `at` of the section, have x's
+-- bytes at x's offset
 pub record IsIn (target : Target) (at : ℕ) (bytes : List ℕ) (x : LocatedExpression) : Type 0 where
   pub front : List ℕ
   pub rest : List ℕ

@@ -58,7 +58,7 @@ pub some-element : {X : Type 0} (xs : List X) (i : ℕ) → i < length xs → X
 some-element [] i h = absurd (omega arith)
 some-element (x ∷ xs) i h = x
 
--- ---- numbers that rise
+-- ---- numbers that ascend (`RiseWithin`)
 
 pub rise-append : (low mid high : ℕ) (xs ys : List ℕ) → RiseWithin low mid xs → RiseWithin mid high ys → RiseWithin low high (xs ++ ys)
 rise-append low mid high [] [] h k = omega arith

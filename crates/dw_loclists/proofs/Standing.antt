@@ -83,7 +83,7 @@ one-target s l e b checked among e_in has =
     let list = among-tables s.target 0 s.section (tables_in s) l (checked-tables s checked) among in
     target-among s.target _ list.own l.entries end_of_list e b list.list_is.encoded e_in has
 
--- ---- bases
+-- ---- base addresses
 
 base-more : (base : ℕ) (x : Entry) (es : List Entry) → base_after base (x ∷ es) ≡ base_after (base_after base (x ∷ [])) es
 base-more base end_of_list es = refl
@@ -109,7 +109,7 @@ held-by-base base address (x ∷ before) e behind =
     ∙ sym (append_assoc (held_by base address x) (bounded_at next address before)
     (held_by (base_after base (x ∷ before)) address e ++ bounded_at (base_after base (x ∷ (before ++ e ∷ []))) address behind))))
 
--- ---- defaults
+-- ---- the default_locations of a list
 
 default-count : (e : Entry) → length (default_of e) ≡ cond (is_default e) 1 0
 default-count end_of_list = refl

@@ -60,9 +60,9 @@ checked_entry_at has_default r = entry_at r >>= λ entry. unless_fault (entry_fa
 abbrev pub no_end : ReadPosition → Fault
 no_end r = record { kind = NoEnd; at = r.position }
 
--- Reads entries up to an end_of_list, which the result leaves out. The fault is NoEnd if neither
--- the next `count` entries nor those up to the table's end have an end_of_list. `has_default` tells
--- whether the list already had a default_location.
+-- Reads entries up to an end_of_list, which the result leaves out. The fault is NoEnd if the table
+-- ends, or `count` entries were read, before an end_of_list. `has_default` tells whether the list
+-- already had a default_location.
 abbrev pub at_most_entries : ℕ → Bool → ReadPosition → Result (List Entry × ReadPosition) Fault
 at_most_entries zero has_default r = Err (no_end r)
 at_most_entries (suc count) has_default r =

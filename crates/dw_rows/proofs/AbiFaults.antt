@@ -96,7 +96,7 @@ stands-again before (n ∷ rest) place d is = go (is_among n before) refl (stand
         subst (λ l. StandsAgain l place) (regrouped before n rest)
         (later (distinct-behind before n d other) (sym (second-later before n rest other) ∙ is))
 
--- ---- the fault
+-- ---- the first fault of an ABI
 
 nothing-before : IsDistinct nat_eq []
 unfolding IsDistinct

@@ -109,7 +109,7 @@ pub second-later : (before : List ℕ) (n : ℕ) (rest : List ℕ) → is_among 
     → place_of_second before (n ∷ rest) ≡ place_of_second (before ++ n ∷ []) rest
 second-later before n rest other = rw other refl
 
--- ---- the fault
+-- ---- the first fault of an ABI
 
 pub fault-at : (registers : List ℕ) (pointer : Option ℕ) (at : ℕ) → length registers ≤ MAX_KEPT
     → place_of_second [] (registers ++ option_to_list pointer) ≡ Some at

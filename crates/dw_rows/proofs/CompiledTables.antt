@@ -80,7 +80,7 @@ row-fits s a row checked found =
     let fits = checked-fits s checked f among in
     (omega (arith, by.0), omega (arith, by.1))
 
--- ---- what tables give
+-- ---- what looking up an address in a table gives
 
 find-given : (es : List LocatedExpression) (a : ℕ) (rows : List (PlacedRow × ℕ))
     → find (has a) (map (given_found es) rows) ≡ option_map (given_found es) (find (has a) rows)

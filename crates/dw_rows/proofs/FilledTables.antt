@@ -200,7 +200,7 @@ rows-lend es sets lends (e ∷ rest) within to =
     (one-lends es k.rules.cfa e.start (next_start rest to) k refl (lends e.set no_set (within 0 e (omega arith))))
     (rows-lend es sets lends rest (λ k d lt. within (suc k) d (omega arith)) to)
 
--- ---- FDE after FDE
+-- ---- adding the rows of one FDE after another
 
 contains-at : {X : Type 0} (xs : List X) (i : ℕ) (d : X) → i < length xs → Contains xs (get_or xs i d)
 contains-at xs i d lt = (i, lt, get_or_default xs i (get_or xs i d) d lt)

@@ -85,7 +85,7 @@ row-same s p k x y r t =
     let rules : x.rules ≡ y.rules = same-rules s p k x y r t in
     λ i. record { start = start i; end = end i; cfa = cfa i; rules = rules i }
 
--- ---- the law
+-- ---- the law `exact_rows`
 
 pub has-one-row : (s : FrameSection) (a : ℕ) → IsChecked s → (f : Fde) → Contains s.fdes f → Covers f a → HasOneRow s a
 has-one-row s a checked f among covers =

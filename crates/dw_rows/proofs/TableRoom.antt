@@ -120,7 +120,7 @@ cost-all c f rows w w' entries sets h step =
 pub cost-both : (l m : List (PlacedRow × ℕ)) → cost (l ++ m) ≡ cost l + cost m
 cost-both l m = sum_by-append (λ x. row_bytes x.0) l m
 
--- ---- FDE after FDE
+-- ---- the cost of the rows of one FDE after another
 
 pub sum-further : {X : Type 0} (f : X → ℕ) (xs : List X) (k : ℕ) (x : X) → k < length xs → get_or xs k x ≡ x
     → sum_by f (take (k + 1) xs) ≡ sum_by f (take k xs) + f x

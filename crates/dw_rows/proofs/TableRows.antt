@@ -25,7 +25,7 @@ use Rattle.dw_rows.specs.CompiledTable.{IsTableUpTo, IsClosedAt, IsBegunAt, IsPu
 use Rattle.dw_rows.proofs.Covering.{cover-after, here, not-here-below, not-here-above}
 use Rattle.dw_rows.proofs.Lending.{lends-kept}
 
--- ---- one more entry
+-- ---- the rows after one more entry
 
 next-more : (rest : List TableEntry) (e : TableEntry) (to : ℕ) → next_start (rest ++ e ∷ []) to ≡ next_start rest e.start
 next-more [] e to = refl

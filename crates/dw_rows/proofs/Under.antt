@@ -98,7 +98,7 @@ first-list {E} f g n is = sym (rule_list-same (rule_in all) f (λ r h. each r h)
           ])
     ]
 
--- ---- the lowest of two tables
+-- ---- the lowest entry of two tables
 
 in-first : {E : Type 0} → (e : ℕ × RuleOver E) (es : List (ℕ × RuleOver E)) → rule_in (e ∷ es) e.0 ≡ e.1
 in-first e es = let yes : eqb e.0 e.0 ≡ true = eq-eqb e.0 e.0 refl in rw yes refl
