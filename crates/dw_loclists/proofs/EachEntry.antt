@@ -153,7 +153,7 @@ range-is (base_address base) h = refl
 range-is (start_end begin end e) h = le-ltb end begin h
 range-is (start_length begin count e) h = refl
 
--- an entry that has no fault
+-- an entry that has no fault; `has_default` tells whether its list already had a default_location
 pub record IsFine (has_default : Bool) (e : Entry) : Type 0 where
   pub only : (has_default && is_default e) ≡ false
   pub range : IsRange e

@@ -413,8 +413,8 @@ pub expressions-more : (es : List Entry) (e : Entry) → expressions_of (es ++ e
 expressions-more es e = ap (map location_of) (filter_map-append expression_in es (e ∷ []))
     ∙ map-append location_of (filter_map expression_in es) (filter_map expression_in (e ∷ []))
 
--- if reading a list gave the entries `es` and then gives e, which isn't an end_of_list, it gave
--- `es` and then e, and continues after e
+-- if e, which isn't an end_of_list, is read after the entries `es` of a list, the entries read so
+-- far are `es` with e at the end
 pub next-entry : (r s after : ReadPosition) (d next : Bool) (es : List Entry) (e : Entry) → entries_at false r ≡ put_all es (entries_at d s)
     → checked_entry_at d s ≡ Ok (e, after) → is_end e ≡ false → (d || is_default e) ≡ next
     → entries_at false r ≡ put_all (es ++ e ∷ []) (entries_at next after)

@@ -1,4 +1,5 @@
--- The expressions of programs are in order of offset, and each is found at its own offset.
+-- The expressions of programs are in order of offset, and looking up an expression's offset finds
+-- that expression.
 use Rattle.std.proofs.Common.{◌≡◌, ◌≢◌, ℕ, zero, suc, ◌+◌, ◌<◌, ◌≤◌, ◌==◌, List, [], ◌∷◌, ◌++◌, length, Some}
 use Rattle.std.proofs.Common.{None, Result, Ok, Err, Contains, true, false, refl, sym, ap, subst, ◌∙◌, arith, inl, inr, if◌then◌else◌}
 use Rattle.std.specs.Prelude.{find}
@@ -250,7 +251,7 @@ pub expressions-apart : (target : Target) (section : List ℕ) → fault_in (ent
     → e.offset ≢ g.offset
 expressions-apart target section none = apart target 0 section (records-in target section) (are-records target section none)
 
--- each expression of a section lies inside it
+-- the bytes of each expression of a section are inside the section
 pub expression-inside : (target : Target) (section : List ℕ) → fault_in (entries_of target section) ≡ None → (e : LocatedExpression)
     → Contains (frame_expressions (frame_of target section).cies (frame_of target section).fdes) e → IsInside target 0 (length section) e
 expression-inside target section none e among =

@@ -156,7 +156,7 @@ not-covered index ordered place a x once some in_range x_is low above short f (k
           omega (arith, end, covered.1)
     ]
 
--- if all FDEs begin above an address, none covers it
+-- if all FDEs of the index begin above an address, none of them covers the address
 pub none-covered : (index : List Fde) → (a : ℕ) → ((k : ℕ) (d : Fde) → k < length index → a < (get_or index k d).initial_location)
     → (f : Fde)
     → Contains index f → ¬ Covers f a
