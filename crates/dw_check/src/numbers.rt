@@ -1,4 +1,4 @@
-//! Numbers as text. Each function appends to `line`, a buffer that is reused.
+//! Formats numbers, offsets and addresses. Each `push_` function appends to the buffer `line`.
 
 ghost use Rattle.std.specs.Prelude.{◌≡◌, ◌++◌, ◌^◌, ◌<◌, OnOk, codes};
 ghost use Rattle.std.specs.Str.{IsUtf8};
@@ -10,8 +10,8 @@ use dw_bytes::AddressSize;
 use itoa::{Buffer, Integer};
 use std::alloc::AllocError;
 
-/// The hex digits of a number. Text is mostly offsets and addresses, and `write!` would take several
-/// times as long for each.
+/// The 8 lower-case hex digits of a number. Most numbers in the output are offsets and addresses,
+/// and `write!` would take several times as long for each of them.
 #[tactic(auto, using(crate::proofs::HexBytes::short_digits))]
 fn short_digits(number: u32) -> [u8; 8]
     ensures { result ≡ hex_digits 8 number }
@@ -23,7 +23,7 @@ fn short_digits(number: u32) -> [u8; 8]
     }
 }
 
-/// Like `short_digits`, for a number of 64 bits.
+/// The 16 lower-case hex digits of a number.
 #[tactic(auto, using(crate::proofs::HexBytes::long_digits))]
 fn long_digits(number: u64) -> [u8; 16]
     ensures { result ≡ hex_digits 16 number }
@@ -35,7 +35,7 @@ fn long_digits(number: u64) -> [u8; 16]
     }
 }
 
-/// Appends `0x` and hex digits.
+/// Appends `0x` and the hex digits that `digits` holds as ASCII text.
 fn push_digits(line: &mut String, digits: &[u8]) -> Result<(), AllocError>
     requires { IsUtf8 digits.now }
     ensures { OnOk result (string_bytes line.new
@@ -48,7 +48,7 @@ fn push_digits(line: &mut String, digits: &[u8]) -> Result<(), AllocError>
     line.push_str(text)
 }
 
-/// An offset in a section or in an expression.
+/// Appends an offset in a section or in an expression: `0x` and 8 hex digits.
 pub(crate) fn push_offset(line: &mut String, offset: u32) -> Result<(), AllocError>
     ensures { OnOk result (string_bytes line.new ≡ string_bytes line.old ++ offset_text offset) }
 {
@@ -67,7 +67,8 @@ fn push_long_address(line: &mut String, address: u64) -> Result<(), AllocError>
     push_digits(line, &long_digits(address))
 }
 
-/// An address in hex digits. Of a number that is too large only the low digits are shown.
+/// Appends an address: `0x` and 8 hex digits if addresses have 4 bytes, 16 if they have 8. If the
+/// number is too large for 8 digits, its last 8 digits are written.
 pub(crate) fn push_address(
     line: &mut String,
     size: AddressSize,
@@ -82,7 +83,7 @@ pub(crate) fn push_address(
     }
 }
 
-/// The addresses from `start` up to, not including, `end`.
+/// Appends the address range from `start` up to, but not including, `end` as `start..end`.
 #[tactic(auto, unfolding(crate::specs::Text::range_text))]
 pub(crate) fn push_range(
     line: &mut String,
@@ -100,7 +101,7 @@ pub(crate) fn push_range(
     push_address(line, size, end)
 }
 
-/// A number in decimal digits, with `-` in front if it is negative.
+/// Appends a number in decimal digits, with `-` in front if the number is negative.
 pub(crate) fn push_decimal<I: Integer>(line: &mut String, number: I) -> Result<(), AllocError>
     ensures { OnOk result (string_bytes line.new ≡ string_bytes line.old ++ I.text number) }
 {
@@ -108,7 +109,7 @@ pub(crate) fn push_decimal<I: Integer>(line: &mut String, number: I) -> Result<(
     line.push_str(buffer.format(number))
 }
 
-/// A number in decimal digits, with its sign in front: `-` if it is negative, else `+`.
+/// Appends a number in decimal digits with its sign in front: `-` if it is negative, else `+`.
 pub(crate) fn push_signed(line: &mut String, number: i64) -> Result<(), AllocError>
     ensures { OnOk result (string_bytes line.new ≡ string_bytes line.old ++ signed_text number) }
 {

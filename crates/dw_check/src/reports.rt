@@ -1,4 +1,4 @@
-//! The report on two checked sections.
+//! Writes the report on two accepted sections: what they hold, and a line for each expression.
 
 ghost use Rattle.std.specs.Prelude.{◌≡◌, ◌+◌, ◌++◌, ◌<◌, ◌^◌, ℕ, List, OnOk, false, length, map};
 ghost use Rattle.std.specs.List.{flat_map};
@@ -23,7 +23,7 @@ use dw_rows::{CheckedFrame, Rows, UnwindTableRow};
 use dw_stack::{CheckedExpression, Kind};
 use std::alloc::{AllocError, Global};
 
-/// The number of remaining rows. Each row is made in the buffer `row`.
+/// Counts the rows that `rows` has not given yet. Each of them overwrites the buffer `row`.
 fn count_rows_of<'f, 'a>(rows: &mut Rows<'f, 'a>, row: &mut UnwindTableRow<'f, 'a>) -> u64
     requires { length rows.old < 2 ^ 64 }
     ensures { result ≡ length rows.old }
@@ -35,7 +35,7 @@ fn count_rows_of<'f, 'a>(rows: &mut Rows<'f, 'a>, row: &mut UnwindTableRow<'f, '
     count
 }
 
-/// The number of rows of all FDEs in a section, added up.
+/// The total number of rows of all FDEs in a section.
 fn count_rows(frame: &CheckedFrame<'_>) -> u128
     ensures { result ≡ row_count frame.now }
 {
@@ -79,8 +79,7 @@ fn list_count(lists: &CheckedLists<'_>) -> usize
     lists.lists().len()
 }
 
-/// The number of expressions in both sections, added up. Each expression takes at least one byte of
-/// its section.
+/// The total number of expressions in both sections.
 fn expression_count(checked: &Checked<'_>) -> u128
     ensures { result ≡ length checked.now.frame.expressions
         + length (located_in checked.now.lists) }
@@ -151,7 +150,7 @@ fn push_lists_counts(
     push_expression_count(line, expressions)
 }
 
-/// The line with the numbers of CIEs, FDEs and rows in a frame section.
+/// Appends the line with the numbers of CIEs, FDEs and rows in a frame section.
 fn push_frame_line(line: &mut String, frame: &CheckedFrame<'_>) -> Result<(), AllocError>
     ensures { OnOk result (string_bytes line.new ≡ string_bytes line.old ++ frame_line frame.now) }
 {
@@ -159,8 +158,8 @@ fn push_frame_line(line: &mut String, frame: &CheckedFrame<'_>) -> Result<(), Al
     push_frame_counts(line, cie_count(frame), fde_count(frame), rows)
 }
 
-/// The line with the numbers of tables and lists in the section of location lists, and of
-/// expressions in both sections.
+/// Appends the line with the number of tables and the number of location lists in the section of
+/// location lists, and with the number of expressions in both sections together.
 fn push_lists_line(line: &mut String, checked: &Checked<'_>) -> Result<(), AllocError>
     ensures { OnOk result (string_bytes line.new ≡ string_bytes line.old
         ++ lists_line checked.now.frame checked.now.lists) }
@@ -174,7 +173,7 @@ fn push_lists_line(line: &mut String, checked: &Checked<'_>) -> Result<(), Alloc
     )
 }
 
-/// The first lines of a report: `accepted`, and the counts.
+/// Appends the first three lines of a report: `accepted`, and two lines with counts.
 #[tactic(auto, unfolding(crate::specs::Report::summary_text))]
 fn push_summary(line: &mut String, checked: &Checked<'_>) -> Result<(), AllocError>
     ensures { OnOk result (string_bytes line.new ≡ string_bytes line.old
@@ -196,7 +195,8 @@ fn reported_kind(kind: Kind) -> &'static str
     }
 }
 
-/// The report's line on an expression: its section, offset, kind, number of operations and depth.
+/// Appends the report's line on an expression: its section, its offset there, its kind, its number
+/// of operations, and the greatest stack depth on any path through the expression.
 #[tactic(auto, unfolding(crate::specs::Report::expression_line))]
 fn push_expression_line(
     line: &mut String,
@@ -239,7 +239,7 @@ fn write_expression_line<S: Sink>(
     send_line(out)
 }
 
-/// Writes a line for each expression of the frame section, in order.
+/// Writes a line for each expression of the frame section, in the order of `expressions`.
 fn write_frame_expressions<S: Sink>(
     out: &mut Writer<'_, S>,
     expressions: &[(u32, CheckedExpression<'_>)],
@@ -256,7 +256,7 @@ fn write_frame_expressions<S: Sink>(
     Ok(())
 }
 
-/// Writes a line for each expression of the location lists, in order.
+/// Writes a line for each expression of the location lists, in the order of `expressions`.
 fn write_list_expressions<'c, 'a, S: Sink>(
     out: &mut Writer<'_, S>,
     expressions: Expressions<'c, 'a>,
@@ -290,7 +290,7 @@ fn write_all_expressions<'c, 'a, S: Sink>(
     write_list_expressions(out, of_lists)
 }
 
-/// Writes the lines of a report.
+/// Writes all lines of the report to `out`: the counts first, then the expressions.
 pub(crate) fn write_report<S: Sink>(
     out: &mut Writer<'_, S>,
     checked: &Checked<'_>,
@@ -311,9 +311,9 @@ pub(crate) fn write_report<S: Sink>(
 
 /// Writes the report on two checked sections: `accepted`; the numbers of CIEs, FDEs, rows, tables,
 /// lists and expressions; and a line for each expression, those of the frame section first. The
-/// first three lines are sent together, the others one by one; only what is sent next is in memory.
-/// After an error only a beginning of the report is written; the sink has stopped exactly if the
-/// error is `Write`.
+/// first three lines are sent to the sink together and the others one by one, so memory never holds
+/// the whole report. After an error only the start of the report has been written. The sink has
+/// stopped if the error is `Write`, and accepts more bytes after any other error.
 pub fn report<S: Sink>(
     alloc: Global,
     checked: &Checked<'_>,
