@@ -1,4 +1,4 @@
-//! The registers that a state file names for the ABI.
+//! The callee-saved registers and the stack pointer that a state file names.
 
 ghost use Rattle.std.specs.Prelude.{◌≡◌, [], None, Some};
 ghost use Rattle.std.specs.Bool.{OnTrue};
@@ -30,8 +30,9 @@ impl AbiRegisters {
         }
     }
 
-    /// Adds a callee-saved register, unless it was added before, and returns true. Returns false if
-    /// the register is the stack pointer or there are too many.
+    /// Adds a callee-saved register and returns true. If the register was added before, changes
+    /// nothing and returns true. Returns false if the register is the stack pointer, or if there
+    /// are `MAX_KEPT` callee-saved registers already.
     pub fn keep(&mut self, number: u16) -> bool
         ensures taken { result ≡ is_none (abi_fault
             (kept_with self.old.kept.items (keep number)) self.old.stack_pointer) }
@@ -49,8 +50,8 @@ impl AbiRegisters {
         true
     }
 
-    /// Sets the stack pointer, unless one was set before, and returns true. Returns false, and sets
-    /// nothing, if none was set before and the register is callee-saved.
+    /// Sets the stack pointer and returns true. If a stack pointer is set already, changes nothing
+    /// and returns true. Returns false if none is set yet and the register is callee-saved.
     pub fn set_stack_pointer(&mut self, number: u16) -> bool
         ensures taken { result ≡ is_none (abi_fault self.old.kept.items
             (option_or self.old.stack_pointer (Some number))) }

@@ -6,7 +6,8 @@ ghost use Rattle.dw_check.specs.Addresses.{number_of, at_most, short_number, hex
 
 use dw_bytes::Target;
 
-/// The number written in 1 to `most` digits of base `radix`, which is 10 or 16.
+/// Parses a number that is written in 1 to `most` digits of base `radix`, which is 10 or 16. Any
+/// other text gives `None`, even one with a sign.
 pub(crate) fn parse_number(digits: &[u8], radix: u32, most: usize) -> Option<u64>
     requires radix { (radix ≡ 10) ⊎ (radix ≡ 16) }
     requires most { most ≤ 16 }
@@ -15,7 +16,7 @@ pub(crate) fn parse_number(digits: &[u8], radix: u32, most: usize) -> Option<u64
     if digits.is_empty() || digits.len() > most {
         return None;
     }
-    // `from_str_radix` accepts a sign.
+    // `from_str_radix` would accept a plus sign.
     if digits[0] == b'+' {
         return None;
     }
@@ -28,21 +29,23 @@ pub(crate) fn parse_number(digits: &[u8], radix: u32, most: usize) -> Option<u64
     }
 }
 
-/// The number, if it is at most `top`.
+/// `number`, or `None` if it is greater than `top`.
 fn number_within(number: Option<u64>, top: u64) -> Option<u64>
     ensures { result ≡ option_and_then (at_most top) number }
 {
     number.filter(|value| *value <= top)
 }
 
-/// The number written in 1 to 5 decimal digits, if it is at most 65535.
+/// Parses a number that is written in 1 to 5 decimal digits. `None` if the text has another form or
+/// the number is greater than 65535.
 pub(crate) fn parse_short(digits: &[u8]) -> Option<u16>
     ensures { result ≡ short_number digits.now }
 {
     u16::try_from(parse_number(digits, 10, 5)?).ok()
 }
 
-/// The number written as `0x` and 1 to 16 hex digits of either case, if it is at most `top`.
+/// Parses a number that is written as `0x` and 1 to 16 hex digits of either case. `None` if the
+/// text has another form or the number is greater than `top`.
 fn parse_hex(text: &[u8], top: u64) -> Option<u64>
     ensures { result ≡ hex_up_to top text.now }
 {
@@ -52,14 +55,16 @@ fn parse_hex(text: &[u8], top: u64) -> Option<u64>
     }
 }
 
-/// The address written as `0x` and hex digits, if it is at most the target's greatest address.
+/// Parses an address that is written as `0x` and 1 to 16 hex digits. `None` if the text has another
+/// form or the number is greater than the target's greatest address.
 pub(crate) fn parse_address(text: &[u8], target: Target) -> Option<u64>
     ensures { result ≡ address_of target text.now }
 {
     parse_hex(text, target.address_size.max_address())
 }
 
-/// The section offset written as `0x` and hex digits, if it is at most 2^32 - 1.
+/// Parses a section offset that is written as `0x` and 1 to 16 hex digits. `None` if the text has
+/// another form or the number is greater than 2^32 - 1.
 pub(crate) fn parse_offset(text: &[u8]) -> Option<u32>
     ensures { result ≡ offset_of text.now }
 {

@@ -44,7 +44,8 @@ fn request_with(alloc: Global, matches: &ArgMatches<'_>, task: Task, files: Vec<
     }
 }
 
-/// A request for one file.
+/// A request for `task` and one file, with the flags that clap found. Fails only if memory runs
+/// out.
 fn request_over(
     alloc: Global,
     matches: &ArgMatches<'_>,
@@ -65,7 +66,7 @@ fn request_over(
     Ok(request_with(alloc, matches, task, files))
 }
 
-/// The list of `file` and, if it is given, `second`.
+/// A list of one or two file names: `file`, and then `second` if there is one.
 fn one_or_two_files(alloc: Global, file: &str, second: Option<&str>) -> Result<Vec<String>, Usage>
     ensures ok { IfOk result (λ files. map (λ s. string_bytes s) files.items ≡ file.now
         ∷ option_to_list (option_map (λ s. s.now) second.entry)) }
@@ -78,7 +79,8 @@ fn one_or_two_files(alloc: Global, file: &str, second: Option<&str>) -> Result<V
     Ok(files)
 }
 
-/// A request for two files.
+/// A request for `task` and two files, with the flags that clap found. Fails only if memory runs
+/// out.
 fn request_over_both(
     alloc: Global,
     matches: &ArgMatches<'_>,
@@ -100,7 +102,8 @@ fn request_over_both(
     Ok(request_with(alloc, matches, task, files))
 }
 
-/// A request for one file, and for the file of `--state` if it is given.
+/// A request for `task` and one file, followed by the file of `--state` if that option is given.
+/// Fails only if memory runs out.
 fn request_with_state(
     alloc: Global,
     matches: &ArgMatches<'_>,
@@ -138,7 +141,8 @@ fn with_module_files(
     Ok(files)
 }
 
-/// A request for a frame section and a state file, with the values of `--load` and `--module`.
+/// A request for `task`, a frame section and a state file, with the values of `--load` and
+/// `--module`.
 fn request_over_modules(
     alloc: Global,
     matches: &ArgMatches<'_>,
@@ -165,7 +169,7 @@ fn request_over_modules(
     })
 }
 
-/// The request of `check`.
+/// The request that the words of `check` make.
 fn check_request(alloc: Global, matches: &ArgMatches<'_>) -> Result<Request, Usage>
     ensures ok { IfOk result (λ r. asked_of check_command (rows_of (found_of matches.now))
         ≡ Some r) }
@@ -177,7 +181,7 @@ fn check_request(alloc: Global, matches: &ArgMatches<'_>) -> Result<Request, Usa
     request_over_both(alloc, matches, Task::Check, frame, lists)
 }
 
-/// The request of `rows`.
+/// The request that the words of `rows` make.
 fn rows_request(alloc: Global, matches: &ArgMatches<'_>) -> Result<Request, Usage>
     ensures ok { IfOk result (λ r. asked_of rows_command (rows_of (found_of matches.now))
         ≡ Some r) }
@@ -189,7 +193,7 @@ fn rows_request(alloc: Global, matches: &ArgMatches<'_>) -> Result<Request, Usag
     }
 }
 
-/// The request of `row`.
+/// The request that the words and options of `row` make.
 fn row_request(alloc: Global, matches: &ArgMatches<'_>) -> Result<Request, Usage>
     ensures ok { IfOk result (λ r. asked_of row_command (rows_of (found_of matches.now)) ≡ Some r) }
     ensures err { IfErr result (λ e. (e ≡ Memory)
@@ -204,7 +208,7 @@ fn row_request(alloc: Global, matches: &ArgMatches<'_>) -> Result<Request, Usage
     Ok(Request { load, ..request })
 }
 
-/// What `locs` looks up.
+/// What `locs` looks up: the values of its words LIST, BASE and ADDRESS.
 fn locs_lookup(matches: &ArgMatches<'_>) -> Result<ListLookup, Usage>
     ensures ok { IfOk result (λ l. lookup_in (rows_of (found_of matches.now)) ≡ Some l) }
     ensures err { IfErr result (λ e. (e ≡ Memory)
@@ -220,7 +224,7 @@ fn locs_lookup(matches: &ArgMatches<'_>) -> Result<ListLookup, Usage>
     })
 }
 
-/// The request of `locs`.
+/// The request that the words and options of `locs` make.
 fn locs_request(alloc: Global, matches: &ArgMatches<'_>) -> Result<Request, Usage>
     ensures ok { IfOk result (λ r. asked_of locs_command (rows_of (found_of matches.now))
         ≡ Some r) }
@@ -234,7 +238,7 @@ fn locs_request(alloc: Global, matches: &ArgMatches<'_>) -> Result<Request, Usag
     request_with_state(alloc, matches, Task::Locs { lookup }, file)
 }
 
-/// The request of `eval`.
+/// The request that the words and options of `eval` make.
 fn eval_request(alloc: Global, matches: &ArgMatches<'_>) -> Result<Request, Usage>
     ensures ok { IfOk result (λ r. asked_of eval_command (rows_of (found_of matches.now))
         ≡ Some r) }
@@ -250,7 +254,7 @@ fn eval_request(alloc: Global, matches: &ArgMatches<'_>) -> Result<Request, Usag
     request_with_state(alloc, matches, Task::Eval { kind }, file)
 }
 
-/// The request of `unwind`.
+/// The request that the words and options of `unwind` make.
 fn unwind_request(alloc: Global, matches: &ArgMatches<'_>) -> Result<Request, Usage>
     ensures ok { IfOk result (λ r. asked_of unwind_command (rows_of (found_of matches.now))
         ≡ Some r) }
@@ -266,7 +270,7 @@ fn unwind_request(alloc: Global, matches: &ArgMatches<'_>) -> Result<Request, Us
     request_over_modules(alloc, matches, Task::Unwind { address }, frame, state)
 }
 
-/// The task of `backtrace`.
+/// The task of `backtrace`, with the values of its words ADDRESS and LIMIT.
 fn backtrace_task(matches: &ArgMatches<'_>) -> Result<Task, Usage>
     ensures ok { IfOk result (λ task. backtrace_in (rows_of (found_of matches.now)) ≡ Some task) }
     ensures err { IfErr result (λ e. (e ≡ Memory)
@@ -277,7 +281,7 @@ fn backtrace_task(matches: &ArgMatches<'_>) -> Result<Task, Usage>
     Ok(Task::Backtrace { address, limit })
 }
 
-/// The request of `backtrace`.
+/// The request that the words and options of `backtrace` make.
 fn backtrace_request(alloc: Global, matches: &ArgMatches<'_>) -> Result<Request, Usage>
     ensures ok { IfOk result (λ r. asked_of backtrace_command (rows_of (found_of matches.now))
         ≡ Some r) }
@@ -293,8 +297,8 @@ fn backtrace_request(alloc: Global, matches: &ArgMatches<'_>) -> Result<Request,
     request_over_modules(alloc, matches, task, frame, state)
 }
 
-/// The request of the subcommand `name`. Code that returns `Memory` though no allocation failed is
-/// never reached: clap accepts no other subcommand, and none whose words are missing.
+/// The request of the subcommand `name`. Some code in this file returns `Memory` although no
+/// allocation failed. It is never reached: clap rejects unknown subcommands and missing words.
 fn request_of_command(alloc: Global, name: &str, matches: &ArgMatches<'_>) -> Result<Request, Usage>
     ensures ok { IfOk result (λ r. asked_by name.now (rows_of (found_of matches.now)) ≡ Some r) }
     ensures err { IfErr result (λ e. (e ≡ Memory)
@@ -324,7 +328,7 @@ fn request_of_command(alloc: Global, name: &str, matches: &ArgMatches<'_>) -> Re
     Err(Usage::Memory)
 }
 
-/// The request of the matched subcommand.
+/// The request of the subcommand that clap found.
 fn request_of_matches(alloc: Global, matches: &ArgMatches<'_>) -> Result<Request, Usage>
     ensures ok { IfOk result (λ r. IsSomeAnd (subcommand_rows_of matches.now)
         (λ (name, rows). asked_by name rows ≡ Some r)) }

@@ -1,4 +1,4 @@
-//! Writes the caller of a frame.
+//! Writes the caller of a frame: its CFA, its registers and its return address.
 
 ghost use Rattle.std.specs.Prelude.{◌≡◌, ◌++◌, false, OnOk, map, option_copied, option_map};
 ghost use Rattle.std.specs.List.{flat_map};
@@ -15,7 +15,7 @@ use dw_bytes::AddressSize;
 use dw_unwind::{Answer, Caller};
 use std::alloc::AllocError;
 
-/// The value of an answer, or why there is none.
+/// Appends the value of an answer, or the reason why the answer has no value.
 pub(crate) fn push_answer(
     line: &mut String,
     size: AddressSize,
@@ -101,7 +101,7 @@ fn push_caller(
     }
 }
 
-/// Writes the lines of a caller, or `none` if there is none.
+/// Writes the lines of a caller, or `none` if `caller` is `None`.
 pub(crate) fn write_caller<S: Sink>(
     out: &mut Writer<'_, S>,
     caller: Option<&Caller>,

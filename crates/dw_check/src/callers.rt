@@ -1,5 +1,5 @@
-//! Unwinds one frame or a whole stack, by the frame section of two sections that were checked
-//! together.
+//! Unwinds one frame or a whole stack with the frame section of a `Checked`, a pair of sections
+//! that were checked together.
 
 ghost use Rattle.std.specs.Prelude.{◌≡◌, ◌<◌, ◌^◌, All, IfErr, IfOk, IfSome, IsOk, option_map};
 ghost use Rattle.dw_bytes.specs.Answers.{memory as want_of_memory};
@@ -19,10 +19,11 @@ use dw_rows::Abi;
 use dw_unwind::{Backtrace, Caller, backtrace_by_section, unwind_by_section};
 use std::alloc::Global;
 
-/// The caller of the frame at an address, given the frame's registers and memory, or none if no FDE covers the address
-/// (DWARF 5, section 6.4.1). A register to which no instruction has given a rule is undefined.
+/// The caller of the frame at an address, given the frame's registers and memory, or none if no FDE
+/// covers the address (DWARF 5, section 6.4.1). A register to which no instruction has given a rule
+/// is undefined.
 ///
-/// This is `unwind_with` under an ABI without rules.
+/// This is `unwind_with` under an ABI that gives no rules.
 pub fn unwind<R: Registers, M: Memory>(
     checked: &Checked<'_>,
     address: u64,
@@ -43,8 +44,8 @@ pub fn unwind<R: Registers, M: Memory>(
 /// covers the address (DWARF 5, section 6.4.1). For a register to which no instruction has given a
 /// rule, `abi` supplies the rule.
 ///
-/// This is `unwind_by` with the frame section. One binary search finds the FDE, another its CIE,
-/// and the FDE's program is run once, up to the row of the address.
+/// This is `unwind_by_section` with the checked frame section. One binary search finds the FDE,
+/// another its CIE, and the FDE's program is run once, up to the row of the address.
 pub fn unwind_with<R: Registers, M: Memory>(
     checked: &Checked<'_>,
     abi: &Abi,

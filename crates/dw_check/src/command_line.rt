@@ -1,4 +1,5 @@
-//! The command line for clap: a subcommand for each task.
+//! Describes the command line to clap: the subcommands, their words, flags and options, and the
+//! help.
 
 ghost use Rattle.std.specs.Prelude.{◌≡◌, IfOk, map, true, false};
 ghost use Rattle.clap.specs.Words.{with_subcommand, app_of, rule_of};
@@ -127,9 +128,10 @@ Example:
 
 How state files are written: docs/OUTPUT.md. A gdb script writes one: tools/.";
 
-/// A command in outline: its name, what it does, the end of its help with an example, its words in
-/// order, each with its meaning, and which options it takes: a state file, the load address of its
-/// module, and further modules. Every command has the same flags.
+/// What clap has to know of a command. `about` says what the command does, and `example` is the end
+/// of its help. `words` are its required arguments in order, each a name and its help text. The
+/// last three fields say whether the command takes `--state`, `--load` and `--module`. The flags
+/// aren't listed, since they are the same for all commands.
 struct Outline<'a> {
     name: &'a str,
     about: &'a str,
@@ -280,7 +282,7 @@ fn with_words<'a>(
     Ok(command)
 }
 
-/// Adds `option`, if `is_taken`.
+/// Adds `option` if `is_taken` is true, and otherwise leaves the command as it is.
 fn with_option<'a>(
     command: Command<'a>,
     option: Arg<'a>,
@@ -365,7 +367,7 @@ fn with_commands<'a>(
     Ok(command)
 }
 
-/// The whole command line. A subcommand is required.
+/// The command `dwcheck` with all its subcommands, one of which is required.
 pub(crate) fn whole_command<'a>(alloc: Global) -> Result<Command<'a>, AllocError>
     ensures app { IfOk result (λ c. app_of c ≡ dwcheck) }
     ensures local { IfOk result (λ c. (fields_of c).has_globals ≡ false) }

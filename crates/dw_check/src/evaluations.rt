@@ -1,4 +1,4 @@
-//! Evaluates expressions and writes the outcome.
+//! Evaluates expressions and writes their outcomes.
 
 ghost use Rattle.std.specs.Prelude.{◌≡◌, ◌<◌, ◌^◌, ℕ, List, false, length};
 ghost use Rattle.dw_stack.specs.Certificates.{checked_of};
@@ -20,7 +20,8 @@ use crate::writer::{Writer, send_line};
 use dw_eval::{Context, Evaluation, evaluate};
 use dw_stack::CheckedExpression;
 
-/// Writes the lines of an evaluation; `depth` is the expression's greatest stack depth.
+/// Writes the outcome of an evaluation and the line with its number of steps and `depth`, the
+/// expression's greatest stack depth on any path.
 fn write_evaluation<S: Sink>(
     out: &mut Writer<'_, S>,
     evaluation: &Evaluation<'_>,
@@ -46,8 +47,8 @@ fn write_evaluation<S: Sink>(
     send_line(out)
 }
 
-/// Evaluates a checked expression with the registers, memory and context in `state`, and writes its
-/// outcome.
+/// Evaluates a checked expression with the registers, the memory, the CFA, the frame base and the
+/// object's address in `state`, and writes its outcome.
 pub(crate) fn write_outcome<S: Sink>(
     out: &mut Writer<'_, S>,
     checked: &CheckedExpression<'_>,

@@ -1,4 +1,4 @@
-//! Decodes the contents of a request's files.
+//! Decodes the contents of a request's files: sections, expressions and state files.
 
 ghost use Rattle.std.specs.Prelude.{◌≡◌, not, IfOk, IfErr, Ok, Some, map, length, slice_get};
 ghost use Rattle.std.specs.Cow.{cow_slice_items};
@@ -41,9 +41,9 @@ fn drop_blanks(alloc: Global, text: &[u8]) -> Result<Vec<u8>, AllocError>
 }
 
 impl<'a> Files<'a> {
-    /// The bytes of the section or expression in the file at `index`, empty if there is no such
-    /// file. Hex text is decoded, and its spaces, tabs, CRs and LFs are ignored; other bytes are
-    /// borrowed.
+    /// The bytes of the section or expression in the file at `index`, or no bytes if there is no
+    /// such file. If `self.hex` is set, the file is decoded as hex text, in which spaces, tabs, CRs
+    /// and LFs are ignored. Otherwise the bytes of the file are borrowed.
     pub fn section(&self, alloc: Global, index: usize) -> Result<CowSlice<'a, u8, Global>, RunFault>
         ensures bytes { IfOk result (λ bytes.
             section_bytes self.now.hex
@@ -67,7 +67,8 @@ impl<'a> Files<'a> {
         }
     }
 
-    /// The state in the state file at `index`, empty if there is no such file.
+    /// The machine state in the state file at `index`. If there is no such file, nothing is known
+    /// in that state.
     pub fn state(&self, alloc: Global, index: usize) -> Result<MachineState, RunFault>
         ensures state { IfOk result (IsStateOf (state_facts self.now.target
             (slice_get (map (λ file. file.items) self.now.contents.now) index))) }
@@ -79,8 +80,8 @@ impl<'a> Files<'a> {
             None => Ok(MachineState::new(alloc)),
         }
     }
-    /// The further modules, one for each load address in `loads`. Their sections are in the third
-    /// file and the files after it.
+    /// The modules that `--module` gives, one for each load address in `loads`. The first module's
+    /// frame section is in the third file, the next one's in the fourth, and so on.
     #[tactic(auto, using(crate::proofs::FurtherModules::one_more_read))]
     pub fn further_modules(
         &self,

@@ -1,4 +1,4 @@
-//! Reads what clap found for the words, the flags and the options of a command.
+//! Reads the words, the flags and the options of a command from the matches that clap found.
 
 ghost use Rattle.std.specs.Prelude.{◌≡◌, ◌⊎◌, IfOk, IfErr, Some, option_map, codes};
 ghost use Rattle.clap.specs.Words.{found_of, rows_of, first_of};
@@ -15,7 +15,7 @@ use dw_bytes::{AddressSize, Order, Target};
 use dw_stack::Kind;
 use std::alloc::Global;
 
-/// The first value of an argument.
+/// The first value of the argument `name`, or `None` if the argument isn't given.
 pub(crate) fn word_text<'a>(matches: &ArgMatches<'a>, name: &str) -> Option<&'a str>
     ensures { option_map (λ s. s.now) result ≡ first_of name.now (rows_of (found_of matches.now)) }
 {
@@ -52,7 +52,7 @@ pub(crate) fn target_by_flags(matches: &ArgMatches<'_>) -> Target
     }
 }
 
-/// The address in the argument `name`.
+/// The address in the required argument `name`. `BadArgument` if that argument is malformed.
 pub(crate) fn address_word(matches: &ArgMatches<'_>, name: &str) -> Result<u64, Usage>
     ensures ok { IfOk result (λ a. address_at name.now (rows_of (found_of matches.now)) ≡ Some a) }
     ensures err { IfErr result (λ e. (e ≡ Memory)
@@ -67,7 +67,7 @@ pub(crate) fn address_word(matches: &ArgMatches<'_>, name: &str) -> Result<u64, 
     }
 }
 
-/// The section offset in the argument `name`.
+/// The section offset in the required argument `name`. `BadArgument` if that argument is malformed.
 pub(crate) fn offset_word(matches: &ArgMatches<'_>, name: &str) -> Result<u32, Usage>
     ensures ok { IfOk result (λ n. offset_at name.now (rows_of (found_of matches.now)) ≡ Some n) }
     ensures err { IfErr result (λ e. (e ≡ Memory)
@@ -82,7 +82,7 @@ pub(crate) fn offset_word(matches: &ArgMatches<'_>, name: &str) -> Result<u32, U
     }
 }
 
-/// The kind of expression that is called `name`.
+/// The kind of expression that is called `name`, or `None` if no kind has that name.
 pub(crate) fn kind_word(name: &str) -> Option<Kind>
     ensures { result ≡ kind_of name.now }
 {
@@ -98,7 +98,8 @@ pub(crate) fn kind_word(name: &str) -> Option<Kind>
     None
 }
 
-/// The greatest number of frames, in the argument `name`.
+/// The greatest number of frames to show, in the required argument `name`. `BadArgument` if that
+/// argument is malformed.
 pub(crate) fn limit_word(matches: &ArgMatches<'_>, name: &str) -> Result<u32, Usage>
     ensures ok { IfOk result (λ n. limit_at name.now (rows_of (found_of matches.now)) ≡ Some n) }
     ensures err { IfErr result (λ e. (e ≡ Memory)
@@ -128,7 +129,7 @@ pub(crate) fn load_option(matches: &ArgMatches<'_>) -> Result<u64, Usage>
     }
 }
 
-/// The modules given by `--module`, in order.
+/// The modules that the values of `--module` give, in order.
 pub(crate) fn module_options<'a>(
     alloc: Global,
     matches: &ArgMatches<'a>,

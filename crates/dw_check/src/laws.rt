@@ -1,4 +1,5 @@
-//! Laws of checks and of requests: functions that do nothing, each with the law as its contract.
+//! Laws about checks and requests. A law is a function that does nothing, whose contract is what
+//! the law states.
 
 ghost use Rattle.std.specs.Prelude.{◌≡◌, ◌↔◌, ℕ, List, None};
 ghost use Rattle.dw_bytes.specs.declared.target.Target.{Target};
@@ -12,7 +13,7 @@ ghost use Rattle.dw_check.specs.LongFiles.{needed_parts};
 ghost use Rattle.dw_check.specs.Requests.{Asked};
 ghost use Rattle.dw_check.specs.Runs.{Reply, IsReply};
 
-/// A request has at most one reply, whatever its files contain.
+/// A request has at most one reply (`IsReply` in specs/Runs.antt), whatever its files contain.
 pub fn one_reply()
     ensures { (asked : Asked) (files : List (List ℕ)) (r s : Reply) → IsReply asked files r
         → IsReply asked files s → r ≡ s }
@@ -22,7 +23,7 @@ pub fn one_reply()
     dw_unwind::laws::one_walk_through_modules();
 }
 
-/// A request has a reply, whatever its files contain.
+/// Each request has a reply, whatever its files contain.
 pub fn each_has_a_reply()
     ensures { (asked : Asked) (files : List (List ℕ)) → (r : Reply) × IsReply asked files r }
 {
@@ -31,7 +32,8 @@ pub fn each_has_a_reply()
     dw_unwind::laws::each_has_a_walk_through_modules();
 }
 
-/// The bytes of a long file after its first `Request::needed_length` don't change any reply.
+/// The reply to a request doesn't depend on any byte of a file after the first
+/// `Request::needed_length` bytes.
 pub fn needed_parts_decide()
     ensures { (asked : Asked) (files : List (List ℕ)) (reply : Reply)
         → IsReply asked files reply
@@ -49,9 +51,9 @@ pub fn sections_without_fault_are_well_formed()
 
 /// What holds for two sections without a fault, which are the sections that `check` accepts. The
 /// records and lists read from them are what their bytes encode. Each address that an FDE covers
-/// has exactly one row, the standard's; any other address has none. Each expression of a rule or of
-/// a list, for all registers and memory, ends within its number of operations, is never stuck,
-/// stays within its depth, and has exactly one outcome.
+/// has exactly one row, the one that DWARF 5 defines; any other address has none. For all registers
+/// and memory, each expression of a rule or of a list ends within its number of operations, never
+/// pops an entry that isn't there, stays within its depth, and has exactly one outcome.
 pub fn accepted_sections_are_sound()
     ensures { (target : Target) (frame lists : List ℕ) → check_fault target frame lists ≡ None
         → AreSound target frame lists }

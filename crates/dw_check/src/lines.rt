@@ -72,7 +72,7 @@ fn push_fde_and_cie(
     push_offset(line, cie.offset)
 }
 
-/// The line of an FDE.
+/// The line of an FDE: its offset, its CIE's offset, its addresses and the return address register.
 #[tactic(auto, unfolding(crate::specs::Text::fde_line))]
 pub(crate) fn push_fde(
     line: &mut String,
@@ -93,7 +93,7 @@ pub(crate) fn push_fde(
     line.push_str("\n")
 }
 
-/// The expression of a CFA or register rule: its bytes in hex.
+/// The expression of a CFA rule or a register rule: its bytes in hex, as `expr(..)`.
 #[tactic(auto, unfolding(crate::specs::Text::expression_text))]
 fn push_expression_bytes(
     line: &mut String,
@@ -176,7 +176,7 @@ fn push_rules(line: &mut String, rules: RegisterRules<'_, '_>) -> Result<(), All
     Ok(())
 }
 
-/// The line of a row.
+/// The line of a row: its addresses, its CFA rule and the rules of its registers.
 #[tactic(auto, unfolding(crate::specs::Text::row_line))]
 pub(crate) fn push_row(
     line: &mut String,

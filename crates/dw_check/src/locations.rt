@@ -1,4 +1,5 @@
-//! Evaluates the expressions of a location list that apply at an address.
+//! Evaluates the expressions of a location list that apply at an address, and writes their
+//! outcomes.
 
 ghost use Rattle.std.specs.Prelude.{◌≡◌, ◌++◌, ◌∷◌, ◌<◌, ◌^◌, ℕ, List, false, length, codes};
 ghost use Rattle.std.specs.List.{All};
@@ -69,7 +70,7 @@ fn write_location<S: Sink>(
     write_outcome(out, checked, state)
 }
 
-/// Writes the offset and the outcome of each remaining expression.
+/// Writes the offset and the outcome of each expression that `locations` has not given yet.
 fn write_other_locations<'c, 'a, S: Sink>(
     out: &mut Writer<'_, S>,
     locations: LocationsAt<'c, 'a>,
@@ -114,9 +115,9 @@ fn write_locations<'c, 'a, S: Sink>(
     }
 }
 
-/// Writes the expressions of a list that apply at an address, each with its outcome; `none` if none
-/// applies, or `no list` if no list begins at offset `lookup.list`. Takes one pass over the list,
-/// and a binary search for each expression.
+/// Writes the offset and the outcome of each expression of a location list that applies at an
+/// address. Writes `none` if no expression applies, and `no list` if no list begins at offset
+/// `lookup.list`. Takes one pass over the list, and a binary search for each expression.
 pub(crate) fn write_list_lookup<S: Sink>(
     out: &mut Writer<'_, S>,
     lists: &CheckedLists<'_>,
