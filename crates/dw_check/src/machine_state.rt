@@ -56,7 +56,8 @@ fn first_value(old: Option<u64>, value: u64) -> Option<u64>
     old.or(Some(value))
 }
 
-/// Adds `bytes`, the first at `address`. A byte that is already known stays.
+/// Adds `bytes` to `memory`, the first of them at `address`. An address that already has a byte
+/// keeps that byte.
 fn add_memory_bytes(
     memory: &mut BTreeMap<u64, u8>,
     address: u64,
@@ -73,7 +74,7 @@ fn add_memory_bytes(
 }
 
 impl MachineState {
-    /// A machine with nothing known.
+    /// A state in which nothing is known.
     pub fn new(alloc: Global) -> Self
         ensures { IsGivenBy (known_state_of result) [] }
     {
@@ -87,7 +88,7 @@ impl MachineState {
         }
     }
 
-    /// The ABI by the callee-saved registers and the stack pointer that are known.
+    /// The ABI with the callee-saved registers and the stack pointer that the state file names.
     pub fn abi(&self) -> Abi
         ensures { let known = known_state_of self.now
             in roles_of result ≡ abi_of known.kept known.stack_pointer }
@@ -95,8 +96,8 @@ impl MachineState {
         self.abi_registers.abi()
     }
 
-    /// Adds what a line gives, and returns true. Returns false if the line contradicts earlier
-    /// ones. What earlier lines gave stays.
+    /// Adds what a line gives and returns true. A value that an earlier line gave is kept. Returns
+    /// false if the line is a `keep` or `sp` line that contradicts earlier lines.
     fn add(&mut self, line: StateLine) -> Result<bool, AllocError>
         requires { FitsAddresses (fact_of line) }
         ensures taken { IfOk result (λ taken. (facts : List StateFact)
@@ -128,8 +129,8 @@ impl MachineState {
         Ok(true)
     }
 
-    /// Adds what a line gives, and returns true; an empty line gives nothing. Returns false if the
-    /// line is malformed or contradicts earlier ones.
+    /// Adds what a line gives and returns true. An empty line gives nothing. Returns false if the
+    /// line is malformed or contradicts earlier lines.
     fn add_line(&mut self, alloc: Global, target: Target, line: &[u8]) -> Result<bool, AllocError>
         ensures taken { IfOk result (λ taken. (facts : List StateFact)
             → IsGivenBy (known_state_of self.old) facts
@@ -174,9 +175,9 @@ impl Memory for MachineState {
     }
 }
 
-/// Reads a state file. A line that is malformed or contradicts earlier lines is an error, which
-/// names the first such line. Empty lines are skipped. If two lines give the same register, byte or
-/// other value, the first line counts. Takes O(n log n) for a file of n bytes.
+/// Reads a state file. If a line is malformed or contradicts earlier lines, the error has the
+/// number of the first such line. Empty lines are skipped. If two lines give the same register,
+/// byte or other value, the first line counts. Takes O(n log n) time for a file of n bytes.
 pub(crate) fn read_state(
     alloc: Global,
     target: Target,

@@ -26,7 +26,8 @@ impl<'a> Model for NamedModule<'a> {
     ghost view = { λ m. record { load = m.load; file = m.file.now } };
 }
 
-/// Parses a module: its load address, `=`, and the name of its file.
+/// Parses a module: its load address, `=`, and the name of its file. `None` if there is no `=`, the
+/// address is malformed, or the name is empty.
 fn parse_module<'a>(text: &'a str, target: Target) -> Option<NamedModule<'a>>
     ensures { result ≡ module_of target text.entry.now }
 {
@@ -38,7 +39,7 @@ fn parse_module<'a>(text: &'a str, target: Target) -> Option<NamedModule<'a>>
     Some(NamedModule { load, file })
 }
 
-/// Parses `texts` as modules, in order. The error is `BadArgument` if one is malformed.
+/// Parses `texts` as modules, in order. The error is `BadArgument` if one of them is malformed.
 #[tactic(auto, using(crate::proofs::NamedTexts::joined))]
 pub(crate) fn parse_modules<'a>(
     alloc: Global,

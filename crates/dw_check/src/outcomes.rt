@@ -1,4 +1,4 @@
-//! The outcome of an evaluation as text.
+//! Formats the outcome of an expression.
 
 ghost use Rattle.std.specs.Prelude.{◌≡◌, ◌++◌, ◌^◌, ℕ, OnOk, map};
 ghost use Rattle.std.specs.List.{All, flat_map};
@@ -125,8 +125,8 @@ fn push_outcome(
     }
 }
 
-/// The lines of an evaluation: its outcome, and then the number of steps and the expression's
-/// depth.
+/// Appends the lines of an evaluation: its outcome, and then its number of steps and the
+/// expression's greatest stack depth on any path.
 #[tactic(auto, unfolding(crate::specs::Outcomes::counts_line, crate::specs::Outcomes::evaluation_text))]
 pub(crate) fn push_evaluation(
     line: &mut String,

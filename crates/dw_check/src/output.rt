@@ -32,7 +32,7 @@ pub(crate) fn write_refused<S: Sink>(
     send_line(out)
 }
 
-/// Writes the line of an FDE.
+/// Writes the line of an FDE, without its rows.
 fn write_fde<S: Sink>(
     out: &mut Writer<'_, S>,
     cie: &CommonInformationEntry<'_>,
@@ -67,7 +67,8 @@ fn write_row<S: Sink>(
     send_line(out)
 }
 
-/// Writes the lines of the remaining rows. Each row is made in the buffer `row`.
+/// Writes a line for each row that `rows` has not given yet. Each of them overwrites the buffer
+/// `row`.
 fn write_rows<'f, 'a, S: Sink>(
     out: &mut Writer<'_, S>,
     rows: &mut Rows<'f, 'a>,
@@ -133,7 +134,7 @@ pub(crate) fn write_frame_section<S: Sink>(
     Ok(())
 }
 
-/// Writes the line of the row of an address, or `none` if the address has no row.
+/// Writes the line of the row that applies at `address`, or `none` if no FDE covers the address.
 pub(crate) fn write_row_lookup<S: Sink>(
     out: &mut Writer<'_, S>,
     frame: &CheckedFrame<'_>,

@@ -8,12 +8,12 @@ use memchr::memchr;
 use std::iter::FusedIterator;
 use std::marker::Model;
 
-/// Iterates over the parts of a byte string between separators, including empty parts. Its model is
-/// the list of the parts still to come.
+/// Iterates over the parts of a byte string between separators, including empty parts. In contracts
+/// the iterator stands for the list of the parts that it has not given yet.
 #[derive(Drop)]
 pub(crate) struct Parts<'a> {
     separator: u8,
-    /// The bytes after the last separator found; none once all parts were given.
+    /// The bytes after the last separator that was found, or `None` once all parts were given.
     rest: Option<&'a [u8]>,
 }
 
@@ -27,7 +27,7 @@ impl<'a> Model for Parts<'a> {
 }
 
 impl<'a> Parts<'a> {
-    /// The parts of `bytes`.
+    /// An iterator over the parts of `bytes`.
     pub fn new(bytes: &'a [u8], separator: u8) -> Self
         ensures { result ≡ parts_of separator bytes.entry.now }
     {

@@ -21,7 +21,8 @@ use dw_unwind::Module;
 use std::alloc::{AllocError, Global};
 use std::borrow::CowSlice;
 
-/// Checks `section` as a frame section. The error is its first fault, or out of memory.
+/// Checks `section` as a frame section. The error is the first fault of the section, or out of
+/// memory.
 pub(crate) fn frame_or_refusal<'a>(
     alloc: Global,
     target: Target,
@@ -41,18 +42,20 @@ pub(crate) fn frame_or_refusal<'a>(
     }
 }
 
-/// The contents of a process's files.
+/// The contents of a process's files: its modules' frame sections, which aren't checked yet, and
+/// its state.
 #[derive(Drop)]
 pub(crate) struct Process<'a> {
-    /// The frame sections of the modules, with their load addresses: first FRAME, then those of the
-    /// further modules.
+    /// The frame sections of the modules, with the modules' load addresses: first the section in
+    /// FRAME, then the sections in the files of `--module`.
     pub modules: Vec<Module<CowSlice<'a, u8, Global>>>,
-    /// The state in the state file.
+    /// The machine state in the state file.
     pub state: MachineState,
 }
 
 /// Reads the files of a process: FRAME, whose module is loaded at `load`; the state file; and the
-/// files of the further modules, which are loaded at `module_loads`.
+/// files of `--module`, whose modules are loaded at `module_loads`. Nothing is checked but that
+/// files can be decoded.
 pub(crate) fn read_process<'a>(
     alloc: Global,
     files: &Files<'a>,
@@ -74,8 +77,8 @@ pub(crate) fn read_process<'a>(
     Ok(Process { modules, state })
 }
 
-/// Checks the frame sections of `modules`, in order. The error is the first fault, or out of
-/// memory.
+/// Checks the frame sections of `modules`, in order. The error is the first fault of the first
+/// section that has a fault, or out of memory.
 #[tactic(auto, using(crate::proofs::FurtherModules::one_more_judged))]
 pub(crate) fn modules_or_refusal<'s>(
     alloc: Global,
@@ -97,7 +100,7 @@ pub(crate) fn modules_or_refusal<'s>(
     Ok(checked)
 }
 
-/// `modules`, with their sections borrowed.
+/// The same modules, each with a reference to its frame section in place of the section.
 pub(crate) fn lent_modules<'f, 's>(
     alloc: Global,
     modules: &'f [Module<CheckedFrame<'s>>],

@@ -1,4 +1,5 @@
-//! What a command line asks for, and how running it ends.
+//! What a command line asks for (`Request`), why it is rejected (`Usage`), and how a run ends
+//! (`End`).
 
 ghost use Rattle.std.specs.Prelude.{◌≡◌, length, map};
 ghost use Rattle.std.specs.String.{string_bytes};
@@ -52,7 +53,8 @@ pub struct Request {
     pub(crate) task: Task,
     /// The byte order and address size of the sections, expressions and state files.
     pub(crate) target: Target,
-    /// The load address of the frame section's module.
+    /// The load address of the module whose frame section is the first file; 0 for a task without a
+    /// frame section.
     pub(crate) load: u64,
     /// The load addresses of the further modules (`--module`), in order.
     pub(crate) module_loads: Vec<u64>,
@@ -85,9 +87,10 @@ impl Request {
         self.files.as_slice()
     }
 
-    /// How many bytes at the front of the file at index `place` in `files` decide the result of
-    /// `run`, whatever follows them. 2^32 for a section or an expression, which is too long if it
-    /// has that many. `None` for hex text and a state file, which have to be read in full.
+    /// How many bytes at the front of the file at index `place` in `files` are enough for `run`:
+    /// its result doesn't depend on any byte after them. The number is 2^32 for a section or an
+    /// expression, which is refused as too long if it has that many bytes. `None` for hex text and
+    /// for a state file, which have to be read in full.
     pub fn needed_length(&self, place: usize) -> Option<u64>
         ensures { result ≡ needed_length self.now.task self.now.hex place }
     {
@@ -123,7 +126,7 @@ impl Usage {
     }
 }
 
-/// clap's text, or a few words about what is wrong.
+/// The text that clap gives, `bad argument` or `out of memory`.
 impl fmt::Display for Usage {
     ghost use Rattle.std.specs.Prelude.{Some};
     ghost use Rattle.dw_check.specs.Statuses.{usage_text};

@@ -1,4 +1,4 @@
-//! Runs requests.
+//! Runs requests: checks what the files contain, and writes what the command shows of it.
 
 ghost use Rattle.std.specs.Prelude.{◌≡◌, ◌<◌, ◌^◌, ℕ, All, List, false, None, IfOk, IfErr, length, map};
 ghost use Rattle.dw_rows.specs.Section.{IsChecked, frame_of};
@@ -42,7 +42,8 @@ use dw_unwind::laws::{
 use dw_unwind::{Module, Walk, as_linked, unwind_in};
 use std::alloc::Global;
 
-/// Checks `section` as location lists. The error is its first fault, or out of memory.
+/// Checks `section` as a section of location lists. The error is the first fault of the section, or
+/// out of memory.
 fn lists_or_refusal<'a>(
     alloc: Global,
     target: Target,
@@ -64,7 +65,8 @@ fn lists_or_refusal<'a>(
     }
 }
 
-/// Checks `bytes` as an expression. The error is its first fault, or out of memory.
+/// Checks `bytes` as an expression. The error is the first fault of the expression, or out of
+/// memory.
 fn expression_or_refusal<'a>(
     alloc: Global,
     kind: Kind,
@@ -115,7 +117,7 @@ fn run_result(written: Result<(), ReportFault>) -> Result<(), RunFault>
     Ok(written?)
 }
 
-/// Shows the report on two sections.
+/// Runs `check`: checks two sections and writes the report on them.
 fn show_report<S: Sink>(
     alloc: Global,
     files: &Files<'_>,
@@ -136,7 +138,7 @@ fn show_report<S: Sink>(
     run_result(write_report(out, &checked))
 }
 
-/// Shows all rows of a frame section.
+/// Runs `rows`: checks a frame section and writes each FDE and its rows.
 fn show_rows<S: Sink>(
     alloc: Global,
     files: &Files<'_>,
@@ -156,7 +158,8 @@ fn show_rows<S: Sink>(
     run_result(write_frame_section(out, &frame))
 }
 
-/// Shows the row of an address in the frame section of a module loaded at `load`.
+/// Runs `row`: checks the frame section of a module that is loaded at `load`, and writes the row
+/// that applies at `address`.
 fn show_row<S: Sink>(
     alloc: Global,
     address: u64,
@@ -179,8 +182,9 @@ fn show_row<S: Sink>(
     run_result(write_row_lookup(out, &frame, address))
 }
 
-/// Shows the expressions of a location list that apply at an address, and their outcomes.
-/// Registers, memory and context are those in the state file, if there is one.
+/// Runs `locs`: checks a section of location lists, and writes the expressions of a list that apply
+/// at an address, and their outcomes. Registers and memory are those in the state file, if there is
+/// one.
 fn show_locations<S: Sink>(
     alloc: Global,
     lookup: ListLookup,
@@ -202,8 +206,8 @@ fn show_locations<S: Sink>(
     run_result(write_list_lookup(out, &lists, lookup, &state))
 }
 
-/// Shows the outcome of an expression. Registers, memory and context are those in the state file,
-/// if there is one.
+/// Runs `eval`: checks an expression and writes its outcome. Registers and memory are those in the
+/// state file, if there is one.
 fn show_outcome<S: Sink>(
     alloc: Global,
     kind: Kind,
@@ -245,7 +249,8 @@ fn unwind_and_write<S: Sink>(
     write_caller(out, caller.as_ref())
 }
 
-/// Writes the walk from the frame at `address`, given the registers and memory in `state`.
+/// Walks up the stack from the frame at `address`, given the registers and memory in `state`.
+/// Writes at most `limit` frames, and why there are no more.
 fn walk_and_write<S: Sink>(
     out: &mut Writer<'_, S>,
     modules: &[Module<&CheckedFrame<'_>>],
@@ -262,7 +267,8 @@ fn walk_and_write<S: Sink>(
         × Writes (S.taken out.old.sink.now) (S.taken out.new.sink.now) result text }
     ensures stops { S.has_stopped out.new.sink.now ≡ is_write result }
 {
-    // For the proof only: if writing fails, the contract still needs a whole text.
+    // These laws are for the proof only. If writing fails, the contract needs the whole text of a
+    // walk, of which a beginning was written.
     each_address_has_an_unwinding_through_modules();
     unwindings_through_what_is_found();
     walks_through_what_is_found();
@@ -271,8 +277,8 @@ fn walk_and_write<S: Sink>(
     write_walk(out, &mut walk, limit)
 }
 
-/// Shows the caller of the frame at `address`, given the load addresses of the process's modules
-/// and the state in the state file.
+/// Runs `unwind`: checks the frame sections of the process's modules, and writes the caller of the
+/// frame at `address`, given the modules' load addresses and the state in the state file.
 fn show_caller<S: Sink>(
     alloc: Global,
     address: u64,
@@ -297,8 +303,9 @@ fn show_caller<S: Sink>(
     run_result(unwind_and_write(out, modules.as_slice(), address, &process.state))
 }
 
-/// Shows the walk from the frame at `address`, given the load addresses of the process's modules
-/// and the state in the state file.
+/// Runs `backtrace`: checks the frame sections of the process's modules, and writes at most `limit`
+/// frames from the one at `address` on, given the modules' load addresses and the state in the
+/// state file.
 fn show_walk<S: Sink>(
     alloc: Global,
     address: u64,
@@ -324,7 +331,7 @@ fn show_walk<S: Sink>(
     run_result(walk_and_write(out, modules.as_slice(), address, limit, &process.state))
 }
 
-/// Runs a request, given its files.
+/// Runs the command of a request, given the request's files.
 fn show_reply<S: Sink>(
     alloc: Global,
     request: &Request,

@@ -8,7 +8,7 @@ use std::error::Error;
 use std::fmt;
 use std::io::Write;
 
-/// The sink accepts no more bytes.
+/// The error of a sink that accepts no more bytes, and of a source whose read failed.
 #[derive(Clone, Copy, Debug, PartialEq, Eq)]
 pub struct Stopped;
 
@@ -36,8 +36,9 @@ pub trait Sink {
     fn stopped(&self) -> bool
         ensures { result ≡ has_stopped self.now };
 
-    /// Accepts the first n bytes of `bytes`, and returns n. The sink stops exactly if the call
-    /// fails, and then accepts nothing, or returns 0 for bytes that aren't empty.
+    /// Accepts the first n bytes of `bytes`, where the sink chooses n, and returns n. If the call
+    /// fails, no bytes are accepted. The sink stops if the call fails, or if it returns 0 although
+    /// `bytes` isn't empty, and in no other case.
     fn write(&mut self, bytes: &[u8]) -> Result<usize, Stopped>
         requires { has_stopped self.old ≡ false }
         ensures bound { IfOk result (λ n. n ≤ length bytes.now) }
@@ -67,7 +68,7 @@ impl<W: Write> Through<W> {
         }
     }
 
-    /// The writer.
+    /// The writer that the sink wrote to.
     pub fn into_inner(self) -> W
         ensures { result ≡ writer_of self }
     {

@@ -37,8 +37,8 @@ pub trait Source {
     fn state(&self) -> Reading
         ensures { result ≡ reading self.now };
 
-    /// Reads the next bytes into the front of `buf`, and returns their number. The source has ended
-    /// exactly if that number is 0, and has failed exactly if the call fails.
+    /// Reads the next bytes into the front of `buf`, and returns their number. Afterwards the
+    /// source is `Failed` if the call failed, `Ended` if it returned 0, and else `Open`.
     fn read(&mut self, buf: &mut [u8]) -> Result<usize, Stopped>
         requires open { reading self.old ≡ Reading.Open }
         requires room { 0 < length buf.old }
@@ -123,8 +123,8 @@ impl From<AllocError> for LoadFault {
 /// The number of bytes that one read asks for.
 const PIECE: usize = 65_536;
 
-/// Reads all remaining bytes of an open source, which is then `Ended`. If the error is `Read`, and
-/// only then, the source is `Failed`. If the error is `Memory`, the source is still `Open`, and the
+/// Reads all remaining bytes of an open source, which is `Ended` afterwards. If the error is
+/// `Read`, the source is `Failed`. If the error is `Memory`, the source is still `Open`, and the
 /// bytes read so far are lost.
 #[tactic(auto, using(crate::proofs::Loading::consumes_more))]
 pub fn load<S: Source>(alloc: Global, source: &mut S) -> Result<Vec<u8>, LoadFault>

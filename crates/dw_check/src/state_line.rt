@@ -1,4 +1,4 @@
-//! The lines of a state file.
+//! Parses the lines of a state file (docs/OUTPUT.md).
 
 ghost use Rattle.std.specs.Prelude.{◌≡◌, IfOk, IfSome, option_map};
 ghost use Rattle.dw_check.specs.StateFile.{FitsAddresses, bytes_fact, register_fact, memory_fact};
@@ -11,7 +11,8 @@ use dw_bytes::Target;
 use hex::FromHexError;
 use std::alloc::{AllocError, Global};
 
-/// What a line of a state file gives.
+/// What a line of a state file gives. `Keep` names a callee-saved register, and `StackPointer` the
+/// register that is the stack pointer.
 #[derive(Drop)]
 pub(crate) enum StateLine {
     Register { number: u16, content: u64 },
@@ -23,8 +24,8 @@ pub(crate) enum StateLine {
     StackPointer(u16),
 }
 
-/// The line that gives `bytes`, the first at `address`. None if there are no bytes, or if the last
-/// one is past the target's greatest address.
+/// The line that gives `bytes` of memory, the first of them at `address`. `None` if `bytes` is
+/// empty, or if the last byte would be past the target's greatest address.
 fn memory_line(target: Target, address: u64, bytes: Vec<u8>) -> Option<StateLine>
     ensures given { option_map fact_of result ≡ bytes_fact target address bytes.items }
     ensures fits { IfSome result (λ line. FitsAddresses (fact_of line)) }
@@ -36,7 +37,7 @@ fn memory_line(target: Target, address: u64, bytes: Vec<u8>) -> Option<StateLine
     Some(StateLine::Memory { address, bytes })
 }
 
-/// Parses what follows `reg`: a register's number and its content.
+/// Parses what follows `reg`: a register's number and its content. `None` if either is malformed.
 fn parse_register_line(target: Target, place: &[u8], value: &[u8]) -> Option<StateLine>
     ensures given { option_map fact_of result ≡ register_fact target place.now value.now }
     ensures fits { IfSome result (λ line. FitsAddresses (fact_of line)) }
@@ -46,7 +47,7 @@ fn parse_register_line(target: Target, place: &[u8], value: &[u8]) -> Option<Sta
     Some(StateLine::Register { number, content })
 }
 
-/// Parses what follows `mem`: an address, and bytes in hex.
+/// Parses what follows `mem`: an address, and bytes in hex. `None` if either is malformed.
 fn parse_memory_line(
     alloc: Global,
     target: Target,
@@ -67,7 +68,8 @@ fn parse_memory_line(
     }
 }
 
-/// Parses a line of three words: `reg` or `mem`, and what follows.
+/// Parses a line of three words, the first of which has to be `reg` or `mem`. `None` if the line is
+/// malformed.
 fn parse_three_words(
     alloc: Global,
     target: Target,
@@ -88,7 +90,8 @@ fn parse_three_words(
     Ok(None)
 }
 
-/// Parses a line of two words: `cfa`, `frame`, `object`, `keep` or `sp`, and what follows.
+/// Parses a line of two words, the first of which has to be `cfa`, `frame`, `object`, `keep` or
+/// `sp`. `None` if the line is malformed.
 fn parse_two_words(target: Target, word: &[u8], value: &[u8]) -> Option<StateLine>
     ensures given { option_map fact_of result ≡ fact_of_two_words target word.now value.now }
     ensures fits { IfSome result (λ line. FitsAddresses (fact_of line)) }
@@ -111,7 +114,7 @@ fn parse_two_words(target: Target, word: &[u8], value: &[u8]) -> Option<StateLin
     None
 }
 
-/// Parses a line, whose words are separated by single spaces. None if the line is malformed.
+/// Parses a line, whose words are separated by single spaces. `None` if the line is malformed.
 pub(crate) fn parse_line(
     alloc: Global,
     target: Target,

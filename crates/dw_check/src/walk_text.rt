@@ -1,4 +1,4 @@
-//! The text of a walk, written frame by frame.
+//! Writes a walk up the stack: a line for each frame, and a line that says why the walk ends.
 
 ghost use Rattle.std.specs.Prelude.{◌≡◌, ◌++◌, IfOk, List, MatchResult, OnOk, Some, false, option_map};
 ghost use Rattle.std.specs.String.{string_bytes};
@@ -21,7 +21,7 @@ use dw_unwind::laws::frames_that_are_given_are_a_walk;
 use dw_unwind::{Answer, BriefFrame, Stop, Unwinder, Walk};
 use std::alloc::AllocError;
 
-/// The CFA of a frame, or `none` if no FDE covers the frame.
+/// Appends the CFA of a frame, or `none` if no FDE covers the frame.
 fn push_cfa(line: &mut String, size: AddressSize, cfa: Option<Answer>) -> Result<(), AllocError>
     ensures { OnOk result (string_bytes line.new ≡ string_bytes line.old
         ++ cfa_text size (option_map answer_in cfa)) }
@@ -35,7 +35,7 @@ fn push_cfa(line: &mut String, size: AddressSize, cfa: Option<Answer>) -> Result
     }
 }
 
-/// The line of a frame with its number.
+/// Appends the line of a frame: its number, counted from 0, its address and its CFA.
 #[tactic(auto, unfolding(crate::specs::WalkText::brief_line))]
 fn push_walked_frame(
     line: &mut String,
@@ -68,7 +68,7 @@ fn stop_name(stop: Stop) -> &'static str
     }
 }
 
-/// The line that says why a walk ends.
+/// Appends the line that says why a walk ends.
 #[tactic(auto, unfolding(crate::specs::WalkText::last_line))]
 fn push_stop(line: &mut String, stop: Stop) -> Result<(), AllocError>
     ensures { OnOk result (string_bytes line.new ≡ string_bytes line.old ++ last_line stop) }
@@ -78,7 +78,7 @@ fn push_stop(line: &mut String, stop: Stop) -> Result<(), AllocError>
     line.push_str("\n")
 }
 
-/// Writes the line of a frame with its number.
+/// Writes the line of a frame; `number` counts frames from 0.
 fn write_walked_frame<S: Sink>(
     out: &mut Writer<'_, S>,
     number: u32,
@@ -125,7 +125,7 @@ fn next_or_stop<U: Unwinder + Drop, M: Memory>(
 }
 
 /// Writes a line for each frame of a walk, at most `limit` of them, and a line that says why the
-/// walk ends. Each line is sent before the next frame is computed, so only one is in memory.
+/// walk ends. Each line is sent before the next frame is computed, so memory holds one line only.
 pub(crate) fn write_walk<S: Sink, U: Unwinder + Drop, M: Memory>(
     out: &mut Writer<'_, S>,
     walk: &mut Walk<'_, U, M>,

@@ -120,8 +120,8 @@ fn check_both<'a>(
 }
 
 /// Checks two sections for a target, in this order: the length of the frame section, the length of
-/// the lists, the frame section (as `check_frame` does), the lists (as `check_lists` does). Returns
-/// the first fault in that order.
+/// the lists, the frame section (as `check_frame` does), the lists (as `check_lists` does). The
+/// error is the first fault in that order, or that memory ran out.
 pub fn check<'a>(
     alloc: Global,
     frame: &'a [u8],
@@ -130,7 +130,8 @@ pub fn check<'a>(
 ) -> Result<Checked<'a>, CheckFault>
     ensures answer { Checks (check_fault target frame.entry.now lists.entry.now) result }
 
-    // `check` accepts exactly the sections that are well formed.
+    // `check` accepts only sections that are well formed, and refuses such sections only if memory
+    // runs out.
     ensures accepts { IfOk result (λ _. AreWellFormed target frame.entry.now lists.entry.now) }
     ensures refuses { IfErr result (λ found. (found.fault ≡ memory)
         ⊎ ¬ AreWellFormed target frame.entry.now lists.entry.now) }

@@ -8,12 +8,12 @@ use crate::sink::{Sink, write_all};
 use crate::stop::ReportFault;
 use dw_bytes::AddressSize;
 
-/// Where the lines of a text go. Only what is sent next is kept in memory.
+/// A sink and the text that is sent to the sink next. The rest of the output isn't kept in memory.
 #[derive(Drop)]
 pub(crate) struct Writer<'a, S: Sink> {
-    /// The line or lines to send next, as far as they are made.
+    /// The line or lines that are sent next. They may be incomplete.
     pub line: &'a mut String,
-    /// The size in which addresses are shown.
+    /// The size of an address, by which it is shown with 8 or 16 hex digits.
     pub size: AddressSize,
     pub sink: &'a mut S,
 }
