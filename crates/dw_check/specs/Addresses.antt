@@ -1,4 +1,4 @@
--- Numbers and addresses written in digits.
+-- How numbers, addresses and offsets are parsed. A text that is malformed gives None.
 use Rattle.std.specs.Prelude.{◌&&◌, ℕ, nat_lt, nat_le, if◌then◌else◌, List, length, take, drop, Option, Some, None, option_and_then, codes}
 use Rattle.std.specs.List.{list_all}
 use Rattle.std.specs.Char.{digit_value}
@@ -16,7 +16,7 @@ number_of radix most ds = if nat_lt 0 (length ds) && nat_le (length ds) most && 
 abbrev pub hex_of : List ℕ → Option ℕ
 hex_of ds = number_of 16 16 ds
 
--- n, if it is at most `top`
+-- n if it is at most `top`, and else None
 abbrev pub at_most : ℕ → ℕ → Option ℕ
 at_most top n = if nat_le n top then Some n else None
 
@@ -29,10 +29,11 @@ abbrev pub hex_up_to : ℕ → List ℕ → Option ℕ
 hex_up_to top text = if bytes_eq (take 2 text) (codes "0x") then option_and_then (at_most top) (hex_of (drop 2 text))
     else None
 
--- the address that a text gives: at most the target's greatest address
+-- the address written as `0x` and 1 to 16 hex digits, if it is at most the target's greatest
+-- address
 abbrev pub address_of : Target → List ℕ → Option ℕ
 address_of target text = hex_up_to (top_of target) text
 
--- the section offset that a text gives: at most 2^32 - 1
+-- the section offset written as `0x` and 1 to 16 hex digits, if it is at most 2^32 - 1
 abbrev pub offset_of : List ℕ → Option ℕ
 offset_of text = hex_up_to 0xffffffff text

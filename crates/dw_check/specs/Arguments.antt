@@ -1,4 +1,5 @@
--- The meaning of the flags and words of a command.
+-- What the words, flags and options of a command mean. `rows` is what clap found: the names of
+-- arguments, each with its values. (These aren't the rows of an unwind table.)
 use Rattle.std.specs.Prelude.{◌≡◌, Bool, false, if◌then◌else◌, List, [], ℕ, Option, Some, None, option_and_then, unwrap_or, codes}
 use Rattle.std.specs.Option.{option_map_or, IsSomeAnd}
 use Rattle.std.specs.List.{Any}
@@ -24,7 +25,7 @@ target_by_flags rows = record {
   address_size = (if flag_of (codes "addr4") rows then Four else Eight);
 }
 
--- the kind that a word names
+-- the kind of expression that a word names; None if no kind has that name
 abbrev pub kind_of : Text → Option Kind
 kind_of name =
     if bytes_eq name (codes "cfa") then Some FrameCfa
@@ -43,8 +44,9 @@ pub data Word : Type 0 where
   limit : Word
   named_module : Word
 
--- what the word called `name` gives; a definition each for a file, an address, an offset, a kind
--- and a limit
+-- The value of the argument called `name`; None if the argument is missing or malformed. There is
+-- one definition for each of a file, an address, an offset, a kind and a limit. The definition for
+-- a file also gives None if the argument isn't the name of a file.
 abbrev pub file_at : List Row → Text × Word → Option Text
 file_at rows (name, file) = first_of name rows
 file_at rows (name, _) = None
@@ -61,19 +63,20 @@ kind_at name rows = option_and_then kind_of (first_of name rows)
 abbrev pub limit_at : Text → List Row → Option ℕ
 limit_at name rows = option_and_then short_number (first_of name rows)
 
--- the load address of FRAME's module: 0 unless `--load` gives another
+-- the load address of the module whose frame section is FRAME: the value of `--load`, or 0 without
+-- that option; None if the value is malformed
 abbrev pub load_in : List Row → Option ℕ
 load_in rows = option_map_or (address_of (target_by_flags rows)) (first_of (codes "load") rows) (Some 0)
 
--- all values of an option, in order
+-- all values of an option, in order; none if the option isn't given
 abbrev pub values_of : Text → List Row → List Text
 values_of name rows = unwrap_or (all_of name rows) []
 
--- the further modules that `--module` gives, in order
+-- the modules that the values of `--module` give, in order; None if one of the values is malformed
 abbrev pub modules_in : List Row → Option (List NamedModule)
 modules_in rows = modules_of (target_by_flags rows) (values_of (codes "module") rows)
 
--- the word or the option of this name is given, and is malformed
+-- The argument of this name is given, and a value of it is malformed. The name of a file never is.
 abbrev pub IsBad : List Row → Text × Word → Type 0
 IsBad rows (name, file) = ⊥
 IsBad rows (name, address) = IsSomeAnd (first_of name rows) (λ text. address_of (target_by_flags rows) text ≡ None)

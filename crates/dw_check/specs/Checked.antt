@@ -26,7 +26,7 @@ pub record AreWellFormed (target : Target) (frame_bytes list_bytes : List ℕ) :
 
 -- ---- the first fault
 
--- a fault together with its section
+-- the fault, if there is one, together with the section that has it
 abbrev pub fault_within : Section → Option Fault → Option CheckFault
 fault_within section None = None
 fault_within section (Some fault) = Some (record { section = section; fault = fault })
@@ -47,12 +47,14 @@ check_fault target frame_bytes list_bytes =
     (option_or (fault_within Frame (section_fault target frame_bytes))
     (fault_within Lists (lists_fault target list_bytes))))
 
--- A check passes if there is no fault. Otherwise it names the fault, or memory ran out.
+-- What a check may return if `first` is the first fault, or None if there is no fault. It succeeds
+-- only without a fault. Its error is the first fault, or says that memory ran out.
 abbrev pub Checks : {X : Type 0} → Option CheckFault → Result X CheckFault → Type 0
 Checks first (Ok _) = first ≡ None
 Checks first (Err found) = (found.fault ≡ memory) ⊎ (first ≡ Some found)
 
--- the bytes that a fault's offset refers to
+-- The bytes in which the offset of a fault counts. A fault of two sections is never one of an
+-- expression that is checked by itself, so there are no bytes for that case.
 abbrev pub bytes_within : Section → List ℕ → List ℕ → List ℕ
 bytes_within Frame frame_bytes list_bytes = frame_bytes
 bytes_within Lists frame_bytes list_bytes = list_bytes

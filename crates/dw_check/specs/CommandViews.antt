@@ -1,5 +1,6 @@
--- The code's table of commands, in the form of `Commands`. Two things that clap doesn't know are
--- left out: what a word means, and what a command does.
+-- The commands that the code describes to clap (`Outline` in src/command_line.rt), as values of
+-- `Command` (Commands.antt). An outline doesn't say what a word means or what a command does. So
+-- each word counts as the name of a file here, and no command has a task.
 use Rattle.std.specs.Prelude.{ℕ, List, map, None}
 use Rattle.std.specs.Borrow.{Bor}
 use Rattle.clap.specs.Words.{Text}
@@ -7,11 +8,11 @@ use Rattle.dw_check.specs.Arguments.{Word, file}
 use Rattle.dw_check.specs.Commands.{Command}
 use Rattle.dw_check.specs.declared.command_line.Outline.{Outline}
 
--- words by their names; what they mean is left out
+-- words by their names, each as if it were the name of a file
 abbrev pub file_words : List (Bor (List ℕ) × Bor (List ℕ)) → List (Text × Word)
 file_words words = map (λ word. (word.0.now, file)) words
 
--- a command by its outline; what it does is left out
+-- the command that an outline describes, without its task
 abbrev pub command_in : Outline → Command
 command_in outline = record {
   name = outline.name.now;

@@ -1,4 +1,4 @@
--- The command line: a table of commands, and the app for clap that is made from the table.
+-- The command line of `dwcheck`: a table of its commands, and what clap is told of them (`App`).
 use Rattle.std.specs.Prelude.{ℕ, Bool, true, false, if◌then◌else◌, List, [], ◌∷◌, ◌++◌, Option, Some, None, option_map, option_and_then}
 use Rattle.std.specs.Prelude.{codes}
 use Rattle.clap.specs.declared.builder.ArgAction.TheVariants.{Append, Set, SetTrue}
@@ -10,7 +10,8 @@ use Rattle.dw_check.specs.declared.requests.Task.{Task}
 use Rattle.dw_check.specs.declared.requests.Task.TheVariants as tasks
 
 -- A command: its name; its words in order, each with its name and what it means; whether it takes
--- the options `--state`, `--load` and `--module`; and its task.
+-- the options `--state`, `--load` and `--module`; and the task that its words give, which is None
+-- if one of them is malformed.
 pub record Command : Type 0 where
   pub name : Text
   pub words : List (Text × Word)
@@ -49,7 +50,8 @@ row_command = record {
   task = λ rows. option_map tasks.Row (address_at (codes "ADDRESS") rows);
 }
 
--- what `locs` looks up: the offset of a list, the base address of a unit, and an address
+-- what `locs` looks up: the offset of a list, the base address of a unit, and an address; None if
+-- one of the three is missing or malformed
 abbrev pub lookup_of : Option ℕ → Option ℕ → Option ℕ → Option ListLookup
 lookup_of (Some l) (Some b) (Some a) = Some (record { list = l; base = b; address = a })
 lookup_of _ _ _ = None
@@ -87,7 +89,8 @@ unwind_command = record {
   task = λ rows. option_map tasks.Unwind (address_at (codes "ADDRESS") rows);
 }
 
--- the task of `backtrace`: a walk from an address, with the greatest number of frames
+-- the task of `backtrace`: a walk from an address, with the greatest number of frames; None if the
+-- address or that number is malformed
 abbrev pub backtrace_in : List Row → Option Task
 backtrace_in rows = option_and_then (λ a. option_map (tasks.Backtrace a) (limit_at (codes "LIMIT") rows))
     (address_at (codes "ADDRESS") rows)
@@ -111,7 +114,7 @@ arguments_of c = c.words ++ ((if c.has_load then (codes "load", address) ∷ [] 
 abbrev pub commands : List Command
 commands = check_command ∷ rows_command ∷ row_command ∷ locs_command ∷ eval_command ∷ unwind_command ∷ backtrace_command ∷ []
 
--- ---- for clap
+-- ---- what clap is told of the commands
 
 -- a flag by its long name
 abbrev pub flag_rule : Text → Rule

@@ -1,4 +1,4 @@
--- What the files of a request contain.
+-- What the files of a request contain: sections, expressions, state files and modules.
 use Rattle.std.specs.Prelude.{◌≡◌, ℕ, suc, ◌==◌, ◌||◌, Bool, not, if◌then◌else◌, List, [], ◌∷◌, filter, Option, Some, None}
 use Rattle.std.specs.Prelude.{Result, Ok, Err, slice_get}
 use Rattle.std.specs.Result.{result_ok}
@@ -15,8 +15,9 @@ is_blank b = b == 9 || b == 10 || b == 13 || b == 32
 abbrev pub without_blanks : List ℕ → List ℕ
 without_blanks text = filter (λ b. not (is_blank b)) text
 
--- The bytes of a section or an expression. If files are hex text, the decoded bytes, or none if the
--- file isn't hex text; else the file's bytes. Empty if there is no file.
+-- The bytes of the section or the expression in a file. If `hex` is true, they are decoded from hex
+-- text, and None if the file isn't hex text. Otherwise they are the file's bytes. If there is no
+-- file, the section is empty.
 abbrev pub section_bytes : Bool → Option (List ℕ) → Option (List ℕ)
 section_bytes hex None = Some []
 section_bytes hex (Some file) = if hex then result_ok (decode_of (without_blanks file)) else Some file
@@ -32,21 +33,22 @@ state_facts target (Some text) = facts_of_file target text
 abbrev pub loaded_at : ℕ → List ℕ → Module (List ℕ)
 loaded_at load section = record { rows = section; load_address = load }
 
--- a module put before others; or `place`, the index of its file, if the file must be hex text and
--- isn't
+-- The modules `others`, with one more in front of them. If that one's section is None, since its
+-- file must be hex text and isn't, the error is `place`, the index of the file.
 abbrev pub module_before : ℕ → ℕ → Option (List ℕ) → Result (List (Module (List ℕ))) ℕ → Result (List (Module (List ℕ))) ℕ
 module_before place load None others = Err place
 module_before place load (Some section) (Err n) = Err n
 module_before place load (Some section) (Ok others) = Ok (loaded_at load section ∷ others)
 
--- The further modules with load addresses `loads`; the file of the first one has index `place`. Or
--- the index of the first file that must be hex text and isn't.
+-- The modules that `--module` gives. Their load addresses are `loads`, and the file of the first
+-- has index `place`. The error is the index of the first file that must be hex text and isn't.
 abbrev pub further_modules : Bool → List (List ℕ) → ℕ → List ℕ → Result (List (Module (List ℕ))) ℕ
 further_modules hex files place [] = Ok []
 further_modules hex files place (load ∷ loads) =
     module_before place load (section_bytes hex (slice_get files place)) (further_modules hex files (suc place) loads)
 
--- The files of a process give `modules`, FRAME's first, and `facts`, those of the state file.
+-- The files of a process give `modules` and `facts`. The modules are that of the first file, FRAME,
+-- and then those of `--module`. The facts are what the second file, the state file, says.
 pub record GivesProcess (target : Target) (load : ℕ) (loads : List ℕ) (hex : Bool) (files : List (List ℕ))
     (modules : List (Module (List ℕ))) (facts : List StateFact) : Type 0 where
   pub section : List ℕ

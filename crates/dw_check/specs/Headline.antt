@@ -1,4 +1,4 @@
--- What holds for two sections that a check accepts.
+-- The main promise (docs/HEADLINE.md): what holds for two sections that a check accepts.
 use Rattle.std.specs.Prelude.{◌≡◌, ℕ, ◌≤◌, List, length, Some, None, Contains}
 use Rattle.dw_bytes.specs.declared.target.Target.{Target}
 use Rattle.dw_bytes.specs.Operands.{Block}
@@ -17,8 +17,8 @@ use Rattle.dw_eval.specs.World.{World}
 use Rattle.dw_eval.specs.Results.{Outcome, IsRun}
 use Rattle.dw_unwind.specs.Caller.{under}
 
--- With the registers, memory and context of e, the expression has exactly one outcome, after at
--- most as many steps as it has operations.
+-- Run on the registers, the memory, the CFA, the frame base and the object's address of e, the
+-- expression has exactly one outcome, after at most as many steps as it has operations.
 pub record ComesToOne (kind : Kind) (target : Target) (bytes : List ℕ) (e : World) : Type 0 where
   pub outcome : Outcome
   pub steps : ℕ
@@ -27,8 +27,9 @@ pub record ComesToOne (kind : Kind) (target : Target) (bytes : List ℕ) (e : Wo
   pub only : (other : Outcome) (n : ℕ) → IsRun e kind (operations_in target bytes) (length bytes) other n
       → (outcome ≡ other) × (steps ≡ n)
 
--- The expression passes the check. Each run follows a path, is never stuck, and never has more
--- stack entries than `depth`. Each run ends.
+-- The expression passes the check. In each run every operation finds the stack entries that it
+-- needs, each branch leads to the start of an operation or to the end, and the stack never has more
+-- than `depth` entries. On any registers and memory the run ends, with exactly one outcome.
 pub record IsSafe (kind : Kind) (target : Target) (bytes : List ℕ) : Type 0 where
   pub good : IsGoodExpression kind target bytes
   pub depth : ℕ
@@ -41,9 +42,9 @@ abbrev pub list_section : Target → List ℕ → ListSection
 list_section target bytes = record { target = target; section = bytes }
 
 -- The records and tables read from the sections are what their bytes encode. Each address that an
--- FDE covers has exactly one row, the standard's, and in the FDE's program each remember_state is
--- restored and locations never go back; any other address has no row. Each expression of a rule or
--- of a list has the sections' target and is safe.
+-- FDE covers has exactly one row, the one that DWARF 5 defines, and in the FDE's program each
+-- remember_state is restored and locations never go back. Any other address has no row. Each
+-- expression of a rule or of a list has the sections' target, and `IsSafe` holds for it.
 pub record AreSound (target : Target) (frame_bytes list_bytes : List ℕ) : Type 0 where
   pub records : List Record
   pub encoded : AreRecords target 0 frame_bytes records

@@ -1,29 +1,33 @@
--- ---- Trusted: what DWARF 5 says. To check the headline against the standard, read these.
+-- ---- Trusted: what DWARF 5 says. To check the main promise (docs/HEADLINE.md) against the
+-- standard, read these.
+
 -- when two sections are well formed, and their first fault
 pub mod Checked
--- what holds for sections that a check accepts
+-- the main promise: what holds for sections that a check accepts
 pub mod Headline
--- ---- Trusted: what docs/PROFILE.md says about texts, command lines, files and statuses. The
--- headline needs none of these.
+
+-- ---- Trusted: what docs/PROFILE.md and docs/OUTPUT.md say about texts, command lines, files and
+-- statuses. The main promise needs none of these.
+
 -- the text of a report
 pub mod Report
--- the lines of sections and rows
+-- the lines of refusals, FDEs and rows
 pub mod Text
--- the text of an outcome
+-- the text of an expression's outcome
 pub mod Outcomes
 -- the text of a caller
 pub mod CallerText
--- the text of a walk
+-- the text of a walk up the stack
 pub mod WalkText
 -- parsing numbers and addresses
 pub mod Addresses
--- modules as the command line names them
+-- modules as the values of `--module` name them
 pub mod NamedModules
--- lines and words
+-- splitting text into lines and words
 pub mod Parts
--- the meaning of flags and words
+-- the meaning of a command's words, flags and options
 pub mod Arguments
--- the table of commands, for clap
+-- the table of commands, and what clap is told of them
 pub mod Commands
 -- the request of a command line
 pub mod Requests
@@ -33,7 +37,7 @@ pub mod Files
 pub mod LongFiles
 -- what a state file gives
 pub mod StateFile
--- the text of an expression's outcome
+-- the outcome of an expression, given a state file
 pub mod Evaluations
 -- the text of what a location list gives at an address
 pub mod Lookups
@@ -41,12 +45,14 @@ pub mod Lookups
 pub mod Statuses
 -- what a run writes, and how it ends
 pub mod Runs
+
 -- ---- What the code's values mean, and what its calls return.
+
 -- the code's table of commands
 pub mod CommandViews
--- the report's line on an expression, as the code has the expression
+-- the report's line on one of the code's checked expressions
 pub mod ReportViews
--- the sections of files
+-- the modules that the code has read from files
 pub mod FileViews
 -- why a run stops
 pub mod Stops
@@ -56,5 +62,5 @@ pub mod SinkBytes
 pub mod SourceBytes
 -- what a call has written, by its result
 pub mod WriteResults
--- the code's state lines and machine states
+-- what the code's state lines and machine states mean
 pub mod StateViews

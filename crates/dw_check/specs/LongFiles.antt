@@ -10,13 +10,13 @@ is_state task zero = false
 is_state Check (suc n) = false
 is_state other (suc n) = n == 0
 
--- How many bytes of the file at index `place` determine the reply. 2^32 for a section or an
--- expression, which is too long if it has that many. None for hex text and a state file, all of
--- whose bytes count.
+-- How many bytes at the front of the file at index `place` determine the reply. The number is 2^32
+-- for a section or an expression, which is refused as too long if it has that many bytes. It is
+-- None for hex text and for a state file, all of whose bytes matter.
 abbrev pub needed_length : Task → Bool → ℕ → Option ℕ
 needed_length task hex place = if hex || is_state task place then None else Some (2 ^ 32)
 
--- the first n bytes of a file, or all of it
+-- the first n bytes of a file; the whole file if no n is given
 abbrev pub part_up_to : Option ℕ → List ℕ → List ℕ
 part_up_to None file = file
 part_up_to (Some n) file = take n file

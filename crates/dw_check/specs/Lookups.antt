@@ -16,7 +16,8 @@ use Rattle.dw_check.specs.Evaluations.{Evaluates}
 abbrev pub list_that_begins_at : ListSection → ℕ → Option Loclist
 list_that_begins_at s at = find (λ l. l.offset == at) (lists_in s)
 
--- The text shows expressions in order, each with its offset in the section and its outcome.
+-- The text shows expressions in order. For each of them it has the expression's offset in the
+-- section, and then the expression's outcome.
 abbrev pub AreEvaluated : List StateFact → List LocatedExpression → List ℕ → Type 0
 AreEvaluated facts [] written = written ≡ []
 AreEvaluated facts (x ∷ xs) written = (own rest : List ℕ) × (written ≡ (expression_offset_line x.offset ++ own) ++ rest)

@@ -1,4 +1,4 @@
--- The text of an outcome.
+-- The text that shows the outcome of an expression.
 use Rattle.std.specs.Prelude.{ℕ, List, ◌++◌, length, codes, decimal}
 use Rattle.std.specs.List.{flat_map}
 use Rattle.hex.specs.Hex.{encode_lower}
@@ -9,7 +9,7 @@ use Rattle.dw_eval.specs.Results.{Outcome, value, single, pieces, unreadable, di
 use Rattle.dw_bytes.specs.Text.{offset_text}
 use Rattle.dw_check.specs.Text.{address_text}
 
--- where an object is, or a piece of it
+-- where an object or a piece of it is
 abbrev pub location_text : AddressSize → LocationDescription → List ℕ
 location_text size Nowhere = codes "empty"
 location_text size (AtAddress a) = codes "address " ++ address_text size a
@@ -24,7 +24,8 @@ size_text (machine.bits n offset) = codes " bits " ++ decimal n ++ codes " offse
 unfoldable pub piece_line : AddressSize → Piece → List ℕ
 piece_line size piece = codes "piece " ++ location_text size piece.location ++ size_text piece.size ++ codes "\n"
 
--- the line of an outcome without an answer: what happened, and the offset of the operation
+-- the line of an expression without a result: the reason, and the offset in the expression of the
+-- operation that has no result
 unfoldable pub stop_line : List ℕ → ℕ → List ℕ
 stop_line what at = what ++ codes " at " ++ offset_text at ++ codes "\n"
 
@@ -35,7 +36,7 @@ outcome_text size (pieces ps) = codes "pieces " ++ decimal (length ps) ++ codes 
 outcome_text size (unreadable at) = stop_line (codes "unreadable") at
 outcome_text size (division_by_zero at) = stop_line (codes "division by zero") at
 
--- the number of steps taken, and the depth
+-- the line with the number of steps of the run, and the expression's greatest stack depth
 unfoldable pub counts_line : ℕ → ℕ → List ℕ
 counts_line steps depth = codes "steps " ++ decimal steps ++ codes " depth " ++ decimal depth ++ codes "\n"
 

@@ -1,4 +1,4 @@
--- The text of a report on two sections without a fault.
+-- The text that `check` writes for two sections without a fault: the report.
 use Rattle.std.specs.Prelude.{◌≡◌, ℕ, ◌+◌, List, [], ◌∷◌, ◌++◌, length, codes, decimal}
 use Rattle.std.specs.List.{flat_map}
 use Rattle.dw_rows.specs.Section.{FrameSection, rows_in}
@@ -63,7 +63,7 @@ expression_line section x depth = codes "expr " ++ section_text section ++ codes
     ++ expression_kind_text x.kind ++ codes " ops " ++ decimal (length (operations_in x.target x.bytes))
     ++ codes " depth " ++ decimal depth ++ codes "\n"
 
--- the text has a line for each of the expressions, in order
+-- the text has a line for each expression of the list, in the order of the list, and nothing else
 abbrev pub AreLines : Section → List LocatedExpression → List ℕ → Type 0
 AreLines section [] text = text ≡ []
 AreLines section (x ∷ xs) text = (depth : ℕ) × (rest : List ℕ) × IsDepthOf x.kind x.target x.bytes depth

@@ -1,4 +1,4 @@
--- The report's lines on expressions, as the code has the expressions.
+-- The report's line on one of the code's checked expressions.
 use Rattle.std.specs.Prelude.{ℕ, List}
 use Rattle.dw_stack.specs.declared.checked.CheckedExpression.{CheckedExpression}
 use Rattle.dw_stack.specs.Certificates.{checked_of}

@@ -1,4 +1,4 @@
--- The request of a command line.
+-- The request that a command line makes, and the errors that it may be answered with.
 use Rattle.std.specs.Prelude.{◌≡◌, ◌⊎◌, ℕ, Bool, true, false, List, [], ◌∷◌, ◌++◌, map, Option, Some, None, option_and_then, Result}
 use Rattle.std.specs.Prelude.{Ok, Err, codes}
 use Rattle.std.specs.Option.{IsSomeAnd, option_to_list}
@@ -26,26 +26,29 @@ pub record Asked : Type 0 where
   pub hex : Bool
   pub files : List Text
 
--- the state file's name, if one was given
+-- the name in `--state`; None if the command doesn't take that option or it isn't given
 abbrev pub state_at : Bool → List Row → Option Text
 state_at false rows = None
 state_at true rows = first_of (codes "state") rows
 
--- the files that a command's words name, in their order, and then the state file
+-- the files that a command's words name, in the order of the words, and then the file of `--state`
 abbrev pub files_of : Command → List Row → List Text
 files_of c rows = filter_map (file_at rows) c.words ++ option_to_list (state_at c.has_state rows)
 
--- the load address of FRAME's module: 0 unless the command takes `--load` and it is given
+-- the load address of the module whose frame section is FRAME: 0 unless the command takes `--load`
+-- and that option is given
 abbrev pub load_at : Bool → List Row → Option ℕ
 load_at false rows = Some 0
 load_at true rows = load_in rows
 
--- the further modules, if the command takes `--module`
+-- the modules that `--module` gives, no modules if the command doesn't take that option; None if a
+-- value of it is malformed
 abbrev pub modules_at : Bool → List Row → Option (List NamedModule)
 modules_at false rows = Some []
 modules_at true rows = modules_in rows
 
--- the request for a task, with files, a load address and further modules
+-- the request for a task, with files, a load address and the modules of `--module`; None if the
+-- task, the address or the modules are None
 abbrev pub asked_with : List Row → List Text → Option Task → Option ℕ → Option (List NamedModule) → Option Asked
 asked_with rows files (Some task) (Some load) (Some modules) = Some (record {
   task = task;
@@ -61,14 +64,14 @@ asked_with rows files _ _ _ = None
 abbrev pub asked_of : Command → List Row → Option Asked
 asked_of c rows = asked_with rows (files_of c rows) (c.task rows) (load_at c.has_load rows) (modules_at c.has_modules rows)
 
--- the command with a name
+-- the command with a name; None if there is no such command
 abbrev pub command_of : Text → Option Command
 command_of name = find (λ c. bytes_eq name c.name) commands
 
 abbrev pub asked_by : Text → List Row → Option Asked
 asked_by name rows = option_and_then (λ c. asked_of c rows) (command_of name)
 
--- one of the words is given and malformed
+-- one of the arguments is given and malformed
 abbrev pub HasBad : List Row → List (Text × Word) → Type 0
 HasBad rows [] = ⊥
 HasBad rows (word ∷ words) = IsBad rows word ⊎ HasBad rows words
@@ -91,7 +94,8 @@ AsksBy faults matches (Err Memory) = Unit {0}
 abbrev pub AsksFor : List Text → Result Asked Usage → Type 0
 AsksFor words r = AsksBy (fault_of dwcheck words) (subcommand_of dwcheck words) r
 
--- the answer to an error of clap: out of memory, or, if the error is of another kind, a text
+-- An error of clap may be answered with a text, unless the error is that memory ran out. Any error
+-- may be answered with out of memory.
 abbrev pub IsUsageOf : ErrorKind → Usage → Type 0
 IsUsageOf kind (Line _) = ¬ (kind ≡ OutOfMemory)
 IsUsageOf kind BadArgument = ⊥

@@ -53,8 +53,8 @@ text_of (refusal section fault) = refused_line section fault
 text_of (not_hex n) = []
 text_of (bad_line n) = []
 
--- The text of which a beginning may be written before memory runs out. Of a refusal nothing is
--- written then, since its line is sent only when it is complete.
+-- The text of which a beginning may have been written when memory runs out. No part of a refusal is
+-- written by then, since its line is sent only when it is complete.
 abbrev pub accepted_text : Reply → List ℕ
 accepted_text (text bytes) = bytes
 accepted_text (refusal section fault) = []
@@ -71,13 +71,14 @@ IsWritten (bad_line n) = ⊥
 
 -- ---- files, checked in order
 
--- the reply that `Is` gives for the bytes of the section in file `place`; `not_hex` if there are no
--- bytes
+-- The reply is one that `Is` allows for the bytes of the section in the file at index `place`. If
+-- there are no such bytes, since the file isn't hex text, the reply is `not_hex`.
 abbrev pub OfSection : ℕ → Option (List ℕ) → (List ℕ → Reply → Type 0) → Reply → Type 0
 OfSection place None Is reply = reply ≡ not_hex place
 OfSection place (Some bytes) Is reply = Is bytes reply
 
--- the reply that `Is` gives for a machine state; `bad_line` if the state file has a bad line
+-- The reply is one that `Is` allows for what the state file gives. If that file has a bad line, the
+-- reply is `bad_line` with the number of the first one.
 abbrev pub OfState : Result (List StateFact) ℕ → (List StateFact → Reply → Type 0) → Reply → Type 0
 OfState (Err n) Is reply = reply ≡ bad_line n
 OfState (Ok facts) Is reply = Is facts reply
@@ -102,8 +103,8 @@ frame_reply text_for target section = text_unless (frame_refusal target section)
 abbrev pub expression_refusal : Kind → Target → List ℕ → Option Fault
 expression_refusal kind target bytes = option_or (length_fault bytes) (expression_fault kind target bytes)
 
--- the reply shows the outcome of an expression, given the facts of a state file; or it is the
--- refusal of the expression
+-- the reply shows the outcome of an expression, given the facts of a state file; or the reply is
+-- the refusal of the expression
 abbrev pub IsOutcome : Kind → Target → List ℕ → List StateFact → Reply → Type 0
 IsOutcome kind target bytes facts (text written) = Evaluates kind target bytes facts written
 IsOutcome kind target bytes facts (refusal section fault) = (section ≡ sections.Expression)
@@ -116,8 +117,8 @@ IsOutcome kind target bytes facts _ = ⊥
 abbrev pub lists_refusal : Target → List ℕ → Option Fault
 lists_refusal target section = option_or (length_fault section) (lists_fault target section)
 
--- the reply shows the result of a look-up in a section, given the facts of a state file; or it is
--- the refusal of the section
+-- the reply shows the result of a look-up in a section, given the facts of a state file; or the
+-- reply is the refusal of the section
 abbrev pub IsFound : ListLookup → Target → List ℕ → List StateFact → Reply → Type 0
 IsFound lookup target section facts (text written) = (lists_refusal target section ≡ None)
     × ShowsList facts (list_that_begins_at (record { target = target; section = section }) lookup.list) lookup.base lookup.address written
@@ -126,7 +127,8 @@ IsFound lookup target section facts _ = ⊥
 
 -- ---- two sections
 
--- the reply for two sections: a text for which `Shows` holds, or the refusal with their first fault
+-- The reply for two sections is a text for which `Shows` holds, or, if they have a fault, the
+-- refusal with the first one.
 abbrev pub OfChecked : Target → List ℕ → List ℕ → (FrameSection → ListSection → List ℕ → Type 0) → Reply → Type 0
 OfChecked target frame lists Shows (text written) = (check_fault target frame lists ≡ None)
     × Shows (frame_of target frame) (record { target = target; section = lists }) written
@@ -165,24 +167,27 @@ abbrev pub modules_refusal : Target → List (Module (List ℕ)) → Option Faul
 modules_refusal target [] = None
 modules_refusal target (m ∷ modules) = option_or (frame_refusal target m.rows) (modules_refusal target modules)
 
--- the modules with the values of their frame sections
+-- the same modules, each with the frame section that its bytes encode
 abbrev pub modules_of_sections : Target → List (Module (List ℕ)) → List (Module FrameSection)
 modules_of_sections target modules = map (λ m. record { rows = frame_of target m.rows; load_address = m.load_address }) modules
 
--- the reply for modules: a text for which `Shows` holds, or the refusal with their first fault
+-- The reply for modules is a text for which `Shows` holds, or, if their frame sections have a
+-- fault, the refusal with the first one.
 abbrev pub OfModules : Target → List (Module (List ℕ)) → (List (Module FrameSection) → List ℕ → Type 0) → Reply → Type 0
 OfModules target modules Shows (text written) =
     (modules_refusal target modules ≡ None) × Shows (modules_of_sections target modules) written
 OfModules target modules Shows (refusal refused fault) = (refused ≡ sections.Frame) × (modules_refusal target modules ≡ Some fault)
 OfModules target modules Shows _ = ⊥
 
--- the reply that `Is` gives for further modules; `not_hex` for the first module whose file must be
--- hex text and isn't
+-- The reply is one that `Is` allows for the modules of `--module`. If one of their files must be
+-- hex text and isn't, the reply is `not_hex` with the index of the first such file.
 abbrev pub OfFurther : Result (List (Module (List ℕ))) ℕ → (List (Module (List ℕ)) → Reply → Type 0) → Reply → Type 0
 OfFurther (Err n) Is reply = reply ≡ not_hex n
 OfFurther (Ok modules) Is reply = Is modules reply
 
--- The reply for the files of a process, checked in order: FRAME, the state file, and those of the further modules.
+-- The reply for the files of a process, which are read in this order: FRAME, the state file, and
+-- the files of `--module`. It is `not_hex` or `bad_line` for the first file that can't be read, and
+-- otherwise a reply that `Is` allows for the state file's facts and the modules.
 abbrev pub OfProcess : Target → ℕ → List ℕ → Bool → List (List ℕ) → (List StateFact → List (Module (List ℕ)) → Reply → Type 0)
     → Reply → Type 0
 OfProcess target load loads hex files Is reply =
@@ -190,27 +195,28 @@ OfProcess target load loads hex files Is reply =
     (λ section. OfState (state_facts target (slice_get files 1))
     (λ facts. OfFurther (further_modules hex files 2 loads) (λ others. Is facts (loaded_at load section ∷ others)))) reply
 
--- the reply if one of the files isn't hex text or has a bad line; there is none if all can be read
+-- the reply if one of the files must be hex text and isn't, or has a bad line; no reply if all
+-- files can be read
 abbrev pub IsUnreadProcess : Target → ℕ → List ℕ → Bool → List (List ℕ) → Reply → Type 0
 IsUnreadProcess target load loads hex files reply = OfProcess target load loads hex files (λ facts modules r. ⊥) reply
 
--- Why a process isn't read from its `count` files: one isn't hex text or has a bad line, as `Is`
--- says, or memory ran out.
+-- Why reading the `count` files of a process failed: one of them must be hex text and isn't, or has
+-- a bad line, and `Is` holds for that reply; or memory ran out.
 abbrev pub IsBadProcess : (Reply → Type 0) → ℕ → RunFault → Type 0
 IsBadProcess Is count (stops.BadHex n) = (n < count) × Is (not_hex n)
 IsBadProcess Is count (stops.StateLine n) = Is (bad_line n)
 IsBadProcess Is count stops.Memory = Unit {0}
 IsBadProcess Is count _ = ⊥
 
--- ---- what two commands share
+-- ---- replies that two commands have in common
 
--- `rows` and `row`: a text of a frame section
+-- `rows` and `row`: the text that `text_for` makes of the frame section in the first file
 abbrev pub OfFrame : (FrameSection → List ℕ) → Target → Bool → List (List ℕ) → Reply → Type 0
 OfFrame text_for target hex files reply =
     OfSection 0 (section_bytes hex (slice_get files 0)) (λ section r. r ≡ frame_reply text_for target section) reply
 
--- `unwind` and `backtrace`: a text made from the modules, FRAME's first, and from what the state
--- file gives
+-- `unwind` and `backtrace`: a text for which `Shows` holds, given what the state file says and the
+-- modules, that of FRAME first
 abbrev pub OfModulesAndState : (AddressSize → List StateFact → List (Module FrameSection) → List ℕ → Type 0) → ℕ → List ℕ → Target
     → Bool → List (List ℕ) → Reply → Type 0
 OfModulesAndState Shows load loads target hex files reply =
@@ -228,7 +234,8 @@ IsCheckReply target hex files reply =
 abbrev pub IsRowsReply : Target → Bool → List (List ℕ) → Reply → Type 0
 IsRowsReply target hex files reply = OfFrame frame_text target hex files reply
 
--- `row`: `load` is the module's load address, and the row is shown with addresses as linked
+-- `row`: `load` is the module's load address, and the row is shown with the addresses that it has
+-- in the section, to which `load` isn't added
 abbrev pub IsRowReply : ℕ → ℕ → Target → Bool → List (List ℕ) → Reply → Type 0
 IsRowReply load address target hex files reply =
     OfFrame (λ frame. lookup_text frame (as_linked target load address)) target hex files reply
@@ -254,7 +261,8 @@ abbrev pub IsBacktraceReply : ℕ → ℕ → ℕ → List ℕ → Target → Bo
 IsBacktraceReply address limit load loads target hex files reply =
     OfModulesAndState (ShowsWalk address limit) load loads target hex files reply
 
--- the reply to a task, given the load address of FRAME's module and those of the further modules
+-- the reply to a task, given the load address of FRAME's module and the load addresses of the
+-- modules of `--module`
 abbrev pub IsReplyTo : Task → ℕ → List ℕ → Target → Bool → List (List ℕ) → Reply → Type 0
 IsReplyTo Check load loads target hex files reply = IsCheckReply target hex files reply
 IsReplyTo Rows load loads target hex files reply = IsRowsReply target hex files reply
@@ -275,10 +283,11 @@ abbrev pub IsPlaceIn : ℕ → End → Type 0
 IsPlaceIn count (BadHex place) = place < count
 IsPlaceIn count other = Unit {0}
 
--- How far a run went, by its result. `Is` holds for its possible replies, and there are `count`
--- files. `Ok`: all of a text is written. A refusal, BadHex or StateLine: nothing is written yet.
--- Memory: a beginning of the text is written, or nothing if the reply is no text. Output: a
--- beginning of the reply, a text or a refusal, is written.
+-- What a run has written, by its result, before the line of a refusal is written. `Is` holds for
+-- the possible replies, and there are `count` files. `Ok`: all of a text is written. `Refused`,
+-- `BadHex` or `StateLine`: nothing is written yet. `Memory`: a beginning of the text is written, or
+-- nothing if the reply isn't a text. `Output`: a beginning of the reply, a text or a refusal, is
+-- written.
 abbrev pub Goes : ℕ → (Reply → Type 0) → Option (List ℕ) → Option (List ℕ) → Result (Unit {0}) RunFault → Type 0
 Goes count Is old new (Ok _) = (bytes : List ℕ) × Is (text bytes) × Appends old new bytes
 Goes count Is old new (Err (stops.Refused section fault)) = Is (refusal section fault) × Appends old new []
@@ -287,10 +296,10 @@ Goes count Is old new (Err (stops.StateLine n)) = Is (bad_line n) × Appends old
 Goes count Is old new (Err stops.Memory) = (reply : Reply) → Is reply → AppendsFront old new (accepted_text reply)
 Goes count Is old new (Err stops.Output) = (reply : Reply) × Is reply × IsWritten reply × AppendsFront old new (text_of reply)
 
--- How a run ends; `Is` holds for its possible replies. All of the reply is written, with these
--- exceptions. Memory: a beginning of the text is written, or nothing if the reply is no text.
--- Output: a beginning of the reply, a text or a refusal, is written. The sink has stopped exactly
--- if the end is Output.
+-- What a run has written when it ends. `Is` holds for the possible replies. All of the reply is
+-- written, with two exceptions. `Memory`: a beginning of the text is written, or nothing if the
+-- reply isn't a text. `Output`: a beginning of the reply, a text or a refusal, is written. The sink
+-- has stopped if the end is `Output`, and in no other case.
 abbrev pub Ends : (Reply → Type 0) → Option (List ℕ) → Option (List ℕ) → Bool → End → Type 0
 Ends Is old new stopped Done = (bytes : List ℕ) × Is (text bytes) × Appends old new bytes × (stopped ≡ false)
 Ends Is old new stopped Refused = (section : Section) × (fault : Fault) × Is (refusal section fault)

@@ -13,8 +13,9 @@ use Rattle.dw_rows.specs.Abi.{is_among, abi_fault}
 use Rattle.dw_check.specs.Addresses.{short_number, address_of}
 use Rattle.dw_check.specs.Parts.{parts_of}
 
--- what a line gives: a register's content, the bytes at an address, the CFA, the frame base, the object's address, a
--- callee-saved register, or the stack pointer register
+-- what a line gives: a register's number and content, an address and the bytes from there on, the
+-- CFA, the frame base, the object's address, the number of a callee-saved register, or the number
+-- of the stack pointer
 pub data StateFact : Type 0 where
   register : ℕ → ℕ → StateFact
   bytes : ℕ → List ℕ → StateFact
@@ -29,29 +30,30 @@ abbrev pub FitsAddresses : StateFact → Type 0
 FitsAddresses (bytes a bs) = a + length bs ≤ 2 ^ 64
 FitsAddresses _ = Unit {0}
 
--- ---- a line
+-- ---- what a line gives; None if the line is malformed
 
--- the fact of one or more bytes at address a, none of which is past the target's greatest address
+-- The fact that memory holds the bytes `bs` from address a on. It is None if there are no bytes, or
+-- if the last one would be past the target's greatest address.
 abbrev pub bytes_fact : Target → ℕ → List ℕ → Option StateFact
 bytes_fact target a bs = if nat_lt 0 (length bs) && nat_le (a + length bs) (suc (top_of target)) then Some (bytes a bs) else None
 
--- `reg N 0xV`
+-- `reg N 0xV`, where `place` is N and `value` is `0xV`
 abbrev pub register_fact : Target → List ℕ → List ℕ → Option StateFact
 register_fact target place value = option_and_then (λ r. option_map (register r) (address_of target value)) (short_number place)
 
--- `mem 0xA HEX`
+-- `mem 0xA HEX`, where `place` is `0xA` and `value` is HEX
 abbrev pub memory_fact : Target → List ℕ → List ℕ → Option StateFact
 memory_fact target place value = option_and_then (λ a. option_and_then (bytes_fact target a) (result_ok (decode_of value)))
     (address_of target place)
 
--- a line of three words
+-- a line of three words, the first of which has to be `reg` or `mem`
 abbrev pub fact_of_three_words : Target → List ℕ → List ℕ → List ℕ → Option StateFact
 fact_of_three_words target word place value =
     if bytes_eq word (codes "reg") then register_fact target place value
     else (if bytes_eq word (codes "mem") then memory_fact target place value
     else None)
 
--- a line of two words: `cfa 0xV`, `frame 0xV`, `object 0xV`, `keep N` and `sp N`
+-- a line of two words: `cfa 0xV`, `frame 0xV`, `object 0xV`, `keep N` or `sp N`
 abbrev pub fact_of_two_words : Target → List ℕ → List ℕ → Option StateFact
 fact_of_two_words target word value =
     if bytes_eq word (codes "cfa") then option_map cfa (address_of target value)
@@ -70,7 +72,7 @@ fact_of_words target words = None
 abbrev pub fact_of_line : Target → List ℕ → Option StateFact
 fact_of_line target line = fact_of_words target (parts_of 32 line)
 
--- ---- what counts if two lines give the same thing: the first line
+-- ---- the state that facts give: if two lines give the same thing, the first one counts
 
 abbrev pub first_that : {X : Type 0} → (StateFact → Option X) → List StateFact → Option X
 first_that pick [] = None
@@ -102,7 +104,7 @@ stack_pointer_in _ = None
 
 -- ---- callee-saved registers
 
--- callee-saved registers, and the one that a fact gives, unless it is among them
+-- the callee-saved registers `ns`, and after them the one that a fact gives, unless it is in `ns`
 abbrev pub kept_with : List ℕ → StateFact → List ℕ
 kept_with ns (keep n) = if is_among n ns then ns else ns ++ n ∷ []
 kept_with ns _ = ns
@@ -121,15 +123,17 @@ facts_of_lines target lines = filter_map (fact_of_line target) lines
 abbrev pub is_line : Target → List ℕ → Bool
 is_line target line = length line == 0 || is_some (fact_of_line target line)
 
--- the ABI that facts give has no fault
+-- The callee-saved registers and the stack pointer that facts give make an ABI: there are not too
+-- many, and the stack pointer isn't callee-saved.
 abbrev pub go_together : List StateFact → Bool
 go_together facts = is_none (abi_fault (kept_in facts) (first_that stack_pointer_in facts))
 
--- each line is empty or well formed, and the lines don't contradict each other
+-- each line is empty or well formed, and what the lines give makes an ABI
 abbrev pub are_good : Target → List (List ℕ) → Bool
 are_good target lines = list_all (is_line target) lines && go_together (facts_of_lines target lines)
 
--- the number of the first line that is malformed or contradicts those before it, counted from 1
+-- the number, counted from 1, of the first line that is malformed or contradicts the lines before
+-- it; None if there is no such line
 abbrev pub first_bad_line : Target → List (List ℕ) → Option ℕ
 first_bad_line target lines = find (λ n. not (are_good target (take n lines))) (range_with_len 1 (length lines))
 

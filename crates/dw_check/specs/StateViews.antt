@@ -1,4 +1,4 @@
--- What the types of a state file mean.
+-- What the code's state lines and machine states mean.
 use Rattle.std.specs.Prelude.{◌≡◌, ℕ, List, Result, Ok}
 use Rattle.std.specs.Ordering.{nat_cmp}
 use Rattle.std.specs.BTreeMap.{get}

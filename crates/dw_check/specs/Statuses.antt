@@ -1,4 +1,4 @@
--- The exit statuses, and the text for a command line that gives no request.
+-- The exit statuses, and the text for a command line from which no request can be made.
 use Rattle.std.specs.Prelude.{ℕ, List, codes}
 use Rattle.std.specs.String.{string_bytes}
 use Rattle.dw_check.specs.declared.requests.Usage.{Usage}

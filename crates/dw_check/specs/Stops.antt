@@ -26,33 +26,35 @@ is_output (Ok _) = false
 is_output (Err Output) = true
 is_output (Err _) = false
 
--- Why there are no bytes of the section in file `place` of `count` files: the file must be hex text
--- and isn't, or memory ran out.
+-- Why the section in the file at index `place`, of `count` files, can't be read: the file must be
+-- hex text and isn't, or memory ran out.
 abbrev pub IsBadSection : Option (List ℕ) → ℕ → ℕ → RunFault → Type 0
 IsBadSection bytes place count (BadHex n) = (n ≡ place) × (place < count) × (bytes ≡ None)
 IsBadSection bytes place count Memory = Unit {0}
 IsBadSection bytes place count _ = ⊥
 
--- Why there is no machine state: the state file's first bad line, or memory ran out.
+-- Why there is no machine state: the state file has a bad line, of which the first is named, or
+-- memory ran out.
 abbrev pub IsBadState : Result (List StateFact) ℕ → RunFault → Type 0
 IsBadState given (StateLine n) = given ≡ Err n
 IsBadState given Memory = Unit {0}
 IsBadState given _ = ⊥
 
--- Why a section is refused: its first fault, or memory ran out.
+-- Why checking a section failed: it has a fault, of which the first is named, or memory ran out.
 abbrev pub IsRefusal : Section → Option Fault → RunFault → Type 0
 IsRefusal section first (Refused s fault) = (s ≡ section) × (first ≡ Some fault)
 IsRefusal section first Memory = Unit {0}
 IsRefusal section first _ = ⊥
 
--- Why two sections are refused: their first fault, or memory ran out.
+-- Why checking two sections failed: they have a fault, of which the first is named, or memory ran
+-- out.
 abbrev pub RefusesBoth : Option CheckFault → RunFault → Type 0
 RefusesBoth first (Refused section fault) = first ≡ Some (record { section = section; fault = fault })
 RefusesBoth first Memory = Unit {0}
 RefusesBoth first _ = ⊥
 
--- Why there are no bytes of further modules, given `count` files: a module's file must be hex text
--- and isn't, or memory ran out.
+-- Why the modules of `--module` can't be read, given `count` files: the file of one of them must be
+-- hex text and isn't, or memory ran out.
 abbrev pub AreBadModules : Result (List (Module (List ℕ))) ℕ → ℕ → RunFault → Type 0
 AreBadModules modules count (BadHex n) = (modules ≡ Err n) × (n < count)
 AreBadModules modules count Memory = Unit {0}

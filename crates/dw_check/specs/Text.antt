@@ -1,4 +1,5 @@
--- The texts that a run writes, one definition per form of line.
+-- The lines that a run writes for refusals, FDEs, rows and numbers: one definition per form of
+-- line.
 use Rattle.std.specs.Prelude.{ℕ, suc, ◌+◌, ◌<◌, ◌^◌, ℤ, pos, negsuc, List, [], ◌++◌, Option}
 use Rattle.std.specs.Prelude.{Some, None, codes, decimal}
 use Rattle.std.specs.List.{flat_map}
@@ -41,7 +42,7 @@ section_text sections.Frame = codes "frame"
 section_text sections.Lists = codes "lists"
 section_text sections.Expression = codes "expression"
 
--- a fault of two sections: the section, then the fault
+-- the fault of a check of two sections: the section that has the fault, and then the fault
 unfoldable pub check_fault_text : CheckFault → List ℕ
 check_fault_text found = section_text found.section ++ codes ": " ++ fault_text found.fault
 
@@ -63,7 +64,8 @@ fde_line size cie fde = records_text cie fde ++ codes " " ++ range_text size fde
 unfoldable pub expression_text : List ℕ → List ℕ
 expression_text bytes = codes "expr(" ++ encode_lower bytes ++ codes ")"
 
--- The rule for the CFA, which every row of a checked section has.
+-- The rule for the CFA. Every row of a checked section has one, so the text for None is never
+-- shown.
 abbrev pub cfa_text : Option Cfa → List ℕ
 cfa_text (Some (register_and_offset r n)) = codes "r" ++ decimal r ++ signed_text n
 cfa_text (Some (cfa_expression e)) = expression_text e.bytes
@@ -87,11 +89,11 @@ unfoldable pub row_line : AddressSize → Row → List ℕ
 row_line size row = codes "row " ++ range_text size row.start row.end ++ codes " cfa=" ++ cfa_text row.cfa
     ++ flat_map register_text row.rules ++ codes "\n"
 
--- the addresses of an FDE, its end too, fit in the digits of `size`
+-- the end of an FDE's addresses fits in the hex digits of `size`, and so do its addresses
 abbrev pub FitsFde : AddressSize → Fde → Type 0
 FitsFde size fde = fde.initial_location + fde.address_range < 16 ^ digits_of size
 
--- the addresses of a row, its end too, fit in the digits of `size`
+-- the start and the end of a row fit in the hex digits of `size`
 pub record Fits (size : AddressSize) (row : Row) : Type 0 where
   pub start : row.start < 16 ^ digits_of size
   pub end : row.end < 16 ^ digits_of size

@@ -1,5 +1,5 @@
--- The text of a walk: a line for each frame, counted from 0, and a line that says why there are no
--- more.
+-- The text of a walk up the stack: a line for each frame, counted from 0, and a line that says why
+-- there are no more.
 use Rattle.std.specs.Prelude.{ℕ, List, ◌++◌, Option, Some, None, codes, decimal}
 use Rattle.std.specs.List.{flat_map, enumerate_from}
 use Rattle.dw_bytes.specs.declared.target.AddressSize.{AddressSize}

@@ -1,4 +1,4 @@
--- What a call has written, by its result.
+-- What a call that writes a text has written, by its result.
 use Rattle.std.specs.Prelude.{◌≡◌, ℕ, Bool, true, false, List, [], Option, Result, Ok, Err}
 use Rattle.std.specs.Io.KnownBytes.{Appends}
 use Rattle.dw_check.specs.SinkBytes.{AppendsFront}
@@ -15,8 +15,8 @@ abbrev pub Writes : Option (List ℕ) → Option (List ℕ) → Result (Unit {0}
 Writes old new (Ok _) text = Appends old new text
 Writes old new (Err _) text = AppendsFront old new text
 
--- like `Writes`, for a text that is sent only when it is complete: if memory runs out, nothing is
--- written
+-- For a text that is sent only when it is complete: a call wrote all of the text if it succeeded,
+-- nothing if memory ran out, and a beginning of the text if the sink stopped.
 abbrev pub WritesWhole : Option (List ℕ) → Option (List ℕ) → Result (Unit {0}) ReportFault → List ℕ → Type 0
 WritesWhole old new (Ok _) text = Appends old new text
 WritesWhole old new (Err Memory) text = Appends old new []

@@ -54,8 +54,8 @@ pub(crate) struct Process<'a> {
 }
 
 /// Reads the files of a process: FRAME, whose module is loaded at `load`; the state file; and the
-/// files of `--module`, whose modules are loaded at `module_loads`. Nothing is checked but that
-/// files can be decoded.
+/// files of `--module`, whose modules are loaded at `module_loads`. The frame sections aren't
+/// checked here.
 pub(crate) fn read_process<'a>(
     alloc: Global,
     files: &Files<'a>,

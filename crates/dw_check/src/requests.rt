@@ -53,8 +53,8 @@ pub struct Request {
     pub(crate) task: Task,
     /// The byte order and address size of the sections, expressions and state files.
     pub(crate) target: Target,
-    /// The load address of the module whose frame section is the first file; 0 for a task without a
-    /// frame section.
+    /// The load address of the module whose frame section is the first file: the value of `--load`,
+    /// or 0 without that option.
     pub(crate) load: u64,
     /// The load addresses of the further modules (`--module`), in order.
     pub(crate) module_loads: Vec<u64>,

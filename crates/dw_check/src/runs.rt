@@ -183,8 +183,8 @@ fn show_row<S: Sink>(
 }
 
 /// Runs `locs`: checks a section of location lists, and writes the expressions of a list that apply
-/// at an address, and their outcomes. Registers and memory are those in the state file, if there is
-/// one.
+/// at an address, and their outcomes. Registers, memory and the rest of the state are those in the
+/// state file; without one, nothing is known of them.
 fn show_locations<S: Sink>(
     alloc: Global,
     lookup: ListLookup,
@@ -206,8 +206,8 @@ fn show_locations<S: Sink>(
     run_result(write_list_lookup(out, &lists, lookup, &state))
 }
 
-/// Runs `eval`: checks an expression and writes its outcome. Registers and memory are those in the
-/// state file, if there is one.
+/// Runs `eval`: checks an expression and writes its outcome. Registers, memory and the rest of the
+/// state are those in the state file; without one, nothing is known of them.
 fn show_outcome<S: Sink>(
     alloc: Global,
     kind: Kind,
