@@ -1,4 +1,4 @@
--- The reply for two sections, and what refuses them.
+-- The reply for two sections: there is exactly one, and a failed check ends the run as it demands.
 use Rattle.std.proofs.Common.{◌≡◌, ◌⊎◌, ℕ, List, ap, ap₂, sym, refl, ◌∙◌, inl, inr}
 use Rattle.std.specs.Prelude.{Option, Some, None}
 use Rattle.dw_bytes.specs.declared.target.Target.{Target}
@@ -16,7 +16,7 @@ use Rattle.dw_check.specs.declared.stop.RunFault.TheVariants.{Refused, BadHex, S
 use Rattle.dw_check.specs.declared.whole_check.CheckFault.{CheckFault}
 use Rattle.dw_check.proofs.WholeCheck.{each_without_fault}
 
--- ---- what stops a check
+-- ---- how a run ends if the check fails
 
 lacked : (first : Option CheckFault) (section : Section) (stop : RunFault) → IsRefusal section None stop → RefusesBoth first stop
 lacked first section (Refused s f) h = let never : None ≡ Some f = h.1 in cc
@@ -36,14 +36,15 @@ named first found (BadHex n) is h = absurd h
 named first found (StateLine n) is h = absurd h
 named first found Output is h = absurd h
 
--- the stop for a section's fault is the stop for the first fault of both
+-- A check of two sections failed with `found`: their first fault, or that memory ran out. A run
+-- that ends as `IsRefusal` demands for `found` also ends as `RefusesBoth` demands.
 pub stopped : (first : Option CheckFault) (found : CheckFault) (stop : RunFault)
     → ((own : Option Fault) → (found.fault ≡ memory) ⊎ (own ≡ Some found.fault) → IsRefusal found.section own stop)
     → (found.fault ≡ memory) ⊎ (first ≡ Some found) → RefusesBoth first stop
 stopped first found stop each (inl lacks) = lacked first found.section stop (each None (inl lacks))
 stopped first found stop each (inr is) = named first found stop is (each (Some found.fault) (inr refl))
 
--- ---- one reply, and each has one
+-- ---- there is at most one reply, and there is one
 
 module _ (target : Target) (frame lists : List ℕ) (Shows : FrameSection → ListSection → List ℕ → Type 0) where
   abbrev Shown : List ℕ → Type 0

@@ -1,4 +1,4 @@
--- A request has a reply.
+-- Each request has a reply (`IsReply` in specs/Runs.antt).
 use Rattle.std.proofs.Common.{◌≡◌, ℕ, ◌^◌, ◌<◌, Bool, true, false, List, ◌∷◌, length, Option, Some, None, Result, Ok, Err, refl, nat_lt}
 use Rattle.std.proofs.Common.{arith}
 use Rattle.std.proofs.lemmas.Bool.Decides.{nat_tests}
@@ -88,21 +88,21 @@ each_locs lookup target hex files =
     (λ section. OfState (state_facts target (slice_get files 1)) (IsFound lookup target section))
     (λ section. each_of_state (state_facts target (slice_get files 1)) (IsFound lookup target section) (each_found lookup target section))
 
--- assumed of reports: there is one on any two checked sections
+-- what is assumed of reports: there is one on any two checked sections
 abbrev EachReport : Type 0
 EachReport = (frame : FrameSection) (lists : ListSection) → rows.IsChecked frame → IsChecked lists → (t : List ℕ) × IsReport frame lists t
 
--- assumed of unwindings: there is one at each address, through checked modules
+-- what is assumed of unwinding: through checked modules, each address has a caller or has none
 abbrev pub EachUnwinding : Type 0
 EachUnwinding = (sections : List (Module FrameSection)) (abi : Abi) (memory registers : ℕ → Option ℕ) (address : ℕ)
     → AreChecked sections → (c : Option Caller) × over_sections abi memory sections registers address c
 
--- assumed of walks: there is one from each place, through checked modules
+-- what is assumed of walks: through checked modules, there is one from each place, with each limit
 abbrev pub EachWalk : Type 0
 EachWalk = (sections : List (Module FrameSection)) (abi : Abi) (memory : ℕ → Option ℕ) (first : Place) (limit : ℕ)
     → AreChecked sections → (xs : List WalkedFrame) × (stop : Stop) × Walks (over_sections abi memory sections) first limit xs stop
 
--- for checked modules and what a state file gives, there is a text
+-- for any checked modules and any facts of a state file, there is a text that shows the answer
 abbrev EachShown : (AddressSize → List StateFact → List (Module FrameSection) → List ℕ → Type 0) → Type 0
 EachShown Shows = (size : AddressSize) (facts : List StateFact) (sections : List (Module FrameSection)) → AreChecked sections
     → (t : List ℕ) × Shows size facts sections t

@@ -1,4 +1,5 @@
--- There is a report on two sections, given what is known of accepted sections and of depths.
+-- There is a report on two sections, assuming that accepted sections have only expressions that
+-- pass the check, and that such expressions have a depth.
 use Rattle.std.proofs.Common.{◌≡◌, ℕ, zero, suc, List, [], ◌∷◌, ◌++◌, refl, arith}
 use Rattle.std.specs.Prelude.{Option, Some, None, Contains}
 use Rattle.std.specs.List.{AllByRecursion}
@@ -31,7 +32,8 @@ both : (xs ys : List LocatedExpression) → AllByRecursion Good xs → AllByRecu
 both [] ys h k = k
 both (x ∷ xs) ys h k = (h.0, both xs ys h.1 k)
 
--- the expressions of the entry, if it has one, and of the entries after it pass the check
+-- if the expression of an entry passes the check, or it has none, and the expressions of the
+-- entries after it pass too, then all of these expressions pass
 entry_good : (e : Entry) (es : List Entry) (o : Option Block) → expression_in e ≡ o
     → ((b : Block) → expression_in e ≡ Some b → IsGoodExpression Location b.target b.bytes)
     → AllByRecursion Good (expressions_of es) → AllByRecursion Good (expressions_of (e ∷ es))

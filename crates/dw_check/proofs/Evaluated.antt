@@ -1,4 +1,4 @@
--- The result of evaluating a checked expression.
+-- The text that shows the result of evaluating a checked expression: there is exactly one.
 use Rattle.std.proofs.Common.{◌≡◌, ℕ, ◌^◌, ◌<◌, ◌≤◌, List, length, refl, sym, ap, ◌∙◌, subst}
 use Rattle.std.specs.Prelude.{Some}
 use Rattle.dw_bytes.specs.declared.target.Target.{Target}
@@ -33,7 +33,7 @@ pub good_checked : (kind : Kind) (target : Target) (bytes : List ℕ) (c : Check
     → IsGoodExpression kind target bytes → IsGoodExpression c.kind c.target c.bytes
 good_checked kind target bytes c same good = rw (same.kind_is, same.target_is, same.bytes_are) good
 
--- what an evaluation may read, by a known machine state
+-- what an evaluation may read: the target, and what is known of the machine's state
 abbrev pub known_world : Target → KnownState → World
 known_world target k = record {
   target = target;
@@ -75,7 +75,8 @@ pub refused_long : (kind : Kind) (target : Target) (bytes : List ℕ) (gs : List
     → IsOutcome kind target bytes gs (refusal Expression too_long)
 refused_long kind target bytes gs h = (refl, long_fault bytes _ h)
 
--- what holds for the checked expression holds for the given bytes
+-- a text that shows the outcome of a checked expression shows the outcome of the bytes that were
+-- checked
 pub written_same : (kind : Kind) (target : Target) (bytes : List ℕ) (c : Checked) (gs : List StateFact) (W : List ℕ → Type 0)
     → IsOf kind target bytes c → ((t : List ℕ) × Evaluates c.kind c.target c.bytes gs t × W t)
     → (t : List ℕ) × Evaluates kind target bytes gs t × W t
@@ -86,7 +87,7 @@ written_same kind target bytes c gs W same h = (
   h.2,
 )
 
--- an expression that passes the check has a text
+-- there is a text that shows the outcome of an expression that passes the check
 pub each_text : (kind : Kind) (target : Target) (bytes : List ℕ) (gs : List StateFact) → length bytes < 2 ^ 32
     → IsGoodExpression kind target bytes → (t : List ℕ) × Evaluates kind target bytes gs t
 each_text kind target bytes gs short good =
@@ -109,7 +110,7 @@ each_text kind target bytes gs short good =
       },
     )
 
--- an expression has at most one text
+-- there is at most one text that shows the outcome of an expression
 pub same_text : (kind : Kind) (target : Target) (bytes : List ℕ) (gs : List StateFact) (a b : List ℕ) → Evaluates kind target bytes gs a
     → Evaluates kind target bytes gs b → a ≡ b
 same_text kind target bytes gs a b h k =

@@ -1,4 +1,4 @@
--- The result of a look-up in a section of location lists: one text, whatever the machine's state.
+-- A look-up in a section of location lists has exactly one reply, whatever a state file gives.
 use Rattle.std.proofs.Common.{◌≡◌, ℕ, zero, suc, ◌^◌, ◌<◌, ◌==◌, Bool, true, false, cond, nat_lt, List, [], ◌∷◌, ◌++◌, length, Contains}
 use Rattle.std.proofs.Common.{Option, Some, None, refl, sym, ap, ap₂, subst, ◌∙◌, arith, inl, inr, codes}
 use Rattle.std.specs.Prelude.{◌⊎◌}
@@ -28,7 +28,7 @@ use Rattle.dw_check.proofs.Lengths.{short_fault, long_fault}
 abbrev is_at : ℕ → Loclist → Bool
 is_at n l = l.offset == n
 
--- either no list begins at offset n and `find` gives none, or `find` gives a list that begins at n
+-- either no list begins at offset n and `find` gives None, or `find` gives a list that begins at n
 abbrev Looked : ℕ → List Loclist → Type 0
 Looked n ls = ((find (is_at n) ls ≡ None) × (Contains (starts_of ls) n → ⊥)) ⊎
     ((l : Loclist) × (find (is_at n) ls ≡ Some l) × Contains ls l × (l.offset ≡ n))
@@ -81,7 +81,7 @@ module _ (lookup : ListLookup) (target : Target) (section : List ℕ) (gs : List
   abbrev whole : ListSection
   whole = record { target = target; section = section }
 
-  -- a section without a refusal is short and accepted
+  -- a section without a fault has fewer than 2^32 bytes and is accepted
   accepted : lists_refusal target section ≡ None → (length section < 2 ^ 32) × IsChecked whole
   accepted none = by (nat_lt (length section) (2 ^ 32)) refl
     where
@@ -115,7 +115,7 @@ module _ (lookup : ListLookup) (target : Target) (section : List ℕ) (gs : List
   pub each_found : (r : Reply) × IsFound lookup target section gs r
   each_found = by_fault (lists_refusal target section) refl
 
--- ---- and only one
+-- ---- each look-up has at most one text
 
 pub one_evaluated : (gs : List StateFact) (xs : List LocatedExpression) (a b : List ℕ) → AreEvaluated gs xs a → AreEvaluated gs xs b
     → a ≡ b

@@ -1,4 +1,4 @@
--- Further modules, read and checked one by one.
+-- Loops that read and check the modules of `--module` one by one.
 use Rattle.std.proofs.Common.{◌≡◌, ℕ, ◌<◌, List, [], ◌∷◌, ◌++◌, refl, ap, sym, subst, ◌∙◌}
 use Rattle.std.proofs.lemmas.List.{append_assoc}
 use Rattle.std.specs.Prelude.{Option, Some, None, Result, Ok, Err}
@@ -12,24 +12,26 @@ use Rattle.dw_unwind.specs.declared.modules.Module.{Module}
 use Rattle.dw_check.specs.declared.stop.RunFault.{RunFault}
 use Rattle.dw_check.specs.declared.stop.RunFault.TheVariants.{Refused, BadHex, StateLine, Memory, Output}
 
--- the modules already read, followed by the others, if these can be read
+-- the modules that are already read, followed by the others; an error if the others can't be read
 abbrev pub joined : List (Module (List ℕ)) → Result (List (Module (List ℕ))) ℕ → Result (List (Module (List ℕ))) ℕ
 joined before (Err n) = Err n
 joined before (Ok others) = Ok (before ++ others)
 
--- one more module is read: it moves from the others to the modules already read
+-- if one more section can be read, its module is the last of those already read instead of the
+-- first of the others
 pub one_more_read : (before : List (Module (List ℕ))) (place load : ℕ) (found : Option (List ℕ)) (section : List ℕ)
     (others : Result (List (Module (List ℕ))) ℕ) → found ≡ Some section
     → joined before (module_before place load found others) ≡ joined (before ++ loaded_at load section ∷ []) others
 one_more_read before place load found section (Err n) is = rw is refl
 one_more_read before place load found section (Ok others) is = rw is (ap Ok (sym (append_assoc before (loaded_at load section ∷ []) others)))
 
--- one more module is checked and has no fault: the first fault is that of the remaining modules
+-- putting a module without a fault in front of others doesn't change their first fault
 pub one_more_judged : (target : Target) (m : Module (List ℕ)) (modules : List (Module (List ℕ))) → frame_refusal target m.rows ≡ None
     → modules_refusal target (m ∷ modules) ≡ modules_refusal target modules
 one_more_judged target m modules none = ap (λ (f : Option Fault). option_or f (modules_refusal target modules)) none
 
--- the section of the next module can't be read, so neither can all modules
+-- if the section of the next module can't be read, then for the same reason all modules together
+-- can't be read
 pub bad_module : (all : Result (List (Module (List ℕ))) ℕ) (before : List (Module (List ℕ))) (place load count : ℕ)
     (found : Option (List ℕ)) (others : Result (List (Module (List ℕ))) ℕ) (stop : RunFault)
     → all ≡ joined before (module_before place load found others) → IsBadSection found place count stop → AreBadModules all count stop

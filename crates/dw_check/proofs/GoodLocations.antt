@@ -29,8 +29,8 @@ abbrev AllUnder : Target → Option Block → Type 0
 AllUnder target None = Unit {0}
 AllUnder target (Some b) = b.target ≡ target
 
--- the expression among the operands of an entry has the target, whatever line of the table of
--- entries gives them
+-- If an entry has the operands that a line of the table of entries demands, its expression, if it
+-- has one, has the target. `of` is that line; None if no line has the entry's code.
 Under : Target → Option (Line Entry) → Type 0
 Under target of = (at : ℕ) (bytes : List ℕ) (e : Entry) → AreOperands target of at bytes e → AllUnder target (expression_in e)
 
@@ -88,7 +88,7 @@ both : (target : Target) (xs ys : List LocatedExpression) → AllShowable target
 both target [] ys h k = k
 both target (x ∷ xs) ys h k = (h.0, both target xs ys h.1 k)
 
--- the expression of an entry with its place in the section, if the entry has one
+-- the expression of an entry with its place in the section; an empty list if the entry has none
 abbrev located-of : Option Block → List LocatedExpression
 located-of None = []
 located-of (Some b) = location_of b ∷ []
@@ -125,7 +125,7 @@ entries-show target at bytes (e ∷ es) others (first, rest, parts, here, behind
     (both target (expressions_of (e ∷ [])) (expressions_of es) own
     (entries-show target (at + length first) rest es others behind good.1 (omega (arith, long, short))))
 
--- ---- those that hold
+-- ---- the expressions that apply at an address
 
 kept : (target : Target) (b : Bool) (xs : List LocatedExpression) → AllShowable target xs → AllShowable target (cond b xs [])
 kept target true xs h = h
@@ -139,7 +139,8 @@ behind : (target : Target) (xs ys : List LocatedExpression) → AllShowable targ
 behind target [] ys h = h
 behind target (x ∷ xs) ys h = behind target xs ys h.1
 
--- if the expressions of entries can be shown, so can those of the first entry and of the others
+-- if all expressions of some entries can be shown, so can that of the first entry, and so can those
+-- of the others
 split : (target : Target) (e : Entry) (es : List Entry) → AllShowable target (expressions_of (e ∷ es))
     → AllShowable target (expressions_of (e ∷ [])) × AllShowable target (expressions_of es)
 split target e es h = let all = subst (AllShowable target) (entries-front e es) h in (
@@ -168,7 +169,8 @@ either : (target : Target) (xs ys : List LocatedExpression) → AllShowable targ
 either target [] ys h k = k
 either target (x ∷ xs) ys h k = h
 
--- all that a list of an accepted section gives can be shown
+-- all expressions that a list of an accepted section gives at an address can be shown
+-- (`IsShowable`)
 pub locations_show : (s : ListSection) (l : Loclist) (base address : ℕ) → IsChecked s → length s.section < 2 ^ 32 → Contains (lists_in s) l
     → AllByRecursion (IsShowable s.target.address_size) (locations_of l base address)
 locations_show s l base address checked short among =

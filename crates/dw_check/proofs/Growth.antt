@@ -1,4 +1,4 @@
--- Growth by texts, one by one.
+-- What a sink has accepted after several texts, written one after another.
 use Rattle.std.proofs.Common.{◌≡◌, ℕ, ◌+◌, List, [], ◌++◌, Option, None, Some, ap, sym, ◌∙◌, append_assoc, take, drop, length}
 use Rattle.std.proofs.Common.{◌-◌, arith, length-drop}
 use Rattle.std.proofs.lemmas.List.{append-nil, take-append-drop, take_all}
@@ -34,12 +34,12 @@ front_wider a b x y k = (k.0, k.1 ++ y, sym (append_assoc k.0 k.1 y) ∙ ap (λ 
 pub rest_of_slice : (xs : List ℕ) (i : ℕ) → take (length xs - i) (drop i xs) ≡ drop i xs
 rest_of_slice xs i = take_all (length xs - i) (drop i xs) (omega (arith, length-drop i xs))
 
--- the first i bytes and then n more are the first i + n bytes
+-- writing the first i bytes of a text, and then n more, writes its first i + n bytes
 pub piece_more : (a b c : Option (List ℕ)) (xs : List ℕ) (i n : ℕ) → Appends a b (take i xs)
     → Appends b c (take n (take (length xs - i) (drop i xs))) → Appends a c (take (i + n) xs)
 piece_more a b c xs i n h k =
     rw take-add (appends_more a b c (take i xs) (take n (drop i xs)) h (rw (rest_of_slice xs i) at k))
 
--- the first i bytes are a beginning
+-- writing the first i bytes of a text writes a beginning of it
 pub front_of_take : (a b : Option (List ℕ)) (xs : List ℕ) (i : ℕ) → Appends a b (take i xs) → AppendsFront a b xs
 front_of_take a b xs i h = (take i xs, drop i xs, take-append-drop i xs, h)

@@ -55,14 +55,14 @@ byte_is : (k n : ℕ) → byte_at k n ≡ n / 256 ^ k % 256
 byte_is zero n = ap (λ (q : ℕ). q % 256) (sym (div-one n))
 byte_is (suc k) n = refl
 
--- the digit of the high four bits of byte k
+-- the high four bits of byte k, counted from the least significant one, are hex digit 2k + 1
 high_digit : (k n : ℕ) → byte_at k n / 16 ≡ n / 16 ^ suc (twice k) % 16
 high_digit k n =
     let power : 16 ^ suc (twice k) ≡ 256 ^ k * 16 = pow-suc 16 (twice k) ∙ ap (λ (p : ℕ). p * 16) (twice_power k) in
     let parts : n / 16 ^ suc (twice k) ≡ n / 256 ^ k / 16 = ap (λ (p : ℕ). n / p) power ∙ sym (div-div-eq-div-mul n (256 ^ k) 16) in
     ap (λ (b : ℕ). b / 16) (byte_is k n) ∙ (omega (arith)) ∙ ap (λ (p : ℕ). p % 16) (sym parts)
 
--- the digit of the low four bits of byte k
+-- the low four bits of byte k, counted from the least significant one, are hex digit 2k
 low_digit : (k n : ℕ) → byte_at k n % 16 ≡ n / 16 ^ twice k % 16
 low_digit k n =
     ap (λ (b : ℕ). b % 16) (byte_is k n) ∙ (omega (arith)) ∙ ap (λ (p : ℕ). n / p % 16) (sym (twice_power k))
@@ -71,7 +71,7 @@ hex_none : (n : ℕ) → [] ≡ hex_digits 0 n
 unfolding hex_digits
 hex_none n = refl
 
--- k bytes are 2k digits
+-- the hex text of the k low bytes of a number is its 2k low hex digits
 pub hex_of_bytes : (k n : ℕ) → encode_with lower_digits (bytes_high_first k n) ≡ hex_digits (twice k) n
 unfolding encode_with
 hex_of_bytes zero n = hex_none n
@@ -93,7 +93,7 @@ ascii_from_test (b ∷ bs) h =
 ascii_digits : IsAscii lower_digits
 ascii_digits = ascii_from_test lower_digits refl
 
--- hex digits are text
+-- an even number of hex digits is valid UTF-8
 text_of : (k n : ℕ) → IsUtf8 (hex_digits (twice k) n)
 text_of k n =
     rw (sym (hex_of_bytes k n))

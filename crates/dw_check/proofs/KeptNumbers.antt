@@ -1,4 +1,4 @@
--- The numbers of callee-saved registers, and one more.
+-- When a callee-saved register or a stack pointer can be added to an ABI.
 use Rattle.std.proofs.Common.{◌≡◌, ℕ, ◌<◌, ◌==◌, nat_eq, nat_lt, Bool, true, false, ◌||◌, Option, Some, None, List, [], ◌∷◌, ◌++◌, length}
 use Rattle.std.proofs.Common.{ap, refl, sym, ◌∙◌, arith, append_assoc, append-nil, length-append}
 use Rattle.std.specs.Prelude.{if◌then◌else◌, option_map}
@@ -17,7 +17,7 @@ or_true : (a : Bool) → (a || true) ≡ true
 or_true true = refl
 or_true false = refl
 
--- ---- a number that occurs a second time
+-- ---- the first number that occurs a second time
 
 -- the first repetition in xs ++ ys is in xs, or else in ys
 second_of_both : (before xs ys : List ℕ)
@@ -38,7 +38,7 @@ second_behind : (kept : List ℕ) (n : ℕ) (t : Bool) → is_among n kept ≡ t
     → place_of_second [] (kept ++ n ∷ []) ≡ option_or (place_of_second [] kept) (if t then Some (length kept) else None)
 second_behind kept n t is = rw (second_of_both [] kept (n ∷ []), is) refl
 
--- ---- the fault by that
+-- ---- the fault of an ABI, by its number of registers and the first that occurs a second time
 
 few : (long : Bool) (f : Fault) (g : ℕ → Fault) (o : Option ℕ) → (if long then Some f else option_map g o) ≡ None → long ≡ false
 few true f g o h = cc
@@ -70,9 +70,10 @@ short kept n h = let long = length-append kept (n ∷ []) in grind (arith, nat_t
 long : (kept : List ℕ) (n : ℕ) → length kept ≡ MAX_KEPT → nat_lt MAX_KEPT (length (kept ++ n ∷ [])) ≡ true
 long kept n h = let more = length-append kept (n ∷ []) in grind (arith, nat_tests, more)
 
--- ---- numbers without a fault, and one more
+-- ---- one more register for an ABI without a fault
 
--- a number can be added if there is room, and it is neither among the others nor the stack pointer
+-- a callee-saved register can be added if there is room, and it is neither one of the others nor
+-- the stack pointer
 pub one_more_fits : (kept : List ℕ) (sp : Option ℕ) (n : ℕ) → abi_fault kept sp ≡ None → is_among n kept ≡ false
     → is_among n (option_to_list sp) ≡ false → length kept < MAX_KEPT → abi_fault (kept ++ n ∷ []) sp ≡ None
 one_more_fits kept None n fit new other small =
@@ -103,7 +104,7 @@ pub is_stack_pointer : (sp : Option ℕ) (n : ℕ) → is_among n (option_to_lis
 is_stack_pointer None n = refl
 is_stack_pointer (Some m) n = or_false (m == n)
 
--- a stack pointer can be set if it is none of the callee-saved registers
+-- a stack pointer can be set if it isn't one of the callee-saved registers
 pub stack_pointer_fits : (kept : List ℕ) (n : ℕ) → abi_fault kept None ≡ None → is_among n kept ≡ false
     → abi_fault kept (Some n) ≡ None
 stack_pointer_fits kept n fit new =

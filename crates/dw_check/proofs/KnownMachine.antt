@@ -1,4 +1,5 @@
--- The known registers, memory and ABI are those that were given.
+-- The registers, the memory and the ABI of a known state are those that the state file's facts
+-- give. So are callers and walks.
 use Rattle.std.proofs.Common.{◌≡◌, ◌∙◌, ℕ, List, refl, subst}
 use Rattle.std.specs.Prelude.{Option}
 use Rattle.std.proofs.Math.Path.{fun_ext}
@@ -23,7 +24,7 @@ module _ (sections : List (Module FrameSection)) (abi : Abi) (k : KnownState) (f
   same_abi : abi ≡ abi_given facts
   same_abi = of_abi ∙ rw (is.kept, is.stack_pointer) refl
 
-  -- a caller by the known state is a caller by what the facts give
+  -- a caller in the known state is a caller in the state that the facts give
   pub same_caller : (address : ℕ) (caller : Option Caller) → over_sections abi k.memory sections k.registers address caller
       → over_sections (abi_given facts) (memory_given facts) sections (registers_given facts) address caller
   same_caller address caller h =
@@ -31,7 +32,7 @@ module _ (sections : List (Module FrameSection)) (abi : Abi) (k : KnownState) (f
       (subst (λ m. over_sections (abi_given facts) m sections k.registers address caller) same_memory
       (subst (λ (a : Abi). over_sections a k.memory sections k.registers address caller) same_abi h))
 
-  -- a walk by the known state is a walk by what the facts give
+  -- a walk in the known state is a walk in the state that the facts give
   pub same_walk : (address limit : ℕ) (frames : List WalkedFrame) (stop : Stop)
       → Walks (over_sections abi k.memory sections) (first_place address k.registers) limit frames stop
       → Walks (over_sections (abi_given facts) (memory_given facts) sections) (first_place address (registers_given facts)) limit frames stop

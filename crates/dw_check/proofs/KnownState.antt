@@ -1,4 +1,4 @@
--- The state in a state file, as maps store it.
+-- How the maps that store the state of a state file change with each line of the file.
 use Rattle.std.proofs.Common.{◌≡◌, ℕ, zero, suc, ◌+◌, ◌-◌, ◌<◌, ◌==◌, nat_lt, nat_le, Bool, true, false, Option, Some, None, List, []}
 use Rattle.std.proofs.Common.{◌∷◌, ◌++◌, length, take, slice_index, ap, refl, sym, ◌∙◌, arith}
 use Rattle.std.specs.Prelude.{MatchOption, if◌then◌else◌, slice_get}
@@ -32,7 +32,7 @@ by_order k q false false ea eb = cmp_same k q (grind (arith, nat_tests, ea, eb))
 pub cmp_eq : (k q : ℕ) → is_eq (nat_cmp k q) ≡ (k == q)
 cmp_eq k q = by_order k q (nat_lt k q) (nat_lt q k) refl refl
 
--- ---- an option before another
+-- ---- the first of some options that has a value
 
 pub or_none : {X : Type 0} → (p : Option X) → option_or p None ≡ p
 or_none None = refl
@@ -42,14 +42,14 @@ pub or_or : {X : Type 0} → (p q r : Option X) → option_or (option_or p q) r 
 or_or None q r = refl
 or_or (Some x) q r = refl
 
--- ---- lists of what was given
+-- ---- what the first fact of its kind gives, after one more fact
 
 pub first_more : {X : Type 0} → (pick : StateFact → Option X) (gs : List StateFact) (g : StateFact)
     → first_that pick (gs ++ g ∷ []) ≡ option_or (first_that pick gs) (pick g)
 first_more pick [] g = or_none (pick g)
 first_more pick (h ∷ gs) g = ap (option_or (pick h)) (first_more pick gs g) ∙ sym (or_or (pick h) (first_that pick gs) (pick g))
 
--- ---- one more byte
+-- ---- the bytes of a `mem` line, after one more byte
 
 taken_more : (bs : List ℕ) (i j : ℕ) → i < length bs
     → slice_get (take (suc i) bs) j ≡ option_or (slice_get (take i bs) j) (if i == j then Some (slice_index bs i) else None)
@@ -84,7 +84,7 @@ byte_added m i bs a old now new h is added =
     added ∙ ap (λ o. option_or o one) is ∙ or_or old (byte_in a (bytes m (take i bs))) one
     ∙ ap (option_or old) (sym (bytes_more m i bs a h))
 
--- ---- a map that got its first value for a key
+-- ---- a map to which a value was added, unless it had one for that key
 
 new_here : {V : Type 0} → (old new : BTreeMap ℕ V) (k q : ℕ) (v : V) → get nat_cmp old k ≡ None
     → get nat_cmp new q ≡ (if is_eq (nat_cmp k q) then Some v else get nat_cmp old q) → (t : Bool) → (k == q) ≡ t
@@ -119,7 +119,7 @@ pub added : {V : Type 0} → (old new : BTreeMap ℕ V) (k : ℕ) (v : V)
     → get nat_cmp new q ≡ option_or (get nat_cmp old q) (if k == q then Some v else None)
 added old new k v h q = cases old new k q v (get nat_cmp old k) refl h
 
--- ---- what is known, and one more line
+-- ---- what is known after one more line
 
 pub record After (old : KnownState) (g : StateFact) (new : KnownState) : Type 0 where
   pub registers : (n : ℕ) → new.registers n ≡ option_or (old.registers n) (content_in n g)
@@ -134,7 +134,7 @@ one_more : {X : Type 0} → (pick : StateFact → Option X) (gs : List StateFact
     → new ≡ option_or old (pick g) → old ≡ first_that pick gs → new ≡ first_that pick (gs ++ g ∷ [])
 one_more pick gs g old new h is = h ∙ ap (λ o. option_or o (pick g)) is ∙ sym (first_more pick gs g)
 
--- the callee-saved registers of facts, and of one more fact
+-- one more fact adds its callee-saved register to those of the facts before it
 kept_more : (gs : List StateFact) (g : StateFact) → kept_in (gs ++ g ∷ []) ≡ kept_with (kept_in gs) g
 kept_more gs g = fold-append kept_with [] gs (g ∷ [])
 
@@ -150,13 +150,13 @@ given_more old new g h gs is = record {
   stack_pointer = one_more stack_pointer_in gs g old.stack_pointer new.stack_pointer h.stack_pointer is.stack_pointer;
 }
 
--- whether one more line fits with what is known
+-- whether one more fact contradicts those before it depends on the known state alone
 pub together_more : (old : KnownState) (gs : List StateFact) (g : StateFact) → IsGivenBy old gs
     → go_together (gs ++ g ∷ []) ≡ is_none (abi_fault (kept_with old.kept g) (option_or old.stack_pointer (stack_pointer_in g)))
 together_more old gs g is =
     rw (kept_more gs g, first_more stack_pointer_in gs g, is.kept, is.stack_pointer) refl
 
--- a fact that names no register of the ABI fits with what is known
+-- a fact that adds no callee-saved register and no stack pointer contradicts no fact before it
 pub plain_goes : (old : KnownState) (g : StateFact) → kept_with old.kept g ≡ old.kept → stack_pointer_in g ≡ None
     → abi_fault old.kept old.stack_pointer ≡ None → (gs : List StateFact) → IsGivenBy old gs → true ≡ go_together (gs ++ g ∷ [])
 plain_goes old g keeps none fit gs is = rw (together_more old gs g is, keeps, none, or_none old.stack_pointer, fit) refl

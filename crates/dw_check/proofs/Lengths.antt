@@ -1,4 +1,4 @@
--- The refusal of a section, given its length.
+-- The first fault of a section or an expression, by its length.
 use Rattle.std.proofs.Common.{◌≡◌, ℕ, ◌^◌, ◌<◌, ◌≤◌, Bool, List, length, ap, arith, nat_lt, if◌then◌else◌}
 use Rattle.std.specs.Prelude.{Option, Some, None, false}
 use Rattle.std.specs.Option.{option_or}
@@ -16,15 +16,15 @@ long_length bytes h =
     let chosen : Bool → Option Fault = λ b. if b then None else Some too_long in
     ap chosen e
 
--- the first fault of a short section is the fault of its contents
+-- the first fault of fewer than 2^32 bytes is the first fault of what they contain
 pub short_fault : (bytes : List ℕ) (own : Option Fault) → length bytes < 2 ^ 32 → option_or (length_fault bytes) own ≡ own
 short_fault bytes own h = ap (λ (l : Option Fault). option_or l own) (short_length bytes h)
 
--- the first fault of a long section is that it is too long
+-- the first fault of 2^32 bytes or more is that there are too many
 pub long_fault : (bytes : List ℕ) (own : Option Fault) → 2 ^ 32 ≤ length bytes → option_or (length_fault bytes) own ≡ Some too_long
 long_fault bytes own h = ap (λ (l : Option Fault). option_or l own) (long_length bytes h)
 
--- if the first fault is none, the contents have no fault
+-- if there is no fault, then what the bytes contain has none
 pub no_fault : (bytes : List ℕ) (own : Option Fault) → option_or (length_fault bytes) own ≡ None → own ≡ None
 no_fault bytes own = by (length_fault bytes)
   where

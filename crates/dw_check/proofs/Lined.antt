@@ -1,4 +1,4 @@
--- What a loop over expressions has written of their lines.
+-- What a loop that writes the report's line on each expression has written so far.
 use Rattle.std.proofs.Common.{◌≡◌, ℕ, List, [], ◌∷◌, ◌++◌, refl, sym, ap, subst, ◌∙◌, append_assoc, length}
 use Rattle.std.specs.Prelude.{Option}
 use Rattle.std.specs.Io.KnownBytes.{Appends}
@@ -43,7 +43,7 @@ next_line section all rest y left e are =
     one_depth it.kind (operations_in it.target it.bytes) (length it.bytes) h.0 it.depth h.2 (checked_stable it y.1.checked).depth in
     record { behind = h.1; ahead = h.3; parts = h.4 ∙ ap (λ d. expression_line section (located_of y) d ++ h.1) depth }
 
--- the line of the next expression is written too
+-- after the next expression's line is written too, that expression counts as visited
 pub lined_next : (section : Section) (text : List ℕ) (all rest : List LocatedExpression) (y : ℕ × CheckedExpression)
     (a b c : Option (List ℕ))
     → all ≡ located_of y ∷ rest → Lined section text all a b → Appends b c (line_of section y) → Lined section text rest a c
@@ -57,7 +57,7 @@ lined_next section text all rest y a b c e s more =
       ahead = next.ahead;
     }
 
--- only a beginning of the line of the next expression is written
+-- if only a beginning of the next expression's line is written, a beginning of the text is written
 pub lined_front : (section : Section) (text : List ℕ) (all rest : List LocatedExpression) (y : ℕ × CheckedExpression)
     (a b c : Option (List ℕ))
     → all ≡ located_of y ∷ rest → Lined section text all a b → AppendsFront b c (line_of section y) → AppendsFront a c text
@@ -67,7 +67,7 @@ lined_front section text all rest y a b c e s part =
     subst (AppendsFront a c) parts
     (front_more a b c s.came (line_of section y ++ next.behind) s.sent (front_wider b c (line_of section y) next.behind part))
 
--- the lines of all expressions are written
+-- when no expression is left, the whole text is written
 pub lined_all : (section : Section) (text : List ℕ) (left : List LocatedExpression) (a b : Option (List ℕ)) → left ≡ []
     → Lined section text left a b → Appends a b text
 lined_all section text left a b e s =

@@ -1,4 +1,4 @@
--- Bytes that a source gives, piece by piece.
+-- What a source has given after several reads.
 use Rattle.std.proofs.Common.{ℕ, List, ◌++◌, Option, None, Some, ap, sym, ◌∙◌, append_assoc}
 use Rattle.std.specs.Io.KnownBytes.{Consumes}
 

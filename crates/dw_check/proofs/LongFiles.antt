@@ -1,4 +1,4 @@
--- What follows the needed part of a long file doesn't change any reply.
+-- The bytes of a long file after its needed part (`needed_parts`) don't change any reply.
 use Rattle.std.proofs.Common.{◌≡◌, ◌⊎◌, ℕ, zero, suc, ◌^◌, ◌<◌, ◌≤◌, ◌↔◌, Bool, true, false, List, [], ◌∷◌, length, take, inl, inr}
 use Rattle.std.proofs.Common.{refl, ap, sym, ◌∙◌, subst, arith, take_all, length-take-le}
 use Rattle.std.proofs.lemmas.Bool.{cases_lt}
@@ -44,7 +44,7 @@ turned : (xs ys : List ℕ) → Alike xs ys → Alike ys xs
 turned xs ys (inl same) = inl (sym same)
 turned xs ys (inr long) = inr (long.1, long.0)
 
--- ---- each kind of check
+-- ---- replies for one section, one expression or two sections
 
 long_frame : (text_for : FrameSection → List ℕ) (target : Target) (xs : List ℕ) → 2 ^ 32 ≤ length xs
     → frame_reply text_for target xs ≡ refusal sections.Frame too_long
@@ -185,7 +185,7 @@ modules_alike target modules others Shows are (bad_line n) h = absurd h
 
 -- ---- files
 
--- the bytes of a file, none if there is no file
+-- the bytes of a file; no bytes if there is no file
 abbrev bytes_or_none : Option (List ℕ) → List ℕ
 bytes_or_none None = []
 bytes_or_none (Some file) = file
@@ -193,7 +193,7 @@ bytes_or_none (Some file) = file
 abbrev bytes_at : List (List ℕ) → ℕ → List ℕ
 bytes_at files place = bytes_or_none (slice_get files place)
 
--- without hex text, the bytes of a file are the bytes of its section
+-- if files aren't hex text, the section in a file is the bytes of the file
 plain : (file : Option (List ℕ)) → section_bytes false file ≡ Some (bytes_or_none file)
 plain None = refl
 plain (Some file) = refl
@@ -206,7 +206,7 @@ section_moves place None (Some y) A B each r h = each r h
 section_moves place (Some x) None A B each r h = each r h
 section_moves place (Some x) (Some y) A B each r h = each r h
 
--- the further modules, if files aren't hex text
+-- the modules of `--module`, if files aren't hex text
 plain_modules : List (List ℕ) → ℕ → List ℕ → List (Module (List ℕ))
 plain_modules files place [] = []
 plain_modules files place (load ∷ loads) = loaded_at load (bytes_at files place) ∷ plain_modules files (suc place) loads
@@ -238,7 +238,7 @@ further_alike files others loads A B each r h =
 
 -- ---- replies
 
--- hex text is needed in full
+-- if files are hex text, the needed part of each file is the whole file
 whole_hex : (task : Task) (place : ℕ) (files : List (List ℕ)) → needed_parts task true place files ≡ files
 unfolding needed_parts
 whole_hex task place [] = refl
@@ -311,7 +311,7 @@ needed_alike task from (file ∷ files) zero = by (is_state task from)
     by false = alike_part file
 needed_alike task from (file ∷ files) (suc place) = needed_alike task (suc from) files place
 
--- a state file is needed in full
+-- the needed part of a state file is the whole file
 second_whole : (task : Task) → needed_length task false 1 ≡ None → (files : List (List ℕ))
     → slice_get files 1 ≡ slice_get (needed_parts task false 0 files) 1
 unfolding needed_parts

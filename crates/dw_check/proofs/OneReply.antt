@@ -1,4 +1,4 @@
--- A request has at most one reply.
+-- A request has at most one reply (`IsReply` in specs/Runs.antt).
 use Rattle.std.proofs.Common.{◌≡◌, ℕ, List, ◌∷◌, Option, Some, None, Result, Ok, Err, ap, sym, ◌∙◌}
 use Rattle.dw_bytes.specs.declared.target.Target.{Target}
 use Rattle.dw_bytes.specs.declared.fault.Fault.{Fault}
@@ -93,17 +93,17 @@ one_locs lookup target hex files r s h k =
     (λ section. one_of_state (state_facts target (slice_get files 1)) (IsFound lookup target section) (one_found lookup target section)) r s
     h k
 
--- assumed of reports: there is at most one on two sections
+-- what is assumed of reports: there is at most one on two sections
 abbrev OneReport : Type 0
 OneReport = (frame : FrameSection) (lists : ListSection) (s t : List ℕ) → IsReport frame lists s → IsReport frame lists t → s ≡ t
 
--- assumed of callers: there is at most one at an address, through checked modules
+-- what is assumed of callers: through checked modules, an address has at most one
 abbrev pub OneCaller : Type 0
 OneCaller = (sections : List (Module FrameSection)) (abi : Abi) (memory registers : ℕ → Option ℕ) (address : ℕ) (c d : Option Caller)
     → AreChecked sections → over_sections abi memory sections registers address c → over_sections abi memory sections registers address d
     → c ≡ d
 
--- assumed of walks: there is at most one from a place, through checked modules
+-- what is assumed of walks: through checked modules, there is at most one from a place with a limit
 abbrev pub OneWalk : Type 0
 OneWalk = (sections : List (Module FrameSection)) (abi : Abi) (memory : ℕ → Option ℕ) (first : Place) (limit : ℕ)
     (xs ys : List WalkedFrame) (a b : Stop) → AreChecked sections → Walks (over_sections abi memory sections) first limit xs a

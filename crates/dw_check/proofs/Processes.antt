@@ -1,4 +1,4 @@
--- The reply for the files of a process, and for its modules.
+-- What `unwind` and `backtrace` write: the reply for the files of a process, and for its modules.
 use Rattle.std.proofs.Common.{◌≡◌, ◌∙◌, ℕ, ◌<◌, Bool, List, [], ◌∷◌, ap, sym, subst, refl}
 use Rattle.std.specs.Prelude.{All, Option, Some, None, Result, Ok, Err, slice_get}
 use Rattle.std.specs.Result.{IsErr, IsErrAnd, IfErr}
@@ -27,7 +27,7 @@ use Rattle.dw_check.proofs.Replies.{front_none, goes_section, goes_state, goes_r
 
 -- ---- files that can't be read
 
--- an error that `?` passes on has the same properties
+-- what holds for an error still holds for the result after `?` has passed the error on
 pub err_from : {T : Type 0} (P : RunFault → Type 0) (r : Result T RunFault) (e : RunFault) → IsErr r × IsErrAnd r (λ x. x ≡ e) → P e
     → IfErr r P
 err_from P (Ok _) e h p = let f = h.0 in cc
@@ -58,7 +58,8 @@ unread_modules count modules Is (Refused s f) h = absurd h
 unread_modules count modules Is (StateLine n) h = absurd h
 unread_modules count modules Is Output h = absurd h
 
--- the first file is read, so a fault is in the files after it
+-- if the first file can be read, and the files after it can't, the files of the process can't be
+-- read for the same reason
 pub after_section : (count : ℕ) (found : Option (List ℕ)) (bytes : List ℕ) (Is : List ℕ → Reply → Type 0) (stop : RunFault)
     → found ≡ Some bytes → IsBadProcess (Is bytes) count stop → IsBadProcess (OfSection 0 found Is) count stop
 after_section count found bytes Is stop e h = subst (λ o. IsBadProcess (OfSection 0 o Is) count stop) (sym e) h
@@ -176,7 +177,7 @@ module _ (target : Target) where
         by None e = let shown = some (accepted modules e) in (text shown.0, (e, shown.1))
         by (Some fault) e = (refusal Frame fault, (refl, e))
 
--- for checked modules and what a state file gives, there is one text
+-- for checked modules and the facts of a state file, at most one text shows the answer
 abbrev pub OneShown : (AddressSize → List StateFact → List (Module FrameSection) → List ℕ → Type 0) → Type 0
 OneShown Shows = (size : AddressSize) (facts : List StateFact) (sections : List (Module FrameSection)) → AreChecked sections
     → (s t : List ℕ) → Shows size facts sections s → Shows size facts sections t → s ≡ t
@@ -193,7 +194,8 @@ module _ (Shows : AddressSize → List StateFact → List (Module FrameSection) 
       goes_process target load loads hex files count modules facts Is a a (Err stop) gives
       (goes_refusal count Frame (modules_refusal target modules) (Is facts modules) a stop (λ fault k. (refl, k)) h)
 
-  -- if there is one text to show
+  -- if at most one text shows the answer, writing such a text, or failing to, makes the run go as
+  -- `Goes` demands
   pub goes_shown : (sections : List (Module FrameSection)) (old new : Option (List ℕ)) (r : Result (Unit {0}) ReportFault)
       (written : List ℕ) → OneShown Shows → modules_refusal target modules ≡ None → sections ≡ modules_of_sections target modules
       → Shows target.address_size facts sections written → Writes old new r written

@@ -1,4 +1,5 @@
--- How a run goes, and how it ends.
+-- A run writes what `Goes` (specs/Runs.antt) demands: for a file that can't be read, for a refusal,
+-- and for a text.
 use Rattle.std.proofs.Common.{◌≡◌, ℕ, ◌<◌, List, [], ap, sym, refl, subst}
 use Rattle.std.specs.Prelude.{Option, Some, Result, Ok, Err}
 use Rattle.std.specs.Result.{IsErr, IsErrAnd}
@@ -63,7 +64,7 @@ goes_refusal count section first Is a (BadHex n) is h = absurd h
 goes_refusal count section first Is a (StateLine n) is h = absurd h
 goes_refusal count section first Is a Output is h = absurd h
 
--- the refusal of two sections
+-- a run goes as demanded if it ends with the first fault of two sections, or as memory ran out
 pub goes_first_fault : (count : ℕ) (first : Option CheckFault) (Is : Reply → Type 0) (a : Option (List ℕ)) (stop : RunFault)
     → ((found : CheckFault) → first ≡ Some found → Is (refusal found.section found.fault)) → RefusesBoth first stop
     → Goes count Is a a (Err stop)
@@ -75,7 +76,8 @@ goes_first_fault count first Is a Output is h = absurd h
 
 -- ---- texts
 
--- the run wrote the text, which is the only reply, or a beginning of it
+-- a run goes as demanded if it wrote a text, or failed after a beginning of it, and that text is
+-- the only reply
 pub goes_text : (count : ℕ) (Is : Reply → Type 0) (bytes : List ℕ) (old new : Option (List ℕ)) (r : Result (Unit {0}) ReportFault)
     → Is (text bytes) → ((reply : Reply) → Is reply → reply ≡ text bytes) → Writes old new r bytes → Goes count Is old new (ended_by r)
 goes_text count Is bytes old new (Ok _) is only h = (bytes, is, h)
@@ -83,21 +85,21 @@ goes_text count Is bytes old new (Err faults.Memory) is only h =
     λ reply i. subst (λ x. AppendsFront old new (accepted_text x)) (sym (only reply i)) h
 goes_text count Is bytes old new (Err faults.Write) is only h = (text bytes, is, tt, h)
 
--- the run wrote a text that is sent only when it is complete, or a beginning of the text
+-- a run goes as demanded if it wrote a text that is sent only when it is complete, or failed to
 pub goes_whole : (count : ℕ) (Is : Reply → Type 0) (bytes : List ℕ) (old new : Option (List ℕ)) (r : Result (Unit {0}) ReportFault)
     → Is (text bytes) → WritesWhole old new r bytes → Goes count Is old new (ended_by r)
 goes_whole count Is bytes old new (Ok _) is h = (bytes, is, h)
 goes_whole count Is bytes old new (Err faults.Memory) is h = λ reply i. front_none old new (accepted_text reply) h
 goes_whole count Is bytes old new (Err faults.Write) is h = (text bytes, is, tt, h)
 
--- a call that sends a text only when it is complete wrote the text, or a beginning of it
+-- a call that sends a text only when it is complete writes it, or fails after a beginning of it
 pub writes_if_whole : (old new : Option (List ℕ)) (r : Result (Unit {0}) ReportFault) (bytes : List ℕ) → WritesWhole old new r bytes
     → Writes old new r bytes
 writes_if_whole old new (Ok _) bytes h = h
 writes_if_whole old new (Err faults.Memory) bytes h = front_none old new bytes h
 writes_if_whole old new (Err faults.Write) bytes h = h
 
--- an error that `?` passes on has the same properties
+-- what holds for an error still holds for the result after `?` has passed the error on
 pub handed_on : (P : Result (Unit {0}) RunFault → Type 0) (r : Result (Unit {0}) RunFault) (e : RunFault)
     → IsErr r × IsErrAnd r (λ x. x ≡ e)
     → P (Err e) → P r

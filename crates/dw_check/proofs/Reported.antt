@@ -1,4 +1,4 @@
--- The counts, and the lines of expressions.
+-- The report on two sections: its counts, and its lines on expressions.
 use Rattle.std.proofs.Common.{◌≡◌, ℕ, suc, ◌+◌, ◌*◌, ◌^◌, ◌<◌, ◌≤◌, List, [], ◌∷◌, ◌++◌, length, map, drop, refl, ap, sym, subst, ◌∙◌}
 use Rattle.std.proofs.Common.{arith, length-append, get_or, drop-cons, add-one}
 use Rattle.std.specs.Prelude.{Some}
@@ -36,14 +36,14 @@ both_mapped f g xs ys e = sym (length-map xs f) ∙ ap length e ∙ length-map y
 
 -- ---- rows
 
--- rows that cover a range are at most as many as its addresses
+-- there are at most as many rows as there are addresses in the range that the rows cover
 cover_count : (from to : ℕ) (rows : List PlacedRow) → Cover from rows to → from + length rows ≤ to
 cover_count from to [] h = omega (arith, h)
 cover_count from to (row ∷ rows) h =
     let later = cover_count row.end to rows h.2 in
     omega (arith, later, h.0, h.1)
 
--- the rows of an FDE are fewer than there are addresses
+-- an FDE has fewer than 2^64 rows
 pub few_rows : (frame : FrameSection) (cie : Cie) (fde : Fde) (rows : List Row)
     → Cover fde.initial_location (rows_of cie fde) (fde.initial_location + fde.address_range)
     → cie_in frame fde ≡ Some cie → rows ≡ rows_in frame fde → fde.initial_location + fde.address_range < 2 ^ 64 → length rows < 2 ^ 64
@@ -96,7 +96,7 @@ counted_fits f all left rest x n m e s few short =
 
 -- ---- the lines of expressions
 
--- the lines are those of expressions with their depths
+-- the lines that the code makes of checked expressions are the lines that a report has for them
 pub lines_are : (section : Section) (xs : List (ℕ × CheckedExpression))
     → AreLines section (map located_of xs) (flat_map (line_of section) xs)
 lines_are section [] = refl
@@ -125,7 +125,7 @@ reported frame lists xs lines d are = record {
   whole = refl;
 }
 
--- ---- one report, given what is known of depths
+-- ---- there is at most one report, assuming that an expression has at most one depth
 
 pub lines_one : ((kind : Kind) (target : Target) (bytes : List ℕ) (d e : ℕ) → IsDepthOf kind target bytes d → IsDepthOf kind target bytes e
     → d ≡ e) → (section : Section) (xs : List LocatedExpression) (s t : List ℕ) → AreLines section xs s → AreLines section xs t → s ≡ t

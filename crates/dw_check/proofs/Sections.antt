@@ -1,4 +1,4 @@
--- The reply for a frame section.
+-- What `rows` and `row` write: the reply for a frame section.
 use Rattle.std.proofs.Common.{◌≡◌, ◌∙◌, ℕ, Bool, List, ap, sym}
 use Rattle.std.specs.Prelude.{Option, Some, None, Result, Err, slice_get}
 use Rattle.dw_bytes.specs.declared.target.Target.{Target}

@@ -1,4 +1,4 @@
--- What a loop has sent: the texts of the elements visited.
+-- What a loop that writes a text for each element has written so far.
 use Rattle.std.proofs.Common.{◌≡◌, ℕ, suc, ◌+◌, ◌<◌, ◌≤◌, List, [], ◌∷◌, ◌++◌, length, map, drop, get_or, ap, sym, ◌∙◌, subst, arith}
 use Rattle.std.proofs.Common.{length-append, drop-cons, add-one}
 use Rattle.std.specs.Prelude.{Option}
@@ -19,7 +19,7 @@ pub record Sent {X : Type 0} (f : X → List ℕ) (all rest : List X) (old new :
 pub sent_none : {X : Type 0} (f : X → List ℕ) (all rest : List X) (a : Option (List ℕ)) → rest ≡ all → Sent f all rest a a
 sent_none f all rest a e = record { came = []; whole = e; text = appends_nothing a }
 
--- the text of the next element is written too
+-- after the next element's text is written too, that element counts as visited
 pub sent_next : {X : Type 0} (f : X → List ℕ) (all left rest : List X) (x : X) (a b c : Option (List ℕ)) → left ≡ x ∷ rest
     → Sent f all left a b → Appends b c (f x) → Sent f all rest a c
 sent_next f all left rest x a b c e s more = record {
@@ -28,7 +28,7 @@ sent_next f all left rest x a b c e s more = record {
   text = rw (flat_map-append f s.came (x ∷ [])) (rw (append-nil (f x)) (appends_more a b c (flat_map f s.came) (f x) s.text more));
 }
 
--- only a beginning of the text of the next element is written
+-- if only a beginning of the next element's text is written, a beginning of all texts is written
 pub sent_front : {X : Type 0} (f : X → List ℕ) (all left rest : List X) (x : X) (a b c : Option (List ℕ)) → left ≡ x ∷ rest
     → Sent f all left a b → AppendsFront b c (f x) → AppendsFront a c (flat_map f all)
 sent_front f all left rest x a b c e s part =
@@ -39,7 +39,7 @@ sent_front f all left rest x a b c e s part =
     subst (AppendsFront a c) (sym whole)
     (front_wider a c (flat_map f s.came ++ f x) (flat_map f rest) (front_more a b c (flat_map f s.came) (f x) s.text part))
 
--- the texts of all elements are written
+-- when no element is left, the texts of all elements are written
 pub sent_all : {X : Type 0} (f : X → List ℕ) (all left : List X) (a b : Option (List ℕ)) → left ≡ [] → Sent f all left a b
     → Appends a b (flat_map f all)
 sent_all f all left a b e s =
@@ -59,7 +59,7 @@ sent_place f all left rest x a b e s =
 pub all_here : {X : Type 0} (P : X → Type 0) (all : List X) (x : X) → All P all → Contains all x → P x
 all_here P all x each at = subst P at.2 (each at.0 x at.1)
 
--- ---- elements as views of others
+-- ---- lists to whose elements a function is applied
 
 -- the elements from index i on are the one at i, then those from i + 1 on
 pub next_seen : {X Y : Type 0} (view : X → Y) (xs : List X) (i : ℕ) (x : X) → i < length xs → x ≡ get_or xs i x
@@ -68,7 +68,7 @@ next_seen view xs i x h e =
     let cut : drop i xs ≡ get_or xs i x ∷ drop (suc i) xs = drop-cons xs i x h in
     ap (map view) cut ∙ ap (λ y. view y ∷ map view (drop (suc i) xs)) (sym e) ∙ ap (λ n. view x ∷ map view (drop n xs)) (sym (add-one i))
 
--- no elements are left
+-- no element is left once the index is at least the length
 pub none_seen : {X Y : Type 0} (view : X → Y) (xs : List X) (i : ℕ) → length xs ≤ i → map view (drop i xs) ≡ []
 none_seen view xs i h = ap (map view) (drop_all i xs h)
 

@@ -1,4 +1,4 @@
--- What a loop over expressions has written: the expressions visited, each with its outcome.
+-- What a loop that writes the offset and the outcome of each expression has written so far.
 use Rattle.std.proofs.Common.{◌≡◌, ℕ, List, [], ◌∷◌, ◌++◌, refl, sym, subst, append_assoc}
 use Rattle.std.specs.Prelude.{Option}
 use Rattle.std.specs.List.{All}
@@ -15,8 +15,8 @@ use Rattle.dw_check.specs.Lookups.{IsShowable, AreEvaluated}
 use Rattle.dw_check.proofs.Found.{each_evaluated}
 use Rattle.dw_check.proofs.Growth.{appends_nothing, appends_more, front_more, front_wider}
 
--- A text of the expressions visited is written. Followed by any text of the other expressions, it
--- is a text of all.
+-- A text that shows the expressions visited is written. That text, followed by any text that shows
+-- the other expressions, shows all expressions.
 pub record Shown (gs : List StateFact) (all rest : List LocatedExpression) (old new : Option (List ℕ)) : Type 0 where
   pub came : List ℕ
   pub sent : Appends old new came
@@ -25,7 +25,8 @@ pub record Shown (gs : List StateFact) (all rest : List LocatedExpression) (old 
 pub shown_none : (gs : List StateFact) (all : List LocatedExpression) (a : Option (List ℕ)) → Shown gs all all a a
 shown_none gs all a = record { came = []; sent = appends_nothing a; whole = λ behind h. h }
 
--- a text of the next expression, followed by a text of the others, is a text of all that are left
+-- a text that shows the next expression, followed by a text that shows the others, shows all
+-- expressions that are left
 next_before : (gs : List StateFact) (left rest : List LocatedExpression) (x : LocatedExpression) (own behind : List ℕ) → left ≡ x ∷ rest
     → Evaluates x.kind x.target x.bytes gs own → AreEvaluated gs rest behind
     → AreEvaluated gs left ((expression_offset_line x.offset ++ own) ++ behind)
@@ -33,7 +34,7 @@ next_before gs left rest x own behind e h k =
     subst (λ (l : List LocatedExpression). AreEvaluated gs l ((expression_offset_line x.offset ++ own) ++ behind)) (sym e)
     (own, behind, refl, h, k)
 
--- the text of the next expression is written too
+-- after the next expression's text is written too, that expression counts as visited
 pub shown_next : (gs : List StateFact) (all left rest : List LocatedExpression) (x : LocatedExpression) (own : List ℕ)
     (a b c : Option (List ℕ))
     → left ≡ x ∷ rest → Shown gs all left a b → Evaluates x.kind x.target x.bytes gs own
@@ -47,7 +48,8 @@ shown_next gs all left rest x own a b c e s h more =
           (s.whole (line ++ behind) (next_before gs left rest x own behind e h k));
     }
 
--- only a beginning of the text of the next expression is written
+-- if only a beginning of the next expression's text is written, then a beginning of a text that
+-- shows all expressions is written
 pub shown_front : (size : AddressSize) (gs : List StateFact) (all left rest : List LocatedExpression) (x : LocatedExpression) (own : List ℕ)
     (a b c : Option (List ℕ))
     → left ≡ x ∷ rest → All (λ y. IsShowable size y) left → Shown gs all left a b → Evaluates x.kind x.target x.bytes gs own
@@ -61,7 +63,7 @@ shown_front size gs all left rest x own a b c e fine s h part =
       front_more a b c s.came (line ++ others.0) s.sent (front_wider b c line others.0 part),
     )
 
--- the texts of all expressions are written
+-- when no expression is left, a text that shows all expressions is written
 pub shown_all : (gs : List StateFact) (all left : List LocatedExpression) (a b : Option (List ℕ)) → left ≡ [] → Shown gs all left a b
     → (t : List ℕ) × AreEvaluated gs all t × Appends a b t
 shown_all gs all left a b e s = (

@@ -1,4 +1,4 @@
--- What the answer to clap's result must be.
+-- What clap's result leads to is an answer that the command line may have (`AsksBy`).
 use Rattle.std.proofs.Common.{◌≡◌, ◌⊎◌, List, [], inl, inr, subst}
 use Rattle.std.specs.Prelude.{Option, Some, Result, Ok, Err, IfOk, IfErr}
 use Rattle.std.specs.Option.{IsSomeAnd}
@@ -8,7 +8,8 @@ use Rattle.dw_check.specs.Requests.{Asked, asked_by, AsksBy, IsUsageOf, HasBadWo
 use Rattle.dw_check.specs.declared.requests.Usage.{Usage}
 use Rattle.dw_check.specs.declared.requests.Usage.TheVariants.{Line, BadArgument, Memory}
 
--- the answer if clap found matches
+-- if clap found no fault, a request that its matches give is such an answer, and so are `Memory`,
+-- and `BadArgument` for an argument that is malformed
 pub answered : (faults : Kinds) (matches : Option (Text × List Row)) (r : Result Asked Usage) → faults ≡ []
     → IfOk r (λ q. IsSomeAnd matches (λ (name, rows). asked_by name rows ≡ Some q))
     → IfErr r (λ e. (e ≡ Memory) ⊎ ((e ≡ BadArgument) × IsSomeAnd matches (λ (name, rows). HasBadWord name rows)))
@@ -20,7 +21,7 @@ answered faults matches (Err BadArgument) none ok (inl e) = cc
 answered faults matches (Err BadArgument) none ok (inr e) = (none, e.1)
 answered faults matches (Err Memory) none ok err = tt
 
--- the answer if clap found a fault
+-- if clap found a fault, clap's text is such an answer, and so is `Memory`
 pub refused : (faults : Kinds) (matches : Option (Text × List Row)) (e : Error) (u : Usage) → HasKind faults e → IsUsageOf (kind_of e) u
     → AsksBy faults matches (Err u)
 refused faults matches e (Line text) (inl h) k = absurd (k h)

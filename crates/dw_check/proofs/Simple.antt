@@ -1,4 +1,5 @@
--- The command line is a simple one.
+-- The command line of `dwcheck` is simple in the sense of clap's contracts, which then say exactly
+-- what clap finds in the words.
 use Rattle.std.proofs.Common.{◌≡◌, true, refl}
 use Rattle.clap.specs.Words.{is_simple, is_simple_and_free}
 use Rattle.clap.proofs.OnLiterals.{clap_on_literals}

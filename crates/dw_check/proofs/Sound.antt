@@ -1,4 +1,5 @@
--- What holds of two sections that a check accepts, given what is known of each layer.
+-- What holds for two sections that a check accepts (`AreSound`), assuming the laws of the crates
+-- below.
 use Rattle.std.proofs.Common.{◌≡◌, ℕ, ◌≤◌, List, [], ◌∷◌, length, map, refl, ap, ◌∙◌}
 use Rattle.std.specs.Prelude.{Result, Ok}
 use Rattle.dw_bytes.specs.declared.target.Target.{Target}
@@ -11,17 +12,17 @@ use Rattle.dw_eval.specs.Results.{Outcome, IsEvaluation}
 use Rattle.dw_unwind.specs.Caller.{under}
 use Rattle.dw_check.specs.Headline.{IsSafe}
 
--- the values of items without a fault are all items
+-- if no item is a fault, the values among the items are all of them
 values_given : {X : Type 0} (xs : List X) → values_in {X = X} (map Ok xs) ≡ xs
 values_given [] = refl
 values_given (x ∷ xs) = ap (λ l. x ∷ l) (values_given xs)
 
--- what is made of the values of items without a fault is made of all items
+-- if no item is a fault, a function of the values among the items is that function of all of them
 pub made_of : {X Y : Type 0} (make : List X → Y) (items : List (Result X Fault)) (xs : List X) → items ≡ map Ok xs
     → make (values_in items) ≡ make xs
 made_of make items xs are = ap (λ its. make (values_in its)) are ∙ ap make (values_given xs)
 
--- an expression that passes the check is safe
+-- an expression that passes the check is safe (`IsSafe`), assuming the laws of dw_stack and dw_eval
 pub safe : ((kind : Kind) (target : Target) (bytes : List ℕ) → IsGoodExpression kind target bytes → (d : ℕ) × IsDepthOf kind target bytes d)
     → ((kind : Kind) (target : Target) (bytes : List ℕ) (depth : ℕ) → IsGoodExpression kind target bytes
     → IsDepthOf kind target bytes depth → RunsWellWithin kind target bytes depth)

@@ -1,4 +1,4 @@
--- The lines of a state file, one by one.
+-- A loop that reads the lines of a state file one by one.
 use Rattle.std.proofs.Common.{◌≡◌, ℕ, suc, ◌+◌, ◌≤◌, ◌==◌, Bool, true, false, not, ◌&&◌, Err, List, [], ◌∷◌, ◌++◌, length, take, find}
 use Rattle.std.proofs.Common.{ap, refl, sym, ◌∙◌, arith, append_assoc, length-append}
 use Rattle.std.specs.List.{list_all, range_with_len}
@@ -34,8 +34,8 @@ few_parts s (b ∷ bytes) = parts_step s b bytes (b == s) refl (few_parts s byte
 abbrev pub is_bad : Target → List ℕ → ℕ → Bool
 is_bad target text n = not (are_good target (take n (parts_of 10 text)))
 
--- the first n lines of the file are well formed and don't contradict each other; `lines` are still
--- to come
+-- the first n lines of the file are well formed and don't contradict each other; `lines` are those
+-- that aren't read yet
 pub record Reading (target : Target) (text : List ℕ) (before : List (List ℕ)) (n : ℕ) (lines : List (List ℕ)) : Type 0 where
   pub is : parts_of 10 text ≡ before ++ lines
   pub count : length before ≡ n

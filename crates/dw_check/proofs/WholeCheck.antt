@@ -16,7 +16,7 @@ use Rattle.dw_check.specs.declared.stop.Section.TheVariants.{Frame, Lists}
 use Rattle.dw_check.specs.declared.whole_check.CheckFault.{CheckFault}
 use Rattle.dw_check.proofs.Lengths.{short_length}
 
--- ---- the first fault of both
+-- ---- the first fault of two sections
 
 option_or_none : (a b : Option CheckFault) → option_or a b ≡ None → (a ≡ None) × (b ≡ None)
 option_or_none None b h = (refl, h)
@@ -35,7 +35,7 @@ within_none section (Some fault) h = absurd (other _ h)
 short : (bytes : List ℕ) → length_fault bytes ≡ None → length bytes < 2 ^ 32
 short bytes h = grind (arith, nat_tests, h)
 
--- neither section alone has a fault
+-- if two sections have no fault together, neither section has one by itself
 pub each_without_fault : (target : Target) (frame lists : List ℕ) → check_fault target frame lists ≡ None
     → (section_fault target frame ≡ None) × (lists_fault target lists ≡ None)
 unfolding check_fault
@@ -45,8 +45,8 @@ each_without_fault target frame lists h =
     let c = option_or_none (fault_within Frame (section_fault target frame)) _ b.1 in
     (within_none Frame _ c.0, within_none Lists _ c.1)
 
--- two sections have no fault exactly if they are well formed, assuming the same of each section
--- alone
+-- two sections have no fault exactly if they are well formed, assuming the same for each section by
+-- itself
 pub without_fault : ((target : Target) (section : List ℕ) → (section_fault target section ≡ None) ↔ frames.IsWellFormed target section)
     → ((target : Target) (section : List ℕ) → (lists_fault target section ≡ None) ↔ tables.IsWellFormed target section)
     → (target : Target) (frame lists : List ℕ) → (check_fault target frame lists ≡ None) ↔ AreWellFormed target frame lists

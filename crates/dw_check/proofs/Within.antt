@@ -1,4 +1,4 @@
--- The addresses of a checked section have the size of its target.
+-- The addresses of a checked section fit in the hex digits with which they are shown.
 use Rattle.std.proofs.Common.{◌≡◌, ℕ, ◌+◌, ◌*◌, ◌-◌, ◌^◌, ◌<◌, ◌≤◌, List, [], ◌∷◌, map, sym, subst, arith}
 use Rattle.std.specs.Prelude.{None}
 use Rattle.std.specs.List.{All}

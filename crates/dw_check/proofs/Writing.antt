@@ -1,4 +1,4 @@
--- One text written after another.
+-- What calls that write one text after another have written.
 use Rattle.std.proofs.Common.{◌≡◌, ℕ, List, [], ◌++◌, ap, map, refl, subst, sym, ◌∙◌}
 use Rattle.std.specs.Prelude.{Option, Some, None, Result, Ok, Err, codes}
 use Rattle.std.specs.Result.{IsErr}
@@ -28,13 +28,15 @@ pub writes_front : (a b : Option (List ℕ)) (r : Result (Unit {0}) ReportFault)
 writes_front a b (Ok _) x failed h = cc
 writes_front a b (Err _) x failed h = h
 
--- a text that is sent only when it is complete: nothing is a beginning of the text too
+-- a call that sends a text only when it is complete writes it, or fails after a beginning of it,
+-- which may be empty
 pub writes_whole : (a b : Option (List ℕ)) (r : Result (Unit {0}) ReportFault) (x : List ℕ) → WritesWhole a b r x → Writes a b r x
 writes_whole a b (Ok _) x h = h
 writes_whole a b (Err Memory) x h = ([], x, refl, h)
 writes_whole a b (Err Write) x h = h
 
--- the line of an FDE, and then what is written of its rows
+-- after the line of an FDE, a call that writes the lines of its rows has written the FDE's text, or
+-- a beginning of it if the call failed
 pub fde_then : (frame : FrameSection) (size : AddressSize) (cie : Cie) (fde : Fde) (rows : List Row) (a b c : Option (List ℕ))
     (r : Result (Unit {0}) ReportFault)
     → size ≡ frame.target.address_size → cie_in frame fde ≡ Some cie
@@ -49,7 +51,7 @@ fde_then frame size cie fde rows a b c r z e d h k =
     (subst (λ o. Writes a c r (lines_of size o fde (rows_in frame fde))) (sym e)
     (subst (λ l. Writes a c r (lines_of size (Some cie) fde l)) its both))
 
--- the call failed after a beginning of the line of an FDE
+-- a call that failed after a beginning of an FDE's line has written a beginning of the FDE's text
 pub fde_front : (frame : FrameSection) (size : AddressSize) (cie : Cie) (fde : Fde) (a b : Option (List ℕ))
     (r : Result (Unit {0}) ReportFault)
     → size ≡ frame.target.address_size → cie_in frame fde ≡ Some cie → IsErr r → AppendsFront a b (fde_line size cie fde)
@@ -64,7 +66,7 @@ fde_front frame size cie fde a b r z e failed h =
 
 -- ---- the row of an address
 
--- the address has a row, and its line is written
+-- if an address has a row, a call that writes the row's line writes the text of the look-up
 pub row_written : (frame : FrameSection) (address : ℕ) (size : AddressSize) (row : Row) (a b : Option (List ℕ))
     (r : Result (Unit {0}) ReportFault)
     → size ≡ frame.target.address_size → Some row ≡ row_of frame address → Writes a b r (row_line size row)
@@ -73,7 +75,7 @@ unfolding lookup_text
 row_written frame address size row a b r z e h =
     subst (λ s. Writes a b r (found_text s (row_of frame address))) z (subst (λ o. Writes a b r (found_text size o)) e h)
 
--- the address has no row, and `none` is written
+-- if an address has no row, `none` is the text of the look-up
 pub none_text : (frame : FrameSection) (address : ℕ) (bytes : List ℕ) → None ≡ row_of frame address → bytes ≡ codes "none\n"
     → bytes ≡ lookup_text frame address
 unfolding lookup_text

@@ -38,7 +38,8 @@ one_more_line size frames n f count =
 
 -- ---- what is written
 
--- n frames were given, and their lines are written.
+-- A walk that starts with the frame `begin` has given n frames, and their lines are written. `now`
+-- is how far the walk has come.
 pub record Shown (u : CallerRelation) (size : AddressSize) (begin : WalkedFrame) (now : Progress) (n : ℕ) (old new : Option (List ℕ)) : Type 0 where
   pub frames : List WalkedFrame
   pub given : GivesFrames u (about_to_give begin) frames
@@ -55,8 +56,9 @@ module _ (u : CallerRelation) (size : AddressSize) (begin : WalkedFrame) where
   WritesWalk first limit old new r = (frames : List WalkedFrame) × (stop : Stop) × Walks u first limit frames stop
       × Writes old new r (walk_text size frames stop)
 
-  -- Assumed: given frames and the frame that is given next are given frames. (The lemmas assume
-  -- more: given frames are a walk with a limit, or the beginning of one.)
+  -- Assumed: if a walk gives some frames, and then gives one more, it gives those frames and that
+  -- one. (Some lemmas below assume more: that the frames a walk gives are a walk in the sense of
+  -- `Walks`, or the beginning of one.)
   module _
       (more : (p : Progress) (xs : List WalkedFrame) (f : WalkedFrame) → GivesFrames u p xs → GivesFrame u (after p xs) f
       → GivesFrames u p (xs ++ f ∷ []) × (after p (xs ++ f ∷ []) ≡ has_given f)) where
@@ -79,7 +81,8 @@ module _ (u : CallerRelation) (size : AddressSize) (begin : WalkedFrame) where
         }
 
     module _ (first : Place) (limit : ℕ) where
-      -- the call failed after a beginning of the line of a frame
+      -- a call that failed after a beginning of a frame's line has written a beginning of the text
+      -- of a walk
       pub front_written : ((xs : List WalkedFrame) → GivesFrames u (about_to_give begin) xs → length xs ≤ limit
           → (others : List WalkedFrame) × (stop : Stop) × Walks u first limit (xs ++ others) stop)
           → (p : Progress) (n : ℕ) (f : WalkedFrame) (old mid new : Option (List ℕ))
@@ -111,7 +114,7 @@ module _ (u : CallerRelation) (size : AddressSize) (begin : WalkedFrame) where
     last_written p n stop old mid new r s walks line =
         (s.frames, stop, walks, writes_then old mid new r (frames_text size 0 s.frames) (last_line stop) s.text line)
 
-    -- the last line is written, since no frame is given
+    -- if the walk gives no more frames, a call that writes the last line writes the text of a walk
     pub ended_written : ((xs : List WalkedFrame) (stop : Stop) → GivesFrames u (about_to_give begin) xs
         → stop_of (after (about_to_give begin) xs) ≡ Some stop → length xs < limit → Walks u first limit xs stop)
         → (p : Progress) (n : ℕ) (stop : Stop) (old mid new : Option (List ℕ)) (r : Result (Unit {0}) ReportFault)
@@ -121,7 +124,7 @@ module _ (u : CallerRelation) (size : AddressSize) (begin : WalkedFrame) where
         last_written p n stop old mid new r s
         (ends s.frames stop s.given (ap stop_of s.comes ∙ ended) (omega (arith, few, s.count))) line
 
-    -- the last line is written, since the limit is reached
+    -- if the limit is reached, a call that writes the last line writes the text of a walk
     pub filled_written : ((xs : List WalkedFrame) → GivesFrames u (about_to_give begin) xs → length xs ≡ limit → Walks u first limit xs Limit)
         → (p : Progress) (n : ℕ) (old mid new : Option (List ℕ)) (r : Result (Unit {0}) ReportFault)
         → Shown u size begin p n old mid → n ≡ limit → Writes mid new r (last_line Limit) → WritesWalk first limit old new r

@@ -11,7 +11,7 @@ abbrev pub parts_of : ℕ → List ℕ → List (List ℕ)
 parts_of separator [] = [] ∷ []
 parts_of separator (b ∷ bytes) = if b == separator then [] ∷ parts_of separator bytes else joined_on b (parts_of separator bytes)
 
--- the parts that an iterator has not given yet; no parts if all were given, which is the case None
+-- the parts that an iterator has not given yet; None stands for an iterator that has given all
 abbrev pub parts_left : ℕ → Option (List ℕ) → List (List ℕ)
 parts_left separator None = []
 parts_left separator (Some bytes) = parts_of separator bytes

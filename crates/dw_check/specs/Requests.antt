@@ -41,8 +41,8 @@ abbrev pub load_at : Bool → List Row → Option ℕ
 load_at false rows = Some 0
 load_at true rows = load_in rows
 
--- the modules that `--module` gives, no modules if the command doesn't take that option; None if a
--- value of it is malformed
+-- The modules that `--module` gives; no modules if the command doesn't take that option. None if
+-- one of its values is malformed.
 abbrev pub modules_at : Bool → List Row → Option (List NamedModule)
 modules_at false rows = Some []
 modules_at true rows = modules_in rows

@@ -53,7 +53,7 @@ text_of (refusal section fault) = refused_line section fault
 text_of (not_hex n) = []
 text_of (bad_line n) = []
 
--- The text of which a beginning may have been written when memory runs out. No part of a refusal is
+-- The text whose beginning may have been written when memory runs out. No part of a refusal is
 -- written by then, since its line is sent only when it is complete.
 abbrev pub accepted_text : Reply → List ℕ
 accepted_text (text bytes) = bytes

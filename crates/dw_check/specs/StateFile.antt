@@ -123,12 +123,12 @@ facts_of_lines target lines = filter_map (fact_of_line target) lines
 abbrev pub is_line : Target → List ℕ → Bool
 is_line target line = length line == 0 || is_some (fact_of_line target line)
 
--- The callee-saved registers and the stack pointer that facts give make an ABI: there are not too
--- many, and the stack pointer isn't callee-saved.
+-- The callee-saved registers and the stack pointer that facts give make an ABI: at most `MAX_KEPT`
+-- registers are callee-saved, and the stack pointer isn't one of them.
 abbrev pub go_together : List StateFact → Bool
 go_together facts = is_none (abi_fault (kept_in facts) (first_that stack_pointer_in facts))
 
--- each line is empty or well formed, and what the lines give makes an ABI
+-- each line is empty or well formed, and the `keep` and `sp` lines make an ABI (`go_together`)
 abbrev pub are_good : Target → List (List ℕ) → Bool
 are_good target lines = list_all (is_line target) lines && go_together (facts_of_lines target lines)
 

@@ -33,21 +33,22 @@ IsBadSection bytes place count (BadHex n) = (n ≡ place) × (place < count) × 
 IsBadSection bytes place count Memory = Unit {0}
 IsBadSection bytes place count _ = ⊥
 
--- Why there is no machine state: the state file has a bad line, of which the first is named, or
--- memory ran out.
+-- Why there is no machine state: the state file has a bad line, and `StateLine` has the number of
+-- the first one; or memory ran out.
 abbrev pub IsBadState : Result (List StateFact) ℕ → RunFault → Type 0
 IsBadState given (StateLine n) = given ≡ Err n
 IsBadState given Memory = Unit {0}
 IsBadState given _ = ⊥
 
--- Why checking a section failed: it has a fault, of which the first is named, or memory ran out.
+-- Why checking a section failed: the section has a fault, and `Refused` has the first one; or
+-- memory ran out.
 abbrev pub IsRefusal : Section → Option Fault → RunFault → Type 0
 IsRefusal section first (Refused s fault) = (s ≡ section) × (first ≡ Some fault)
 IsRefusal section first Memory = Unit {0}
 IsRefusal section first _ = ⊥
 
--- Why checking two sections failed: they have a fault, of which the first is named, or memory ran
--- out.
+-- Why checking two sections failed: they have a fault, and `Refused` has the first one; or memory
+-- ran out.
 abbrev pub RefusesBoth : Option CheckFault → RunFault → Type 0
 RefusesBoth first (Refused section fault) = first ≡ Some (record { section = section; fault = fault })
 RefusesBoth first Memory = Unit {0}

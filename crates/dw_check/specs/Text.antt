@@ -89,11 +89,12 @@ unfoldable pub row_line : AddressSize → Row → List ℕ
 row_line size row = codes "row " ++ range_text size row.start row.end ++ codes " cfa=" ++ cfa_text row.cfa
     ++ flat_map register_text row.rules ++ codes "\n"
 
--- the end of an FDE's addresses fits in the hex digits of `size`, and so do its addresses
+-- the end of an FDE's address range fits in the hex digits of an address of `size`, and so does
+-- every address in the range
 abbrev pub FitsFde : AddressSize → Fde → Type 0
 FitsFde size fde = fde.initial_location + fde.address_range < 16 ^ digits_of size
 
--- the start and the end of a row fit in the hex digits of `size`
+-- the start and the end of a row fit in the hex digits of an address of `size`
 pub record Fits (size : AddressSize) (row : Row) : Type 0 where
   pub start : row.start < 16 ^ digits_of size
   pub end : row.end < 16 ^ digits_of size

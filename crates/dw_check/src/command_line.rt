@@ -367,7 +367,7 @@ fn with_commands<'a>(
     Ok(command)
 }
 
-/// The command `dwcheck` with all its subcommands, one of which is required.
+/// The command `dwcheck` with all its subcommands. A subcommand is required.
 pub(crate) fn whole_command<'a>(alloc: Global) -> Result<Command<'a>, AllocError>
     ensures app { IfOk result (λ c. app_of c ≡ dwcheck) }
     ensures local { IfOk result (λ c. (fields_of c).has_globals ≡ false) }

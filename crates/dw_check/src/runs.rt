@@ -267,8 +267,8 @@ fn walk_and_write<S: Sink>(
         × Writes (S.taken out.old.sink.now) (S.taken out.new.sink.now) result text }
     ensures stops { S.has_stopped out.new.sink.now ≡ is_write result }
 {
-    // These laws are for the proof only. If writing fails, the contract needs the whole text of a
-    // walk, of which a beginning was written.
+    // These laws are for the proof only. If writing fails, the contract needs a walk whose text
+    // begins with what was written.
     each_address_has_an_unwinding_through_modules();
     unwindings_through_what_is_found();
     walks_through_what_is_found();

@@ -16,7 +16,7 @@ use Rattle.dw_check.proofs.EachReport.{list_lines_some}
 use Rattle.dw_check.proofs.Reported.{reported}
 use Rattle.dw_check.proofs.reports.write_report.Goals as goal
 
--- the lines of the lists exist
+-- there are lines for the expressions of the location lists
 list_lines : (lists : ListSection) → IsChecked lists → (t : List ℕ) × AreLines sections.Lists (located_in lists) t
 list_lines lists checked = list_lines_some each_has_a_depth good-expressions lists checked
 
