@@ -1,4 +1,5 @@
--- The reply for two sections: there is exactly one, and a failed check ends the run as it demands.
+-- The reply for two sections: there is exactly one. And how a run ends if the check of two sections
+-- fails.
 use Rattle.std.proofs.Common.{◌≡◌, ◌⊎◌, ℕ, List, ap, ap₂, sym, refl, ◌∙◌, inl, inr}
 use Rattle.std.specs.Prelude.{Option, Some, None}
 use Rattle.dw_bytes.specs.declared.target.Target.{Target}
@@ -36,8 +37,9 @@ named first found (BadHex n) is h = absurd h
 named first found (StateLine n) is h = absurd h
 named first found Output is h = absurd h
 
--- A check of two sections failed with `found`: their first fault, or that memory ran out. A run
--- that ends as `IsRefusal` demands for `found` also ends as `RefusesBoth` demands.
+-- If a check of two sections failed with `found`, which is their first fault or says that memory
+-- ran out, then a run that ends as `IsRefusal` says for the fault in `found` also ends as
+-- `RefusesBoth` says.
 pub stopped : (first : Option CheckFault) (found : CheckFault) (stop : RunFault)
     → ((own : Option Fault) → (found.fault ≡ memory) ⊎ (own ≡ Some found.fault) → IsRefusal found.section own stop)
     → (found.fault ≡ memory) ⊎ (first ≡ Some found) → RefusesBoth first stop

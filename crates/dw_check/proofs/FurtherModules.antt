@@ -17,8 +17,8 @@ abbrev pub joined : List (Module (List ℕ)) → Result (List (Module (List ℕ)
 joined before (Err n) = Err n
 joined before (Ok others) = Ok (before ++ others)
 
--- if one more section can be read, its module is the last of those already read instead of the
--- first of the others
+-- it makes no difference whether one more module, whose section can be read, counts as the first of
+-- the others or as the last of those already read
 pub one_more_read : (before : List (Module (List ℕ))) (place load : ℕ) (found : Option (List ℕ)) (section : List ℕ)
     (others : Result (List (Module (List ℕ))) ℕ) → found ≡ Some section
     → joined before (module_before place load found others) ≡ joined (before ++ loaded_at load section ∷ []) others
@@ -30,8 +30,8 @@ pub one_more_judged : (target : Target) (m : Module (List ℕ)) (modules : List 
     → modules_refusal target (m ∷ modules) ≡ modules_refusal target modules
 one_more_judged target m modules none = ap (λ (f : Option Fault). option_or f (modules_refusal target modules)) none
 
--- if the section of the next module can't be read, then for the same reason all modules together
--- can't be read
+-- if the section of the next module can't be read, the modules together can't be read, and for the
+-- same reason
 pub bad_module : (all : Result (List (Module (List ℕ))) ℕ) (before : List (Module (List ℕ))) (place load count : ℕ)
     (found : Option (List ℕ)) (others : Result (List (Module (List ℕ))) ℕ) (stop : RunFault)
     → all ≡ joined before (module_before place load found others) → IsBadSection found place count stop → AreBadModules all count stop

@@ -150,13 +150,13 @@ given_more old new g h gs is = record {
   stack_pointer = one_more stack_pointer_in gs g old.stack_pointer new.stack_pointer h.stack_pointer is.stack_pointer;
 }
 
--- whether one more fact contradicts those before it depends on the known state alone
+-- whether the facts still make an ABI after one more fact depends on the known state alone
 pub together_more : (old : KnownState) (gs : List StateFact) (g : StateFact) → IsGivenBy old gs
     → go_together (gs ++ g ∷ []) ≡ is_none (abi_fault (kept_with old.kept g) (option_or old.stack_pointer (stack_pointer_in g)))
 together_more old gs g is =
     rw (kept_more gs g, first_more stack_pointer_in gs g, is.kept, is.stack_pointer) refl
 
--- a fact that adds no callee-saved register and no stack pointer contradicts no fact before it
+-- the facts still make an ABI after a fact that adds no callee-saved register and no stack pointer
 pub plain_goes : (old : KnownState) (g : StateFact) → kept_with old.kept g ≡ old.kept → stack_pointer_in g ≡ None
     → abi_fault old.kept old.stack_pointer ≡ None → (gs : List StateFact) → IsGivenBy old gs → true ≡ go_together (gs ++ g ∷ [])
 plain_goes old g keeps none fit gs is = rw (together_more old gs g is, keeps, none, or_none old.stack_pointer, fit) refl

@@ -57,7 +57,8 @@ lined_next section text all rest y a b c e s more =
       ahead = next.ahead;
     }
 
--- if only a beginning of the next expression's line is written, a beginning of the text is written
+-- if only a beginning of the next expression's line is written, then what is written is a beginning
+-- of the whole text
 pub lined_front : (section : Section) (text : List ℕ) (all rest : List LocatedExpression) (y : ℕ × CheckedExpression)
     (a b c : Option (List ℕ))
     → all ≡ located_of y ∷ rest → Lined section text all a b → AppendsFront b c (line_of section y) → AppendsFront a c text

@@ -4,8 +4,8 @@ use Rattle.std.proofs.lemmas.List.{append_assoc}
 use Rattle.std.specs.Prelude.{Option, Some, None, option_map}
 use Rattle.dw_check.specs.NamedModules.{NamedModule}
 
--- putting a module before the rest, and others before both, puts the others and the module before
--- the rest
+-- it makes no difference whether one more module is added at the front of the rest, or at the end
+-- of the modules before the rest
 pub joined : (before : List NamedModule) (m : NamedModule) (rest : Option (List NamedModule))
     → option_map (λ others. before ++ others) (option_map (λ others. m ∷ others) rest)
     ≡ option_map (λ others. (before ++ m ∷ []) ++ others) rest

@@ -122,7 +122,7 @@ module _ (target : Target) (load : ℕ) (loads : List ℕ) (hex : Bool) (files :
         (λ given. OfFurther (further_modules hex files 2 loads) (λ others. Is given (loaded_at load gives.section ∷ others))) old new r
         gives.facts_are further)
 
--- memory ran out before anything was written
+-- `Goes` holds for a run in which memory ran out before anything was written
 pub goes_lacking : (count : ℕ) (Is : Reply → Type 0) (a : Option (List ℕ)) → Goes count Is a a (Err Memory)
 goes_lacking count Is a = λ reply is. front_none a a (accepted_text reply) (appends_nothing a)
 
@@ -194,8 +194,8 @@ module _ (Shows : AddressSize → List StateFact → List (Module FrameSection) 
       goes_process target load loads hex files count modules facts Is a a (Err stop) gives
       (goes_refusal count Frame (modules_refusal target modules) (Is facts modules) a stop (λ fault k. (refl, k)) h)
 
-  -- if at most one text shows the answer, writing such a text, or failing to, makes the run go as
-  -- `Goes` demands
+  -- `Goes` holds for a run that wrote a text that shows the answer, or failed after a beginning of
+  -- it, if at most one text shows the answer
   pub goes_shown : (sections : List (Module FrameSection)) (old new : Option (List ℕ)) (r : Result (Unit {0}) ReportFault)
       (written : List ℕ) → OneShown Shows → modules_refusal target modules ≡ None → sections ≡ modules_of_sections target modules
       → Shows target.address_size facts sections written → Writes old new r written

@@ -1,5 +1,5 @@
--- A run writes what `Goes` (specs/Runs.antt) demands: for a file that can't be read, for a refusal,
--- and for a text.
+-- `Goes` (specs/Runs.antt), which says what a run has written, holds for runs that end with a file
+-- that can't be read, with a refusal, or with a text.
 use Rattle.std.proofs.Common.{◌≡◌, ℕ, ◌<◌, List, [], ap, sym, refl, subst}
 use Rattle.std.specs.Prelude.{Option, Some, Result, Ok, Err}
 use Rattle.std.specs.Result.{IsErr, IsErrAnd}
@@ -64,7 +64,8 @@ goes_refusal count section first Is a (BadHex n) is h = absurd h
 goes_refusal count section first Is a (StateLine n) is h = absurd h
 goes_refusal count section first Is a Output is h = absurd h
 
--- a run goes as demanded if it ends with the first fault of two sections, or as memory ran out
+-- `Goes` holds for a run that wrote nothing and ended with the first fault of two sections, or
+-- because memory ran out
 pub goes_first_fault : (count : ℕ) (first : Option CheckFault) (Is : Reply → Type 0) (a : Option (List ℕ)) (stop : RunFault)
     → ((found : CheckFault) → first ≡ Some found → Is (refusal found.section found.fault)) → RefusesBoth first stop
     → Goes count Is a a (Err stop)
@@ -76,8 +77,8 @@ goes_first_fault count first Is a Output is h = absurd h
 
 -- ---- texts
 
--- a run goes as demanded if it wrote a text, or failed after a beginning of it, and that text is
--- the only reply
+-- `Goes` holds for a run that wrote a text, or failed after a beginning of it, if that text is the
+-- only possible reply
 pub goes_text : (count : ℕ) (Is : Reply → Type 0) (bytes : List ℕ) (old new : Option (List ℕ)) (r : Result (Unit {0}) ReportFault)
     → Is (text bytes) → ((reply : Reply) → Is reply → reply ≡ text bytes) → Writes old new r bytes → Goes count Is old new (ended_by r)
 goes_text count Is bytes old new (Ok _) is only h = (bytes, is, h)
@@ -85,7 +86,8 @@ goes_text count Is bytes old new (Err faults.Memory) is only h =
     λ reply i. subst (λ x. AppendsFront old new (accepted_text x)) (sym (only reply i)) h
 goes_text count Is bytes old new (Err faults.Write) is only h = (text bytes, is, tt, h)
 
--- a run goes as demanded if it wrote a text that is sent only when it is complete, or failed to
+-- `Goes` holds for a run whose text is sent only when it is complete, whether writing succeeded or
+-- failed
 pub goes_whole : (count : ℕ) (Is : Reply → Type 0) (bytes : List ℕ) (old new : Option (List ℕ)) (r : Result (Unit {0}) ReportFault)
     → Is (text bytes) → WritesWhole old new r bytes → Goes count Is old new (ended_by r)
 goes_whole count Is bytes old new (Ok _) is h = (bytes, is, h)

@@ -28,7 +28,8 @@ sent_next f all left rest x a b c e s more = record {
   text = rw (flat_map-append f s.came (x ∷ [])) (rw (append-nil (f x)) (appends_more a b c (flat_map f s.came) (f x) s.text more));
 }
 
--- if only a beginning of the next element's text is written, a beginning of all texts is written
+-- if only a beginning of the next element's text is written, then what is written is a beginning of
+-- the texts of all elements
 pub sent_front : {X : Type 0} (f : X → List ℕ) (all left rest : List X) (x : X) (a b c : Option (List ℕ)) → left ≡ x ∷ rest
     → Sent f all left a b → AppendsFront b c (f x) → AppendsFront a c (flat_map f all)
 sent_front f all left rest x a b c e s part =

@@ -38,8 +38,8 @@ use Rattle.dw_check.specs.declared.requests.End.{End}
 use Rattle.dw_check.specs.declared.requests.End.TheVariants.{Done, Refused, BadHex, StateLine, Memory, Output}
 
 -- What a run replies: a text; the line of a refusal; `not_hex n`, if the file at index n must be
--- hex text and isn't; or `bad_line n`, if line n of the state file is malformed or contradicts
--- earlier lines. Nothing is written for the last two.
+-- hex text and isn't; or `bad_line n`, if line n of the state file is the first bad one
+-- (`first_bad_line` in StateFile.antt). Nothing is written for the last two.
 pub data Reply : Type 0 where
   text : List ℕ → Reply
   refusal : Section → Fault → Reply

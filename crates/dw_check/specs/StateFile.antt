@@ -132,8 +132,8 @@ go_together facts = is_none (abi_fault (kept_in facts) (first_that stack_pointer
 abbrev pub are_good : Target → List (List ℕ) → Bool
 are_good target lines = list_all (is_line target) lines && go_together (facts_of_lines target lines)
 
--- the number, counted from 1, of the first line that is malformed or contradicts the lines before
--- it; None if there is no such line
+-- The number, counted from 1, of the first bad line; None if no line is bad. A line is bad if it is
+-- malformed, or if the `keep` and `sp` lines up to this one don't make an ABI.
 abbrev pub first_bad_line : Target → List (List ℕ) → Option ℕ
 first_bad_line target lines = find (λ n. not (are_good target (take n lines))) (range_with_len 1 (length lines))
 
@@ -141,8 +141,7 @@ abbrev pub unless_bad : List StateFact → Option ℕ → Result (List StateFact
 unless_bad facts None = Ok facts
 unless_bad facts (Some n) = Err n
 
--- What the lines of a file give, or the number of the first line that is malformed or contradicts
--- earlier lines. LFs separate lines.
+-- what the lines of a file give, or the number of the first bad line; LFs separate lines
 abbrev pub facts_of_file : Target → List ℕ → Result (List StateFact) ℕ
 facts_of_file target text = let lines = parts_of 10 text in unless_bad (facts_of_lines target lines) (first_bad_line target lines)
 

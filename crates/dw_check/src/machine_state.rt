@@ -96,8 +96,9 @@ impl MachineState {
         self.abi_registers.abi()
     }
 
-    /// Adds what a line gives and returns true. A value that an earlier line gave is kept. Returns
-    /// false if the line is a `keep` or `sp` line that contradicts earlier lines.
+    /// Adds what a line gives and returns true. A value that an earlier line gave stays as it is.
+    /// Returns false for a `keep` line that names the stack pointer, or one register more than
+    /// `MAX_KEPT`, and for a first `sp` line that names a callee-saved register.
     fn add(&mut self, line: StateLine) -> Result<bool, AllocError>
         requires { FitsAddresses (fact_of line) }
         ensures taken { IfOk result (λ taken. (facts : List StateFact)
@@ -130,7 +131,7 @@ impl MachineState {
     }
 
     /// Adds what a line gives and returns true. An empty line gives nothing. Returns false if the
-    /// line is malformed or contradicts earlier lines.
+    /// line is malformed, or if `add` returns false for what it gives.
     fn add_line(&mut self, alloc: Global, target: Target, line: &[u8]) -> Result<bool, AllocError>
         ensures taken { IfOk result (λ taken. (facts : List StateFact)
             → IsGivenBy (known_state_of self.old) facts
@@ -175,9 +176,10 @@ impl Memory for MachineState {
     }
 }
 
-/// Reads a state file. If a line is malformed or contradicts earlier lines, the error has the
-/// number of the first such line. Empty lines are skipped. If two lines give the same register,
-/// byte or other value, the first line counts. Takes O(n log n) time for a file of n bytes.
+/// Reads a state file. If a line is malformed, contradicts earlier lines, or names one callee-saved
+/// register too many, the error has the number of the first such line. Empty lines are skipped. If
+/// two lines give the same register, byte or other value, the first line counts. Takes O(n log n)
+/// time for a file of n bytes.
 pub(crate) fn read_state(
     alloc: Global,
     target: Target,

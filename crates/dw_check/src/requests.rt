@@ -169,8 +169,8 @@ pub enum End {
     Refused,
     /// The file at this index in `Request::files` must be hex text and isn't.
     BadHex(usize),
-    /// The state file's line with this number, counted from 1, is malformed or contradicts earlier
-    /// lines.
+    /// The state file's line with this number, counted from 1, is malformed, contradicts earlier
+    /// lines, or names one callee-saved register too many.
     StateLine(u64),
     /// Memory ran out.
     Memory,
