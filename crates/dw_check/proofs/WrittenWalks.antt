@@ -1,4 +1,4 @@
--- A walk that is written frame by frame: what is written is a beginning of the text of a whole walk.
+-- A walk that is written frame by frame: what is written is a beginning of the whole walk's text.
 use Rattle.std.proofs.Common.{◌≡◌, ℕ, ◌+◌, ◌<◌, ◌≤◌, List, [], ◌∷◌, ◌++◌, length, Option, Some}
 use Rattle.std.proofs.Common.{refl, sym, ap, subst, ◌∙◌, arith, append-nil, append_assoc, length-append}
 use Rattle.std.specs.Prelude.{Result}

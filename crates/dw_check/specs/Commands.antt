@@ -132,7 +132,7 @@ list_rule name = record (new_rule name) { long = Some name; action = Some Append
 abbrev pub word_rule : Text → Rule
 word_rule name = record (new_rule name) { required = true }
 
--- the app with the flags that every command takes
+-- the command `app`, with the flags that every command takes added
 abbrev pub with_flags : App → App
 with_flags app = with_rule (with_rule (with_rule app (flag_rule (codes "big"))) (flag_rule (codes "addr4"))) (flag_rule (codes "hex"))
 
@@ -140,12 +140,12 @@ abbrev pub with_words : App → List (Text × Word) → App
 with_words app [] = app
 with_words app (word ∷ words) = with_words (with_rule app (word_rule word.0)) words
 
--- the app with an option added, if the command takes the option
+-- the command `app`, with an option added if the command takes it
 abbrev pub with_option : App → Rule → Bool → App
 with_option app rule false = app
 with_option app rule true = with_rule app rule
 
--- the app with the options that the command takes
+-- the command `app`, with the options added that the command takes
 abbrev pub with_options : App → Command → App
 with_options app c = with_option (with_option (with_option app (option_rule (codes "state")) c.has_state)
     (option_rule (codes "load")) c.has_load) (list_rule (codes "module")) c.has_modules
@@ -157,6 +157,6 @@ abbrev pub with_commands : App → List Command → App
 with_commands app [] = app
 with_commands app (c ∷ cs) = with_commands (with_subcommand app (app_of_command c).top) cs
 
--- The whole command line. A subcommand is required.
+-- The command `dwcheck` with all its subcommands. A subcommand is required.
 abbrev pub dwcheck : App
 dwcheck = on_top (λ s. record s { subcommand_required = true }) (with_commands (new_app (codes "dwcheck")) commands)

@@ -1,4 +1,4 @@
--- The outcome of an expression, given the registers, memory and context in a state file.
+-- The outcome of an expression, given the machine state in a state file.
 use Rattle.std.specs.Prelude.{◌≡◌, ℕ, ◌<◌, ◌^◌, List, length}
 use Rattle.dw_bytes.specs.declared.target.Target.{Target}
 use Rattle.dw_stack.specs.declared.state.Kind.{Kind}
@@ -20,7 +20,7 @@ world_of target facts = record {
 }
 
 -- The expression passes the check. Run on what the facts give, it has `outcome` after `steps`
--- operations; `depth` is its greatest stack depth.
+-- operations. Its greatest stack depth on any path is `depth`.
 pub record ComesTo (kind : Kind) (target : Target) (bytes : List ℕ) (facts : List StateFact) (outcome : Outcome)
     (steps depth : ℕ) : Type 0 where
   pub short : length bytes < 2 ^ 32

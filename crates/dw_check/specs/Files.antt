@@ -34,7 +34,8 @@ abbrev pub loaded_at : ℕ → List ℕ → Module (List ℕ)
 loaded_at load section = record { rows = section; load_address = load }
 
 -- The modules `others`, with one more in front of them. If that one's section is None, since its
--- file must be hex text and isn't, the error is `place`, the index of the file.
+-- file must be hex text and isn't, the error is `place`, the index of the file. Otherwise an error
+-- in place of `others` is the result.
 abbrev pub module_before : ℕ → ℕ → Option (List ℕ) → Result (List (Module (List ℕ))) ℕ → Result (List (Module (List ℕ))) ℕ
 module_before place load None others = Err place
 module_before place load (Some section) (Err n) = Err n

@@ -95,7 +95,7 @@ abbrev pub AsksFor : List Text → Result Asked Usage → Type 0
 AsksFor words r = AsksBy (fault_of dwcheck words) (subcommand_of dwcheck words) r
 
 -- An error of clap may be answered with a text, unless the error is that memory ran out. Any error
--- may be answered with out of memory.
+-- may be answered with `Memory`.
 abbrev pub IsUsageOf : ErrorKind → Usage → Type 0
 IsUsageOf kind (Line _) = ¬ (kind ≡ OutOfMemory)
 IsUsageOf kind BadArgument = ⊥

@@ -69,7 +69,7 @@ IsWritten (refusal section fault) = Unit {0}
 IsWritten (not_hex n) = ⊥
 IsWritten (bad_line n) = ⊥
 
--- ---- files, checked in order
+-- ---- files that can't be read
 
 -- The reply is one that `Is` allows for the bytes of the section in the file at index `place`. If
 -- there are no such bytes, since the file isn't hex text, the reply is `not_hex`.
@@ -222,7 +222,7 @@ abbrev pub OfModulesAndState : (AddressSize → List StateFact → List (Module 
 OfModulesAndState Shows load loads target hex files reply =
     OfProcess target load loads hex files (λ facts modules. OfModules target modules (Shows target.address_size facts)) reply
 
--- ---- requests: a definition for each command
+-- ---- the reply of each command
 
 -- `check`
 abbrev pub IsCheckReply : Target → Bool → List (List ℕ) → Reply → Type 0

@@ -298,7 +298,8 @@ fn backtrace_request(alloc: Global, matches: &ArgMatches<'_>) -> Result<Request,
 }
 
 /// The request of the subcommand `name`. Some code in this file returns `Memory` although no
-/// allocation failed. It is never reached: clap rejects unknown subcommands and missing words.
+/// allocation failed. That code is never reached, since clap rejects a subcommand that is unknown
+/// or lacks a word.
 fn request_of_command(alloc: Global, name: &str, matches: &ArgMatches<'_>) -> Result<Request, Usage>
     ensures ok { IfOk result (λ r. asked_by name.now (rows_of (found_of matches.now)) ≡ Some r) }
     ensures err { IfErr result (λ e. (e ≡ Memory)
@@ -355,9 +356,9 @@ fn usage_of_clap_error(alloc: Global, error: Error) -> Usage
     }
 }
 
-/// Turns a command line, whose first word is the program's name, into a request. Unless memory runs
-/// out, the error is `Line` exactly if clap rejects the words, and `BadArgument` exactly if clap
-/// accepts them and a word or an option's value is malformed.
+/// Turns a command line, whose first word is the program's name, into a request. The error is
+/// `Line` if clap rejects the words. It is `BadArgument` if clap accepts them, but a word or an
+/// option's value is malformed. Instead of any of these results it may be `Memory`.
 pub fn request(alloc: Global, words: Vec<String>) -> Result<Request, Usage>
     ensures { AsksFor (map (λ w. string_bytes w) words.items) result }
 {

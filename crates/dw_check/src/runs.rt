@@ -365,12 +365,14 @@ fn show_reply<S: Sink>(
 /// Runs a request, given the contents of the files that `Request::files` names, in the same order.
 ///
 /// First the files are decoded, in that order. If a file must be hex text and isn't, the run ends
-/// with `BadHex`; if a line of a state file is bad, with `StateLine` for the first such line.
-/// Nothing is written in either case. Then sections and expressions are checked. If there is a
-/// fault, the line of the first one is written (`Refused`), else the whole text (`Done`). If an
-/// allocation fails before that, the run ends with `Memory`: a beginning of the text may be
-/// written, but no part of a refusal's line. If the sink stops, the run ends with `Output`: a
-/// beginning of the text or of the refusal's line is written.
+/// with `BadHex`. If a line of a state file is bad, the run ends with `StateLine` for the first
+/// such line. Nothing is written in either case. Then sections and expressions are checked. If they
+/// have a fault, the line for the first one is written, and the run ends with `Refused`. Otherwise
+/// the whole text is written, and the run ends with `Done`.
+///
+/// If memory runs out before that, the run ends with `Memory`: a beginning of the text may have
+/// been written, but no part of a refusal's line. If the sink stops, the run ends with `Output`:
+/// only a beginning of the text or of the refusal's line has been written.
 pub fn run<S: Sink>(alloc: Global, request: &Request, files: &[Vec<u8>], sink: &mut S) -> End
     requires files { length files.now ≡ length request.now.files }
     requires runs { S.has_stopped sink.old ≡ false }

@@ -48,8 +48,8 @@ pub trait Sink {
         ensures stops { has_stopped self.new ≡ stops result (length bytes.now) };
 }
 
-/// A sink that writes to a std `Write`. It stops at the first write error, even `Interrupted`, and
-/// if the writer accepts none of the bytes that it gets.
+/// A sink that writes to a std `Write`. The sink stops at the first write error, even
+/// `Interrupted`, and also if the writer accepts none of the bytes passed to a write.
 #[derive(Drop)]
 pub struct Through<W: Write> {
     inner: W,
