@@ -1,4 +1,5 @@
--- Which callers and frames have only numbers below a bound, such as 2^w.
+-- States that all numbers of a caller or of a frame are below a bound, such as 2^w (w is the size
+-- of an address in bits).
 use Rattle.std.specs.Prelude.{ℕ, ◌<◌, All, IfSome}
 use Rattle.dw_unwind.specs.Caller.{Answer, value, Caller}
 use Rattle.dw_unwind.specs.Walks.{WalkedFrame}

@@ -1,4 +1,4 @@
--- What the code's types of answers and callers mean in terms of these definitions.
+-- Translates the code's `Answer`, `Caller` and `Present` to the definitions of Caller.antt.
 use Rattle.std.specs.Prelude.{ℕ, map, Option, None}
 use Rattle.dw_eval.specs.World.{World}
 use Rattle.dw_unwind.specs.declared.unwinding.Answer as declared_answer
@@ -13,7 +13,7 @@ answer_in answers.Undefined = undefined
 answer_in answers.Unreadable = unreadable
 answer_in answers.DivisionByZero = division_by_zero
 
--- a register and its answer
+-- a register number with its answer
 abbrev pub found_in : ℕ × declared_answer.Answer → ℕ × Answer
 found_in x = (x.0, answer_in x.1)
 
@@ -24,11 +24,11 @@ caller_in c = record {
   return_address = answer_in c.return_address;
 }
 
--- the world of a `Present`: its target, registers and memory
+-- the `World` that has the target, registers and memory of a `Present`
 abbrev pub machine_in : {R M : Type 0} → (R → ℕ → Option ℕ) → (M → ℕ → Option ℕ) → Present R M → World
 machine_in contents bytes m = machine m.target (contents m.registers.now) (bytes m.memory.now)
 
--- the target, registers and memory of `e`, with this CFA or with none; no frame base and no object
+-- the world `e` with `cfa` as its CFA, if any, and without a frame base or an object
 abbrev pub with_optional_cfa : World → Option ℕ → World
 with_optional_cfa e cfa =
     record { target = e.target; registers = e.registers; memory = e.memory; cfa = cfa; frame_base = None; object = None }

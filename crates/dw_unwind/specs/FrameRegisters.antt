@@ -1,4 +1,5 @@
--- The lists of registers inside a walk.
+-- States what holds for the fields of `FrameRegisters`, the list that a walk fills with the
+-- registers of a caller.
 use Rattle.std.specs.Prelude.{◌≡◌, ℕ, suc, ◌≤◌, Bool, true, List, [], ◌∷◌, length, take}
 use Rattle.dw_unwind.specs.declared.unwinding.Answer.{Answer}
 
@@ -7,8 +8,9 @@ abbrev pub Ascends : ℕ → List (ℕ × Answer) → ℕ → Type 0
 Ascends n [] bound = n ≤ bound
 Ascends n (x ∷ xs) bound = (n ≤ x.0) × Ascends (suc x.0) xs bound
 
--- `most` slots for registers, the first `count` of which are in use, with guesses of the index of a
--- register in `places`; if `is_ascending`, the numbers in use ascend and are below `bound`
+-- The list `found` has `most` slots for registers, and the first `count` slots are in use. `places`
+-- has `guesses` entries, each a guess of the index of a register in `found`. If `is_ascending` is
+-- true, the register numbers in use ascend and are below `bound`.
 pub record IsRoom (most guesses : ℕ) (found : List (ℕ × Answer)) (count : ℕ) (places : List ℕ) (is_ascending : Bool) (bound : ℕ) : Type 0 where
   pub few : count ≤ most
   pub room : length found ≡ most

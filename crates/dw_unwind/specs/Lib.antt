@@ -1,20 +1,24 @@
--- ---- Trusted: what DWARF 5 says. To check callers and walks against the standard, read these.
--- the calling frame (6.4.1)
+-- ---- Trusted: what DWARF 5 says. To check callers and walks against the standard, read the
+-- modules below.
+
+-- the caller of a frame: its CFA, registers and return address (6.4.1)
 pub mod Caller
--- frames, each the caller of the one before (6.4.1, 6.4.4)
+-- a walk up the stack: frames, each the caller of the one before it (6.4.1, 6.4.4)
 pub mod Walks
--- the modules of a process, each where it is loaded
+-- unwinding through the modules of a process, each loaded at its own address
 pub mod Modules
--- a walk that is under way
+-- a walk that gives one frame at a time
 pub mod WalkSteps
 -- which callers and frames have only numbers below a bound
 pub mod CallerFits
+
 -- ---- What the code's values mean.
--- answers and callers of the code
+
+-- translates the code's `Answer` and `Caller`
 pub mod CallerViews
--- a caller whose registers are in a list of their own
+-- translates the code's `Unwound`, with the list that holds the caller's registers
 pub mod UnwoundViews
--- the lists of registers inside a walk
+-- the list that a walk fills with the registers of a caller
 pub mod FrameRegisters
--- frames and walks of the code
+-- translates the code's frames and walks
 pub mod WalkViews

@@ -1,5 +1,6 @@
--- The modules of a process: its executable and its libraries, each with its own rows and load address. Addresses in rows
--- are as linked, those on the stack are as loaded.
+-- Unwinding through the modules of a process: its executable and its libraries, each with its own
+-- rows and load address. The addresses in a module's rows are those that the linker gave it. The
+-- addresses on the stack are those at which the modules are loaded.
 use Rattle.std.specs.Prelude.{◌≡◌, ℕ, ◌≤◌, ◌^◌, pos, ◌-ℤ◌, List, [], ◌∷◌, map, All, Option, Some, None}
 use Rattle.std.specs.Borrow.{Bor}
 use Rattle.dw_bytes.specs.declared.target.Target.{Target}
@@ -12,26 +13,30 @@ use Rattle.dw_unwind.specs.Caller.{Caller}
 use Rattle.dw_unwind.specs.Walks.{CallerRelation, over_rows, over_section, over_table}
 use Rattle.dw_unwind.specs.declared.modules.Module.{Module}
 
--- the address as linked for an address as loaded: the load address subtracted, modulo 2^w
+-- the address as linked for an address in the running process: the load address is subtracted,
+-- modulo 2^w (w is the size of an address in bits)
 abbrev pub as_linked : Target → ℕ → ℕ → ℕ
 as_linked target load_address address = wrap (width_of target.address_size) (pos address -ℤ pos load_address)
 
--- the caller that was found, or else what the other modules give
+-- `caller` is the caller that one module gives (the first argument); if that module gives none,
+-- `Others` says what `caller` is
 abbrev pub OrElse : Option Caller → (Option Caller → Type 0) → Option Caller → Type 0
 OrElse (Some found) Others caller = caller ≡ Some found
 OrElse None Others caller = Others caller
 
--- The caller by the first module that gives one for the address as linked in that module, or none.
--- A module gives a caller exactly if it has a row for the address.
+-- The caller that a list of modules gives at an address. It comes from the first module that gives
+-- a caller (`over`) at the address as linked in that module. If no module gives a caller, it is
+-- none.
 abbrev pub over_modules : {T : Type 0} → (T → Target) → (T → CallerRelation) → List (Module T) → CallerRelation
 over_modules target_of over [] registers address caller = caller ≡ None
 over_modules target_of over (m ∷ modules) registers address caller = (own : Option Caller)
     × over m.rows registers (as_linked (target_of m.rows) m.load_address address) own
     × OrElse own (over_modules target_of over modules registers address) caller
 
--- ---- any supplier of a module's rows
+-- ---- modules with rows from a look-up, with checked sections, with tables
 
--- unwinding through modules whose rows come from any supplier
+-- unwinding through modules, where `finds` says which row a module has at an address, with its
+-- return address register
 abbrev pub over_modules_of_rows : {T : Type 0} → (T → Target) → (T → ℕ → Option (Row × ℕ) → Type 0) → Abi → (ℕ → Option ℕ)
     → List (Module T) → CallerRelation
 over_modules_of_rows target_of finds abi memory =
@@ -45,22 +50,23 @@ over_sections abi memory = over_modules (λ (s : FrameSection). s.target) (λ s.
 abbrev pub over_tables : Abi → (ℕ → Option ℕ) → List (Module RowTable) → CallerRelation
 over_tables abi memory = over_modules (λ (t : RowTable). t.target) (λ t. over_table t abi memory)
 
--- the modules with each borrow of rows replaced by the rows themselves
+-- the same modules with the rows themselves instead of borrows of the rows
 abbrev pub unborrowed : {T : Type 0} → List (Module (Bor T)) → List (Module T)
 unborrowed modules = map (λ m. record { rows = m.rows.now; load_address = m.load_address }) modules
 
--- a list of one module, which is loaded where it is linked
+-- a list of one module that is loaded where it is linked, so its load address is 0
 abbrev pub where_linked : {T : Type 0} → T → List (Module T)
 where_linked rows = record { rows = rows; load_address = 0 } ∷ []
 
--- two lists of equally many modules: those at the same index have the same load address, and their
--- rows are related by `Is`
+-- The two lists are equally long. The modules at the same index have the same load address, and
+-- their rows are related by `Is`.
 abbrev pub AreLike : {S T : Type 0} → (S → T → Type 0) → List (Module S) → List (Module T) → Type 0
 AreLike Is [] [] = Unit {0}
 AreLike Is (s ∷ modules) (t ∷ others) = (t.load_address ≡ s.load_address) × Is s.rows t.rows × AreLike Is modules others
 AreLike Is _ _ = ⊥
 
--- the second list has a table of each section of the first, with that section's load address
+-- For each section of the first list, the second has a compiled table at the same index, with the
+-- same load address.
 abbrev pub AreTablesOf : List (Module FrameSection) → List (Module RowTable) → Type 0
 AreTablesOf = AreLike IsTableOf
 

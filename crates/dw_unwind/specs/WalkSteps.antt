@@ -1,30 +1,31 @@
--- A walk that is under way, frame by frame.
+-- A walk up the stack that gives one frame at a time: its progress, and the frame that it gives
+-- next.
 use Rattle.std.specs.Prelude.{◌≡◌, ℕ, List, [], ◌∷◌, Option, Some, None, option_map}
 use Rattle.dw_rows.specs.Rules.{PlacedRule}
 use Rattle.dw_unwind.specs.Caller.{Answer, Caller}
 use Rattle.dw_unwind.specs.Walks.{CallerRelation, WalkedFrame, AreFrames, UnwindsAt, address_before, contents_of, next_place, stop_of_caller}
 use Rattle.dw_unwind.specs.declared.frames.Stop.{Stop}
 
--- The progress of a walk: it is about to give this frame, its first, or it has given this frame
--- last.
+-- The progress of a walk. Either it has given no frame yet, and this is its first frame, or this is
+-- the frame that it gave last.
 pub data Progress : Type 0 where
   about_to_give : WalkedFrame → Progress
   has_given : WalkedFrame → Progress
 
--- A walk. Its unwinder, its ABI (as a list of rules) and its memory stay the same; only `progress`
--- changes.
+-- The state of a walk. Only `progress` changes from frame to frame. The unwinder, the ABI (as a
+-- list of rules) and the memory stay the same.
 pub record WalkState (U M : Type 0) : Type 0 where
   pub unwinder : U
   pub abi : List (ℕ × PlacedRule)
   pub memory : M
   pub progress : Progress
 
--- a walk gives this frame next
+-- the next frame that a walk with this progress gives is `frame`
 abbrev pub GivesFrame : CallerRelation → Progress → WalkedFrame → Type 0
 GivesFrame u (about_to_give first) frame = frame ≡ first
 GivesFrame u (has_given last) frame = AreFrames u (next_place last.caller) (frame ∷ [])
 
--- a walk gives these frames next, one after the other
+-- the next frames that a walk with this progress gives are these, in this order
 abbrev pub GivesFrames : CallerRelation → Progress → List WalkedFrame → Type 0
 GivesFrames u p [] = Unit {0}
 GivesFrames u p (frame ∷ frames) = GivesFrame u p frame × GivesFrames u (has_given frame) frames
@@ -39,7 +40,7 @@ abbrev pub stop_of : Progress → Option Stop
 stop_of (about_to_give first) = None
 stop_of (has_given last) = stop_of_caller last.caller
 
--- the current frame of a walk
+-- the current frame of a walk: the one that it gave last, or its first frame if it has given none
 abbrev pub frame_at : Progress → WalkedFrame
 frame_at (about_to_give first) = first
 frame_at (has_given last) = last
@@ -53,13 +54,13 @@ abbrev pub having_given : {U M : Type 0} → WalkedFrame → WalkState U M → W
 having_given frame w =
     record { unwinder = w.unwinder; abi = w.abi; memory = w.memory; progress = has_given frame }
 
--- the walk `old` gives its next frame, and is then `new`
+-- The walk `old` gives its next frame and thereby becomes `new`.
 abbrev pub GivesNext : {U M : Type 0} → CallerRelation → WalkState U M → WalkState U M → Type 0
 GivesNext u old new = (frame : WalkedFrame) × GivesFrame u old.progress frame × (new ≡ having_given frame old)
 
--- `next` is what unwinding gives for a frame that is itself a caller: the frame at `address` with
--- the registers of `caller`, looked up at `address` minus 1. States nothing if there is no such
--- caller.
+-- `next` is the caller of the frame that `caller` describes. That frame is at `address`, has the
+-- registers of `caller`, and is looked up at `address` minus 1. If the first option is none, there
+-- is no such frame, and this states nothing.
 abbrev pub UnwindsFrom : CallerRelation → Option Caller → ℕ → Option Caller → Type 0
 UnwindsFrom u None address next = Unit {0}
 UnwindsFrom u (Some caller) address next = UnwindsAt u (contents_of caller.registers) (address_before address) next

@@ -1,4 +1,4 @@
--- What the code's types of frames and walks mean in terms of these definitions.
+-- Translates the code's frames and walks to the definitions of Walks.antt and WalkSteps.antt.
 use Rattle.std.specs.Prelude.{◌≡◌, ℕ, Bool, true, false, if◌then◌else◌, IfSome, List, MatchOption, Some, map, Option, option_map}
 use Rattle.dw_unwind.specs.declared.frames.BriefFrame.{BriefFrame}
 use Rattle.dw_unwind.specs.declared.frames.Frame as declared
@@ -24,7 +24,7 @@ brief_in f = (f.address, option_map answer_in f.cfa)
 abbrev pub brief_of : WalkedFrame → ℕ × Option Answer
 brief_of frame = (frame.address, cfa_of frame)
 
--- ---- a walk's fields
+-- ---- the fields of a `Walk`
 
 -- the frame at `address`; the registers of its caller are in the list `other` if `is_other`, else
 -- in `one`
@@ -36,11 +36,12 @@ abbrev pub progress_with : Bool → WalkedFrame → Progress
 progress_with false frame = about_to_give frame
 progress_with true frame = has_given frame
 
--- ---- a call of `next`
+-- ---- a call of `Walk::next`
 
--- A call gives the next frame, in brief, or gives none, if there is a reason, and leaves the walk
--- as it is. If the numbers of the current frame are below a bound of addresses, so are those of the
--- next.
+-- The result of a call of `Walk::next`. Either the call gives the next frame as a `BriefFrame`. Or
+-- there is a reason why no frame follows; then it gives none and leaves the walk unchanged. If all
+-- numbers of the current frame are below a bound for which `IsBound` holds, so are those of the
+-- next frame.
 pub record NextFrame {U M : Type 0} (u : CallerRelation) (IsBound : ℕ → Type 0) (old : WalkState U M) (given : Option BriefFrame)
     (new : WalkState U M) : Type 0 where
   pub gives : MatchOption given (((stop : Stop) × (stop_of old.progress ≡ Some stop)) × (new ≡ old)) (λ _. GivesNext u old new)

@@ -1,7 +1,8 @@
 -- A walk up the stack, each frame the caller of the frame before it. DWARF 5, section 6.4.1,
 -- defines a single caller. Section 6.4.4 states that a walk is complete if the return address is
--- undefined, and that the call is looked up at the return address minus 1. The profile itself
--- defines which registers have a content, the limit, and the other reasons why a walk ends.
+-- undefined, and that the call is looked up at the return address minus 1. The rest is defined by
+-- docs/PROFILE.md: which registers have a content, the limit, and the other reasons why a walk
+-- ends.
 use Rattle.std.specs.Prelude.{◌≡◌, ℕ, zero, suc, ◌≤◌, ◌==◌, if◌then◌else◌, List, [], ◌∷◌, length, Option, Some, None, option_map}
 use Rattle.dw_bytes.specs.declared.target.Target.{Target}
 use Rattle.dw_rows.specs.Abi.{Abi}
@@ -14,8 +15,8 @@ use Rattle.dw_unwind.specs.declared.frames.Stop.TheVariants.{Limit, NotCovered, 
 
 -- ---- what a walk unwinds with
 
--- Which caller a frame has: a relation between the frame's registers, the address looked up for it, and the caller, none
--- if nothing covers the address.
+-- Says which caller a frame has. It relates three things: the frame's registers, the address that
+-- is looked up for the frame, and the caller, which is none if no FDE covers that address.
 abbrev pub CallerRelation : Type 1
 CallerRelation = (ℕ → Option ℕ) → ℕ → Option Caller → Type 0
 
@@ -23,12 +24,12 @@ CallerRelation = (ℕ → Option ℕ) → ℕ → Option Caller → Type 0
 abbrev pub over_section : FrameSection → Abi → (ℕ → Option ℕ) → CallerRelation
 over_section frame abi memory = λ registers address caller. Unwinds (machine frame.target registers memory) abi frame address caller
 
--- unwinding with a table of rows
+-- unwinding with a compiled table of rows
 abbrev pub over_table : RowTable → Abi → (ℕ → Option ℕ) → CallerRelation
 over_table table abi memory =
     λ registers address caller. UnwindsBy (machine table.target registers memory) abi (row_at table address) caller
 
--- unwinding with any supplier of rows; `Finds` says what it finds at an address: a row with its
+-- unwinding with any look-up of rows; `Finds` says what it finds at an address: a row with its
 -- return address register, or none
 abbrev pub over_rows : Target → (ℕ → Option (Row × ℕ) → Type 0) → Abi → (ℕ → Option ℕ) → CallerRelation
 over_rows target Finds abi memory = λ registers address caller. (found : Option (Row × ℕ)) × Finds address found
@@ -36,22 +37,22 @@ over_rows target Finds abi memory = λ registers address caller. (found : Option
 
 -- ---- places and frames
 
--- The current position of a walk: the address of a frame, the address that is looked up for the
--- frame (none for a caller at address 0), and the frame's registers.
+-- Where a walk is: the address of a frame, the address that is looked up for the frame (none for a
+-- caller at address 0), and the frame's registers.
 pub record Place : Type 0 where
   pub address : ℕ
   pub looked_up : Option ℕ
   pub registers : ℕ → Option ℕ
 
--- A frame: its address, and its caller, none if no FDE covers the address that is looked up for the
--- frame.
+-- A frame of a walk: its address and its caller. The caller is none if no FDE covers the address
+-- that is looked up for the frame.
 pub record WalkedFrame : Type 0 where
   pub address : ℕ
   pub caller : Option Caller
 
 -- ---- from a frame to the next
 
--- a register has a content if the answer for it is a value
+-- the content of a register whose answer is this: the value, or none if the answer isn't a value
 abbrev pub content_of : Answer → Option ℕ
 content_of (value n) = Some n
 content_of _ = None
@@ -65,42 +66,43 @@ abbrev pub address_before : ℕ → Option ℕ
 address_before zero = None
 address_before (suc a) = Some a
 
--- the position at the start of a walk: the first frame is looked up at its own address
+-- where a walk starts: its first frame is looked up at its own address
 abbrev pub first_place : ℕ → (ℕ → Option ℕ) → Place
 first_place address registers = record { address = address; looked_up = Some address; registers = registers }
 
--- The position of a caller whose frame is at `address`, the return address. The call lies just
+-- Where a walk is at a caller whose frame is at `address`, the return address. The call lies just
 -- before that address, so the frame is looked up at `address` minus 1.
 abbrev pub place_of_caller : Caller → ℕ → Place
 place_of_caller caller address =
     record { address = address; looked_up = address_before address; registers = contents_of caller.registers }
 
--- the position after a frame: that of its caller, if the frame has a caller and the return address
--- has a value
+-- where a walk is after a frame: at the frame's caller; none if the frame has no caller or the
+-- return address has no value
 abbrev pub next_place : Option Caller → Option Place
 next_place None = None
 next_place (Some caller) = option_map (place_of_caller caller) (content_of caller.return_address)
 
--- the caller at a position, or none if there is no address to be looked up
+-- `caller` is the caller of a frame with these registers and this looked-up address; if there is no
+-- address to look up, it is none
 abbrev pub UnwindsAt : CallerRelation → (ℕ → Option ℕ) → Option ℕ → Option Caller → Type 0
 UnwindsAt u registers None caller = caller ≡ None
 UnwindsAt u registers (Some a) caller = u registers a caller
 
--- `f` is the frame at the position `p`
+-- `f` is the frame at the place `p` of a walk
 abbrev pub IsFrameAt : CallerRelation → Place → WalkedFrame → Type 0
 IsFrameAt u p f = (f.address ≡ p.address) × UnwindsAt u p.registers p.looked_up f.caller
 
 -- ---- the frames of a walk
 
--- Frames from a position on, each the caller of the frame before it. The walk may have more frames
--- after these.
+-- The frames of a walk from a place on, each the caller of the frame before it. The walk may have
+-- more frames after these.
 abbrev pub AreFrames : CallerRelation → Option Place → List WalkedFrame → Type 0
 AreFrames u p [] = Unit {0}
 AreFrames u None (f ∷ frames) = ⊥
 AreFrames u (Some p) (f ∷ frames) = IsFrameAt u p f × AreFrames u (next_place f.caller) frames
 
--- why a frame with this return address, or with this caller, is the last one; none if another frame
--- follows
+-- why a walk ends with a frame that has this return address, or (in `stop_of_caller`) this caller;
+-- none if another frame follows
 abbrev pub stop_of_return : Answer → Option Stop
 stop_of_return (value a) = None
 stop_of_return undefined = Some ReturnUndefined
@@ -124,6 +126,6 @@ pub record Walks (u : CallerRelation) (first : Place) (limit : ℕ) (frames : Li
   pub few : length frames ≤ limit
   pub ends : (if length frames == limit then Some Limit else stop_after frames) ≡ Some stop
 
--- with any registers, unwinding has an answer at every address: a caller, or none
+-- for all registers and each address, unwinding has a result: a caller, or none
 abbrev pub AlwaysUnwinds : CallerRelation → Type 0
 AlwaysUnwinds u = (registers : ℕ → Option ℕ) (address : ℕ) → (caller : Option Caller) × u registers address caller
