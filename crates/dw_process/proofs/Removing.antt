@@ -1,4 +1,4 @@
--- Modules without the first one at a load address, by its index.
+-- Lemmas about removing a module: removing it by its index gives the list that `without` gives.
 use Rattle.std.proofs.Common.{◌≡◌, ◌+◌, ◌==◌, ℕ, suc, Bool, true, false, [], ◌∷◌, length, Some, None, refl, sym, ap, ◌∙◌, arith, subst}
 use Rattle.std.specs.Prelude.{cond, nat_lt, not, ◌||◌}
 use Rattle.std.specs.List.{position, prefix_len, remove, list_any}

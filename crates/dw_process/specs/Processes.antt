@@ -1,4 +1,5 @@
--- The modules of a process, as they are added and removed, and the row of an address as loaded.
+-- The modules of a process: how adding and removing changes them, and which row an address as
+-- loaded (in the running process) has.
 use Rattle.std.specs.Prelude.{◌≡◌, ℕ, ◌*◌, ◌==◌, ◌≤◌, if◌then◌else◌, List, [], ◌∷◌, ◌++◌, length, Contains, Option, None}
 use Rattle.std.specs.Option.{option_or, option_map}
 use Rattle.dw_bytes.specs.declared.target.Target.{Target}
@@ -35,16 +36,16 @@ without load_address (m ∷ modules) = if m.load_address == load_address then mo
 abbrev pub found_with : ℕ → Row × ℕ → FoundRow
 found_with load_address found = record { load_address = load_address; row = found.0; return_register = found.1 }
 
--- The found row comes from a module of the process. `found` has that module's load address, and the
--- row's expressions have that module's target.
+-- A row that was found comes from a module of the process. `found` has that module's load address,
+-- and the row's expressions have that module's target.
 pub record IsFoundIn (modules : Modules) (found : FoundRow) : Type 0 where
   pub its_module : Module RowTable
   pub among : Contains modules its_module
   pub load_address : found.load_address ≡ its_module.load_address
   pub under : IsRowUnder its_module.rows.target found.row
 
--- the row of an address as loaded, from the first module that has one; in each module the address
--- as linked is looked up
+-- the row of an address as loaded, from the first module that has one, none if no module has one;
+-- in each module the address as linked is looked up
 abbrev pub row_in : Modules → ℕ → Option FoundRow
 row_in [] address = None
 row_in (m ∷ modules) address = option_or

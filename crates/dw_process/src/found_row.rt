@@ -1,4 +1,4 @@
-//! The row of an address, and the module that has it.
+//! The result of looking up an address in the modules of a process.
 
 use dw_rows::UnwindRow;
 

@@ -1,4 +1,4 @@
-//! The modules of a process.
+//! The modules of a process, which are added, removed and looked up at run time.
 
 ghost use Rattle.std.specs.List.{list_any, position};
 ghost use Rattle.std.specs.Prelude.{◌==◌, ◌≡◌, ◌<◌, ◌^◌, IfErr, IfOk, IfSome, length, []};
@@ -14,11 +14,12 @@ use dw_unwind::{Module, as_linked};
 use std::alloc::Global;
 use std::marker::Model;
 
-/// The modules of a process: its executable and its libraries, in the order in which they were added, each as a compiled
-/// table with its load address. The module of an address is the first one that has a row for it.
+/// The modules of a process: its executable and its libraries, in the order in which they were
+/// added, each as a compiled table with its load address. The module of an address is the first one
+/// that has a row for it.
 ///
-/// It borrows nothing: a module's section may be dropped once the module is added. `share` shares its tables and doesn't
-/// copy them.
+/// A `Process` borrows nothing: a module's section may be dropped once the module is added. `share`
+/// makes another `Process` with the same tables and doesn't copy them.
 #[derive(Drop)]
 pub struct Process {
     modules: Vec<Module<SharedTable>>,
@@ -32,7 +33,7 @@ impl Model for Process {
     ghost view = { λ p. p.modules.items };
 }
 
-/// The index of the first module that is loaded at `load_address`.
+/// The index of the first module that is loaded at `load_address`; none if there is no such module.
 fn place_of(modules: &[Module<SharedTable>], load_address: u64) -> Option<usize>
     ensures place { result
         ≡ position (λ m. m.load_address == load_address) modules.now }
@@ -53,17 +54,17 @@ impl Process {
         }
     }
 
-    /// The modules, for `unwind_in` and `Walk`.
+    /// The modules, to be passed to `unwind_in` and `Walk`.
     pub fn modules(&self) -> &[Module<SharedTable>]
         ensures { result.now ≡ self.now }
     {
         self.modules.as_slice()
     }
 
-    /// Checks a `.debug_frame` section of fewer than 2^32 bytes for a target, compiles it, and adds
-    /// it as the last module, loaded at `load_address`. `room` is the number of bytes that the
-    /// compiled rows and their rules may take (`CheckedFrame::compile`); it doesn't bound the
-    /// memory that checking and compiling take meanwhile. After an error the modules are unchanged.
+    /// Checks a `.debug_frame` section of fewer than 2^32 bytes, encoded for `target`, compiles it,
+    /// and adds it as the last module, loaded at `load_address`. `room` is the number of bytes that
+    /// the compiled rows and their rules may take (`CheckedFrame::compile`). Checking and compiling
+    /// may need more memory than that while they run. After an error the modules are unchanged.
     pub fn add(
         &mut self,
         alloc: Global,
@@ -105,9 +106,9 @@ impl Process {
         }
     }
 
-    /// The row of an address as loaded, from the first module that has a row for the address, or
-    /// none if no module has one. Doesn't allocate. Takes one look-up in each module up to the one
-    /// that has the row.
+    /// The row of an address as loaded (in the running process), from the first module that has a
+    /// row for the address; none if no module has one. Allocates nothing. The cost is one look-up
+    /// in each module up to the one that has the row.
     pub fn row_for_address(&self, address: u64) -> Option<FoundRow<'_>>
         ensures row { result ≡ row_in self.now address }
         ensures under { IfSome result (IsFoundIn self.now) }
@@ -127,8 +128,8 @@ impl Process {
     }
 
     /// Makes another process with the same modules. Both processes share the compiled tables, which
-    /// are freed with the last process that has them; each process may go to its own thread. None
-    /// if there isn't enough memory.
+    /// are freed with the last process that has them. Each process may be used by a different
+    /// thread. None if there isn't enough memory, or if a table already has 2^63 - 1 owners.
     pub fn share(&self, alloc: Global) -> Option<Process>
         ensures { IfSome result (λ other. other ≡ self.now) }
     {

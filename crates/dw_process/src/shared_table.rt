@@ -9,7 +9,8 @@ use std::alloc::Global;
 use std::marker::Model;
 use std::sync::Arc;
 
-/// One owner of a compiled table. The last owner frees it. Owners may be on different threads.
+/// One of the owners that share a compiled table. The table is freed with its last owner. Owners
+/// may be on different threads.
 #[derive(Drop)]
 pub struct SharedTable {
     table: Arc<UnwindTable>,
@@ -24,7 +25,7 @@ impl Model for SharedTable {
 }
 
 impl SharedTable {
-    /// The first owner of `table`, or none if there isn't enough memory.
+    /// The first owner of `table`; none if there isn't enough memory.
     pub fn new(alloc: Global, table: UnwindTable) -> Option<Self>
         ensures { IfSome result (λ owner. owner ≡ table) }
     {
@@ -34,7 +35,7 @@ impl SharedTable {
         }
     }
 
-    /// Makes another owner of the same table. None if the table already has 2^63 - 1 owners.
+    /// Makes another owner of the same table; none if the table already has 2^63 - 1 owners.
     pub fn share(&self) -> Option<Self>
         ensures { IfSome result (λ owner. owner ≡ self.now) }
     {
@@ -44,8 +45,8 @@ impl SharedTable {
         }
     }
 
-    /// The row of an address and its return address register, from
-    /// `UnwindTable::row_and_return_register`.
+    /// The table's row at an address, with its return address register; none if the table has no
+    /// row there.
     #[inline(always)]
     pub fn row_and_return_register(&self, address: u64) -> Option<(UnwindRow<'_, '_>, u16)>
         ensures row { result ≡ row_at self.now address }
@@ -55,7 +56,7 @@ impl SharedTable {
     }
 }
 
-/// Looks rows up in the shared table.
+/// Looks rows up in the table.
 impl UnwindRows for SharedTable {
     type Slot = ();
 

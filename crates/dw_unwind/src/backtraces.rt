@@ -1,4 +1,4 @@
-//! Walks up the stack that collect their frames in a list.
+//! Functions that walk up the stack and return the frames as a list.
 
 ghost use Rattle.std.specs.Prelude.{◌≡◌, ◌<◌, ◌^◌, ℕ, All, IfErr, IfOk, IsOk};
 ghost use Rattle.dw_bytes.specs.Answers.{memory as want_of_memory};
@@ -19,7 +19,7 @@ use dw_eval::{Memory, Registers};
 use dw_rows::{Abi, CheckedFrame, UnwindRows};
 use std::alloc::Global;
 
-/// Walks up the stack with any unwinder, and collects the frames.
+/// Walks up the stack with any unwinder. Returns at most `limit` frames, and why there are no more.
 fn backtrace_over<U: Unwinder + Drop, R: Registers, M: Memory>(
     alloc: Global,
     unwinder: U,
@@ -52,16 +52,17 @@ fn backtrace_over<U: Unwinder + Drop, R: Registers, M: Memory>(
     })
 }
 
-/// Walks up the stack through the modules of a process: from the first frame, whose address as
-/// loaded, registers and memory are given, to its caller, the caller's caller and so on. Gives at
-/// most `limit` frames, and why there are no more (DWARF 5, sections 6.4.1 and 6.4.4).
+/// Walks up the stack through the modules of a process: from the first frame, whose address,
+/// registers and memory are passed, to its caller, the caller's caller and so on. Returns at most
+/// `limit` frames, and why there are no more (DWARF 5, sections 6.4.1 and 6.4.4).
 ///
 /// Frame 0 is looked up at its own address, each later frame at its address minus 1, in the first
-/// module that has a row for the address looked up. Addresses of frames are as loaded. After frame
-/// 0, a register has a value only if unwinding found a value for it. Each frame costs what
-/// `unwind_in` costs, and takes some 6 KB, since a caller has room for all registers that a row and
-/// an ABI can name. `Walk` gives the same frames one by one and allocates nothing. The only fault
-/// is `Memory`, with offset 0.
+/// module that has a row for the address looked up. `address` and the addresses of the frames are
+/// as loaded: they are addresses in the running process. After frame 0, a register has a value only
+/// if unwinding found a value for it. Each frame costs what `unwind_in` costs, and takes some 6 KB,
+/// since a caller has room for all registers that a row and an ABI can name. `Walk` gives the same
+/// frames one by one and allocates nothing. The only fault is `Memory` (out of memory), with offset
+/// 0.
 pub fn backtrace_in<T: UnwindRows, R: Registers, M: Memory>(
     alloc: Global,
     modules: &[Module<T>],
@@ -87,14 +88,14 @@ pub fn backtrace_in<T: UnwindRows, R: Registers, M: Memory>(
 }
 
 /// Walks up the stack with a checked section or a compiled table: from the first frame, whose
-/// address, registers and memory are given, to its caller, the caller's caller and so on. Gives at
-/// most `limit` frames, and why there are no more (DWARF 5, sections 6.4.1 and 6.4.4).
+/// address, registers and memory are passed, to its caller, the caller's caller and so on. Returns
+/// at most `limit` frames, and why there are no more (DWARF 5, sections 6.4.1 and 6.4.4).
 ///
 /// Frame 0 is looked up at its own address, each later frame at its address minus 1. After frame 0,
 /// a register has a value only if unwinding found a value for it. Each frame costs what `unwind_by`
 /// costs, and takes some 6 KB, since a caller has room for all registers that a row and an ABI can
-/// name. `Walk` gives the same frames one by one and allocates nothing. The only fault is `Memory`,
-/// with offset 0.
+/// name. `Walk` gives the same frames one by one and allocates nothing. The only fault is `Memory`
+/// (out of memory), with offset 0.
 pub fn backtrace_by<T: UnwindRows, R: Registers, M: Memory>(
     alloc: Global,
     rows: &T,
@@ -112,7 +113,8 @@ pub fn backtrace_by<T: UnwindRows, R: Registers, M: Memory>(
     ensures lacks { IfErr result (λ fault. fault ≡ want_of_memory) }
     ensures none { limit ≡ 0 → IsOk result }
 
-    // All numbers are below 2^w, w being the size of an address in bits, if the first frame's address is.
+    // All numbers are below 2^w, w being the size of an address in bits, if the first frame's
+    // address is.
     ensures fits { IfOk result (λ walk.
         address < 2 ^ width_of (T.target_of rows.now).address_size
         → All (FrameFits (2 ^ width_of (T.target_of rows.now).address_size))
@@ -121,8 +123,8 @@ pub fn backtrace_by<T: UnwindRows, R: Registers, M: Memory>(
     backtrace_over(alloc, rows, abi, address, registers, memory, limit)
 }
 
-/// Walks up the stack with a checked frame section alone: `backtrace_by` for programs that check no
-/// location lists.
+/// Walks up the stack with a checked frame section, for programs that check no location lists.
+/// Returns the same frames as `backtrace_by`: at most `limit`, and why there are no more.
 pub fn backtrace_by_section<R: Registers, M: Memory>(
     alloc: Global,
     frame: &CheckedFrame<'_>,
@@ -139,7 +141,8 @@ pub fn backtrace_by_section<R: Registers, M: Memory>(
     ensures lacks { IfErr result (λ fault. fault ≡ want_of_memory) }
     ensures none { limit ≡ 0 → IsOk result }
 
-    // All numbers are below 2^w, w being the size of an address in bits, if the first frame's address is.
+    // All numbers are below 2^w, w being the size of an address in bits, if the first frame's
+    // address is.
     ensures fits { IfOk result (λ walk.
         address < 2 ^ width_of frame.now.target.address_size
         → All (FrameFits (2 ^ width_of frame.now.target.address_size))

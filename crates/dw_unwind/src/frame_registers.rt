@@ -10,12 +10,12 @@ use crate::unwinding::{Answer, FoundRegisters, MAX_FOUND};
 use dw_eval::Registers;
 use std::marker::Model;
 
-/// The size of the table that guesses the index of a register: one guess for each register number
+/// The size of the table `places`, which has a guess of a register's index for each register number
 /// modulo `GUESSES`.
 const GUESSES: usize = 64;
 
-/// The registers of a caller with their answers. Used as the `Registers` of a frame, a register has
-/// a content if its answer is a value.
+/// The registers of a caller, each with its answer. The list also serves as the `Registers` of the
+/// caller's own frame: there, a register has a content if its answer is a value.
 ///
 /// There is room for all registers that a row and an ABI can name, but emptying the list doesn't
 /// write their slots, so a frame costs only what its own registers cost.
@@ -25,11 +25,12 @@ pub struct FrameRegisters {
     /// frames.
     found: [(u16, Answer); MAX_FOUND],
     count: usize,
-    /// For each register number modulo `GUESSES`, the index where such a register was put last. The
-    /// index may be left over from an earlier frame, so it is checked before it is used.
+    /// For each register number modulo `GUESSES`, the index in `found` where such a register was
+    /// put last. The index may be left over from an earlier frame, so it is checked before it is
+    /// used.
     places: [u8; GUESSES],
-    /// Whether each register number is above those before it, and all are below `bound`. If so, no
-    /// register is there twice.
+    /// Whether each register number is greater than those before it, and all are below `bound`. If
+    /// so, no register is in the list twice.
     is_ascending: bool,
     bound: u32,
 }
@@ -67,7 +68,7 @@ fn content_among(found: &[(u16, Answer)], number: u16) -> Option<u64>
     None
 }
 
-/// The answer for the register `number`, if that register is at the index `place`.
+/// The answer for the register `number`, if that register is at the index `place`; none otherwise.
 #[inline(always)]
 fn answer_at(found: &[(u16, Answer)], place: usize, number: u16) -> Option<Answer>
     ensures { IfSome result (λ answer. (k : ℕ)
@@ -84,7 +85,8 @@ fn answer_at(found: &[(u16, Answer)], place: usize, number: u16) -> Option<Answe
     }
 }
 
-/// The content of the register `number`, if that register is at the index `place`; none otherwise.
+/// If the register `number` is at the index `place`, its content, which is none if its answer isn't
+/// a value. If another register is there, or `place` is past the end, the outer option is none.
 /// Numbers in `found` ascend, so the register is at no other index.
 #[inline(always)]
 fn content_at(found: &[(u16, Answer)], place: usize, number: u16) -> Option<Option<u64>>
@@ -97,7 +99,8 @@ fn content_at(found: &[(u16, Answer)], place: usize, number: u16) -> Option<Opti
     }
 }
 
-/// Whether register numbers below `bound` still ascend with `number` at the end.
+/// Whether register numbers that ascend and are below `bound` still ascend with `number` at the
+/// end.
 #[inline(always)]
 fn stays_ascending(is_ascending: bool, bound: u32, number: u16) -> bool
     ensures { result ≡ true → (is_ascending ≡ true) × (bound ≤ number) }
@@ -106,7 +109,7 @@ fn stays_ascending(is_ascending: bool, bound: u32, number: u16) -> bool
 }
 
 impl FrameRegisters {
-    /// No registers.
+    /// An empty list.
     pub(crate) fn none() -> Self
         ensures { result ≡ [] }
     {

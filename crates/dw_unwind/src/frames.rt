@@ -5,23 +5,23 @@ use crate::unwinding::{Answer, Caller};
 /// A frame of a walk up the stack.
 #[derive(Clone, Debug, Drop, PartialEq, Eq)]
 pub struct Frame {
-    /// Its address. The address of frame 0 is given; the address of each later frame is the return
-    /// address of the frame before it.
+    /// The frame's address. For frame 0 it is the address that was passed to the walk. For each
+    /// later frame it is the return address of the frame before it.
     pub address: u64,
-    /// Its caller, none if and only if no FDE covers the address that is looked up. For frame 0
-    /// that is its own address; for each later frame it is the frame's address minus 1, since a
-    /// call may be the last instruction that an FDE covers (DWARF 5, section 6.4.4). A later frame
-    /// at 0 is never covered.
+    /// The frame's caller, none if and only if no FDE covers the address that is looked up. For
+    /// frame 0 that is its own address; for each later frame it is the frame's address minus 1,
+    /// since a call may be the last instruction that an FDE covers (DWARF 5, section 6.4.4). A
+    /// later frame at address 0 has no address to look up, so its caller is none.
     pub caller: Option<Caller>,
 }
 
-/// A frame of a walk in brief.
+/// A frame of a walk without the registers of its caller.
 #[derive(Clone, Copy, Debug, PartialEq, Eq)]
 pub struct BriefFrame {
-    /// Its address, as in `Frame`.
+    /// The frame's address, as in `Frame`.
     pub address: u64,
-    /// Its canonical frame address, none if and only if no FDE covers the address that is looked
-    /// up.
+    /// The frame's canonical frame address, none if and only if no FDE covers the address that is
+    /// looked up.
     pub cfa: Option<Answer>,
 }
 
@@ -31,14 +31,15 @@ pub enum Stop {
     /// The limit on frames was reached, whether or not another frame follows. Only a `Backtrace`
     /// has this reason: a `Walk` has no limit.
     Limit,
-    /// No FDE, of any module, covers the address that is looked up for the last frame.
+    /// No FDE of any module covers the address that is looked up for the last frame.
     NotCovered,
     /// The last frame's return address is undefined: the walk is complete (DWARF 5, section 6.4.4).
     ReturnUndefined,
-    /// The last frame's return address, or the CFA that it needs, requires a register or memory that isn't given, or a
-    /// read goes past the greatest address.
+    /// The last frame's return address, or the CFA that it needs, requires a register or memory
+    /// that isn't known, or a read that goes past the greatest address.
     ReturnUnreadable,
-    /// The expression of the last frame's return address, or of the CFA that it needs, divides by zero.
+    /// The expression of the last frame's return address, or of the CFA that it needs, divides by
+    /// zero.
     ReturnDivisionByZero,
 }
 
@@ -55,8 +56,8 @@ pub enum Stop {
 /// ```
 #[derive(Clone, Debug, Drop, PartialEq, Eq)]
 pub struct Backtrace {
-    /// The frames, no more than the limit.
+    /// The frames, at most as many as the limit.
     pub frames: Vec<Frame>,
-    /// Why there are no more.
+    /// Why there are no more frames.
     pub stop: Stop,
 }

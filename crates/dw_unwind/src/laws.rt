@@ -31,7 +31,7 @@ pub fn one_caller()
     dw_eval::laws::evaluations_are_determined();
 }
 
-/// Each row of an accepted section gives a caller.
+/// Each row of an accepted section gives a caller, whatever the registers and memory are.
 pub fn each_row_has_a_caller()
     ensures { (e : World) (abi : Abi) (column : ℕ) (frame : FrameSection) (fde : Fde) (row : Row)
         → IsChecked frame → Contains frame.fdes fde
@@ -53,8 +53,9 @@ pub fn each_address_has_an_unwinding()
     each_row_has_a_caller();
 }
 
-/// Unwinding by the row that a section has at an address, or by none, is equivalent to unwinding
-/// with the section. So is unwinding with a compiled table of the section.
+/// Unwinding by the result of a row look-up in a section (a row, or none) is equivalent to
+/// unwinding with the section. So is unwinding by the result of a row look-up in a compiled table
+/// of the section.
 pub fn unwinding_by_what_is_found()
     ensures found { (e : World) (abi : Abi) (frame : FrameSection) (address : ℕ)
         (found : Option (Row × ℕ)) (c : Option Caller) → IsFoundAt frame address found
@@ -64,7 +65,7 @@ pub fn unwinding_by_what_is_found()
         → UnwindsBy e abi (row_at table address) c ↔ Unwinds e abi frame address c }
 {}
 
-/// With an accepted section, a walk is determined by where it begins and by its limit.
+/// With an accepted section, a walk is determined by the place where it begins and by its limit.
 pub fn one_walk()
     ensures { (frame : FrameSection) (abi : Abi) (memory : ℕ → Option ℕ) (first : Place) (limit : ℕ)
         (xs ys : List WalkedFrame) (a b : Stop) → IsChecked frame
@@ -74,7 +75,7 @@ pub fn one_walk()
     one_caller();
 }
 
-/// With an accepted section, there is a walk from each position with each limit.
+/// With an accepted section, there is a walk from each place with each limit.
 pub fn each_has_a_walk()
     ensures { (frame : FrameSection) (abi : Abi) (memory : ℕ → Option ℕ) (first : Place) (limit : ℕ)
         → IsChecked frame → (xs : List WalkedFrame) × (stop : Stop)
@@ -84,7 +85,7 @@ pub fn each_has_a_walk()
 }
 
 /// With an accepted section, a walk with a smaller limit is a prefix of the walk from the same
-/// position with a greater limit.
+/// place with a greater limit.
 pub fn longer_walks_begin_so()
     ensures { (frame : FrameSection) (abi : Abi) (memory : ℕ → Option ℕ) (first : Place) (m n : ℕ)
         (xs ys : List WalkedFrame) (a b : Stop) → IsChecked frame
@@ -94,9 +95,9 @@ pub fn longer_walks_begin_so()
     one_walk();
 }
 
-/// A walk by the rows that are found in a section is equivalent to a walk with the section. A walk
-/// by the rows that are found in a table is equivalent to a walk with the table. A walk with a
-/// table of a section is equivalent to a walk with the section.
+/// A walk with the rows that are looked up in a section is equivalent to a walk with the section. A
+/// walk with the rows that are looked up in a table is equivalent to a walk with the table. A walk
+/// with a table of a section is equivalent to a walk with the section.
 pub fn walks_over_what_is_found()
     ensures found { (frame : FrameSection) (abi : Abi) (memory : ℕ → Option ℕ) (first : Place)
         (limit : ℕ) (xs : List WalkedFrame) (stop : Stop)
@@ -134,8 +135,8 @@ pub fn each_address_has_an_unwinding_through_modules()
     each_address_has_an_unwinding();
 }
 
-/// Through modules with accepted sections, a walk is determined by where it begins and by its
-/// limit.
+/// Through modules with accepted sections, a walk is determined by the place where it begins and by
+/// its limit.
 pub fn one_walk_through_modules()
     ensures { (sections : List (Module FrameSection)) (abi : Abi) (memory : ℕ → Option ℕ)
         (first : Place) (limit : ℕ) (xs ys : List WalkedFrame) (a b : Stop)
@@ -146,7 +147,7 @@ pub fn one_walk_through_modules()
     one_caller_through_modules();
 }
 
-/// Through modules with accepted sections, there is a walk from each position with each limit.
+/// Through modules with accepted sections, there is a walk from each place with each limit.
 pub fn each_has_a_walk_through_modules()
     ensures { (sections : List (Module FrameSection)) (abi : Abi) (memory : ℕ → Option ℕ)
         (first : Place) (limit : ℕ) → All (λ m. IsChecked m.rows) sections
@@ -157,7 +158,7 @@ pub fn each_has_a_walk_through_modules()
 }
 
 /// Through modules with accepted sections, a walk with a smaller limit is a prefix of the walk from
-/// the same position with a greater limit.
+/// the same place with a greater limit.
 pub fn longer_walks_through_modules_begin_so()
     ensures { (sections : List (Module FrameSection)) (abi : Abi) (memory : ℕ → Option ℕ)
         (first : Place) (m n : ℕ) (xs ys : List WalkedFrame) (a b : Stop)
@@ -168,9 +169,9 @@ pub fn longer_walks_through_modules_begin_so()
     one_walk_through_modules();
 }
 
-/// Unwinding through modules by the rows that are found in each is equivalent to unwinding through
-/// their sections or their tables. Unwinding through tables of sections is equivalent to unwinding
-/// through the sections.
+/// Unwinding through modules with the rows that are looked up in each is equivalent to unwinding
+/// through their sections or their tables. Unwinding through tables of sections is equivalent to
+/// unwinding through the sections.
 pub fn unwindings_through_what_is_found()
     ensures found { (modules : List (Module (Bor FrameSection))) (abi : Abi)
         (memory registers : ℕ → Option ℕ) (address : ℕ) (c : Option Caller)
@@ -194,9 +195,9 @@ pub fn unwindings_through_what_is_found()
         ↔ over_sections abi memory sections registers address c }
 {}
 
-/// A walk through modules by the rows that are found in each is equivalent to a walk through their
-/// sections or their tables. A walk through tables of sections is equivalent to a walk through the
-/// sections.
+/// A walk through modules with the rows that are looked up in each is equivalent to a walk through
+/// their sections or their tables. A walk through tables of sections is equivalent to a walk
+/// through the sections.
 pub fn walks_through_what_is_found()
     ensures found { (modules : List (Module (Bor FrameSection))) (abi : Abi)
         (memory : ℕ → Option ℕ) (first : Place) (limit : ℕ) (xs : List WalkedFrame) (stop : Stop)
@@ -242,10 +243,11 @@ pub fn one_module_is_its_section()
     dw_eval::laws::numbers_of_evaluations_fit();
 }
 
-/// The frames that a `Walk` gives are those of a walk with a limit, whatever the unwinder. If the
-/// `Walk` gives no further frame, they are the whole walk with any limit above their number. With
-/// their number as the limit, they are the whole walk in any case. If unwinding has an answer at
-/// every address, they are a prefix of a walk with any limit that is at least their number.
+/// Relates the frames that a `Walk` gives one by one to a walk with a limit, whatever the unwinder.
+/// If the `Walk` gives no further frame, the frames that it gave are the whole walk with any limit
+/// above their number. If the limit is their number, they are the whole walk in any case. If
+/// unwinding has an answer at every address, they are a prefix of a walk with any limit that is at
+/// least their number.
 pub fn frames_that_are_given_are_a_walk<U: Unwinder>()
     ensures more { (unwinder : U) (abi : Abi) (memory : ℕ → Option ℕ) (from : Progress)
         (xs : List WalkedFrame) (next : WalkedFrame)

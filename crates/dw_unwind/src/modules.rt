@@ -1,4 +1,4 @@
-//! The modules of a process, and the caller at an address of one of them.
+//! The modules of a process, and the caller of a frame at an address in one of them.
 
 ghost use Rattle.std.specs.Prelude.{◌≡◌, ◌^◌, ℕ, IfSome, option_map};
 ghost use Rattle.dw_eval.specs.Numbers.{width_of};
@@ -25,7 +25,7 @@ use dw_rows::{Abi, UnwindRows};
 /// ```
 #[derive(Clone, Copy, Debug, Drop)]
 pub struct Module<T> {
-    /// What supplies its rows: `&CheckedFrame`, `UnwindTable` or `&UnwindTable`.
+    /// What supplies the module's rows: `&CheckedFrame`, `UnwindTable` or `&UnwindTable`.
     pub rows: T,
     /// What is added to an address as linked, modulo 2^w, w being the size of an address in bits,
     /// to get the address as loaded. For a position-independent module, which is linked at 0, that
@@ -43,8 +43,8 @@ impl<T> Module<T> {
     }
 }
 
-/// The address as linked for an address as loaded: subtracts the load address, modulo 2^w, w being the size of an address
-/// in bits.
+/// The address as linked for an address as loaded (in the running process): subtracts the load
+/// address, modulo 2^w, w being the size of an address in bits.
 #[inline(always)]
 pub fn as_linked(target: Target, load_address: u64, address: u64) -> u64
     ensures { result ≡ as_linked target load_address address }
@@ -55,7 +55,7 @@ pub fn as_linked(target: Target, load_address: u64, address: u64) -> u64
     width.minus(address, load_address)
 }
 
-/// The modules of a process. The module of an address is the first with an FDE that covers the
+/// Unwinds through the modules of a process, with the first module that has an FDE that covers the
 /// address as linked in that module.
 impl<'m, T: UnwindRows> Unwinder for &'m [Module<T>] {
     ghost use Rattle.dw_unwind.specs.Modules.{AreBelow, over_modules_of_rows};
@@ -84,8 +84,9 @@ impl<'m, T: UnwindRows> Unwinder for &'m [Module<T>] {
     }
 }
 
-/// The caller of the frame at an address as loaded, given the frame's registers and memory. Uses the first module that
-/// has a row for the address; none if no module has one (DWARF 5, section 6.4.1).
+/// The caller of the frame at `address`, which is an address as loaded (in the running process), by
+/// the frame's registers and memory. Uses the first module that has a row for the address; none if
+/// no module has one (DWARF 5, section 6.4.1).
 ///
 /// The result is that of `unwind_by` at the address minus the module's load address, modulo 2^w, w
 /// being the size of an address in bits. A module that doesn't cover the address costs one look-up.

@@ -1,4 +1,4 @@
-//! The contents of registers and memory, and the answers that rules compute from them.
+//! The answers that CFA rules and register rules give for a frame's registers and memory.
 
 ghost use Rattle.std.specs.Prelude.{◌≡◌, ◌≤◌, ℕ, All, Some, length};
 ghost use Rattle.dw_rows.specs.Views.{cfa_rule_of, rule_of};
@@ -24,7 +24,7 @@ pub(crate) struct Present<'m, R: Registers, M: Memory> {
 }
 
 impl<'m, R: Registers, M: Memory> Present<'m, R, M> {
-    /// `number` plus `offset`, modulo 2^w.
+    /// `number` plus `offset`, modulo 2^w, w being the size of an address in bits.
     #[inline(always)]
     fn number_plus(&self, number: u64, offset: i64) -> u64
         ensures { result ≡ number_plus (machine_in R.contents M.bytes self.now) offset number }
@@ -35,7 +35,8 @@ impl<'m, R: Registers, M: Memory> Present<'m, R, M> {
         width.offset(number, offset)
     }
 
-    /// `content` plus `offset`, modulo 2^w. Unreadable if there is no content.
+    /// `content` plus `offset`, modulo 2^w, w being the size of an address in bits. Unreadable if
+    /// there is no content.
     #[inline(always)]
     fn content_plus(&self, content: Option<u64>, offset: i64) -> Answer
         ensures { answer_in result
@@ -47,7 +48,8 @@ impl<'m, R: Registers, M: Memory> Present<'m, R, M> {
         }
     }
 
-    /// The content of the register `number`, modulo 2^w. Unreadable if it isn't given.
+    /// The content of the register `number`, modulo 2^w, w being the size of an address in bits.
+    /// Unreadable if the content isn't known.
     #[inline(always)]
     fn content(&self, number: u16) -> Answer
         ensures { answer_in result ≡ content (machine_in R.contents M.bytes self.now) number }
@@ -55,7 +57,7 @@ impl<'m, R: Registers, M: Memory> Present<'m, R, M> {
         self.content_plus(self.registers.register(number), 0)
     }
 
-    /// The address-sized word at `address`. Unreadable if one of its bytes isn't given or lies past
+    /// The address-sized word at `address`. Unreadable if one of its bytes isn't known or lies past
     /// the greatest address.
     #[inline(always)]
     fn word(&self, address: u64) -> Answer
@@ -68,9 +70,10 @@ impl<'m, R: Registers, M: Memory> Present<'m, R, M> {
         self.content_plus(self.memory.read(address, size, self.target.order), 0)
     }
 
-    /// The result of an expression of a row. `cfa` is given for a register's expression, which
-    /// starts with the CFA on the stack. This function isn't inlined: few rules have an expression,
-    /// and inlined it would slow down the other rules.
+    /// The result of a CFA's or a register's expression. For a register's expression, `cfa` is the
+    /// CFA, which is on the stack at the start; for a CFA's expression, it is none. This function
+    /// isn't inlined: few rules have an expression, and inlining it would slow down the other
+    /// rules.
     #[inline(never)]
     fn outcome(&self, expression: &CheckedExpression<'_>, cfa: Option<u64>) -> Answer
         ensures { (at : ℕ) → Gives (with_optional_cfa (machine_in R.contents M.bytes self.now) cfa)
@@ -89,7 +92,7 @@ impl<'m, R: Registers, M: Memory> Present<'m, R, M> {
         }
     }
 
-    /// The CFA by its rule.
+    /// The CFA, computed by its rule.
     #[inline(always)]
     pub fn cfa(&self, rule: CfaRule<'_>) -> Answer
         requires { IsCfaOfKind (cfa_rule_of rule) }
@@ -104,7 +107,8 @@ impl<'m, R: Registers, M: Memory> Present<'m, R, M> {
         }
     }
 
-    /// What is known of the caller's register `number`, by the register's rule and the CFA.
+    /// What the rule gives for the caller's register `number`, where `cfa` is the answer for the
+    /// CFA.
     #[inline(always)]
     pub fn register(&self, cfa: Answer, number: u16, rule: RegisterRule<'_>) -> Answer
         requires { IsRuleOfKind (rule_of rule) }
@@ -138,8 +142,8 @@ impl<'m, R: Registers, M: Memory> Present<'m, R, M> {
         }
     }
 
-    /// Replaces the contents of the list `registers` by the caller's registers that have these
-    /// rules, in the order of the rules.
+    /// Replaces the contents of the list `registers` by the registers that these rules are for,
+    /// each with its answer, in the order of the rules.
     #[inline(always)]
     pub fn registers_into<L: RegisterList>(
         &self,

@@ -23,7 +23,7 @@ pub trait RegisterList {
         requires { length (registers self.old) < MAX_FOUND }
         ensures { registers self.new ≡ registers self.old ++ (number, answer_in answer) ∷ [] };
 
-    /// The answer for a register, if the list can tell without a search.
+    /// The answer for a register, if the list has it and can tell without a search; else none.
     fn answer(&self, number: u16) -> Option<Answer>
         ensures { IfSome result (λ answer. (k : ℕ)
             × (slice_get (registers self.now) k ≡ Some (number, answer_in answer))) };

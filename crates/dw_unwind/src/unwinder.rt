@@ -1,4 +1,4 @@
-//! What finds the caller of a frame.
+//! The trait of what can find the caller of a frame.
 
 ghost use Rattle.std.specs.Prelude.{IfSome, option_map};
 ghost use Rattle.dw_rows.specs.AbiViews.{roles_of};
@@ -19,12 +19,13 @@ pub trait Unwinder {
     ghost use Rattle.dw_rows.specs.Abi.{Abi};
     ghost use Rattle.dw_unwind.specs.Walks.{CallerRelation};
 
-    /// Which caller a frame has, under an ABI and with given memory: a relation between the frame's registers, the
-    /// address looked up for it, and the caller, none if nothing covers the address.
+    /// Which caller a frame has, under an ABI and with this memory: a relation between the frame's
+    /// registers, the address looked up for the frame, and the caller, which is none if no FDE
+    /// covers the address.
     ghost unwinds: { Self → Abi → (ℕ → Option ℕ) → CallerRelation };
 
-    /// Which numbers are bounds of addresses: 2^w or more, w being the size of an address in bits.
-    /// All numbers of callers are below each bound.
+    /// Which numbers are bounds of addresses: those that are 2^w or more, w being the size of an
+    /// address in bits. All numbers of a caller are below each bound.
     ghost is_bound: { Self → ℕ → Type 0 };
 
     /// Finds the caller of the frame at `address`, and replaces the contents of `into` by the
@@ -44,7 +45,7 @@ pub trait Unwinder {
             → IfSome (option_map (caller_with (L.registers into.new)) result) (CallerFits bound) };
 }
 
-/// A checked section or a compiled table.
+/// Unwinds with a checked section or a compiled table.
 impl<'r, T: UnwindRows> Unwinder for &'r T {
     ghost use Rattle.std.specs.Prelude.{◌≤◌, ◌^◌};
     ghost use Rattle.dw_eval.specs.Numbers.{width_of};

@@ -1,4 +1,4 @@
-//! The calling frame: its registers, its CFA, and its return address.
+//! The caller of a frame: its CFA, its registers, and its return address.
 
 ghost use Rattle.std.specs.Prelude.{◌≡◌, ◌^◌, ℕ, IfSome, Option, option_map};
 ghost use Rattle.dw_eval.specs.Numbers.{width_of};
@@ -19,18 +19,18 @@ use arrayvec::ArrayVec;
 use dw_eval::{Memory, Registers};
 use dw_rows::{Abi, CheckedFrame, MAX_RULES, UnwindRow, UnwindRows};
 
-/// What is known of a caller's register, CFA or return address.
+/// What unwinding finds for a caller's register, CFA or return address.
 #[derive(Clone, Copy, Debug, PartialEq, Eq)]
 pub enum Answer {
-    /// Its value, which is below 2^w, w being the size of an address in bits.
+    /// The value, which is below 2^w, w being the size of an address in bits.
     Value(u64),
-    /// It isn't available: no instruction gave the register a rule and the ABI doesn't name it, or the rule is
-    /// `undefined`.
+    /// The register isn't available: its rule is `undefined`, or no instruction gave it a rule and
+    /// the ABI doesn't name it.
     Undefined,
-    /// It, or the CFA that it needs, requires a register or memory that isn't given, or a read goes past the greatest
-    /// address.
+    /// A register or memory that is needed, possibly by the CFA, isn't known, or a read goes past
+    /// the greatest address.
     Unreadable,
-    /// Its expression, or that of the CFA that it needs, divides by zero.
+    /// The register's expression, or that of the CFA that it needs, divides by zero.
     DivisionByZero,
 }
 
@@ -46,7 +46,7 @@ impl Default for Answer {
 /// The greatest number of registers that can have a rule, from a row and an ABI together.
 pub const MAX_FOUND: usize = 2 * MAX_RULES;
 
-/// Registers with their answers, in ascending order.
+/// Registers with their answers, in ascending order of register numbers.
 pub type FoundRegisters = ArrayVec<(u16, Answer), MAX_FOUND>;
 
 /// The calling frame (DWARF 5, section 6.4.1).
@@ -55,9 +55,9 @@ pub struct Caller {
     /// The canonical frame address.
     pub cfa: Answer,
     /// Each register that has a rule other than `Default`, or that the ABI names, in ascending
-    /// order.
+    /// order of register numbers.
     pub registers: FoundRegisters,
-    /// The return address: the value of the CIE's return_address_register.
+    /// The return address: the answer for the CIE's return_address_register.
     pub return_address: Answer,
 }
 
@@ -70,8 +70,9 @@ pub struct Unwound {
     pub return_address: Answer,
 }
 
-/// The return address: the answer for the register `number`. Taken from `found`, the caller's
-/// registers, if they can tell without a search, else computed by the register's rule.
+/// The return address: the answer for the register `number`. It is taken from `found`, the list of
+/// the caller's registers, if the list can tell without a search. Otherwise it is computed by the
+/// register's rule.
 #[inline(always)]
 fn return_address<R: Registers, M: Memory, L: RegisterList>(
     present: &Present<'_, R, M>,
@@ -93,8 +94,9 @@ fn return_address<R: Registers, M: Memory, L: RegisterList>(
     }
 }
 
-/// Unwinds as `unwind_by` does, and replaces the contents of `into` by the caller's registers. If
-/// there is no caller, the contents of `into` are unspecified.
+/// Finds the caller of the frame at `address` by the row of a section or a table, as `unwind_by`
+/// does, but writes the caller's registers to `into`, replacing what is there. If there is no
+/// caller, the contents of `into` are unspecified.
 #[inline(always)]
 pub(crate) fn unwind_into<T: UnwindRows, R: Registers, M: Memory, L: RegisterList>(
     rows: &T,
@@ -110,7 +112,7 @@ pub(crate) fn unwind_into<T: UnwindRows, R: Registers, M: Memory, L: RegisterLis
     ensures fits { IfSome (option_map (caller_with (L.registers into.new)) result)
         (CallerFits (2 ^ width_of (T.target_of rows.now).address_size)) }
 {
-    // The laws of ABIs and of evaluations show that numbers fit.
+    // These laws are needed to show that all numbers of the caller are below 2^w.
     dw_rows::laws::rules_under_abis();
     dw_eval::laws::numbers_of_evaluations_fit();
     let mut slot = rows.slot();
@@ -130,7 +132,7 @@ pub(crate) fn unwind_into<T: UnwindRows, R: Registers, M: Memory, L: RegisterLis
     })
 }
 
-/// The caller of the frame at an address, found by any unwinder.
+/// The caller of the frame at an address, found by any unwinder, or none.
 pub(crate) fn unwind_over<U: Unwinder, R: Registers, M: Memory>(
     unwinder: &U,
     abi: &Abi,
@@ -154,14 +156,15 @@ pub(crate) fn unwind_over<U: Unwinder, R: Registers, M: Memory>(
     Some(caller)
 }
 
-/// The caller of the frame at an address, given the frame's registers and memory. Uses the row of a
+/// The caller of the frame at an address, by the frame's registers and memory. Uses the row of a
 /// checked section or a compiled table; none if the section or table has no row at the address
 /// (DWARF 5, section 6.4.1). A register to which no instruction gives a rule has the rule of the
 /// ABI.
 ///
-/// Contents and sums are taken modulo 2^w, w being the size of an address in bits, and a saved
-/// value is an address-sized word. If the CFA has no value, the answer of a rule that needs the CFA
-/// is the CFA's answer. The cost is the look-up and one evaluation for each expression of the row.
+/// Contents and sums are taken modulo 2^w, w being the size of an address in bits. A saved value is
+/// an address-sized word in memory. If the CFA has no value, the answer of a rule that needs the
+/// CFA is the CFA's answer. The cost is the look-up and one evaluation for each expression of the
+/// row.
 ///
 /// ```rust
 /// let Some(table) = frame.compile(alloc, 1 << 20)? else {
@@ -187,8 +190,8 @@ pub fn unwind_by<T: UnwindRows, R: Registers, M: Memory>(
     unwind_over(&rows, abi, address, registers, memory)
 }
 
-/// Unwinds with a checked frame section alone: `unwind_by` for programs that check no location
-/// lists.
+/// The caller of the frame at an address, by the row of a checked frame section, for programs that
+/// check no location lists. Gives what `unwind_by` gives.
 pub fn unwind_by_section<R: Registers, M: Memory>(
     frame: &CheckedFrame<'_>,
     abi: &Abi,

@@ -20,7 +20,7 @@ use dw_rows::Abi;
 use std::marker::Model;
 
 /// A walk up the stack, frame by frame: from the first frame, whose address, registers and memory
-/// are given, to its caller, the caller's caller and so on (DWARF 5, sections 6.4.1 and 6.4.4). It
+/// are passed, to its caller, the caller's caller and so on (DWARF 5, sections 6.4.1 and 6.4.4). It
 /// unwinds with a checked section, a compiled table, or the modules of a process.
 ///
 /// A walk allocates nothing. It contains the registers of two frames, some 12 KB: a step reads one
@@ -70,8 +70,8 @@ impl<'w, U: Unwinder, M: Memory> Model for Walk<'w, U, M> {
     } };
 }
 
-/// The caller of a frame at `address` that is itself a caller, given that frame's registers. Looks
-/// up `address` minus 1, which is inside the call. None if `address` is 0.
+/// The caller of a frame at `address` that is itself a caller, by that frame's registers. Looks up
+/// `address` minus 1, which is inside the call. None if no FDE covers it, or if `address` is 0.
 #[inline(always)]
 fn unwind_caller<U: Unwinder, M: Memory>(
     unwinder: &U,
@@ -93,7 +93,7 @@ fn unwind_caller<U: Unwinder, M: Memory>(
     }
 }
 
-/// The return address that unwinding a frame gave, or why the walk ends with that frame.
+/// The return address that unwinding a frame gave, or why a walk ends with that frame.
 #[inline(always)]
 fn return_address(unwound: Option<Unwound>) -> Result<u64, Stop>
     ensures { MatchResult result
