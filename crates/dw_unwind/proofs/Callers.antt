@@ -1,4 +1,4 @@
--- The caller by a row, and its registers, one by one.
+-- Lemmas about the caller that a row gives, and about the answers for its registers one by one.
 use Rattle.std.proofs.Common.{◌≡◌, ℕ, suc, ◌+◌, ◌<◌, ◌≤◌, List, [], ◌∷◌, ◌++◌, length, map, refl, ap, sym, subst, ◌∙◌, arith, length-append}
 use Rattle.std.specs.Prelude.{All, Option, Some, None, zero, slice_get}
 use Rattle.std.specs.List.{AllByRecursion}
@@ -14,7 +14,7 @@ use Rattle.dw_stack.specs.Located.{LocatedExpression}
 use Rattle.dw_eval.specs.World.{World}
 use Rattle.dw_unwind.specs.Caller.{Answer, Gives, IsCfa, IsRegister, AreRegisters, Caller, IsCaller, Unwinds, UnwindsBy}
 
--- there is one answer per rule
+-- there are as many answers as rules
 pub as_many : (e : World) (cfa : Answer) (rules : List (ℕ × Rule)) (answers : List (ℕ × Answer)) → AreRegisters e cfa rules answers
     → length answers ≡ length rules
 as_many e cfa [] [] h = refl
@@ -22,7 +22,7 @@ as_many e cfa [] (x ∷ xs) h = absurd h
 as_many e cfa (x ∷ rules) [] h = absurd h
 as_many e cfa (x ∷ rules) (y ∷ answers) h = ap suc (as_many e cfa rules answers h.2)
 
--- one more rule with its answer can be appended
+-- if each rule has its answer, another rule with its answer can be appended
 pub one_more : (e : World) (cfa : Answer) (rules : List (ℕ × Rule)) (answers : List (ℕ × Answer)) (r : ℕ) (rule : Rule) (answer : Answer)
     → AreRegisters e cfa rules answers → IsRegister e cfa r rule answer
     → AreRegisters e cfa (rules ++ (r, rule) ∷ []) (answers ++ (r, answer) ∷ [])
@@ -31,7 +31,7 @@ one_more e cfa [] (x ∷ xs) r rule answer h is = absurd h
 one_more e cfa (x ∷ rules) [] r rule answer h is = absurd h
 one_more e cfa (x ∷ rules) (y ∷ answers) r rule answer h is = (h.0, h.1, one_more e cfa rules answers r rule answer h.2 is)
 
--- there is room for the next answer
+-- if there are at most `most` rules, and a rule is left, there is room for its answer
 pub has_room : (e : World) (cfa : Answer) (came left rest all : List (ℕ × Rule)) (answers : List (ℕ × Answer)) (x : ℕ × Rule) (most : ℕ)
     → AreRegisters e cfa came answers → came ++ left ≡ all → left ≡ x ∷ rest → length all ≤ most → length answers < most
 has_room e cfa came left rest all answers x most h whole next few =
@@ -40,7 +40,7 @@ has_room e cfa came left rest all answers x most h whole next few =
     let one : length left ≡ suc (length rest) = ap length next in
     omega (arith, many, cut, one, few)
 
--- ---- a loop over views: the next element was visited
+-- ---- a loop that sees each element of a list through `view`: the next element is visited
 
 pub comes : {X Y : Type 0} (view : X → Y) (came : List X) (x : X) (left rest all : List Y) → map view came ++ left ≡ all
     → left ≡ view x ∷ rest → map view (came ++ x ∷ []) ++ rest ≡ all
@@ -48,7 +48,7 @@ comes view came x left rest all whole next =
     ap (λ l. l ++ rest) (map-append view came (x ∷ [])) ∙ append_assoc (map view came) (view x ∷ []) rest
     ∙ ap (λ l. map view came ++ l) (sym next) ∙ whole
 
--- what holds of all holds of the next one
+-- a property of all elements of a list holds for the element after `came`
 first_after : {X : Type 0} (P : X → Type 0) (came : List X) (x : X) (rest : List X) → AllByRecursion P (came ++ x ∷ rest) → P x
 first_after P [] x rest h = h.0
 first_after P (y ∷ came) x rest h = first_after P came x rest h.1
@@ -67,7 +67,8 @@ as_kind e kind x answer is gives = subst (λ k. Gives e k x answer) is gives
 
 -- ---- the caller by the row of an address
 
--- the rule `default` has the answer of the rule `undefined`
+-- an answer that is right for a rule with `default` replaced by `undefined` is right for the rule
+-- itself
 pub by_default : (e : World) (cfa : Answer) (r : ℕ) (x : Rule) (answer : Answer) → IsRegister e cfa r (or_rule x undefined) answer
     → IsRegister e cfa r x answer
 by_default e cfa r default answer h = h
@@ -79,7 +80,7 @@ by_default e cfa r (register other) answer h = h
 by_default e cfa r (expression x) answer h = h
 by_default e cfa r (val_expression x) answer h = h
 
--- ---- by what is found
+-- ---- unwinding by the result of a row look-up
 
 pub unwinds-found : (e : World) (abi : Abi) (s : FrameSection) (address : ℕ) (found : Option (Row × ℕ)) (c : Option Caller)
     → IsFoundAt s address found → UnwindsBy e abi found c → Unwinds e abi s address c
@@ -113,7 +114,7 @@ found-unwinds e abi s address (Some found) (Some caller) is h =
     (subst (λ (x : Cie). IsCaller e abi x.return_address_register found.0 caller) cie
     (subst (λ (r : Row). IsCaller e abi h.cie.return_address_register r caller) row h.is))
 
--- the caller by the rules of a row
+-- a caller with these parts is the caller that the row gives
 pub by_rules : (e : World) (abi : Abi) (number : ℕ) (row : Row) (rule : Cfa) (rules : List (ℕ × Rule)) (cfa returned : Answer)
     (answers : List (ℕ × Answer)) → row.cfa ≡ Some rule → IsCfa e (Some rule) cfa → rules ≡ rules_under abi row.rules
     → AreRegisters e cfa rules answers → IsRegister e cfa number (rule_under abi row.rules number) returned
@@ -124,7 +125,7 @@ by_rules e abi number row rule rules cfa returned answers cfa_is has_cfa rules_a
   return_address = returns;
 }
 
--- if these answers are right for these rules, the answer at any index is right for the rule of the
+-- if the answers are those of the rules, the answer at any index is that of the rule of the
 -- register at that index
 pub found_register : (e : World) (cfa : Answer) (of : ℕ → Rule) (rules : List (ℕ × Rule)) (answers : List (ℕ × Answer)) (k r : ℕ)
     (a : Answer) → AllByRecursion (λ (entry : ℕ × Rule). entry.1 ≡ of entry.0) rules → AreRegisters e cfa rules answers

@@ -1,4 +1,5 @@
--- The numbers of a caller are below 2^w, given what is known of checked sections and of runs.
+-- The numbers of a caller are below 2^w (w is the size of an address in bits), given laws about
+-- checked sections and about runs of expressions.
 use Rattle.std.proofs.Common.{◌≡◌, ℕ, pos, negsuc, ◌+◌, ◌-◌, ◌^◌, ◌<◌, ◌≤◌, ◌==◌, Bool, true, false, if◌then◌else◌, List}
 use Rattle.std.proofs.Common.{[], ◌∷◌, length, All, IfSome, refl, sym, subst, arith, inl, inr}
 use Rattle.std.specs.Prelude.{ℤ, Option, Some, None, nat_le}
@@ -29,7 +30,7 @@ use Rattle.dw_unwind.specs.Caller.{machine, with_cfa, under, number_plus, conten
 use Rattle.dw_unwind.specs.Caller.{word, if_value, answer_of, Gives, IsCfa, NeedsCfa, IsRegister, AreRegisters, Caller, IsCaller}
 use Rattle.dw_unwind.specs.CallerFits.{AnswerFits, CallerFits}
 
--- ---- answers without a run
+-- ---- answers that need no run of an expression
 
 wrap_below : (w : ℕ) (z : ℤ) → wrap w z < 2 ^ w
 wrap_below w (pos n) = mod_below n (2 ^ w) (pow_pos w)
@@ -63,7 +64,7 @@ needs_fit m division_by_zero Is a each h = subst (AnswerFits m) (sym h) tt
 
 -- ---- expressions whose numbers are below the modulus of an address
 
--- numbers that fit the address size of the expression fit `size`
+-- a number that fits the address size of the expression also fits `size`
 abbrev IsWithin : AddressSize → LocatedExpression → Type 0
 IsWithin size x = (n : ℕ) → n < 2 ^ width_of x.target.address_size → n < 2 ^ width_of size
 
@@ -99,7 +100,7 @@ or_within size (register r) role h = h
 or_within size (expression x) role h = h
 or_within size (val_expression x) role h = h
 
--- the rule of a register under an ABI
+-- if all rules of a list are within `size` (`RuleWithin`), so is a register's rule under an ABI
 one_under : (size : AddressSize) (abi : Abi) (rules : List (ℕ × Rule)) (r : ℕ) → RulesWithin size rules
     → RuleWithin size (rule_under abi rules r)
 one_under size abi rules r h = or_within size (rule_in rules r) (abi r) (one_within size rules r h)
@@ -210,7 +211,7 @@ module _ (each : (abi : Abi) (rules : List (ℕ × Rule)) → All (λ entry. ent
           (one_under e.target.address_size abi row.rules back rules) is.return_address;
     }
 
-  -- ---- the caller by a row under the target
+  -- ---- the caller that a row gives under the target of its section
 
   pub row_caller_fits : (target : Target) (registers memory : ℕ → Option ℕ) (abi : Abi) (back : ℕ) (row : Row) (c : Caller)
       → IsRowUnder target row → IsCaller (machine target registers memory) abi back row c

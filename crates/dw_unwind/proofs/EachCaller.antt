@@ -1,5 +1,5 @@
--- At each address of an accepted section there is a caller, or no FDE covers it, given what is known of rows and of
--- callers.
+-- At each address of an accepted section there is a caller, or no FDE covers the address, given
+-- laws about rows and about the callers that rows give.
 use Rattle.std.proofs.Common.{◌≡◌, ℕ, zero, suc, ◌+◌, ◌==◌, nat_le, nat_lt, Bool, true, false, cond, List, [], ◌∷◌}
 use Rattle.std.proofs.Common.{refl, ap, sym, subst, ◌∙◌, arith, inl, inr}
 use Rattle.std.specs.Prelude.{◌⊎◌, Option, Some, None, Contains, filter}
@@ -51,7 +51,7 @@ some_cie : (p : ℕ) (cs : List Cie) (d : Cie) → Contains cs d → d.offset �
 some_cie p [] d (k, lt, at) is = absurd (omega (arith, lt))
 some_cie p (c ∷ cs) d among is = first_cie_or p c cs (c.offset == p) refl d among is (some_cie p cs)
 
--- ---- what a filter keeps is among what it was given
+-- ---- all elements that a filter keeps are elements of the list that is filtered
 
 later : {X : Type 0} (x y : X) (xs : List X) → Contains xs y → Contains (x ∷ xs) y
 later x y xs at = (suc at.0, omega (arith, at.1), at.2)

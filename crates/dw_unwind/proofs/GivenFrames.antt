@@ -1,4 +1,4 @@
--- The frames that a walk has given so far, and the walk with a limit that begins with these frames.
+-- Frames that a walk gives one by one are the frames of a walk with a limit, or a prefix of them.
 use Rattle.std.proofs.Common.{◌≡◌, ℕ, zero, suc, ◌+◌, ◌-◌, ◌<◌, ◌≤◌, List, [], ◌∷◌, ◌++◌, length, Option, None, Some, inl, inr}
 use Rattle.std.proofs.Common.{refl, sym, subst, arith, append-nil, append_assoc, length-append}
 use Rattle.std.specs.Prelude.{◌⊎◌, option_map}
@@ -14,7 +14,8 @@ use Rattle.dw_unwind.proofs.Walking.{UnderWay, begins, goes_on, ends, fills}
 -- ---- from the frames given so far to a walk with a limit
 
 module _ (u : CallerRelation) (first : Place) where
-  -- a walk that gives more frames is still under way after them
+  -- if a walk is under way after the frames `front`, and then gives `frames`, it is under way after
+  -- all of them
   further : (front : List WalkedFrame) (p : Progress) (frames : List WalkedFrame) → UnderWay u first front p → GivesFrames u p frames
       → UnderWay u first (front ++ frames) (after p frames)
   further front p [] h given = subst (λ (l : List WalkedFrame). UnderWay u first l p) (sym (append-nil front)) h
@@ -26,8 +27,8 @@ module _ (u : CallerRelation) (first : Place) where
       → UnderWay u first frames (after (about_to_give begin) frames)
   given_so_far begin frames at given = further [] (about_to_give begin) frames (begins u first begin at) given
 
-  -- the frames given so far are a whole walk if no frame is given next, or if their number is the
-  -- limit
+  -- the frames given so far are a whole walk if the walk gives no next frame, or if their number is
+  -- the limit
   pub given_and_ended : (begin : WalkedFrame) (limit : ℕ) (frames : List WalkedFrame) (stop : Stop) → IsFrameAt u first begin
       → GivesFrames u (about_to_give begin) frames → stop_of (after (about_to_give begin) frames) ≡ Some stop → length frames < limit
       → Walks u first limit frames stop
@@ -40,7 +41,7 @@ module _ (u : CallerRelation) (first : Place) where
       fills u first limit frames (after (about_to_give begin) frames) (given_so_far begin frames at given) many
 
   module _ (some : AlwaysUnwinds u) where
-    -- a walk gives a frame, or it has ended
+    -- either a walk has ended, or it gives a next frame
     abbrev GoesOn : Progress → Type 0
     GoesOn p = ((stop : Stop) × (stop_of p ≡ Some stop)) ⊎ ((f : WalkedFrame) × GivesFrame u p f)
 
@@ -60,7 +61,7 @@ module _ (u : CallerRelation) (first : Place) where
     goes_or_ends (about_to_give f) = inr (f, refl)
     goes_or_ends (has_given last) = by_caller last.caller
 
-    -- some whole walk with this limit begins with these frames
+    -- the frames are a prefix of some whole walk with this limit
     abbrev Whole : ℕ → List WalkedFrame → Type 0
     Whole limit frames = (more : List WalkedFrame) × (stop : Stop) × Walks u first limit (frames ++ more) stop
 

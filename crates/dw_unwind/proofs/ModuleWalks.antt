@@ -1,4 +1,4 @@
--- Unwinding through modules, given what is known of each.
+-- Unwinding through modules: lemmas that take what holds for each module to all modules together.
 use Rattle.std.proofs.Common.{◌≡◌, ℕ, zero, suc, ◌<◌, ◌^◌, ◌+◌, ◌*◌, List, [], ◌∷◌, Option, None, Some, pos, refl, sym, subst, ap, ◌∙◌, arith}
 use Rattle.std.specs.Prelude.{◌↔◌, unsigned_abs, ◌-ℤ◌, IfSome}
 use Rattle.std.specs.Borrow.{Bor}
@@ -18,7 +18,7 @@ use Rattle.dw_unwind.specs.Walks.{CallerRelation, Place, WalkedFrame, Walks, add
 use Rattle.dw_unwind.specs.declared.frames.Stop.{Stop}
 use Rattle.dw_unwind.proofs.WalksOver.{walk_where}
 
--- ---- if each module has at most one answer, or some answer, so have all modules together
+-- ---- if each module has at most one answer, or some answer, all modules together have it too
 
 -- there is at most one answer: a caller, or none
 abbrev pub HasOne : CallerRelation → Type 0
@@ -55,13 +55,13 @@ module _ {T : Type 0} (target_of : T → Target) (over : T → CallerRelation) w
       let found = some_else own.0 (over_modules target_of over modules registers a) (some_through modules each.1 registers a) in
       (found.0, (own.0, own.1, found.1))
 
--- what the other modules give can be replaced by a weaker statement
+-- `OrElse` still holds if `A`, which says what the other modules give, is replaced by a weaker `B`
 else_goes : (own : Option Caller) (A B : Option Caller → Type 0) (c : Option Caller) → ((x : Option Caller) → A x → B x)
     → OrElse own A c → OrElse own B c
 else_goes None A B c goes h = goes c h
 else_goes (Some found) A B c goes h = h
 
--- ---- through modules that are like others
+-- ---- through two lists of modules that are alike (`AreLike`)
 
 module _ {S T : Type 0} (target_of : S → Target) (over : S → CallerRelation) (target_of_other : T → Target) (over_other : T → CallerRelation) where
   likes_go : (Is : S → T → Type 0) → ((s : S) (t : T) → Is s t → target_of s ≡ target_of_other t)
@@ -100,12 +100,12 @@ module _ {S T : Type 0} (target_of : S → Target) (over : S → CallerRelation)
         (λ t s is r n x. (each s t is r n x).1) others modules (others_like Is modules others are) registers a c,
   )
 
--- modules are like themselves
+-- each list of modules is like itself
 themselves : {T : Type 0} (modules : List (Module T)) → AreLike (λ s t. s ≡ t) modules modules
 themselves [] = tt
 themselves (m ∷ modules) = (refl, refl, themselves modules)
 
--- modules with borrowed rows are like modules with the rows themselves
+-- a list of modules with borrowed rows is like the list with the rows themselves
 borrowed : {T : Type 0} (modules : List (Module (Bor T))) → AreLike (λ b t. b.now ≡ t) modules (unborrowed modules)
 borrowed [] = tt
 borrowed (m ∷ modules) = (refl, refl, borrowed modules)
@@ -127,7 +127,7 @@ module _ {T : Type 0} (target_of : T → Target) (by over : T → CallerRelation
       (λ b t is registers a c. subst (λ (x : T). by b.now registers a c ↔ over x registers a c) is (each b.now registers a c))
       modules (unborrowed modules) (borrowed modules)
 
--- ---- one module where it is linked
+-- ---- one module that is loaded where it is linked
 
 pub as_loaded : (target : Target) (a : ℕ) → a < 2 ^ width_of target.address_size → as_linked target 0 a ≡ a
 as_loaded target a fits =
@@ -155,7 +155,7 @@ module _ {T : Type 0} (target_of : T → Target) (over : T → CallerRelation) (
   by_one_module registers a c fits h =
       (c, subst (λ (n : ℕ). over rows registers n c) (sym (as_loaded (target_of rows) a fits)) h, none_or c)
 
--- if a caller's return address is below a bound, so is the address before it
+-- if all numbers of a caller are below a bound, so is the address before its return address
 pub leads_below : (bound : ℕ) (c : Caller) → CallerFits bound c
     → IfSome (content_of c.return_address) (λ n. IfSome (address_before n) (λ (a : ℕ). a < bound))
 leads_below bound c fits = of_answer c.return_address fits.return_address

@@ -1,4 +1,4 @@
--- There is one caller, given what is known of evaluations.
+-- A row gives exactly one caller, given laws about evaluations of its expressions.
 use Rattle.std.proofs.Common.{◌≡◌, ℕ, ◌≤◌, ◌==◌, if◌then◌else◌, Bool, true, false, List, [], ◌∷◌, refl, ap, sym, subst, ◌∙◌, length}
 use Rattle.std.specs.Prelude.{Option, Some, None, IfSome, All}
 use Rattle.dw_rows.specs.Abi.{Abi, Role, unnamed, kept, stack_pointer, rule_of_role, or_rule, rule_under, rules_under}
@@ -20,14 +20,14 @@ use Rattle.dw_unwind.specs.Caller.{Answer, value, undefined, unreadable, divisio
 use Rattle.dw_unwind.specs.Caller.{content_plus, content, word, number_plus, if_value}
 use Rattle.dw_unwind.specs.Caller.{answer_of, under, Gives, with_cfa, IsCfa, NeedsCfa, IsRegister, AreRegisters, Caller, IsCaller, Unwinds}
 
--- ---- rules of a list are good
+-- ---- a rule in a list of good rules is good (`IsGoodRule`)
 
 if_good : (es : List LocatedExpression) (b : Bool) (x y : Rule) → IsGoodRule es x → IsGoodRule es y
     → IsGoodRule es (if b then x else y)
 if_good es true x y g h = g
 if_good es false x y g h = h
 
--- all rules of a list are good (`IsGoodEntry`)
+-- each rule of a list is good (`IsGoodEntry`)
 abbrev AreGood : List LocatedExpression → List (ℕ × Rule) → Type 0
 AreGood es rules = AllByRecursion (IsGoodEntry es) rules
 
@@ -61,17 +61,18 @@ under_good es each abi rules good =
     recursion_from_All (IsGoodEntry es) (rules_under abi rules)
     (λ k d lt. subst (IsGoodRule es) (sym (each abi rules k d lt)) (rule_under_good es abi rules _ good))
 
--- an expression as a checked one, with this depth and with its number of operations
+-- the expression as a `Checked` one, with this depth and the number of its operations
 abbrev pub known : Kind → Target → List ℕ → ℕ → Checked
 known kind target bytes depth =
     record { kind = kind; target = target; bytes = bytes; depth = depth; count = length (operations_in target bytes) }
 
--- an expression of a checked section passes the check as one of its rule's kind
+-- an expression that is good among those of a section (`IsGoodAmong`) is good for the kind of its
+-- rule
 good_as : (es : List LocatedExpression) (kind : Kind) (x : LocatedExpression) → IsGoodAmong es kind x
     → IsGoodExpression kind x.target x.bytes
 good_as es kind x good = subst (λ k. IsGoodExpression k x.target x.bytes) good.of_kind good.good
 
--- callers with the same parts are the same
+-- two callers are the same if their parts are
 abbrev made : Answer → List (ℕ × Answer) → Answer → Caller
 made cfa registers returned = record { cfa = cfa; registers = registers; return_address = returned }
 

@@ -1,5 +1,5 @@
--- From each position there is one walk with each limit, given what is known of callers. A walk with
--- a greater limit begins with the one with a smaller limit.
+-- From each place there is exactly one walk with each limit, if each frame has exactly one answer:
+-- a caller, or none. The walk with a smaller limit is a prefix of the walk with a greater one.
 use Rattle.std.proofs.Common.{◌≡◌, ℕ, zero, suc, ◌≤◌, ◌==◌, List, [], ◌∷◌, length, Option, None, Some, true, false, inl, inr}
 use Rattle.std.proofs.Common.{refl, sym, ap, subst, ◌∙◌, arith, take}
 use Rattle.std.proofs.lemmas.Bool.{cases_lt}
@@ -12,13 +12,14 @@ use Rattle.dw_unwind.specs.declared.frames.Stop.TheVariants.{Limit, NotCovered, 
 use Rattle.dw_unwind.specs.Walks.{CallerRelation, Place, WalkedFrame, AreFrames, IsFrameAt, UnwindsAt, Walks, next_place, place_of_caller}
 use Rattle.dw_unwind.specs.Walks.{content_of, stop_of_return, stop_of_caller, stop_after}
 
--- ---- where frames end
+-- ---- when frames end a walk
 
--- why these frames end, if they do
+-- why a walk with this limit ends with these frames; none if it goes further
 ends : ℕ → List WalkedFrame → Option Stop
 ends limit frames = if length frames == limit then Some Limit else stop_after frames
 
--- These frames come after a frame with this caller. No frame follows them, or their number is `n`.
+-- `frames` come after a frame with this caller. Either no frame follows them, or their number is
+-- `n`.
 Ended : ℕ → Option Caller → List WalkedFrame → Type 0
 Ended n caller [] = (n ≡ 0) ⊎ ((stop : Stop) × (stop_of_caller caller ≡ Some stop))
 Ended zero caller (f ∷ frames) = ⊥
@@ -43,7 +44,7 @@ none_ends n stop is =
     let other : (0 == suc n) ≡ false = grind (arith, nat_tests) in
     let no : ◌≡◌ {A = Option Stop} None (Some stop) = rw other at is in cc
 
--- if a walk ends with a frame, there is no next position
+-- if a walk ends with a frame that has this caller, there is no place after the frame
 no_place : (c : Option Caller) (stop : Stop) → stop_of_caller c ≡ Some stop → next_place c ≡ None
 no_place None stop is = refl
 no_place (Some caller) stop is = go caller.return_address is
@@ -54,7 +55,7 @@ no_place (Some caller) stop is = go caller.return_address is
     go unreadable h = refl
     go division_by_zero h = refl
 
--- if there is no next position, the walk ends with this frame
+-- if there is no place after a frame, a walk ends with that frame
 some_end : (c : Option Caller) → next_place c ≡ None → (stop : Stop) × (stop_of_caller c ≡ Some stop)
 some_end None is = (NotCovered, refl)
 some_end (Some caller) is = go caller.return_address is
@@ -179,7 +180,7 @@ module _ (u : CallerRelation)
       let stop = ends_after n f.0 rest.0 rest.2 rest.3 in
       (f.0 ∷ rest.0, stop.0, record { are = (f.1, rest.1); few = omega (arith, rest.2); ends = stop.1 })
 
--- ---- a walk, cut short
+-- ---- the first `n` frames of a walk
 
 cut_frames : (u : CallerRelation) (p : Option Place) (n : ℕ) (frames : List WalkedFrame) → AreFrames u p frames
     → AreFrames u p (take n frames)

@@ -1,4 +1,4 @@
--- Walks, frame by frame.
+-- Lemmas about walks that grow frame by frame.
 use Rattle.std.proofs.Common.{◌≡◌, ℕ, zero, suc, ◌-◌, ◌<◌, ◌≤◌, ◌==◌, List, [], ◌∷◌, ◌++◌, length, Option, None, Some}
 use Rattle.std.proofs.Common.{refl, sym, ap, subst, ◌∙◌, arith}
 use Rattle.std.proofs.lemmas.List.{map-append}
@@ -11,7 +11,8 @@ use Rattle.dw_unwind.specs.Walks.{CallerRelation, Place, WalkedFrame, AreFrames,
 use Rattle.dw_unwind.specs.Walks.{address_before, stop_after, stop_of_caller}
 use Rattle.dw_unwind.specs.WalkSteps.{Progress, about_to_give, has_given, GivesFrame, stop_of}
 
--- if `g` is the frame after `f`, it can be appended to frames that end with `f`
+-- if `frames`, ended by `f`, are frames of a walk and `g` is the frame after `f`, `g` can be
+-- appended
 pub one_more_frame : (u : CallerRelation) (p : Option Place) (frames : List WalkedFrame) (f g : WalkedFrame)
     → AreFrames u p (frames ++ f ∷ []) → AreFrames u (next_place f.caller) (g ∷ []) → AreFrames u p ((frames ++ f ∷ []) ++ g ∷ [])
 one_more_frame u None [] f g h next = absurd h
@@ -25,7 +26,7 @@ stop_after_last [] f = refl
 stop_after_last (x ∷ []) f = refl
 stop_after_last (x ∷ y ∷ frames) f = stop_after_last (y ∷ frames) f
 
--- the address minus 1
+-- the address before `a` is `a` minus 1, if `a` isn't 0
 pub before_is : (a b : ℕ) → 1 ≤ a → b ≡ a - 1 → address_before a ≡ Some b
 before_is zero b some is = absurd (omega (arith, some))
 before_is (suc n) b some is = let same : n ≡ b = omega (arith, is) in ap Some same
@@ -36,8 +37,9 @@ none_before (suc n) none = absurd (none (omega arith))
 
 -- ---- a walk under way
 
--- A walk has given these frames. Any frame that it gives next comes after them. If it gives none,
--- its reason is the reason why these frames end.
+-- The walk with the progress `p` has given `frames`, from the place `first` on. Any frame that it
+-- gives next comes after them. If it gives no next frame, the reason is the one for which the
+-- frames end.
 pub record UnderWay (u : CallerRelation) (first : Place) (frames : List WalkedFrame) (p : Progress) : Type 0 where
   pub are : AreFrames u (Some first) frames
   pub next : (f : WalkedFrame) → GivesFrame u p f → AreFrames u (Some first) (frames ++ f ∷ [])

@@ -84,9 +84,9 @@ impl<'m, T: UnwindRows> Unwinder for &'m [Module<T>] {
     }
 }
 
-/// The caller of the frame at `address`, which is an address as loaded (in the running process), by
-/// the frame's registers and memory. Uses the first module that has a row for the address; none if
-/// no module has one (DWARF 5, section 6.4.1).
+/// The caller of the frame at `address`, computed from the frame's registers and memory. `address`
+/// is as loaded, in the running process. The first module that has a row for it is used; none if no
+/// module has one (DWARF 5, section 6.4.1).
 ///
 /// The result is that of `unwind_by` at the address minus the module's load address, modulo 2^w, w
 /// being the size of an address in bits. A module that doesn't cover the address costs one look-up.

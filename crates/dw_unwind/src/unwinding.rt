@@ -27,10 +27,10 @@ pub enum Answer {
     /// The register isn't available: its rule is `undefined`, or no instruction gave it a rule and
     /// the ABI doesn't name it.
     Undefined,
-    /// A register or memory that is needed, possibly by the CFA, isn't known, or a read goes past
-    /// the greatest address.
+    /// A register or memory that the answer depends on, possibly through the CFA, isn't known, or a
+    /// read goes past the greatest address.
     Unreadable,
-    /// The register's expression, or that of the CFA that it needs, divides by zero.
+    /// An expression that the answer depends on, possibly the CFA's, divides by zero.
     DivisionByZero,
 }
 
@@ -156,8 +156,8 @@ pub(crate) fn unwind_over<U: Unwinder, R: Registers, M: Memory>(
     Some(caller)
 }
 
-/// The caller of the frame at an address, by the frame's registers and memory. Uses the row of a
-/// checked section or a compiled table; none if the section or table has no row at the address
+/// The caller of the frame at an address, computed from the frame's registers and memory by the row
+/// of a checked section or a compiled table. None if the section or table has no row at the address
 /// (DWARF 5, section 6.4.1). A register to which no instruction gives a rule has the rule of the
 /// ABI.
 ///
@@ -190,8 +190,8 @@ pub fn unwind_by<T: UnwindRows, R: Registers, M: Memory>(
     unwind_over(&rows, abi, address, registers, memory)
 }
 
-/// The caller of the frame at an address, by the row of a checked frame section, for programs that
-/// check no location lists. Gives what `unwind_by` gives.
+/// The caller of the frame at an address, computed by the row of a checked frame section. For
+/// programs that check no location lists; gives what `unwind_by` gives.
 pub fn unwind_by_section<R: Registers, M: Memory>(
     frame: &CheckedFrame<'_>,
     abi: &Abi,

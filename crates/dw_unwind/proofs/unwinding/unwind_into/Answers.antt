@@ -10,7 +10,7 @@ use Rattle.dw_unwind.proofs.unwinding.unwind_into.Given as given
 use Rattle.dw_unwind.proofs.unwinding.unwind_into.Goals.{After-drop-slot-2}
 use Rattle.dw_unwind.proofs.unwinding.unwind_into.Goals as goal
 
--- the result is the caller by the row that was found
+-- the result is the caller that the rules of the found row give
 made : (g : given.Over) (c : After-drop-slot-2 g)
     → IsCaller (machine (g.T.UnwindRows.target_of c.args.rows.now) (g.R.Registers.contents c.args.registers.now)
     (g.M.Memory.bytes c.args.memory.now)) (roles_of c.args.abi.now) c.in-Some.number c.in-Some.row (record {

@@ -4,7 +4,7 @@ use Rattle.dw_unwind.specs.Caller.{Caller}
 use Rattle.dw_unwind.specs.Modules.{over_modules_of_rows}
 use Rattle.dw_unwind.proofs.modules.RefSliceModuleUnwinder.unwind_into.Given as goal
 
--- an answer of the remaining modules is an answer of all modules
+-- what the remaining modules give at the address (a caller, or none) is what all modules give
 abbrev pub invariant-loop-module : goal.invariant-loop-module
 invariant-loop-module g l =
     (caller : Option Caller)
