@@ -12,8 +12,8 @@ use crate::location::{Location, PieceSize};
 use crate::stack::Stack;
 use dw_ops::Operation;
 
-/// The offset that the operation leads to: the target if it jumps, which is always forward, else
-/// `next`, the offset after the operation.
+/// The offset that the operation leads to. If it jumps, this is the jump's target, which is always
+/// forward; else it is `next`, the offset after the operation.
 #[inline(always)]
 pub fn next_offset<const PLACES: usize>(
     operation: &Operation<'_>,
@@ -37,7 +37,7 @@ pub fn next_offset<const PLACES: usize>(
     }
 }
 
-/// The location that the operation names, if it names one.
+/// The location that the operation names, or none if it names no location.
 #[inline(always)]
 pub fn location_named<'a, const PLACES: usize>(
     operation: &Operation<'a>,
@@ -56,7 +56,7 @@ pub fn location_named<'a, const PLACES: usize>(
     }
 }
 
-/// The size of the piece that the operation ends, if it ends one.
+/// The size of the piece that the operation ends, or none if it ends no piece.
 #[inline(always)]
 pub fn piece_size_named(operation: &Operation<'_>) -> Option<PieceSize>
     ensures { EndsPiece (operation_of operation.now) result }

@@ -17,13 +17,14 @@ use dw_ops::Operation;
 /// The change that an operation makes to the stack.
 #[derive(Clone, Copy)]
 pub enum Change {
-    /// Leaves the stack as it is.
+    /// Leaves the stack unchanged.
     Stays,
     /// Removes the top.
     Pop,
     /// Swaps the top and the second entry.
     Swap,
-    /// Rotates the top three: the top becomes the third entry, the second the top and the third the second.
+    /// Rotates the top three: the top becomes the third entry, the second the top and the third the
+    /// second.
     Rot,
     /// Replaces the topmost `taken` entries by `value`.
     Put { taken: usize, value: u64 },
@@ -37,7 +38,7 @@ fn change_to(taken: usize, value: u64) -> Result<Change, EvaluationError>
     Ok(Change::Put { taken, value })
 }
 
-/// The divisor `b`, or `DivisionByZero` if it is 0.
+/// The divisor `b`, or the error `DivisionByZero` if it is 0.
 #[inline(always)]
 pub fn divisor(b: u64) -> Result<u64, EvaluationError>
     ensures ok { IfOk result (λ c. (c ≡ b) × (0 < b)) }
@@ -49,7 +50,8 @@ pub fn divisor(b: u64) -> Result<u64, EvaluationError>
     Ok(b)
 }
 
-/// The change of an operation that needs no entry and pushes one value: a literal, or a value from the environment.
+/// The change of an operation that needs no entry and pushes one value: a literal, or a value from
+/// the environment.
 #[inline(always)]
 fn pushing_change<R: Registers, M: Memory>(
     environment: &Environment<'_, R, M>,
@@ -160,8 +162,8 @@ fn computing_change<R: Registers, M: Memory, const PLACES: usize>(
     }
 }
 
-/// The change that an operation makes to the stack, or why the operation has no answer. The stack
-/// has the entries that the operation needs.
+/// The change that an operation makes to the stack, or why the operation fails. The stack has to
+/// have the entries that the operation needs.
 #[inline(always)]
 pub fn change_of<R: Registers, M: Memory, const PLACES: usize>(
     environment: &Environment<'_, R, M>,
@@ -197,7 +199,7 @@ pub fn change_of<R: Registers, M: Memory, const PLACES: usize>(
     }
 }
 
-/// Makes the change.
+/// Makes the change to the stack.
 #[inline(always)]
 pub fn make_change<const PLACES: usize>(change: Change, stack: &mut Stack<PLACES>)
     requires enough { taken_by change ≤ length stack.old }

@@ -26,8 +26,8 @@ pub trait Registers {
     /// The register contents.
     ghost contents: { Self → ℕ → Option ℕ };
 
-    /// The content of a register, if it is known. An evaluation takes it modulo 2^w, w being the size of an address in
-    /// bits.
+    /// The content of a register, or none if it isn't known. An evaluation takes it modulo 2^w, w
+    /// being the size of an address in bits.
     fn register(&self, number: u16) -> Option<u64>
         ensures { result ≡ contents self.now number };
 }
@@ -46,8 +46,9 @@ pub trait Memory {
         ensures { result ≡ number_at (bytes self.now) order address size };
 }
 
-/// The values that the point in the program supplies to an expression, each if it is known. An
-/// evaluation takes each value modulo 2^w, w being the size of an address in bits.
+/// The values that depend on the point in the program at which an expression is evaluated. Each is
+/// none if it isn't known. An evaluation takes each value modulo 2^w, w being the size of an
+/// address in bits.
 #[derive(Clone, Copy, Debug, Default, PartialEq, Eq)]
 pub struct Context {
     /// The canonical frame address (DWARF 5, section 6.4).

@@ -16,8 +16,8 @@ use arrayvec::ArrayVec;
 use dw_ops::Expression;
 use dw_stack::Kind;
 
-/// Continues a location expression after its first piece. `from` is the offset to go on at,
-/// `before` the number of steps already taken.
+/// Continues a location expression after its first piece, `first`. `from` is the offset to continue
+/// at, and `before` is the number of steps already taken.
 fn run_location_on<'a, R: Registers, M: Memory, const PLACES: usize>(
     expression: &Expression<'a>,
     environment: &Environment<'_, R, M>,
@@ -64,7 +64,7 @@ fn run_location_on<'a, R: Registers, M: Memory, const PLACES: usize>(
     }
 }
 
-/// Runs a location expression from its start; `run` is as `Run::new` makes it. The array of pieces
+/// Runs a location expression from its start. `run` has to be new (`Run::new`). The array of pieces
 /// is made only when the first piece ends: most location expressions have no pieces, and making the
 /// array takes longer than running them.
 pub fn run_location<'a, R: Registers, M: Memory, const PLACES: usize>(

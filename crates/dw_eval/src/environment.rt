@@ -1,4 +1,4 @@
-//! What operations read from the environment.
+//! The inputs of an evaluation, and how operations read them.
 
 ghost use Rattle.std.specs.Prelude.{◌≡◌, ◌+◌, ◌+ℤ◌, ◌^◌, ◌<◌, ◌∷◌, [], pos, Ok};
 ghost use Rattle.dw_eval.specs.World.{IsSize, width};
@@ -12,7 +12,7 @@ use crate::evaluation_error::EvaluationError;
 use crate::width::Width;
 use dw_bytes::Target;
 
-/// The inputs of an evaluation, with the target of its expression.
+/// The inputs of an evaluation, and the target (byte order and address size) of its expression.
 #[derive(Drop)]
 pub struct Environment<'m, R: Registers, M: Memory> {
     pub target: Target,
@@ -41,7 +41,8 @@ impl<'m, R: Registers, M: Memory> Environment<'m, R, M> {
         self.target.address_size.bytes()
     }
 
-    /// `value` plus `offset`, modulo 2^w. `Unreadable` if there is no value.
+    /// `value` plus `offset`, modulo 2^w, w being the size of an address in bits. `Unreadable` if
+    /// there is no value.
     #[inline(always)]
     pub fn sum(&self, value: Option<u64>, offset: i64) -> Result<u64, EvaluationError>
         ensures { one_of result ≡ if_present value
@@ -53,7 +54,8 @@ impl<'m, R: Registers, M: Memory> Environment<'m, R, M> {
         }
     }
 
-    /// `value` modulo 2^w. `Unreadable` if there is no value.
+    /// `value` modulo 2^w, w being the size of an address in bits. `Unreadable` if there is no
+    /// value.
     #[inline(always)]
     pub fn given(&self, value: Option<u64>) -> Result<u64, EvaluationError>
         ensures { one_of result ≡ if_present value
@@ -65,8 +67,8 @@ impl<'m, R: Registers, M: Memory> Environment<'m, R, M> {
         }
     }
 
-    /// Reads the number in the `size` bytes from `address` on, modulo 2^w. `Unreadable` if one of
-    /// these bytes isn't known or lies past 2^w - 1.
+    /// Reads the number in the `size` bytes from `address` on, modulo 2^w, w being the size of an
+    /// address in bits. `Unreadable` if one of these bytes isn't known or lies past 2^w - 1.
     #[inline(always)]
     pub fn load(&self, address: u64, size: u8) -> Result<u64, EvaluationError>
         requires address { address < 2 ^ width (world_in R.contents M.bytes self.now) }

@@ -27,30 +27,30 @@ pub fn operations_use_the_top_alone()
 {}
 
 /// With given registers, memory and context, an expression that passes the check has at most one
-/// outcome, after one number of steps.
+/// outcome, after one possible number of steps.
 pub fn evaluations_are_determined()
     ensures { (c : Checked) (e : World) (o p : Outcome) (n k : ℕ)
         → IsGoodExpression c.kind c.target c.bytes → IsEvaluation c e o n → IsEvaluation c e p k
         → (o ≡ p) × (n ≡ k) }
 {}
 
-/// Each checked expression has an evaluation, whatever registers, memory and context are given, with no more steps than
-/// operations.
+/// Each checked expression has an evaluation, whatever the registers, memory and context are, with
+/// no more steps than operations.
 pub fn each_has_an_evaluation()
     ensures { (c : Checked) (e : World) → IsChecked c
         → (o : Outcome) × (n : ℕ) × IsEvaluation c e o n × (n ≤ c.count) }
 {}
 
-/// All numbers of a run are below 2^w at every step: those on the stack, the value or address that was named, and those
-/// of the pieces.
+/// All numbers of a run are below 2^w at every step, w being the size of an address in bits: those
+/// on the stack, the value or address that was named, and those of the pieces.
 pub fn numbers_of_evaluations_fit()
     ensures { (e : World) (kind : Kind) (ops : List Placed) (len n : ℕ) (s : List ℕ)
         (c : Configuration) → first_stack e kind ≡ Some s
         → Run (meaning_of e) ops len n (start_configuration s) c → NumbersFit (2 ^ width e) c }
 {}
 
-/// A frame's expression evaluates to a value or to no answer. A location expression evaluates to a
-/// location, to pieces or to no answer.
+/// The expression of a CFA rule or a register's rule gives a value, or fails. A location expression
+/// gives a location or pieces, or fails.
 pub fn outcomes_are_of_their_kind()
     ensures { (c : Checked) (e : World) (o : Outcome) (n : ℕ) → IsEvaluation c e o n
         → IsOfKind c.kind o }

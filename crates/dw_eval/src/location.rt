@@ -1,4 +1,4 @@
-//! Where an object is.
+//! The outcomes of evaluations: values, and the locations of objects and their pieces.
 
 ghost use Rattle.std.specs.Prelude.{◌≡◌};
 
@@ -34,7 +34,7 @@ impl Default for Location<'_> {
 pub enum PieceSize {
     /// A number of bytes.
     Bytes(u32),
-    /// `size` bits, from `offset` bits into the piece's location.
+    /// `size` bits, which begin `offset` bits into the piece's location.
     Bits { size: u32, offset: u32 },
 }
 
@@ -57,20 +57,21 @@ impl Default for Piece<'_> {
     }
 }
 
-/// The pieces of an object, in order.
+/// The pieces of an object, in the order in which they make it up.
 pub type Pieces<'a> = ArrayVec<Piece<'a>, MAX_PIECES>;
 
 /// The outcome of an evaluation. Offsets are in bytes from the expression's first byte.
 #[derive(Clone, Debug, Drop, PartialEq, Eq)]
 pub enum Outcome<'a> {
-    /// The value of a frame's expression: an address, or the content of a register (DWARF 5, section 6.4.2).
+    /// The value of the expression of a CFA rule or a register's rule: an address, or the content
+    /// of a register (DWARF 5, section 6.4.2).
     Value(u64),
     /// Where an object is.
     Single(Location<'a>),
     /// Where the pieces of an object are.
     Pieces(Pieces<'a>),
     /// The operation at the offset `at` reads a register, memory or a value of the context that
-    /// isn't given, or reads memory past the greatest address. If the rule of a register lacks its
+    /// isn't known, or reads memory past the greatest address. If the rule of a register lacks its
     /// CFA, `at` is 0, and no operation was reached.
     Unreadable { at: u32 },
     /// The operation at the offset `at` divides by zero.
@@ -78,7 +79,7 @@ pub enum Outcome<'a> {
 }
 
 /// The outcome of an evaluation, and the number of operations that it reached, including one that
-/// has no answer.
+/// failed.
 #[derive(Clone, Debug, Drop, PartialEq, Eq)]
 pub struct Evaluation<'a> {
     pub outcome: Outcome<'a>,

@@ -10,7 +10,7 @@ use byteorder::{BigEndian, ByteOrder, LittleEndian};
 use dw_bytes::Order;
 
 /// Memory with one known block, such as the top of a stack. A read that isn't wholly inside the
-/// block has no answer.
+/// block gives none.
 ///
 /// ```rust
 /// let stack = MemoryBlock {
@@ -27,7 +27,7 @@ pub struct MemoryBlock<'a> {
     pub bytes: &'a [u8],
 }
 
-/// The `size` bytes from `address` on, if all of them are in the block.
+/// The `size` bytes from `address` on, or none if not all of them are in the block.
 #[inline(always)]
 fn window<'a>(base: u64, bytes: &'a [u8], address: u64, size: usize) -> Option<&'a [u8]>
     requires { 1 ≤ size }

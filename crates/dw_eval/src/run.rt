@@ -54,8 +54,8 @@ impl<'a, const PLACES: usize> Run<'a, PLACES> {
         }
     }
 
-    /// The location that a piece would have here: the pending one, else the address on the stack,
-    /// else the empty location.
+    /// The location that a piece would have if it ended here: the pending location, else the
+    /// address on the stack, else the empty location.
     #[inline(always)]
     fn location(&self) -> Location<'a>
         requires { self.now.pending ≡ None → length self.now.stack ≤ 1 }
@@ -74,7 +74,7 @@ impl<'a, const PLACES: usize> Run<'a, PLACES> {
         }
     }
 
-    /// Ends a piece of size `size` at the current location; clears the stack and the pending
+    /// Ends a piece of size `size` at the current location. Clears the stack and the pending
     /// location.
     #[inline(always)]
     fn end_piece(&mut self, size: PieceSize) -> Piece<'a>
@@ -94,7 +94,7 @@ impl<'a, const PLACES: usize> Run<'a, PLACES> {
         Piece { location, size }
     }
 
-    /// Applies an operation to the run. Returns the step that it makes, or why it has no answer.
+    /// Applies an operation to the run. Returns the step that the operation makes, or why it fails.
     /// `next` is the offset after the operation.
     #[inline(always)]
     pub fn apply<R: Registers, M: Memory>(
@@ -125,7 +125,8 @@ impl<'a, const PLACES: usize> Run<'a, PLACES> {
     }
 
     /// Applies the operation at the offset `at`. An operation that `execute_bare` handles neither
-    /// uses nor names a location: `pending` is `None` before it and after it, so it isn't written.
+    /// uses nor names a location: `pending` is `None` before and after it, so `pending` isn't
+    /// written.
     #[inline(always)]
     pub fn step<R: Registers, M: Memory>(
         &mut self,

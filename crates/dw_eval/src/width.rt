@@ -1,5 +1,5 @@
-//! Arithmetic modulo 2^w, w being the size of an address in bits: on stack entries, and on the contents of registers and
-//! memory.
+//! Arithmetic modulo 2^w, w being the size of an address in bits: on stack entries, and on the
+//! contents of registers and memory.
 
 ghost use Rattle.std.specs.Prelude.{◌≡◌, ◌<◌, ◌+◌, ◌-◌, ◌*◌, ◌/◌, ◌%◌, ◌^◌, ◌==◌, pos, ◌+ℤ◌, ◌-ℤ◌, unsigned_abs, int_div, int_lt, int_le};
 ghost use Rattle.std.specs.Prelude.{bit_and, bit_or, bit_xor};
@@ -41,7 +41,7 @@ impl Width {
         }
     }
 
-    /// A number of one byte as a stack entry. It is below 2^w as it is.
+    /// A one-byte number as a stack entry. It is below 2^w, so it isn't reduced.
     #[inline(always)]
     pub(crate) fn byte(self, n: u8) -> u64
         ensures { result ≡ wrap (width_of self.size) (pos n) }
@@ -118,7 +118,7 @@ impl Width {
         self.reduce_signed(self.sign(a).wrapping_div(self.sign(b)))
     }
 
-    /// The absolute value of `b` as a signed number. The most negative number is left as it is.
+    /// The absolute value of `b` as a signed number. The most negative number stays unchanged.
     #[inline(always)]
     pub(crate) fn abs(self, b: u64) -> u64
         requires { b < 2 ^ width_of self.size }

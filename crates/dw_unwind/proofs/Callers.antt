@@ -125,7 +125,7 @@ by_rules e abi number row rule rules cfa returned answers cfa_is has_cfa rules_a
   return_address = returns;
 }
 
--- if the answers are those of the rules, the answer at any index is that of the rule of the
+-- if each answer is right for its rule, the answer at any index is right for the rule of the
 -- register at that index
 pub found_register : (e : World) (cfa : Answer) (of : ℕ → Rule) (rules : List (ℕ × Rule)) (answers : List (ℕ × Answer)) (k r : ℕ)
     (a : Answer) → AllByRecursion (λ (entry : ℕ × Rule). entry.1 ≡ of entry.0) rules → AreRegisters e cfa rules answers

@@ -70,9 +70,9 @@ impl<'w, U: Unwinder, M: Memory> Model for Walk<'w, U, M> {
     } };
 }
 
-/// The caller of a frame at `address` that is itself a caller, computed from that frame's registers.
-/// Looks up `address` minus 1, which is inside the call. None if no FDE covers the address looked
-/// up, or if `address` is 0.
+/// The caller of a frame at `address` that is itself a caller, computed from that frame's
+/// registers. Looks up `address` minus 1, which is inside the call. None if no FDE covers the
+/// address looked up, or if `address` is 0.
 #[inline(always)]
 fn unwind_caller<U: Unwinder, M: Memory>(
     unwinder: &U,
