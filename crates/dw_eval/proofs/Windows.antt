@@ -1,4 +1,5 @@
--- The bytes of a block from an address on.
+-- Reading `n` bytes of memory with one known block gives a part of the block, or none if a byte is
+-- outside.
 use Rattle.std.proofs.Common.{◌≡◌, ℕ, zero, suc, ◌+◌, ◌-◌, ◌<◌, ◌≤◌, List, [], ◌∷◌, length, take, drop, get_or, Option, None, Some, true, false, nat_le}
 use Rattle.std.proofs.Common.{refl, sym, ap, ap₂, subst, ◌∙◌, arith, drop-cons}
 use Rattle.std.proofs.lemmas.Option.{slice_get-get_or, slice_get_past}

@@ -12,7 +12,8 @@ use Rattle.dw_eval.proofs.Going.{one_more, few_steps, ends, finished, finished_f
 use Rattle.dw_eval.proofs.Loop.{same_end, ahead_here, can_step_here, goes_to, goes_behind}
 use Rattle.dw_eval.proofs.description.run_location.Goals as goal
 
--- the test of the loop
+-- what the loop's test says about the length of `seen` holds for the length of the expression's
+-- bytes
 before : (at : ℕ) (bytes seen : List ℕ) → seen ≡ bytes → at < length seen → at < length bytes
 before at bytes seen is test = subst (λ (xs : List ℕ). at < length xs) is test
 
