@@ -23,7 +23,7 @@ use dw_bytes::Order;
 /// }
 /// ```
 pub trait Registers {
-    /// The register contents.
+    /// The content of each register, or none if it isn't known.
     ghost contents: { Self → ℕ → Option ℕ };
 
     /// The content of a register, or none if it isn't known. An evaluation takes it modulo 2^w, w
@@ -34,7 +34,7 @@ pub trait Registers {
 
 /// Memory: a partial function from addresses to bytes.
 pub trait Memory {
-    /// The byte at an address.
+    /// The byte at each address, or none if it isn't known.
     ghost bytes: { Self → ℕ → Option ℕ };
 
     /// Reads the number in the `size` bytes from `address` on, in the byte order `order`. None if

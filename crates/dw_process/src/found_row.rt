@@ -2,12 +2,12 @@
 
 use dw_rows::UnwindRow;
 
-/// The row found for an address as loaded, and the module that it comes from.
+/// The row found for an address of a running process, and the load address of its module.
 #[derive(Debug, Drop)]
 pub struct FoundRow<'p> {
     /// The load address of the module.
     pub load_address: u64,
-    /// The row, whose own addresses are as linked.
+    /// The row. Its own addresses are as linked, not as loaded.
     pub row: UnwindRow<'p, 'p>,
     /// The register that the CIE names for the return address.
     pub return_register: u16,

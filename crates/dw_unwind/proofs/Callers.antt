@@ -59,7 +59,7 @@ of_next P came x left rest all each whole next =
     first_after P came x rest
     (recursion_from_All P (came ++ x ∷ rest) (subst (All P) (sym whole ∙ ap (λ l. came ++ l) next) each))
 
--- ---- an expression of a kind
+-- ---- an expression whose own kind is the kind that it runs as
 
 pub as_kind : (e : World) (kind : Kind) (x : LocatedExpression) (answer : Answer) → x.kind ≡ kind → Gives e x.kind x answer
     → Gives e kind x answer

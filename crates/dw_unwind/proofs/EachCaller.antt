@@ -70,7 +70,7 @@ kept_among : {X : Type 0} (test : X → Bool) (xs : List X) (x : X) (ys : List X
 kept_among test [] x ys e = absurd cc
 kept_among test (y ∷ xs) x ys e = kept_or test y xs x ys (test y) refl e (kept_among test xs x ys)
 
--- ---- the result of an unwinding
+-- ---- unwinding gives a caller, or none
 
 module _ (covered : (s : FrameSection) (a : ℕ) → IsChecked s → (f : Fde) → Contains s.fdes f → Covers f a → HasOneRow s a)
     (has : (e : World) (abi : Abi) (back : ℕ) (frame : FrameSection) (fde : Fde) (row : Row) → IsChecked frame → Contains frame.fdes fde

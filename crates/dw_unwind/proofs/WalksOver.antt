@@ -76,7 +76,7 @@ walks_same u v same first limit frames stop = (
   walk_over v u (λ registers address caller. (same registers address caller).1) first limit frames stop,
 )
 
--- ---- by what is found in a section, by what a table gives, and with a table of a section
+-- ---- walks with rows looked up in a section, with the rows of a table, and with a section's table
 
 pub over_what_is_found : (s : FrameSection) (abi : Abi) (memory registers : ℕ → Option ℕ) (address : ℕ) (caller : Option Caller)
     → over_rows s.target (IsFoundAt s) abi memory registers address caller ↔ over_section s abi memory registers address caller

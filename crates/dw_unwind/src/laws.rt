@@ -275,7 +275,7 @@ pub fn frames_that_are_given_are_a_walk<U: Unwinder>()
         × Walks (U.unwinds unwinder abi memory) first limit (xs ++ others) stop }
 {}
 
-/// The greatest number of registers that a caller can have.
+/// A caller has at most 256 registers.
 pub fn walk_limits()
     ensures { MAX_FOUND ≡ 256 }
 {}

@@ -49,7 +49,7 @@ pub const MAX_FOUND: usize = 2 * MAX_RULES;
 /// Registers with their answers, in ascending order of register numbers.
 pub type FoundRegisters = ArrayVec<(u16, Answer), MAX_FOUND>;
 
-/// The calling frame (DWARF 5, section 6.4.1).
+/// What unwinding finds for the caller of a frame (DWARF 5, section 6.4.1).
 #[derive(Clone, Debug, Drop, PartialEq, Eq)]
 pub struct Caller {
     /// The canonical frame address.

@@ -218,8 +218,8 @@ impl<'w, U: Unwinder, M: Memory> Walk<'w, U, M> {
     }
 
     /// The registers of the caller of the frame that was given last: each register that has a rule,
-    /// with what is known of it. None if no FDE covers the address that is looked up for the frame.
-    /// If no frame has been given yet, this is about the first frame.
+    /// with its answer. None if no FDE covers the address that is looked up for the frame. If no
+    /// frame has been given yet, the registers of the first frame's caller.
     pub fn caller_registers(&self) -> Option<&FrameRegisters>
         ensures { option_map (λ r. r.now) result
             ≡ option_map (λ c. c.registers) (frame_at self.now.progress).caller }
@@ -246,8 +246,8 @@ impl<'w, U: Unwinder, M: Memory> Walk<'w, U, M> {
         })
     }
 
-    /// The frame that was given last, with all that is known of its caller: some 6 KB. If no frame
-    /// has been given yet, the first frame.
+    /// The frame that was given last, with its caller: some 6 KB. If no frame has been given yet, the
+    /// first frame.
     pub fn frame(&self) -> Frame
         ensures { frame_in result ≡ frame_at self.now.progress }
     {
@@ -264,14 +264,14 @@ impl<'w, U: Unwinder + Drop, M: Memory> Iterator for Walk<'w, U, M> {
     ghost use Rattle.dw_rows.specs.AbiViews.{roles_of};
     ghost use Rattle.dw_unwind.specs.WalkViews.{NextFrame};
 
-    /// The next frame or none, and the walk after the call.
+    /// What a call of `next` gives, and how it changes the walk (`NextFrame` in WalkViews.antt).
     ghost next_gives = { λ old frame new. NextFrame
         (U.unwinds old.unwinder (roles_of old.abi) (M.bytes old.memory)) (U.is_bound old.unwinder)
         old frame new };
 
     /// The next frame: first the frame that the walk begins at, then each time the caller of the
-    /// frame before. When there is no next frame, `stop` gives the reason, and each later call
-    /// gives none too.
+    /// frame before it. When there is no next frame, the result is none, `stop` gives the reason,
+    /// and each later call gives none too.
     #[inline(always)]
     fn next(&mut self) -> Option<BriefFrame> {
         match self.advance() {

@@ -8,7 +8,7 @@ use Rattle.dw_unwind.specs.CallerViews.{answer_in, machine_in}
 use Rattle.dw_unwind.proofs.Callers.{as_kind}
 use Rattle.dw_unwind.proofs.present.Present.register.Goals as goal
 
--- an answer without a value stays as it is
+-- `if_value` leaves an answer without a value unchanged
 if_value_other : (a : declared.Answer) (f : ℕ → Answer) → ((n : ℕ) → a ≡ answers.Value n → ⊥) → answer_in a ≡ if_value (answer_in a) f
 if_value_other (answers.Value n) f other = absurd (other n refl)
 if_value_other answers.Undefined f other = refl
