@@ -38,7 +38,7 @@ progress_with true frame = has_given frame
 
 -- ---- a call of `Walk::next`
 
--- The result of a call of `Walk::next`. Either the call gives the next frame as a `BriefFrame`. Or
+-- What a call of `Walk::next` does. Either the call gives the next frame as a `BriefFrame`, or
 -- there is a reason why no frame follows; then it gives none and leaves the walk unchanged. If all
 -- numbers of the current frame are below a bound for which `IsBound` holds, so are those of the
 -- next frame.

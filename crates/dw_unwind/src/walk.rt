@@ -246,8 +246,8 @@ impl<'w, U: Unwinder, M: Memory> Walk<'w, U, M> {
         })
     }
 
-    /// The frame that was given last, with its caller: some 6 KB. If no frame has been given yet, the
-    /// first frame.
+    /// The frame that was given last, with its caller: some 6 KB. If no frame has been given yet,
+    /// the first frame.
     pub fn frame(&self) -> Frame
         ensures { frame_in result ≡ frame_at self.now.progress }
     {
