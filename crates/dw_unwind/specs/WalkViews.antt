@@ -39,9 +39,9 @@ progress_with true frame = has_given frame
 -- ---- a call of `Walk::next`
 
 -- What a call of `Walk::next` does. Either the call gives the next frame as a `BriefFrame`, or
--- there is a reason why no frame follows; then it gives none and leaves the walk unchanged. If all
--- numbers of the current frame are below a bound for which `IsBound` holds, so are those of the
--- next frame.
+-- there is a reason why no frame follows. Then the call gives none and leaves the walk unchanged.
+-- If all numbers of the current frame are below a bound for which `IsBound` holds, so are those of
+-- the next frame.
 pub record NextFrame {U M : Type 0} (u : CallerRelation) (IsBound : ℕ → Type 0) (old : WalkState U M) (given : Option BriefFrame)
     (new : WalkState U M) : Type 0 where
   pub gives : MatchOption given (((stop : Stop) × (stop_of old.progress ≡ Some stop)) × (new ≡ old)) (λ _. GivesNext u old new)

@@ -25,7 +25,7 @@ use dw_rows::{Abi, UnwindRows};
 /// ```
 #[derive(Clone, Copy, Debug, Drop)]
 pub struct Module<T> {
-    /// What supplies the module's rows: `&CheckedFrame`, `UnwindTable` or `&UnwindTable`.
+    /// What supplies the module's rows, such as `&CheckedFrame`, `UnwindTable` or `&UnwindTable`.
     pub rows: T,
     /// What is added to an address as linked, modulo 2^w, w being the size of an address in bits,
     /// to get the address as loaded. For a position-independent module, which is linked at 0, that
