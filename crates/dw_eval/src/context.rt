@@ -46,9 +46,8 @@ pub trait Memory {
         ensures { result ≡ number_at (bytes self.now) order address size };
 }
 
-/// The values that depend on the point in the program at which an expression is evaluated. Each is
-/// none if it isn't known. An evaluation takes each value modulo 2^w, w being the size of an
-/// address in bits.
+/// The values that an expression can use besides registers and memory. Each is none if it isn't
+/// known. An evaluation takes each value modulo 2^w, w being the size of an address in bits.
 #[derive(Clone, Copy, Debug, Default, PartialEq, Eq)]
 pub struct Context {
     /// The canonical frame address (DWARF 5, section 6.4).

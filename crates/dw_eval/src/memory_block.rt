@@ -10,7 +10,7 @@ use byteorder::{BigEndian, ByteOrder, LittleEndian};
 use dw_bytes::Order;
 
 /// Memory with one known block, such as the top of a stack. A read that isn't wholly inside the
-/// block gives none.
+/// block returns none.
 ///
 /// ```rust
 /// let stack = MemoryBlock {

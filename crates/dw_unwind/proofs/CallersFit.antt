@@ -62,7 +62,7 @@ needs_fit m undefined Is a each h = subst (AnswerFits m) (sym h) tt
 needs_fit m unreadable Is a each h = subst (AnswerFits m) (sym h) tt
 needs_fit m division_by_zero Is a each h = subst (AnswerFits m) (sym h) tt
 
--- ---- expressions whose numbers are below the modulus of an address
+-- ---- expressions whose numbers fit an address size
 
 -- a number that fits the address size of the expression also fits `size`
 abbrev IsWithin : AddressSize → LocatedExpression → Type 0
