@@ -1,4 +1,5 @@
--- `Held` and `Parts` own what a box of a process owns.
+-- The types of the proofs in held/: a box of a process, and `Parts` and `Held`, which own what that
+-- box owns.
 use mir.Syntax.{impl, tnil, dnil}
 use mathlib.Core.List.{[]}
 use denote.Signature.{Slot, plain}

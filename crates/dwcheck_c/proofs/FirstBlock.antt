@@ -1,4 +1,4 @@
--- A byte in the first block is one of all blocks.
+-- A number that is read from the first block alone is the number that is read from all blocks.
 use Rattle.std.proofs.Common.{◌≡◌, ℕ, zero, suc, ◌+◌, List, ◌∷◌, Option, Some, None, IfSome, refl, sym, subst}
 use Rattle.std.specs.Option.{option_map, option_or}
 use Rattle.dw_bytes.specs.declared.target.Order.{Order}
@@ -8,7 +8,7 @@ use Rattle.dw_eval.specs.World.{prepend_if_known, bytes_from, number_at}
 use Rattle.dwcheck_c.specs.Machine.{byte_in}
 use Rattle.dwcheck_c.specs.declared.memory.CBlock.{CBlock}
 
--- if one memory has a byte, the other has the same one
+-- wherever `part` has a byte, `whole` has the same byte
 abbrev Within : (ℕ → Option ℕ) → (ℕ → Option ℕ) → Type 0
 Within part whole = (at b : ℕ) → part at ≡ Some b → whole at ≡ Some b
 

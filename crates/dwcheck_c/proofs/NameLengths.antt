@@ -12,7 +12,7 @@ use Rattle.dw_bytes.specs.declared.fault.FaultKind.TheVariants.{EndsEmpty, TooMa
 use Rattle.dw_bytes.specs.declared.fault.FaultKind.TheVariants.{SecondDefault, NoEnd, BadOffsetEntry, Memory, SectionTooLong, AbiTooLarge}
 use Rattle.dw_bytes.specs.declared.fault.FaultKind.TheVariants.{AbiTwice, CertLength, CertState}
 
--- the longest name is `RestoreWithoutRemember`
+-- the longest name is `RestoreWithoutRemember`, which has 22 letters
 pub name_is_short : (kind : FaultKind) → length (name_of kind) ≤ 22
 name_is_short Truncated = lit≤ tt
 name_is_short LebRange = lit≤ tt

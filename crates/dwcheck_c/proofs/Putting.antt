@@ -1,4 +1,4 @@
--- What is put into slots, one by one.
+-- Elements that are written to slots one by one are in the slots as `put_into` says.
 use Rattle.std.proofs.Common.{◌≡◌, ℕ, suc, ◌+◌, ◌<◌, ◌≤◌, List, [], ◌∷◌, ◌++◌, length, map, take, append_assoc, length-append, refl, sym, ap, ◌∙◌, arith}
 use Rattle.std.specs.Prelude.{slice_set}
 use Rattle.std.proofs.Math.ListN.{get_or}
@@ -13,15 +13,16 @@ puts_next [] (s ∷ slots) x = refl
 puts_next (y ∷ xs) [] x = refl
 puts_next (y ∷ xs) (s ∷ slots) x = ap (λ l. y ∷ l) (puts_next xs slots x)
 
--- writing f x to the slot after those of xs puts xs and x into slots, each in the form that f gives
+-- if the slots have the elements of xs, each converted by f, then writing f x to the next slot
+-- gives the slots with xs and x, converted by f
 pub puts_shown : {X Y : Type 0} (f : X → Y) (xs : List X) (slots : List Y) (count : ℕ) (x : X) → count ≡ length (map f xs)
     → slice_set (put_into (map f xs) slots) count (f x) ≡ put_into (map f (xs ++ x ∷ [])) slots
 puts_shown f xs slots count x many =
     ap (λ n. slice_set (put_into (map f xs) slots) n (f x)) many ∙ puts_next (map f xs) slots (f x)
     ∙ ap (λ l. put_into l slots) (sym (map-append f xs (x ∷ [])))
 
--- writing the element at i puts the first i + 1 elements of a list into slots, in the form that f
--- and g give
+-- if the slots have the first i elements of a list, each converted by f and then by g, then writing
+-- the element at i, converted likewise, gives the slots with the first i + 1 elements
 pub puts_at : {X Y Z : Type 0} (f : X → Y) (g : Y → Z) (xs : List X) (slots : List Z) (i : ℕ) (d : X) → i < length xs
     → slice_set (put_into (map g (map f (take i xs))) slots) i (g (f (get_or xs i d))) ≡ put_into (map g (map f (take (i + 1) xs))) slots
 puts_at f g xs slots i d room =
@@ -30,7 +31,8 @@ puts_at f g xs slots i d room =
     puts_shown g (map f (take i xs)) slots i (f (get_or xs i d)) many
     ∙ ap (λ l. put_into (map g l) slots) (sym (map-append f (take i xs) (get_or xs i d ∷ [])) ∙ ap (map f) (sym next))
 
--- writing the element at i puts the first i + 1 elements of a list into slots
+-- if the slots have the first i elements of a list, then writing the element at i gives the slots
+-- with the first i + 1 elements
 pub puts_from : {X : Type 0} (xs slots : List X) (i : ℕ) (d : X) → i < length xs
     → slice_set (put_into (take i xs) slots) i (get_or xs i d) ≡ put_into (take (i + 1) xs) slots
 puts_from xs slots i d room =
@@ -39,7 +41,8 @@ puts_from xs slots i d room =
     ap (λ n. slice_set (put_into (take i xs) slots) n (get_or xs i d)) many ∙ puts_next (take i xs) slots (get_or xs i d)
     ∙ ap (λ l. put_into l slots) (sym next)
 
--- the next element moves from those left to those visited
+-- If `all` is the elements that came, converted by `view`, followed by those that are left, then it
+-- is so too when the first element that is left has come.
 pub comes : {X Y : Type 0} (view : X → Y) (came : List X) (x : X) (left rest all : List Y) → map view came ++ left ≡ all
     → left ≡ view x ∷ rest → map view (came ++ x ∷ []) ++ rest ≡ all
 comes view came x left rest all whole next =
@@ -51,7 +54,7 @@ pub one_more : {X Y : Type 0} (view : X → Y) (came : List X) (x : X) (count : 
 one_more view came x count many =
     ap (λ n. n + 1) many ∙ sym (length-append (map view came) (view x ∷ [])) ∙ ap length (sym (map-append view came (x ∷ [])))
 
--- elements after the slots are full don't fit
+-- if the elements of xs fill the slots, then no element after them is written
 pub puts_no_more : {X : Type 0} (xs ys slots : List X) → length slots ≤ length xs → put_into (xs ++ ys) slots ≡ put_into xs slots
 puts_no_more [] [] slots few = refl
 puts_no_more [] (y ∷ ys) [] few = refl

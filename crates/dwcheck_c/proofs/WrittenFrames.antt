@@ -1,4 +1,4 @@
--- Frames, each written when it is given.
+-- The frames of a walk, each written to a slot as soon as the walk gives it.
 use Rattle.std.proofs.Common.{◌≡◌, ℕ, ◌+◌, List, [], ◌∷◌, ◌++◌, length, map, refl, sym, ap, ◌∙◌, length-append, subst}
 use Rattle.std.specs.Prelude.{slice_set}
 use Rattle.std.proofs.lemmas.List.{length-map}
@@ -10,13 +10,14 @@ use Rattle.dwcheck_c.specs.Slots.{put_into}
 use Rattle.dwcheck_c.proofs.Putting.{puts_shown}
 use Rattle.dwcheck_c.specs.Frames.{AreWritten, cframe_of, stop_number}
 
--- assumed: given frames, and the frame that is given next, are given frames
+-- A premise of the lemmas below: if a walk gives `frames` and then `next`, then it gives `frames`
+-- with `next` at the end, and `next` is the frame that it has given last.
 abbrev pub GoesOn : CallerRelation → Type 0
 GoesOn u = (from : Progress) (frames : List WalkedFrame) (next : WalkedFrame) → GivesFrames u from frames
     → GivesFrame u (after from frames) next
     → GivesFrames u from (frames ++ next ∷ []) × (after from (frames ++ next ∷ []) ≡ has_given next)
 
--- `count` frames were given and are written
+-- the walk has given `count` frames, and they are written to the front of the slots
 pub record UnderWay (u : CallerRelation) (begin : WalkedFrame) (p : Progress) (old new : List CFrame) (count : ℕ) : Type 0 where
   pub frames : List WalkedFrame
   pub given : GivesFrames u (about_to_give begin) frames

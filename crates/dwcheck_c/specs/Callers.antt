@@ -1,4 +1,4 @@
--- Callers in C's form.
+-- What C gets as the caller of a frame.
 use Rattle.std.specs.Prelude.{◌≡◌, ℕ, List, length, map, Option, Some}
 use Rattle.dw_rows.specs.Abi.{Abi}
 use Rattle.dw_unwind.specs.Caller.{Answer, Caller}
@@ -12,19 +12,21 @@ use Rattle.dwcheck_c.specs.declared.callers.CCaller.{CCaller}
 abbrev pub cregister_of : ℕ × Answer → CRegister
 cregister_of found = record { value = (canswer_of found.1).value; kind = (canswer_of found.1).kind; number = found.0 }
 
--- `out` is the caller in C's form, and its registers are in the slots, as many as fit
+-- `out` is C's struct for `caller`, and the slots `new` are `old` with the caller's registers
+-- written to the front, as many as fit
 pub record ShowsCaller (caller : Caller) (out : CCaller) (old new : List CRegister) : Type 0 where
   pub cfa : out.cfa ≡ canswer_of caller.cfa
   pub return_address : out.return_address ≡ canswer_of caller.return_address
   pub count : out.count ≡ length caller.registers
   pub registers : new ≡ put_into (map cregister_of caller.registers) old
 
--- the caller of the frame at an address, by the modules of a process; none if no module has a row
--- for the address
+-- `caller` is the caller of the frame at `address`, computed with the tables of `modules`. It is
+-- None if no module has a row for the address.
 pub record Unwinds (modules : Modules) (abi : Abi) (memory registers : ℕ → Option ℕ) (address : ℕ) (caller : Option Caller) : Type 0 where
   pub is : over_tables abi memory modules registers address caller
 
--- there is a caller, and `out` and the slots have it in C's form
+-- the frame at `address` has a caller, and `out` and the slots `new` are that caller, as
+-- `ShowsCaller` says
 pub record IsCaller (modules : Modules) (abi : Abi) (memory registers : ℕ → Option ℕ) (address : ℕ) (out : CCaller)
     (old new : List CRegister) : Type 0 where
   pub caller : Caller

@@ -1,4 +1,4 @@
--- What a check reports.
+-- How the first fault of a check is reported to C.
 use Rattle.std.specs.Prelude.{◌≡◌, ℕ, Option, Some}
 use Rattle.dw_check.specs.declared.stop.Section.{Section}
 use Rattle.dw_check.specs.declared.stop.Section.TheVariants.{Frame, Lists, Expression}
@@ -13,6 +13,6 @@ section_number Frame = IN_FRAME
 section_number Lists = IN_LISTS
 section_number Expression = IN_EXPRESSION
 
--- there is a first fault, and `report` is that fault in C's form
+-- `first` is a fault, and `report` is C's struct for it
 abbrev pub ReportsOf : Option CheckFault → CFault → Type 0
 ReportsOf first report = (found : CheckFault) × (first ≡ Some found) × (report ≡ cfault_of (section_number found.section) found.fault)

@@ -1,4 +1,4 @@
--- What C passes to an evaluation, and the results that it gets.
+-- What C passes when it evaluates an expression, and what it gets as the outcome.
 use Rattle.std.specs.Prelude.{◌≡◌, ◌==◌, if◌then◌else◌, ℕ, List, [], length, map, slice_get, Option, Some, None}
 use Rattle.dw_bytes.specs.declared.target.Target.{Target}
 use Rattle.dw_stack.specs.declared.state.Kind.{Kind}
@@ -16,11 +16,12 @@ use Rattle.dwcheck_c.specs.Slots.{put_into}
 
 -- ---- the inputs
 
--- the kind of an expression by C's number: the rule of a CFA, the rule of a register, or a location
+-- the kind of expression that C's number stands for: 0 is the rule of a CFA, 1 the rule of a
+-- register, 2 a location; None for any other number
 abbrev pub kind_by : ℕ → Option Kind
 kind_by n = if n == 0 then Some FrameCfa else if n == 1 then Some FrameRegister else if n == 2 then Some Location else None
 
--- a number, unless its flag is 0
+-- a number that C passes together with a flag: None if the flag is 0
 abbrev pub given_by : ℕ → ℕ → Option ℕ
 given_by flag n = if flag == 0 then None else Some n
 
@@ -43,7 +44,8 @@ kind_of_location (InRegister r) = 5
 kind_of_location (HasValue v) = 6
 kind_of_location (HasBytes bs) = 7
 
--- what C gets as the `value` of a location: its address, register or value, or its number of bytes
+-- what C gets as the `value` of a location: its address, its register, its value, or how many bytes
+-- it has; 0 if the object is nowhere
 abbrev pub number_of_location : LocationDescription → ℕ
 number_of_location Nowhere = 0
 number_of_location (AtAddress a) = a
@@ -55,7 +57,7 @@ abbrev pub bytes_of_location : LocationDescription → List ℕ
 bytes_of_location (HasBytes bs) = bs
 bytes_of_location _ = []
 
--- the pieces of an outcome
+-- the pieces of an outcome; the empty list if it has none
 abbrev pub pieces_of : Outcome → List Piece
 pieces_of (pieces ps) = ps
 pieces_of _ = []
@@ -64,7 +66,8 @@ abbrev pub bytes_of_piece : Option Piece → List ℕ
 bytes_of_piece None = []
 bytes_of_piece (Some p) = bytes_of_location p.location
 
--- the bytes of a location, or of piece n of a location in pieces
+-- the bytes that C gets of an outcome: those of a single location, or those of piece n, counted
+-- from 0; the empty list if there are none
 abbrev pub bytes_of_outcome : ℕ → Outcome → List ℕ
 bytes_of_outcome n (single l) = bytes_of_location l
 bytes_of_outcome n (pieces ps) = bytes_of_piece (slice_get ps n)
@@ -87,7 +90,7 @@ offset_of_outcome (unreadable at) = at
 offset_of_outcome (division_by_zero at) = at
 offset_of_outcome _ = 0
 
--- an outcome after `steps` operations, in C's form
+-- C's struct for an outcome that was reached after `steps` operations
 abbrev pub cvalue_of : Outcome → ℕ → CValue
 cvalue_of outcome steps = record {
   value = number_of_outcome outcome;
@@ -97,7 +100,7 @@ cvalue_of outcome steps = record {
   count = length (pieces_of outcome);
 }
 
--- a piece in C's form, with its size in bytes, or its size and first bit in bits
+-- C's struct for a piece: its size is in bytes, or its size and its offset are in bits
 abbrev pub cpiece_by : LocationDescription → PieceExtent → CPiece
 cpiece_by l (bytes n) =
     record { value = number_of_location l; kind = kind_of_location l; size = n; bit_offset = 0; is_bits = 0 }
@@ -107,22 +110,23 @@ cpiece_by l (bits n offset) =
 abbrev pub cpiece_of : Piece → CPiece
 cpiece_of p = cpiece_by p.location p.size
 
--- `out` is the outcome in C's form. Its pieces, and the bytes of the location or of piece n, are in
--- the slots, as many as fit.
+-- `out` is C's struct for the outcome. The outcome's pieces, and its bytes (`bytes_of_outcome`),
+-- are written to the front of the slots, as many as fit.
 pub record ShowsOutcome (outcome : Outcome) (steps n : ℕ) (out : CValue) (old_pieces new_pieces : List CPiece)
     (old_bytes new_bytes : List ℕ) : Type 0 where
   pub value : out ≡ cvalue_of outcome steps
   pub pieces : new_pieces ≡ put_into (map cpiece_of (pieces_of outcome)) old_pieces
   pub bytes : new_bytes ≡ put_into (bytes_of_outcome n outcome) old_bytes
 
--- the expression, run as one of `kind`, has an outcome, and `out` and the slots show it
+-- running the expression as one of `kind` gives an outcome, and `out` and the slots have that
+-- outcome, as `ShowsOutcome` says
 pub record IsRunOf (kind : Kind) (target : Target) (expression : List ℕ) (state : CState) (context : CContext) (n : ℕ) (out : CValue)
     (old_pieces new_pieces : List CPiece) (old_bytes new_bytes : List ℕ) : Type 0 where
   pub outcome : Outcome
   pub run : IsRun (world_by target state context) kind (operations_in target expression) (length expression) outcome out.steps
   pub shows : ShowsOutcome outcome out.steps n out old_pieces new_pieces old_bytes new_bytes
 
--- C's numbers name a kind and a target, and P holds for them
+-- both options have a value, which means that C's numbers are valid, and P holds for the two values
 abbrev pub WithBoth : Option Kind → Option Target → (Kind → Target → Type 0) → Type 0
 WithBoth (Some kind) (Some target) P = P kind target
 WithBoth _ _ P = ⊥

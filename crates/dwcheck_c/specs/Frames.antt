@@ -1,4 +1,4 @@
--- Frames of a walk in C's form.
+-- What C gets as the frames of a walk.
 use Rattle.std.specs.Prelude.{◌≡◌, ℕ, List, length, map, Option, Some, None}
 use Rattle.dw_rows.specs.Abi.{Abi}
 use Rattle.dw_unwind.specs.Caller.{Answer, value, undefined, unreadable, division_by_zero}
@@ -21,8 +21,8 @@ canswer_of undefined = canswer_by 2 0
 canswer_of unreadable = canswer_by 3 0
 canswer_of division_by_zero = canswer_by 4 0
 
--- an answer in C's form; its kind is 0 if there is none, since no FDE covers the address that is
--- looked up
+-- C's struct for an answer. If there is no answer, because no FDE covers the address that was
+-- looked up, its kind is 0.
 abbrev pub optional_canswer : Option Answer → CAnswer
 optional_canswer None = canswer_by 0 0
 optional_canswer (Some answer) = canswer_of answer
@@ -30,7 +30,7 @@ optional_canswer (Some answer) = canswer_of answer
 abbrev pub cframe_by : ℕ × Option Answer → CFrame
 cframe_by brief = record { address = brief.0; cfa = optional_canswer brief.1 }
 
--- a frame of a walk in C's form: its address and its CFA
+-- C's struct for a frame of a walk: the frame's address and CFA
 abbrev pub cframe_of : WalkedFrame → CFrame
 cframe_of frame = cframe_by (brief_of frame)
 
@@ -51,8 +51,9 @@ pub record AreWritten (u : CallerRelation) (first : Place) (old new : List CFram
   pub count_is : count ≡ length frames
   pub stop_is : stop ≡ stop_number why
 
--- `AreWritten` for the walk by the modules of a process, an ABI and known memory. It starts from
--- the frame at `address`, with its registers.
+-- The frames of a walk through the modules of a process are written to the slots, as `AreWritten`
+-- says. The walk starts at the frame at `address` with `registers`. All frames have the same ABI
+-- and memory.
 pub record IsBacktrace (modules : Modules) (abi : Abi) (memory registers : ℕ → Option ℕ) (address : ℕ) (old new : List CFrame)
     (count stop : ℕ) : Type 0 where
   pub frames : AreWritten (over_tables abi memory modules) (first_place address registers) old new count stop

@@ -1,4 +1,4 @@
--- The modules of C's process.
+-- The modules of a process that C owns.
 use Rattle.std.specs.Prelude.{[], Option, Some, None}
 use Rattle.dw_process.specs.Processes.{Modules}
 use Rattle.dwcheck_c.specs.declared.handle.CProcess.{CProcess}

@@ -1,4 +1,4 @@
--- What the pointer in C's process points to.
+-- What the pointer in C's struct for a process points to.
 use Rattle.std.specs.Prelude.{Option, None, Some}
 use Rattle.std.specs.Coded.{coded_option}
 use base.Fml.{Fml, ftrue}
@@ -18,7 +18,7 @@ the_process = process.the_row
 abbrev pub process_coded : Coded (Option Modules)
 process_coded = coded_option the_process.coded
 
--- what a box of modules owns, if there is one
+-- ownership of the box of modules at `at`; of nothing if there is no box
 abbrev pub held_if : Global → Ptr → Option Modules → Fml
 held_if alloc at None = ftrue
 held_if alloc at (Some m) = box_owns (ghosts.dealloc_token alloc) the_process at m

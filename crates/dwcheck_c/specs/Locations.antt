@@ -1,4 +1,4 @@
--- Location lists in C's form.
+-- What C gets from a look-up in a location list.
 use Rattle.std.specs.Prelude.{◌≡◌, ℕ, List, length, map, min, Option, Some, None, Contains}
 use Rattle.dw_loclists.specs.Lists.{Loclist, starts_of}
 use Rattle.dw_loclists.specs.Locations.{locations_of}
@@ -10,8 +10,8 @@ use Rattle.dwcheck_c.specs.declared.location.CLocation.{CLocation}
 abbrev pub clocation_of : LocatedExpression → CLocation
 clocation_of e = record { offset = e.offset; length = length e.bytes }
 
--- A list begins at `offset`. Its expressions that apply at `address` are in the slots, as many as
--- fit, and `count` is the number of those.
+-- A list begins at `offset`. Its expressions that apply at `address` are written to the front of
+-- the slots, as many as fit, and `count` is the number of expressions written.
 pub record AreLocated (s : ListSection) (offset base address : ℕ) (old new : List CLocation) (count : ℕ) : Type 0 where
   pub begins : Contains (starts_of (lists_in s)) offset
   pub locations : (list : Loclist) → Contains (lists_in s) list → list.offset ≡ offset

@@ -1,4 +1,4 @@
--- Rows in C's form.
+-- What C gets as a row.
 use Rattle.std.specs.Prelude.{◌≡◌, ℕ, pos, List, length, map, Some, option_map}
 use Rattle.dw_rows.specs.Rules.{Rule, Cfa, default, undefined, same_value, offset, val_offset, register, expression, val_expression}
 use Rattle.dw_rows.specs.Rules.{register_and_offset, cfa_expression}
@@ -7,8 +7,8 @@ use Rattle.dwcheck_c.specs.Slots.{put_into}
 use Rattle.dwcheck_c.specs.declared.row.CRule.{CRule}
 use Rattle.dwcheck_c.specs.declared.row.CRow.{CRow}
 
--- the rule of register r in C's form; an expression is given by its offset in the section and its
--- length
+-- C's struct for the rule of register r. An expression is given by its offset in the section and
+-- its length.
 abbrev pub coded : ℕ → Rule → CRule
 coded r default = record { offset = pos 0; length = 0; register = r; source = 0; kind = 0 }
 coded r undefined = record { offset = pos 0; length = 0; register = r; source = 0; kind = 1 }
@@ -22,12 +22,14 @@ coded r (val_expression e) = record { offset = pos e.offset; length = length e.b
 abbrev pub crule_of : ℕ × Rule → CRule
 crule_of x = coded x.0 x.1
 
--- the rule of the CFA in C's form, as if it were the rule of a register
+-- C's struct for the rule of the CFA. Its kinds are those of a register's rule: 4 for a register
+-- plus an offset, 7 for an expression.
 abbrev pub cfa_coded : Cfa → CRule
 cfa_coded (register_and_offset r n) = record { offset = n; length = 0; register = r; source = 0; kind = 4 }
 cfa_coded (cfa_expression e) = record { offset = pos e.offset; length = length e.bytes; register = 0; source = 0; kind = 7 }
 
--- `row` is the found row in C's form, and its rules are in the slots, as many as fit
+-- `row` is C's struct for the found row, and the rules of the row's registers are written to the
+-- front of the slots, as many as fit
 pub record IsRowOf (found : FoundRow) (row : CRow) (old new : List CRule) : Type 0 where
   pub load_address : row.load_address ≡ found.load_address
   pub start : row.start ≡ found.row.start

@@ -1,4 +1,4 @@
--- What is written to C's slots.
+-- How elements are written to slots, which are the elements of an array that C passes.
 use Rattle.std.specs.Prelude.{List, [], ◌∷◌}
 
 -- the slots after elements are written to the front, as many as fit; the other slots are unchanged

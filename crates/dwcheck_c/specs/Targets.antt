@@ -1,4 +1,4 @@
--- Targets by C's numbers.
+-- The byte order and address size that C's numbers stand for.
 use Rattle.std.specs.Prelude.{ℕ, ◌==◌, if◌then◌else◌, Option, Some, None}
 use Rattle.dw_bytes.specs.declared.target.Target.{Target}
 use Rattle.dw_bytes.specs.declared.target.Order.{Order}

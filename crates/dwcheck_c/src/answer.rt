@@ -1,4 +1,5 @@
-//! Answers and frames in C's form.
+//! C's structs for a frame and for what is known of a CFA, a return address or a register, and the
+//! conversions to them.
 
 ghost use Rattle.std.specs.Prelude.{◌≡◌, option_map};
 ghost use Rattle.dw_unwind.specs.CallerViews.{answer_in};
@@ -7,10 +8,10 @@ ghost use Rattle.dwcheck_c.specs.Frames.{canswer_of, cframe_by, optional_canswer
 
 use dw_unwind::{Answer, BriefFrame, Stop};
 
-/// What is known of a number, by `kind`. 0: no FDE covers the address that is looked up. 1: the
-/// number is `value`. 2: the number is undefined. 3: it requires a register or memory that isn't
-/// given, or memory past the greatest address. 4: its expression divides by zero. `value` is 0
-/// unless `kind` is 1.
+/// What is known of a CFA, a return address or a register. `kind` says which of these holds. 0: no
+/// FDE covers the address that was looked up. 1: the number is `value`. 2: the number is undefined.
+/// 3: computing it requires a register or memory that isn't given, or memory past the greatest
+/// address. 4: computing it divides by zero. `value` is 0 unless `kind` is 1.
 #[repr(C)]
 #[derive(Clone, Copy, Debug)]
 pub struct CAnswer {
@@ -37,7 +38,7 @@ fn of_kind(kind: u32, value: u64) -> CAnswer
     }
 }
 
-/// An answer in C's form.
+/// Converts an answer to C's struct.
 pub(crate) fn shown_answer(answer: Answer) -> CAnswer
     ensures { result ≡ canswer_of (answer_in answer) }
 {
@@ -49,7 +50,8 @@ pub(crate) fn shown_answer(answer: Answer) -> CAnswer
     }
 }
 
-/// A frame in C's form.
+/// Converts a frame's address and CFA to C's struct. The CFA has kind 0 if no FDE covers the
+/// address that was looked up for the frame.
 pub(crate) fn shown_frame(frame: BriefFrame) -> CFrame
     ensures { result ≡ cframe_by (brief_in frame) }
 {
@@ -62,7 +64,7 @@ pub(crate) fn shown_frame(frame: BriefFrame) -> CFrame
     }
 }
 
-/// C's number for the reason why a walk ends.
+/// The number that C gets for the reason why a walk ended: `DWCHECK_STOP_` in c/include/dwcheck.h.
 pub(crate) fn stop_code(stop: Stop) -> u32
     ensures { result ≡ stop_number stop }
 {

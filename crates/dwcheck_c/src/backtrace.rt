@@ -1,4 +1,4 @@
-//! Writes the frames of a stack to C's slots.
+//! Walks up a stack, and writes its frames to an array that C passes.
 
 ghost use Rattle.std.specs.Prelude.{◌≡◌};
 ghost use Rattle.dw_rows.specs.AbiViews.{roles_of};
@@ -12,8 +12,8 @@ use dw_rows::Abi;
 use dw_unwind::laws::{frames_that_are_given_are_a_walk, walks_through_what_is_found};
 use dw_unwind::{Module, Stop, Unwinder, Walk};
 
-/// Walks up a stack, and writes its frames to `slots`, as many as fit. Returns the number of frames
-/// written, and why there are no more.
+/// Walks up a stack from the frame at `address`, and writes its frames to `slots`, as many as fit.
+/// Returns the number of frames written, and why there are no more.
 fn write_frames<U: Unwinder + Drop, R: Registers, M: Memory>(
     unwinder: U,
     abi: &Abi,
@@ -42,7 +42,8 @@ fn write_frames<U: Unwinder + Drop, R: Registers, M: Memory>(
     (count, Stop::Limit)
 }
 
-/// `write_frames` with the modules of a process.
+/// Walks up a stack with the tables of a process's modules, and writes its frames to `slots`, as
+/// many as fit. Returns the number of frames written, and why there are no more.
 pub(crate) fn write_backtrace<R: Registers, M: Memory>(
     modules: &[Module<SharedTable>],
     abi: &Abi,

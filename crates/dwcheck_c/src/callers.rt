@@ -1,4 +1,5 @@
-//! Callers in C's form.
+//! C's structs for the caller of a frame and its registers: how a caller is found, and how it is
+//! written to them.
 
 ghost use Rattle.std.specs.Prelude.{◌≡◌, ◌≤◌, map, option_map};
 ghost use Rattle.dw_rows.specs.AbiViews.{roles_of};
@@ -14,8 +15,8 @@ use dw_rows::Abi;
 use dw_unwind::laws::unwindings_through_what_is_found;
 use dw_unwind::{Answer, Caller, MAX_FOUND, Module, unwind_in};
 
-/// A register of a caller: its number, and what is known of its content. `kind` and `value` are
-/// those of `CAnswer`.
+/// A register of a caller: its number, and what is known of its content. `kind` and `value` have
+/// the same meaning as in `CAnswer`.
 #[repr(C)]
 #[derive(Clone, Copy, Debug)]
 pub struct CRegister {
@@ -34,7 +35,7 @@ pub struct CCaller {
     pub count: u64,
 }
 
-/// A register in C's form.
+/// Converts a register's number and what is known of its content to C's struct.
 fn shown_register(number: u16, answer: Answer) -> CRegister
     ensures { result ≡ cregister_of (number, answer_in answer) }
 {
@@ -69,7 +70,8 @@ pub(crate) fn write_caller(caller: &Caller, out: &mut CCaller, slots: &mut [CReg
     };
 }
 
-/// The caller of the frame at `address`, by the first module that has a row for `address`.
+/// The caller of the frame at `address`, computed with the first module that has a row for
+/// `address`. `None` if no module has a row for it.
 pub(crate) fn caller_through<R: Registers, M: Memory>(
     modules: &[Module<SharedTable>],
     abi: &Abi,

@@ -1,4 +1,4 @@
-//! Checks sections.
+//! The C call that checks a frame section and a section of location lists.
 
 ghost use Rattle.std.specs.Prelude.{◌≡◌, ◌≢◌, ◌⊎◌, None};
 ghost use Rattle.std.specs.Option.{IsSomeAnd};

@@ -6,8 +6,8 @@ ghost use Rattle.dwcheck_c.specs.Evaluated.{given_by, kind_by};
 use dw_eval::Context;
 use dw_stack::Kind;
 
-/// The context of an expression: the values that depend on the point in the program. Each value is
-/// given if its `has_` flag isn't 0.
+/// The context of an expression: the CFA, the frame base and the object's address at a point in the
+/// program. Each of them is given if its `has_` flag isn't 0.
 #[repr(C)]
 #[derive(Clone, Copy, Debug)]
 pub struct CContext {
@@ -20,14 +20,14 @@ pub struct CContext {
     pub reserved: u32,
 }
 
-/// `number`, unless `flag` is 0.
+/// `Some(number)`, or `None` if `flag` is 0.
 fn given(flag: u32, number: u64) -> Option<u64>
     ensures { result ≡ given_by flag number }
 {
     if flag == 0 { None } else { Some(number) }
 }
 
-/// The context in the library's form.
+/// Converts C's context to the library's `Context`.
 pub(crate) fn context(c: &CContext) -> Context
     ensures cfa { result.cfa ≡ given_by c.now.has_cfa c.now.cfa }
     ensures frame_base { result.frame_base ≡ given_by c.now.has_frame_base c.now.frame_base }
@@ -40,7 +40,7 @@ pub(crate) fn context(c: &CContext) -> Context
     }
 }
 
-/// The kind of an expression by C's number, or none if the number is invalid.
+/// The kind of expression that C's `number` stands for, or `None` if the number is invalid.
 pub(crate) fn kind(number: u32) -> Option<Kind>
     ensures { result ≡ kind_by number }
 {

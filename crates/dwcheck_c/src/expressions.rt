@@ -1,4 +1,4 @@
-//! Checks and evaluates expressions.
+//! The C call that checks an expression and evaluates it.
 
 ghost use Rattle.std.specs.Prelude.{◌≡◌, ◌≢◌, ◌≤◌, ◌<◌, ◌^◌, ◌⊎◌, IfErr, IfOk, None, length};
 ghost use Rattle.dw_bytes.specs.Answers.{memory};
@@ -21,7 +21,8 @@ use dw_ops::Expression;
 use dw_stack::{CheckedExpression, Kind, check_expression};
 use std::alloc::Global;
 
-/// Runs a checked expression, and writes its outcome.
+/// Evaluates a checked expression, and writes the outcome with `write_outcome`, which says what `n`
+/// means.
 fn run(
     checked: &CheckedExpression<'_>,
     c: &CContext,
@@ -40,7 +41,8 @@ fn run(
     write_outcome(&evaluation, n, value, pieces, bytes);
 }
 
-/// Checks an expression, runs it, and writes its outcome.
+/// Checks an expression. If it is accepted, evaluates it and writes its outcome. Otherwise returns
+/// its first fault, or `OUT_OF_MEMORY` if there isn't enough memory for the check.
 fn evaluated(
     alloc: Global,
     expression: &[u8],

@@ -1,12 +1,12 @@
-//! Faults in C's form.
+//! C's struct for a fault.
 
 ghost use Rattle.std.specs.Prelude.{◌≡◌};
 ghost use Rattle.dwcheck_c.specs.Faults.{cfault_of};
 
 use dw_bytes::Fault;
 
-/// Which input a fault's offset refers to: the frame section, the location lists, the expression,
-/// or the list of registers that the ABI names.
+/// The values of `CFault::within`. The fault's offset refers to the frame section, to the location
+/// lists, to the expression, or to the list of callee-saved registers of the ABI.
 pub const IN_FRAME: u32 = 0;
 
 pub const IN_LISTS: u32 = 1;
@@ -15,8 +15,8 @@ pub const IN_EXPRESSION: u32 = 2;
 
 pub const IN_ABI: u32 = 3;
 
-/// Why an input is refused: the fault's number, its offset, and in `within` which input the offset
-/// refers to.
+/// Why an input is refused: the number of the fault, its offset, and which input the offset refers
+/// to (`within`).
 #[repr(C)]
 #[derive(Clone, Copy, Debug)]
 pub struct CFault {
@@ -26,7 +26,7 @@ pub struct CFault {
     pub reserved: u32,
 }
 
-/// A fault in C's form.
+/// Converts a fault to C's struct.
 pub(crate) fn report(within: u32, fault: Fault) -> CFault
     ensures { result ≡ cfault_of within fault }
 {

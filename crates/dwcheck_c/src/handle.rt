@@ -1,4 +1,4 @@
-//! A process in C's form.
+//! C's struct for a process, which C owns and passes to the calls.
 
 ghost use Rattle.std.specs.Prelude.{◌≡◌, ◌↔◌, IsTrue, IsSome, None, Some, MatchOption};
 
@@ -7,7 +7,8 @@ use dw_process::Process;
 use std::alloc::Global;
 use std::mem::replace;
 
-/// A process that is open or closed: one pointer and a flag. If all its bytes are 0, it is closed.
+/// A process, which is open or closed: a pointer to its modules, and a flag. A closed process has
+/// no modules. If all bytes of the struct are 0, the process is closed.
 #[repr(C)]
 pub struct CProcess {
     pub(crate) held: Held,
@@ -48,7 +49,8 @@ impl CProcess {
         }
     }
 
-    /// Takes the process out of `self`, which is closed then. None if `self` was closed.
+    /// Takes the modules out of `self`, which is closed afterwards. `None` if `self` was closed
+    /// before.
     pub(crate) fn take(&mut self, alloc: Global) -> Option<Box<Process>>
         ensures taken { MatchOption result (held_in self.old ≡ None)
             (λ b. held_in self.old ≡ Some b.value) }

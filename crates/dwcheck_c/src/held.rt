@@ -1,4 +1,4 @@
-//! A process that C holds by a pointer.
+//! The pointer in C's struct for a process.
 
 ghost use Rattle.std.specs.Prelude.{◌≡◌, None, Some, Option, IsSome};
 ghost use Rattle.dw_process.specs.Processes.{Modules};
@@ -12,7 +12,8 @@ use std::alloc::Global;
 use std::marker::{Model, Send};
 use std::ptr::null_mut;
 
-/// A `Box<Process>`, or none, as a pointer without its type, since C doesn't know the type.
+/// A `Box<Process>`, or a null pointer if there is no process. C doesn't know the type `Process`,
+/// so the pointer is stored without its type.
 #[repr(C)]
 #[derive(Drop)]
 pub struct Held {
@@ -26,7 +27,7 @@ impl Model for Held {
 }
 
 impl Held {
-    /// No process.
+    /// A null pointer: there is no process.
     pub fn none(alloc: Global) -> Held
         ensures { result.modules ≡ None }
     {
@@ -36,7 +37,7 @@ impl Held {
         }
     }
 
-    /// Holds `process`.
+    /// Takes ownership of `process`.
     pub fn of(process: Box<Process>) -> Held
         ensures { result.modules ≡ Some process.value }
     {

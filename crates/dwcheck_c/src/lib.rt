@@ -1,4 +1,5 @@
-//! The C interface to the libraries.
+//! The functions that the library exports to C. c/include/dwcheck.h declares them and says how to
+//! call them.
 #![tactic(auto)]
 
 mod answer;

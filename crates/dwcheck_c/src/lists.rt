@@ -1,4 +1,4 @@
-//! Looks up location lists.
+//! The C call that checks a section of location lists and looks up one of them.
 
 ghost use Rattle.std.specs.Prelude.{◌≡◌, ◌≢◌, ◌≤◌, ◌<◌, ◌^◌, ◌⊎◌, None, length};
 ghost use Rattle.std.specs.Option.{IsSomeAnd};
@@ -15,8 +15,8 @@ use dw_bytes::FaultKind;
 use dw_loclists::{CheckedLists, check_lists};
 use std::alloc::Global;
 
-/// A look-up of `address` in the list whose first byte is at offset `list`. `base` is the base
-/// address of the unit.
+/// What to look up: `address`, in the list whose first byte is at offset `list` in the section.
+/// `base` is the base address of the list's compilation unit.
 #[repr(C)]
 #[derive(Clone, Copy, Debug)]
 pub struct CLookup {
@@ -26,8 +26,8 @@ pub struct CLookup {
     pub reserved: u32,
 }
 
-/// Writes the expressions of a list that apply at an address, as many as fit. Returns the number
-/// written, or none if no list begins at the offset.
+/// Writes the expressions that apply at `lookup.address` to `slots`, as many as fit, and returns
+/// the number written. `None` if no list begins at offset `lookup.list`.
 fn look_up(lists: &CheckedLists<'_>, lookup: &CLookup, slots: &mut [CLocation]) -> Option<usize>
     ensures { HasLocations lists.now lookup.now.list lookup.now.base lookup.now.address slots.old
         slots.new result }
@@ -41,8 +41,8 @@ fn look_up(lists: &CheckedLists<'_>, lookup: &CLookup, slots: &mut [CLocation]) 
     }
 }
 
-/// Checks location lists, and writes the expressions of a list that apply at an address, as many as
-/// fit.
+/// Checks a section of location lists, and writes the expressions of one list that apply at an
+/// address to `locations`, as many as fit.
 #[unsafe(no_mangle)]
 pub extern "C" fn dwcheck_locations(
     alloc: Global,

@@ -1,4 +1,4 @@
-//! Expressions of location lists in C's form.
+//! C's struct for an expression of a location list.
 
 ghost use Rattle.std.specs.Prelude.{◌≡◌, length, map, min};
 ghost use Rattle.dw_stack.specs.Located.{located_of};
@@ -8,7 +8,8 @@ ghost use Rattle.dwcheck_c.specs.Slots.{put_into};
 use dw_loclists::LocationsAt;
 use dw_stack::CheckedExpression;
 
-/// An expression of a location list: the offset in the section where it begins, and its length in bytes.
+/// An expression of a location list: the offset in the section where it begins, and its length in
+/// bytes.
 #[repr(C)]
 #[derive(Clone, Copy, Debug)]
 pub struct CLocation {
@@ -16,7 +17,7 @@ pub struct CLocation {
     pub length: u64,
 }
 
-/// An expression in C's form.
+/// Converts an expression that begins at `offset` in the section to C's struct.
 fn shown_location(offset: u32, checked: &CheckedExpression<'_>) -> CLocation
     ensures { result ≡ clocation_of (located_of (offset, checked.now)) }
 {

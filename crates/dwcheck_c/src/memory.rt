@@ -1,4 +1,4 @@
-//! Memory passed by C.
+//! The blocks of memory that C passes, and reads from them.
 
 use byteorder::{BigEndian, ByteOrder, LittleEndian};
 use dw_bytes::Order;
@@ -27,8 +27,8 @@ impl<'a> CBlock<'a> {
     }
 }
 
-/// Memory of which some blocks are known. If two blocks contain an address, the byte of the first
-/// one counts.
+/// Memory whose known bytes are those of `blocks`. If several blocks contain an address, the byte
+/// of the first of these blocks counts.
 #[derive(Drop)]
 pub(crate) struct Blocks<'m, 'a> {
     pub blocks: &'m [CBlock<'a>],
@@ -50,8 +50,8 @@ impl<'m, 'a> Blocks<'m, 'a> {
         None
     }
 
-    /// The result of `read` if all bytes are in the first block, else none. Nearly all reads are of
-    /// the first block, since it is usually the stack.
+    /// The result of `read` if the first block contains all the bytes, and `None` otherwise. It is
+    /// tried first because the first block is usually the stack, and most reads are there.
     #[inline(always)]
     fn read_first(&self, address: u64, size: u8, order: Order) -> Option<u64>
         requires size { IsSize size }
@@ -69,7 +69,8 @@ impl<'m, 'a> Blocks<'m, 'a> {
         block.read(address, size, order)
     }
 
-    /// The result of `read`, byte by byte.
+    /// The result of `read`, assembled byte by byte, since the bytes may be in different blocks.
+    /// `None` if no block contains one of them.
     fn read_by_bytes(&self, address: u64, size: u8, order: Order) -> Option<u64>
         requires size { IsSize size }
         requires within { address + size ≤ 2 ^ 64 }

@@ -1,4 +1,4 @@
-//! The names of faults, and the version.
+//! The C calls that give the name of a fault and the version of the interface.
 
 ghost use Rattle.std.specs.Prelude.{◌≡◌, ◌≢◌, ◌≤◌, ◌==◌, ◌⊎◌, IfSome, Some, find, length};
 ghost use Rattle.std.specs.Option.{IsSomeAnd};
@@ -66,7 +66,7 @@ const KINDS: [FaultKind; 47] = [
     FaultKind::CertState,
 ];
 
-/// The first of `kinds` whose number is `number`.
+/// The first of `kinds` whose number is `number`, or `None` if there is none.
 fn kind_among(kinds: &[FaultKind], number: u32) -> Option<FaultKind>
     ensures first { result ≡ find (λ k. number_of k == number) kinds.now }
     ensures numbered { IfSome result (λ kind. number_of kind ≡ number) }
@@ -79,7 +79,7 @@ fn kind_among(kinds: &[FaultKind], number: u32) -> Option<FaultKind>
     None
 }
 
-/// The kind whose number is `number`.
+/// The kind whose number is `number`, or `None` if there is none.
 fn kind_with(number: u32) -> Option<FaultKind>
     ensures first { result ≡ find (λ k. number_of k == number) KINDS }
     ensures numbered { IfSome result (λ kind. number_of kind ≡ number) }
@@ -88,7 +88,7 @@ fn kind_with(number: u32) -> Option<FaultKind>
 }
 
 /// Writes the name of the fault whose number is `number` to `text`, as much as fits, and the length
-/// of the whole name to `size`.
+/// of the whole name to `size`. Returns `NONE` if no fault has the number.
 #[tactic(auto, using(crate::proofs::NameLengths::name_is_short))]
 #[unsafe(no_mangle)]
 pub extern "C" fn dwcheck_fault_name(number: u32, text: &mut [u8], size: &mut usize) -> u32

@@ -1,4 +1,5 @@
-//! Processes: modules added, removed and shared.
+//! The C calls that add modules to a process, remove them, share them with another process, and
+//! close a process.
 
 ghost use Rattle.std.specs.Prelude.{◌≡◌, ◌≢◌, ◌≤◌, ◌<◌, ◌^◌, ◌⊎◌, ◌==◌, false, true, IfErr, IfOk, IfSome, None, Some, length, option_map};
 ghost use Rattle.std.specs.Option.{IsSomeAnd};
@@ -53,7 +54,8 @@ fn add(
     }
 }
 
-/// Checks a frame section, compiles it and adds it to a process.
+/// Checks a frame section, compiles its rows, and adds them to a process as a module. The compiled
+/// rows may take at most `room` bytes.
 #[unsafe(no_mangle)]
 pub extern "C" fn dwcheck_process_add(
     alloc: Global,
@@ -98,7 +100,8 @@ pub extern "C" fn dwcheck_process_add(
     }
 }
 
-/// Removes the first module that is loaded at `load_address` from a process.
+/// Removes the first module whose load address is `load_address` from a process. Returns `NONE` if
+/// there is no such module.
 #[unsafe(no_mangle)]
 pub extern "C" fn dwcheck_process_remove(
     alloc: Global,
@@ -121,7 +124,7 @@ pub extern "C" fn dwcheck_process_remove(
     if found { DONE } else { NONE }
 }
 
-/// Another process with the modules of `held`, or none if there isn't enough memory.
+/// Another process with the modules of `held`, or `None` if there isn't enough memory.
 fn shared(alloc: Global, held: &Process) -> Option<CProcess>
     ensures { IfSome result (λ other. held_in other ≡ Some held.now) }
 {
@@ -132,7 +135,8 @@ fn shared(alloc: Global, held: &Process) -> Option<CProcess>
     }
 }
 
-/// Replaces `other` by a process with the modules of `process`. They share the compiled tables.
+/// Replaces `other` with a process that has the modules of `process`. The two processes share the
+/// compiled tables.
 #[unsafe(no_mangle)]
 pub extern "C" fn dwcheck_process_share(
     alloc: Global,

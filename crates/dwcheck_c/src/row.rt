@@ -1,4 +1,4 @@
-//! Rows in C's form.
+//! C's structs for a row and for the rule of a register, and the conversions to them.
 
 ghost use Rattle.std.specs.Prelude.{◌≡◌, ◌≤◌, length, map, pos};
 ghost use Rattle.dw_rows.specs.Views.{rule_of, cfa_rule_of};
@@ -11,10 +11,10 @@ use dw_process::FoundRow;
 use dw_rows::{CfaRule, MAX_RULES, RegisterRule, RegisterRules};
 use dw_stack::CheckedExpression;
 
-/// The rule of a register, by `kind`. 1: undefined. 2: same value. 3: saved at the CFA plus
-/// `offset`. 4: the CFA plus `offset`. 5: in register `source`. 6: saved at the address that an
-/// expression gives. 7: the value that an expression gives. The expression begins at `offset` in
-/// the section and has `length` bytes.
+/// The rule of `register`. `kind` says which rule it is. 1: undefined. 2: same value. 3: saved at
+/// the CFA plus `offset`. 4: the CFA plus `offset`. 5: in register `source`. 6: saved at the
+/// address that an expression gives. 7: the value that an expression gives. With 6 and 7, the
+/// expression begins at `offset` in the section and has `length` bytes.
 #[repr(C)]
 #[derive(Clone, Copy, Debug)]
 pub struct CRule {
@@ -25,8 +25,8 @@ pub struct CRule {
     pub kind: u32,
 }
 
-/// A row. `cfa.kind` is 4 or 7, where 4 means the content of register `cfa.register` plus
-/// `cfa.offset`.
+/// A row. If `cfa.kind` is 4, the CFA is the content of register `cfa.register` plus `cfa.offset`.
+/// If it is 7, the CFA is the value that an expression gives. There are no other kinds.
 #[repr(C)]
 #[derive(Clone, Copy, Debug)]
 pub struct CRow {
@@ -84,7 +84,7 @@ fn with_expression(register: u16, kind: u32, at: u32, e: &CheckedExpression<'_>)
     }
 }
 
-/// The rule of `register` in C's form.
+/// Converts the rule of `register` to C's struct.
 fn shown_rule(register: u16, rule: RegisterRule<'_>) -> CRule
     ensures { result ≡ coded register (rule_of rule.entry) }
 {
@@ -104,7 +104,7 @@ fn shown_rule(register: u16, rule: RegisterRule<'_>) -> CRule
     }
 }
 
-/// The CFA's rule in C's form.
+/// Converts the CFA's rule to C's struct.
 fn shown_cfa(rule: CfaRule<'_>) -> CRule
     ensures { result ≡ cfa_coded (cfa_rule_of rule.entry) }
 {
@@ -116,7 +116,8 @@ fn shown_cfa(rule: CfaRule<'_>) -> CRule
     }
 }
 
-/// Writes rules to `slots`, as many as fit. Returns the number of rules, which may be more.
+/// Writes rules to `slots`, as many as fit. Returns the number of rules, which is greater than the
+/// number written if some don't fit.
 fn write_rules(rules: RegisterRules<'_, '_>, slots: &mut [CRule]) -> u32
     requires { length rules ≤ MAX_RULES }
     ensures written { slots.new ≡ put_into (map crule_of rules.entry) slots.old }

@@ -1,4 +1,4 @@
-//! Stacks: the row of an address, the caller of a frame, and the frames of a walk.
+//! The C calls that find the row of an address, the caller of a frame, and the frames of a stack.
 
 ghost use Rattle.std.specs.Prelude.{◌≡◌, ◌≢◌, ◌≤◌, ◌⊎◌, IfSome, MatchOption, None, option_map};
 ghost use Rattle.std.specs.Option.{IsSomeAnd};
@@ -25,7 +25,8 @@ use dw_rows::Abi;
 use dw_unwind::{Caller, Module, Stop};
 use std::alloc::Global;
 
-/// Writes the row of an address as loaded to `row`, and its rules to `rules`, as many as fit.
+/// Finds the row of `address`, an address as loaded. Writes the row to `row`, and the rules of its
+/// registers to `rules`, as many as fit.
 #[unsafe(no_mangle)]
 pub extern "C" fn dwcheck_row_at(
     alloc: Global,
@@ -133,8 +134,9 @@ pub extern "C" fn dwcheck_unwind(
     }
 }
 
-/// Writes the frames of a stack to `frames`, with the registers and memory that C passes. Returns
-/// the number of frames, and why there are no more.
+/// Walks up a stack from the frame at `address` with the registers and the memory of `state`, and
+/// writes its frames to `frames`, as many as fit. Returns the number of frames written, and why
+/// there are no more.
 fn frames_of(
     modules: &[Module<SharedTable>],
     abi: &Abi,
@@ -155,7 +157,7 @@ fn frames_of(
     )
 }
 
-/// `frames_of` with the modules of a process. A closed process has no modules.
+/// Walks up a stack by `frames_of` with the modules of `process`. A closed process has no modules.
 fn frames_in(
     alloc: Global,
     process: &mut CProcess,
@@ -178,7 +180,8 @@ fn frames_in(
     }
 }
 
-/// Walks up a stack, and writes its frames to `frames`, as many as fit.
+/// Walks up a stack from the frame at `address`. Writes its frames to `frames`, as many as fit, the
+/// number of frames written to `count`, and why there are no more to `stop`.
 #[unsafe(no_mangle)]
 pub extern "C" fn dwcheck_backtrace(
     alloc: Global,

@@ -3,7 +3,8 @@
 use crate::memory::{Blocks, CBlock};
 use dw_eval::Registers;
 
-/// The known registers: register n has `contents[n]`, if bit n % 8 of `known[n / 8]` is set.
+/// The known registers. The content of register n is `contents[n]`, if bit n % 8 of `known[n / 8]`
+/// is set; otherwise the register isn't known.
 #[derive(Drop)]
 pub(crate) struct Contents<'a> {
     pub contents: &'a [u64],
@@ -38,19 +39,20 @@ impl<'a> Registers for Contents<'a> {
     }
 }
 
-/// The state of a stopped thread, and the callee-saved registers of its ABI.
+/// The state of a stopped thread, with the callee-saved registers and the stack pointer of its ABI.
 #[repr(C)]
 #[derive(Drop)]
 pub struct CState<'a> {
-    /// Register n has `contents[n]`, if bit n % 8 of `known[n / 8]` is set.
+    /// The content of register n is `contents[n]`, if bit n % 8 of `known[n / 8]` is set; otherwise
+    /// the register isn't known.
     pub contents: &'a [u64],
     pub known: &'a [u8],
     /// The memory that is known.
     pub blocks: &'a [CBlock<'a>],
     /// The callee-saved registers.
     pub kept: &'a [u16],
-    /// The stack pointer register, if `has_stack_pointer` isn't 0. If a row gives it no rule, its
-    /// value in the caller is the CFA.
+    /// The number of the stack pointer register, if `has_stack_pointer` isn't 0. If a row gives
+    /// this register no rule, its content in the caller is the CFA.
     pub stack_pointer: u16,
     pub has_stack_pointer: u16,
     pub reserved: u32,

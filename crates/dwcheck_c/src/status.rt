@@ -1,4 +1,4 @@
-//! Statuses of calls.
+//! The numbers that the C calls return.
 
 /// Done: the call's results are written.
 pub const DONE: u32 = 0;
@@ -9,7 +9,7 @@ pub const REFUSED: u32 = 1;
 /// Memory ran out.
 pub const NO_MEMORY: u32 = 2;
 
-/// The rows of a section may need more than `room` bytes.
+/// The compiled rows of a section may take more than `room` bytes.
 pub const NO_ROOM: u32 = 3;
 
 /// The byte order or the address size is invalid.

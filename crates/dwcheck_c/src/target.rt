@@ -1,4 +1,4 @@
-//! Targets by the numbers that C passes.
+//! The byte order and address size that C's numbers stand for.
 
 ghost use Rattle.std.specs.Prelude.{◌≡◌};
 ghost use Rattle.dwcheck_c.specs.Targets.{order_by, size_by, target_by};
@@ -26,7 +26,7 @@ fn address_size(bytes: u32) -> Option<AddressSize>
 }
 
 /// The target with a byte order (0 for little, 1 for big) and an address size in bytes (4 or 8), or
-/// none if a number is invalid.
+/// `None` if one of these numbers is invalid.
 pub(crate) fn target(order_number: u32, address_bytes: u32) -> Option<Target>
     ensures { result ≡ target_by order_number address_bytes }
 {

@@ -1,4 +1,4 @@
-//! The outcome of an evaluation, in C's form.
+//! C's structs for the outcome of an expression, and how an outcome is written to them.
 
 ghost use Rattle.std.specs.Prelude.{◌≡◌, ◌≤◌, map};
 ghost use Rattle.dw_eval.specs.Views.{location_description_of, outcome_of, piece_in};
@@ -8,10 +8,12 @@ ghost use Rattle.dwcheck_c.specs.Slots.{put_into};
 use crate::slots::{put, write_all};
 use dw_eval::{Evaluation, Location, Outcome, Piece, PieceSize};
 
-/// The outcome of an expression, by `kind`. 0: the value `value`. 1: unreadable at the operation at
-/// `offset`. 2: a division by zero at the operation at `offset`. The other kinds are locations of
-/// an object. 3: nowhere. 4: at the address `value`. 5: in register `value`. 6: nowhere, but its
-/// value is `value`. 7: nowhere, but its value is bytes, `value` of them. 8: `count` pieces.
+/// The outcome of an expression. `kind` says which it is. 0: the value `value`. 1: unreadable at
+/// the operation at `offset`. 2: a division by zero at the operation at `offset`. With the other
+/// kinds the expression describes the location of an object. 3: it has no location and no value. 4:
+/// it is in memory at the address `value`. 5: it is in register `value`. 6: it has no location, and
+/// its value is the number `value`. 7: it has no location, and its value is a sequence of `value`
+/// bytes. 8: it is in `count` pieces.
 #[repr(C)]
 #[derive(Clone, Copy, Debug)]
 pub struct CValue {
@@ -24,7 +26,7 @@ pub struct CValue {
     pub count: u32,
 }
 
-/// A piece of an object. `kind` and `value` are those of a location in `CValue`. The piece has
+/// A piece of an object. `kind` and `value` say where the piece is, as in `CValue`. The piece has
 /// `size` bytes, or, if `is_bits` isn't 0, `size` bits from `bit_offset` on.
 #[repr(C)]
 #[derive(Clone, Copy, Debug)]
@@ -60,7 +62,8 @@ fn location_number(location: &Location<'_>) -> u64
     }
 }
 
-/// Writes the bytes of a location to `slots`, as many as fit, if the location is bytes.
+/// If an object's value is given as bytes, writes these bytes to `slots`, as many as fit. For any
+/// other location, nothing is written.
 fn write_location(location: &Location<'_>, slots: &mut [u8])
     ensures { slots.new
         ≡ put_into (bytes_of_location (location_description_of location.now)) slots.old }
@@ -70,7 +73,7 @@ fn write_location(location: &Location<'_>, slots: &mut [u8])
     }
 }
 
-/// A piece in C's form.
+/// Converts a piece to C's struct.
 fn shown_piece(piece: &Piece<'_>) -> CPiece
     ensures { result ≡ cpiece_of (piece_in piece.now) }
 {
@@ -121,8 +124,9 @@ fn without_location(kind: u32, value: u64, offset: u32, steps: u32) -> CValue
     }
 }
 
-/// Writes an outcome to `out`, its pieces to `pieces`, and the bytes of the location, or of piece
-/// `n` counted from 0, to `bytes`. Pieces and bytes are written as many as fit.
+/// Writes an outcome to `out`, and its pieces to `pieces`, as many as fit. If a single location is
+/// given as bytes, or if piece `n` (counted from 0) is, these bytes are written to `bytes`, as many
+/// as fit.
 pub(crate) fn write_outcome(
     evaluation: &Evaluation<'_>,
     n: u32,

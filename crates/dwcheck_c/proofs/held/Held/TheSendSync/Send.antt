@@ -1,4 +1,5 @@
--- What is held can go to another thread: the block, the modules in it, and a pointer.
+-- A `Held` can be sent to another thread: the pointer, the memory that it points to, and the
+-- modules there.
 use Rattle.std.specs.Prelude.{Option, None, Some}
 use mir.Raw.{raw}
 use denote.Memory.{lone}

@@ -1,4 +1,4 @@
--- `into_parts` moves two fields, and what they own goes with them.
+-- `Held::into_parts` moves the pointer and the allocator, and what they own goes with them.
 use mathlib.Core.Path.{◌≡◌, refl, sym, subst}
 use Rattle.std.specs.Prelude.{Option, None, Some, IsSome}
 use Rattle.dw_process.specs.Processes.{Modules}

@@ -1,4 +1,4 @@
--- `of_parts` moves two fields, and what they own goes with them.
+-- `Held::of_parts` moves the pointer and the allocator, and what they own goes with them.
 use mathlib.Core.Path.{refl, sym, subst}
 use Rattle.std.specs.Prelude.{Some}
 use mathlib.Core.List.{List, [], ◌∷◌, ◌++◌}
