@@ -1,11 +1,13 @@
-//! ABI rules for registers to which a row gives no rule.
+//! Tests of ABIs: which ABIs are refused, and which rules an ABI gives to registers that have no
+//! rule in a row.
 
 use crate::inputs::{FUNCTION, LITTLE};
 use dw_bytes::Fault;
 use dw_rows::{Abi, CheckedFrame, check_frame};
 use std::alloc::Global;
 
-/// The fault number and index for an ABI with these callee-saved registers and this stack pointer, if it is refused.
+/// The fault's number and index if an ABI with these callee-saved registers and this stack pointer
+/// is refused, and `None` if it is accepted.
 fn refused(kept: &[u16], stack_pointer: Option<u16>) -> Option<(u8, u32)> {
     Abi::new(kept, stack_pointer)
         .err()
@@ -22,8 +24,8 @@ fn refused_from_zero(count: usize, stack_pointer: Option<u16>) -> Option<(u8, u3
     refused(&numbers[..count.min(128)], stack_pointer)
 }
 
-/// Callee-saved registers, a stack pointer, and the number and index of the fault, if the ABI is
-/// refused.
+/// ABIs: the callee-saved registers, the stack pointer, and the fault's number and index if the ABI
+/// is refused.
 const NAMED: [(&[u16], Option<u16>, Option<(u8, u32)>); 7] = [
     (&[6, 7, 6], None, Some((63, 2))),
     (&[6, 7, 6], Some(7), Some((63, 2))),
@@ -45,8 +47,8 @@ fn names_a_register_that_stands_twice(rt: HostRuntime) {
     }
 }
 
-/// The number of callee-saved registers, which are numbered from 0 on, a stack pointer, and the
-/// number and index of the fault, if the ABI is refused.
+/// ABIs whose callee-saved registers are numbered from 0 on: the number of these registers, the
+/// stack pointer, and the fault's number and index if the ABI is refused.
 const COUNTED: [(usize, Option<u16>, Option<(u8, u32)>); 4] = [
     (128, None, Some((62, 127))),
     (127, None, None),
@@ -65,7 +67,8 @@ fn keeps_127_registers_and_a_stack_pointer(rt: HostRuntime) {
     }
 }
 
-/// Some registers, each with its rule at `address` under an ABI, as text.
+/// Five registers, each with its rule at `address` under `abi`, as text. `None` if no row covers
+/// `address`.
 fn registers_at(
     alloc: Global,
     frame: &CheckedFrame<'_>,
@@ -82,8 +85,8 @@ fn registers_at(
     Some(text)
 }
 
-/// Addresses of `FUNCTION`, and the rules of some registers there under an ABI. The rows give
-/// register 6 a rule from 0x1001 on, and register 16 everywhere.
+/// Addresses in `FUNCTION`, and the rules of the five registers there under the ABI of the test
+/// below. The rows themselves give register 6 a rule from 0x1001 on, and register 16 everywhere.
 const REGISTERS: [(u64, &str); 2] = [
     (
         0x1000,
@@ -112,7 +115,7 @@ fn gives_registers_under_an_abi(rt: HostRuntime) -> Result<(), Fault> {
     Ok(())
 }
 
-/// The rules of the row of `address` under an ABI, as text.
+/// All rules at `address` under `abi`, as text. `None` if no row covers `address`.
 fn rules_at(alloc: Global, frame: &CheckedFrame<'_>, abi: &Abi, address: u64) -> Option<String> {
     let row = frame.row_for_address(address)?;
     let mut text = String::new(alloc);
@@ -123,8 +126,8 @@ fn rules_at(alloc: Global, frame: &CheckedFrame<'_>, abi: &Abi, address: u64) ->
     Some(text)
 }
 
-/// Addresses of `FUNCTION`, and the rules there under an ABI. They come in order of register
-/// number, although the ABI doesn't name its registers in that order.
+/// Addresses in `FUNCTION`, and all rules there under the ABI of the test below. The rules come in
+/// order of register number, although that ABI names its registers in another order.
 const RULES: [(u64, &str); 2] = [
     (
         0x1000,

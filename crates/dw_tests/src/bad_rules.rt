@@ -1,5 +1,5 @@
-//! Rules whose expressions are refused for different reasons, and which faults of a program come
-//! before or after those of its expressions.
+//! Rules whose expressions are refused, each for another reason, and other faults of the same
+//! programs that are reported instead because they come first.
 
 use crate::inputs::LITTLE;
 use dw_bytes::{Fault, FaultKind};
@@ -7,20 +7,20 @@ use dw_check::{CheckFault, Section, check};
 use dw_stack::MAX_HEIGHT;
 use std::alloc::{AllocError, Global};
 
-/// The part of a CIE between its length and the end of its first instructions: the CFA is register
-/// 7 plus 8, and register 16 is saved at the CFA minus 8.
+/// A CIE without its length field. Its instructions make the CFA register 7 plus 8, and save
+/// register 16 at the CFA minus 8. Further instructions can be appended.
 const CIE: [u8; 16] = [
     0xff, 0xff, 0xff, 0xff, 4, 0, 8, 0, 1, 0x78, 0x10, 0x0c, 7, 8, 0x90, 1,
 ];
 
-/// The part of an FDE of this CIE between its length and its program. The FDE covers 0x1000 to
-/// 0x1020.
+/// An FDE of this CIE without its length field and its program. The FDE covers 0x1000 up to, not
+/// including, 0x1020.
 const FDE: [u8; 20] = [
     0, 0, 0, 0, 0, 0x10, 0, 0, 0, 0, 0, 0, 0x20, 0, 0, 0, 0, 0, 0, 0,
 ];
 
-/// As many literals as an empty stack has room for. An expression that starts with the CFA on the
-/// stack has room for one fewer.
+/// As many `lit0` operations as an empty stack has room for. An expression that starts with the CFA
+/// on the stack has room for one fewer.
 const DEEP: [u8; MAX_HEIGHT as usize] = [0x30; MAX_HEIGHT as usize];
 
 /// Expressions of registers' rules, which start with the CFA on the stack. Each comes with its
@@ -111,9 +111,10 @@ fn names_the_fault_of_an_expression_in_a_rule(rt: HostRuntime) {
     }
 }
 
-/// The end of a CIE's program, an FDE's program, and their first fault: an expression's block that
-/// is cut short; an offset that doesn't fit 64 bits, before a bad expression; and a bad expression
-/// in the CIE, before a fault of the FDE.
+/// Sections with two faults, or with one that isn't in an expression: the end of a CIE's program,
+/// an FDE's program, the fault that is reported, and its offset. In order: a block of an expression
+/// that is cut short; an offset that doesn't fit in 64 bits, before a bad expression; and a bad
+/// expression in the CIE, before a fault of the FDE.
 const BEFORE: [(&[u8], &[u8], FaultKind, u32); 3] = [
     (&[], &[0x10, 6, 5, 0x12], FaultKind::Truncated, 47),
     (
@@ -140,7 +141,7 @@ fn names_the_fault_that_comes_before_an_expressions(rt: HostRuntime) {
     }
 }
 
-/// A program that gives 128 registers a rule, the most that are allowed, and then has the
+/// A program that gives 128 registers a rule, which is the greatest number allowed, followed by the
 /// instruction `rule`.
 fn behind_most(alloc: Global, rule: &[u8]) -> Result<Vec<u8>, AllocError> {
     let mut program = Vec::new(alloc);
@@ -151,8 +152,9 @@ fn behind_most(alloc: Global, rule: &[u8]) -> Result<Vec<u8>, AllocError> {
     Ok(program)
 }
 
-/// Instructions that give a 129th register a rule, the first with a bad expression, the second with
-/// a good one; and the fault of each.
+/// Instructions that give a 129th register a rule, with the fault of each and its offset. The
+/// expression of the first is bad; that of the second is good, so its fault is that there are too
+/// many rules.
 const ONE_TOO_MANY: [(&[u8], FaultKind, u32); 2] = [
     (&[0x10, 0x80, 1, 1, 0x18], FaultKind::UnknownOperation, 304),
     (&[0x10, 0x80, 1, 0], FaultKind::TooManyRules, 300),

@@ -1,4 +1,4 @@
-//! Callers of frames, found by the library's own calls.
+//! Callers of frames, found by three calls of the library that must agree.
 
 use crate::inputs::{FUNCTION, LITTLE, OneRegister, Unknown};
 use dw_check::{Answer, Caller, check, unwind, unwind_by, unwind_by_section};
@@ -11,8 +11,8 @@ const REGISTERS: OneRegister = OneRegister {
     content: 0x7f00,
 };
 
-/// Whether `caller` is the expected caller of the frame at 0x1010: its CFA is register 6 plus 16,
-/// and the registers that are saved below the CFA can't be read.
+/// Whether `caller` is the caller that is expected for the frame at 0x1010: its CFA is register 6
+/// plus 16, and the two registers that are saved below the CFA are unreadable.
 fn is_worked(caller: &Option<Caller>) -> bool {
     let Some(caller) = caller else {
         return false;
@@ -24,7 +24,8 @@ fn is_worked(caller: &Option<Caller>) -> bool {
 }
 
 /// The caller of the frame at `address`, found in three ways that must agree: from both sections,
-/// from the frame section alone, and from its compiled table. The ABI of the last two has no rules.
+/// from the frame section alone, and from its compiled table. The last two are passed an ABI
+/// without rules.
 fn callers(alloc: Global, address: u64) -> Option<[Option<Caller>; 3]> {
     let checked = check(alloc, &FUNCTION, &[], LITTLE).ok()?;
     let frame = check_frame(alloc, &FUNCTION, LITTLE).ok()?;

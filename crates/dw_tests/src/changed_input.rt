@@ -101,7 +101,7 @@ fn rows_agree(rt: &impl Abort, alloc: Global, checked: &Checked<'_>) -> Result<(
     Ok(())
 }
 
-/// Whether an expression of the lists begins at `offset`.
+/// Whether an expression of a list begins at `offset` in the section.
 fn has_expression(lists: &CheckedLists<'_>, offset: u32) -> bool {
     for (other, _) in lists.expressions() {
         if other == offset {
@@ -111,8 +111,8 @@ fn has_expression(lists: &CheckedLists<'_>, offset: u32) -> bool {
     false
 }
 
-/// Asserts that each list is found by its offset, and that the expressions that it gives at some
-/// addresses are among the section's.
+/// Asserts that each list is found by its offset, and that the expressions that apply at some
+/// addresses are among the expressions of the section.
 fn lists_agree(rt: &impl Abort, lists: &CheckedLists<'_>) {
     for list in lists.lists() {
         let Some(found) = lists.list(list.offset()) else {
@@ -160,7 +160,8 @@ fn section_answers(
     }
 }
 
-/// Calls `section_answers` with each prefix of `bytes`, and with each change of one byte.
+/// Calls `section_answers` with each prefix of `bytes`, and with `bytes` after each change of one
+/// byte.
 fn each_change_answers(
     rt: &impl Abort,
     alloc: Global,
@@ -274,8 +275,9 @@ fn names_the_fault_of_chosen_changes(rt: HostRuntime) -> Result<(), AllocError> 
     Ok(())
 }
 
-/// Changes of one byte of `FUNCTION`, and the row of an address then: the first changes the highest
-/// byte of the FDE's address range, the second the factored offset of register 6.
+/// Changes of one byte of `FUNCTION`: the byte's offset, its new value, an address, and the row of
+/// that address afterwards. The first change is to the highest byte of the FDE's address range, the
+/// second to the factored offset of register 6.
 const ROW_CHANGES: [(usize, u8, u64, &str); 2] = [
     (
         47,

@@ -1,5 +1,5 @@
-//! Evaluations by the library's own call. Registers and context contain values that don't fit an
-//! address of four bytes.
+//! Evaluations by calls of the library. The register and the values of the context don't fit in the
+//! four bytes of a short address.
 
 use crate::inputs::{LITTLE, LITTLE_SHORT, OneRegister, Unknown};
 use dw_bytes::Target;
@@ -19,7 +19,7 @@ const CONTEXT: Context = Context {
     object: Some(0x1_0000_0010),
 };
 
-/// The outcome of an expression and its number of steps, if the expression is accepted.
+/// The outcome of an expression and its number of steps. `None` if the expression is refused.
 fn evaluated<'a>(
     alloc: Global,
     bytes: &'a [u8],
@@ -39,7 +39,8 @@ fn address(address: u64) -> Option<(Outcome<'static>, u32)> {
     Some((Outcome::Single(Location::Address(address)), 1))
 }
 
-/// Operations, and the address that each gives with 8-byte addresses and with 4-byte ones.
+/// Operations that push a value they are passed, and the address that each gives with 8-byte
+/// addresses and with 4-byte ones.
 const HANDED_IN: [(&[u8], u64, u64); 5] = [
     (&[0x77, 0x08], 0x1_0000_7f08, 0x7f08),
     (&[0x92, 0x07, 0x78], 0x1_0000_7ef8, 0x7ef8),
@@ -57,7 +58,8 @@ fn gives_what_it_is_passed_modulo_the_address_size(rt: HostRuntime) {
         let found = evaluated(rt.alloc(), bytes, LITTLE_SHORT, kind);
         assert_eq!(rt; found, address(narrow), "{bytes:?}");
     }
-    // The CFA that a register's expression starts with.
+    // The expression of a register's rule starts with the CFA on the stack, so an empty one gives
+    // the CFA.
     let found = evaluated(rt.alloc(), &[], LITTLE_SHORT, Kind::FrameRegister);
     assert_eq!(rt; found, Some((Outcome::Value(0x20), 0)));
 }

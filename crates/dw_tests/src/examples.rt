@@ -1,4 +1,5 @@
-//! Proved callers: what a caller learns from the contracts of `dw_rows`, `dw_eval` and `dw_check`.
+//! Examples of proved code that calls the libraries: what it learns from the contracts of
+//! `dw_rows`, `dw_eval` and `dw_check`.
 
 ghost use Rattle.std.specs.Prelude.{◌≡◌, ◌<◌, ◌^◌, ℕ, None, Some, IfSome, option_map};
 ghost use Rattle.dw_unwind.specs.Caller.{Unwinds, machine};
@@ -65,8 +66,8 @@ pub fn computed_value<R: Registers, M: Memory>(
     }
 }
 
-/// The caller of a frame by a compiled table. It is the caller by whichever section the table was
-/// compiled from, even if that section's bytes no longer exist.
+/// The caller of the frame at `address` by a compiled table. It is the caller that the section
+/// gives from which the table was compiled, even if that section's bytes no longer exist.
 pub fn caller_by_table<R: Registers, M: Memory>(
     table: &UnwindTable,
     abi: &Abi,

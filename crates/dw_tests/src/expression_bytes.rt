@@ -5,9 +5,10 @@ use dw_bytes::{Fault, FaultKind};
 use dw_ops::{Expression, Operation, decode_one, operations};
 use std::alloc::Global;
 
-/// Bytes, and the operation that they encode. Each operation occurs, and each of `lit`, `reg` and
-/// `breg`, which have 32 opcodes, occurs with its last opcode and a lower one. The bytes of the last
-/// lines encode no operation, and have a fault and its offset.
+/// Each line has the bytes of an operation in hex digits, a colon, and the operation as `Debug`
+/// writes it. Every operation occurs. `lit`, `reg` and `breg`, which have 32 opcodes each, occur
+/// with their last opcode and with a lower one. The last lines have bytes that are refused; after
+/// the colon they have the kind of the fault and its offset.
 const OPERATIONS: &str = "\
 030102030405060708: Addr { address: 578437695752307201 }
 08ff: Const1u { value: 255 }
@@ -81,7 +82,8 @@ ff: UnknownOperation 0
 9403: BadSize 0
 ";
 
-/// The only operation in the bytes, or the fault of the first one, as text.
+/// The operation that the hex `digits` encode, or the fault of decoding it, as text. `None` if the
+/// digits go on after the operation.
 fn shown(alloc: Global, digits: &str) -> Option<String> {
     let bytes = bytes_of(alloc, digits)?;
     if bytes.is_empty() || bytes.len() >= 16 {

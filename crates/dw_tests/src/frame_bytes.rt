@@ -4,7 +4,7 @@ use crate::inputs::{BIG_FUNCTION, BIG_SHORT, FUNCTION, LITTLE, bytes_of};
 use dw_bytes::{AddressSize, Fault, FaultKind, Format, Order, Target};
 use dw_frame::{Entry, cie_at, entries};
 
-/// The first fault of the records of a section, and its offset.
+/// The first fault of the records of a section, and its offset. `None` if there is no fault.
 fn first_fault(section: &[u8], target: Target) -> Option<(FaultKind, u32)>
     requires { length section.now < 2 ^ 32 }
 {
@@ -16,7 +16,7 @@ fn first_fault(section: &[u8], target: Target) -> Option<(FaultKind, u32)>
     None
 }
 
-/// The first fault of the programs of the FDEs of a section.
+/// The first fault of the programs of the FDEs of a section. `None` if there is no fault.
 fn first_program_fault(section: &[u8], target: Target) -> Option<(FaultKind, u32)>
     requires { length section.now < 2 ^ 32 }
 {
@@ -151,7 +151,7 @@ const OLDER: [(Target, &str); 8] = [
     ),
 ];
 
-/// Where the length and each field of the header of a CIE of `OLDER` end.
+/// The offsets in a section of `OLDER` at which the length and each field of the CIE's header end.
 fn older_fields(section: &[u8]) -> Option<[usize; 7]> {
     let (head, id) = if *section.first()? == 0xff {
         (12, 20)
@@ -199,9 +199,9 @@ fn reads_cies_of_older_versions(rt: HostRuntime) {
 }
 
 /// Cuts the record at `start` at each byte of its header, and makes its length match. Returns the
-/// first size for which the fault isn't `Truncated` at the field that is cut. `low` is the index of
-/// the length's least significant byte. `fields` says where the length and each field of the header
-/// end.
+/// first size for which the fault isn't `Truncated` at the field that is cut, or `None` if there is
+/// no such size. `low` is the index of the length's least significant byte. `fields` has the
+/// offsets at which the length and each field of the header end.
 fn misjudged(
     section: &[u8],
     target: Target,
@@ -235,7 +235,7 @@ fn misjudged(
 #[test]
 fn names_the_field_that_a_body_cuts_off(rt: HostRuntime) {
     // The section, its target, where the record begins, the index of the least significant byte of
-    // its length, and where the length and each field of its header end.
+    // its length, and the offsets at which the length and each field of its header end.
     let headers: [(&[u8], Target, usize, usize, &[usize]); 8] = [
         (&FUNCTION, LITTLE, 0, 0, &[4, 8, 9, 10, 11, 12, 13, 14, 15]),
         (&FUNCTION, LITTLE, 24, 0, &[4, 8, 16, 24]),

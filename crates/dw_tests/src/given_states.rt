@@ -39,7 +39,8 @@ fn states_of(alloc: Global, numbers: &[(u32, u8)]) -> Result<Vec<State>, AllocEr
     Ok(states)
 }
 
-/// An expression that adds 2 and 3. `STATES_OF_SUM` has its states.
+/// An expression that adds 2 and 3. `STATES_OF_SUM` has the offset and the stack height before each
+/// of its operations.
 const SUM: [u8; 3] = [0x32, 0x33, 0x22];
 
 const STATES_OF_SUM: [(u32, u8); 3] = [(0, 0), (1, 1), (2, 2)];

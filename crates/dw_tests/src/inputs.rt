@@ -1,4 +1,5 @@
-//! Targets, sections, a machine and the notation of cases, shared by several tests.
+//! What several tests share: targets, sections, registers and memory, and functions that read hex
+//! digits and lines of cases.
 
 ghost use Rattle.std.specs.Prelude.{◌==◌, if◌then◌else◌, Some, None};
 
@@ -44,22 +45,23 @@ pub(crate) const EXPRESSIONS: [u8; 56] = [
     0x23, 8, 0x16, 7, 0,
 ];
 
-/// The CIE of `FUNCTION`, and an FDE of 0 to 0x20. Its return address is always 7, so a walk goes
-/// on without end.
+/// The CIE of `FUNCTION`, and an FDE of 0 to 0x20. Its rule always gives the return address 7,
+/// which the FDE covers, so a walk never ends.
 pub(crate) const ROUND: [u8; 56] = [
     0x14, 0, 0, 0, 0xff, 0xff, 0xff, 0xff, 4, 0, 8, 0, 1, 0x78, 0x10, 0x0c, 7, 8, 0x90, 1, 0, 0, 0,
     0, 0x1c, 0, 0, 0, 0, 0, 0, 0, 0, 0, 0, 0, 0, 0, 0, 0, 0x20, 0, 0, 0, 0, 0, 0, 0, 0x0f, 1, 0x3f,
     0x14, 0x10, 1, 0, 0,
 ];
 
-/// A list at 0xc: the object is in register 0 for the first 0x10 addresses from the base on, and
-/// has the value 0 at all others.
+/// A section with one list, at offset 0xc: the object is in register 0 for the first 0x10 addresses
+/// from the base on, and has the value 0 at all others.
 pub(crate) const PAIR_AND_DEFAULT: [u8; 22] = [
     0x12, 0, 0, 0, 5, 0, 8, 0, 0, 0, 0, 0, 4, 0, 0x10, 1, 0x50, 5, 2, 0x30, 0x9f, 0,
 ];
 
-/// A list at 0xc that sets the base to 0x2000. The object is in register 0 from 0x2000 to 0x2010,
-/// and in register 1 from 0x2008 to 0x2018; an entry with an empty range says register 2.
+/// A section with one list, at offset 0xc, which sets the base to 0x2000. The object is in register
+/// 0 from 0x2000 to 0x2010, and in register 1 from 0x2008 to 0x2018. An entry with an empty range
+/// says register 2.
 pub(crate) const OVERLAPPING: [u8; 58] = [
     0x36, 0, 0, 0, 5, 0, 8, 0, 0, 0, 0, 0, 6, 0, 0x20, 0, 0, 0, 0, 0, 0, 4, 0, 0x10, 1, 0x50, 8, 8,
     0x20, 0, 0, 0, 0, 0, 0, 0x10, 1, 0x51, 7, 0, 0x20, 0, 0, 0, 0, 0, 0, 0, 0x20, 0, 0, 0, 0, 0, 0,
@@ -106,12 +108,13 @@ impl Registers for OneRegister {
     }
 }
 
-/// The bytes written in hex digits.
+/// The bytes that `digits` encode in hex. `None` if they aren't hex digits.
 pub(crate) fn bytes_of(alloc: Global, digits: &str) -> Option<Vec<u8>> {
     hex::decode(alloc, digits).ok()
 }
 
-/// The parts of a line of cases before and after its first colon.
+/// The two parts of `case`, a line of a list of cases: what comes before its first colon and space,
+/// and what comes after them.
 pub(crate) fn parts_of<'a>(rt: &impl Abort, case: &'a str) -> (&'a str, &'a str) {
     match case.split_once(": ") {
         Some(parts) => parts,

@@ -42,8 +42,8 @@ fn first_fault(alloc: Global, bytes: &[u8]) -> Option<String> {
     format!(in alloc; "{kind:?} {at}").ok()
 }
 
-/// An instruction's bytes, the offset in the section where its last field begins, and the
-/// instruction.
+/// Each line is `BYTES | OFFSET: INSTRUCTION`: the bytes of an instruction in hex digits, the
+/// offset in the section at which its last field begins, and the instruction as `Debug` writes it.
 const INSTRUCTIONS: &str = "\
 7f | 16: AdvanceLoc { delta: 63 }
 868201 | 17: Offset { register: 6, factored_offset: 130 }
@@ -111,7 +111,8 @@ fn listed(alloc: Global, digits: &str) -> Option<String> {
     Some(text)
 }
 
-/// The instructions of one program.
+/// The instructions of one program. Each line has an instruction's offset in the section, and the
+/// instruction as `Debug` writes it.
 const LISTED: &str = "\
 16 AdvanceLoc { delta: 1 }
 17 DefCfaOffset { offset: 16 }
@@ -143,7 +144,8 @@ fn last_fault(alloc: Global, digits: &str) -> Option<String> {
     format!(in alloc; "{kind:?} {at}").ok()
 }
 
-/// Programs, and the fault that ends their instructions.
+/// Each line is `PROGRAM: FAULT OFFSET`: a program in hex digits, and the fault that ends the
+/// iteration over its instructions.
 const ENDING: &str = "\
 058080040100: RegisterNumber 16
 001700: UnknownInstruction 17

@@ -1,5 +1,5 @@
-//! Tests of the libraries, only through their public calls; those of the output of `run` are in
-//! `texts`. `examples` has proved callers.
+//! Tests of the libraries, which use public calls alone. The tests of what the program `dwcheck`
+//! writes are in `texts`. `examples` has proved code that calls the libraries.
 #![tactic(auto)]
 
 #[cfg(test)]

@@ -1,4 +1,4 @@
-//! Sections of location lists, by the library's own calls.
+//! Checks of sections of location lists by calls of the library.
 
 use crate::inputs::{LITTLE, PAIR_AND_DEFAULT};
 use dw_bytes::{Fault, FaultKind};
@@ -23,7 +23,7 @@ fn checks_a_section(rt: HostRuntime) -> Result<(), Fault> {
     Ok(())
 }
 
-/// A list without an end.
+/// The table ends before its list has an end_of_list entry.
 #[test]
 fn names_the_first_fault(rt: HostRuntime) {
     let section = [0x0a, 0, 0, 0, 5, 0, 8, 0, 0, 0, 0, 0, 5, 0];

@@ -21,7 +21,8 @@ impl Registers for FramePointer {
     }
 }
 
-/// The saved frame pointer and the return address of two frames: the first returns to 0x101010, the second to 0x5000.
+/// Memory that has the saved frame pointer and the return address of two frames. The first frame
+/// returns to 0x101010, the second to 0x5000.
 const STACK: MemoryBlock<'static> = MemoryBlock {
     base: 0x7000,
     bytes: &[
@@ -30,8 +31,8 @@ const STACK: MemoryBlock<'static> = MemoryBlock {
     ],
 };
 
-/// Two modules with compiled tables of `FUNCTION`: the program has the function at 0x101000, the
-/// library at 0x201000.
+/// Two modules that both have the compiled table of `FUNCTION`: the program, in which the function
+/// is loaded at 0x101000, and a library, in which it is loaded at 0x201000.
 fn program_and_library(alloc: Global) -> Option<[Module<UnwindTable>; 2]> {
     let program = check_frame(alloc, &FUNCTION, LITTLE).ok()?;
     let program = program.compile(alloc, 1 << 20).ok()??;
@@ -43,8 +44,8 @@ fn program_and_library(alloc: Global) -> Option<[Module<UnwindTable>; 2]> {
     ])
 }
 
-/// The frames of a walk from the library to the program, and from there to an address that no
-/// module covers.
+/// The frames of a walk that begins in the library, returns to the program, and from there to an
+/// address that no module covers.
 const FRAMES: [BriefFrame; 3] = [
     BriefFrame {
         address: 0x20_1010,
@@ -138,7 +139,7 @@ fn the_first_module_that_covers_an_address_is_taken(rt: HostRuntime) {
     assert_eq!(rt; cfa_in(&two, 0x1010), Some(Answer::Unreadable));
     let apart = [Module::new(&other, 0x1000), Module::new(&function, 0)];
     assert_eq!(rt; cfa_in(&apart, 0x1010), Some(Answer::Value(0x7010)));
-    // Addresses wrap.
+    // Addresses wrap modulo 2^64.
     let high = [Module::new(&function, 0xffff_ffff_ffff_f000)];
     assert_eq!(rt; cfa_in(&high, 0x10), Some(Answer::Value(0x7010)));
     assert_eq!(rt; cfa_in(&high, 0x1010), None);

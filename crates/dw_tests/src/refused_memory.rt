@@ -291,7 +291,8 @@ fn files(alloc: Global, text: &str) -> Result<Vec<Vec<u8>>, AllocError> {
     Ok(files)
 }
 
-/// The request of `words`, and its only file with this content, if there is enough memory.
+/// The request of the command line `words`, and the contents of its only file. `None` if there
+/// isn't enough memory.
 fn request_and_files(alloc: Global, content: &str) -> Option<(Request, Vec<Vec<u8>>)> {
     let request = request(alloc, words(alloc).ok()?).ok()?;
     Some((request, files(alloc, content).ok()?))
@@ -430,7 +431,8 @@ fn looks_up(rt: &impl Abort, alloc: Global) -> bool {
     true
 }
 
-/// Makes a call again if it ran out of memory.
+/// Makes a call. If it runs out of memory, prints `refused` and makes it again; then it has to
+/// succeed.
 fn is_made(rt: &(impl Abort + Print + AllocGlobal), call: Call) {
     if !call.has_memory(rt, rt.alloc()) {
         assert!(rt; println!(rt; "refused").is_ok());

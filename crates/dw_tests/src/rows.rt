@@ -43,7 +43,7 @@ fn checks_a_cie_and_its_fde(rt: HostRuntime) {
     assert_eq!(rt; judged(rt.alloc(), &section), Some((refused, refused)));
 }
 
-/// Addresses, and where the row of each begins and ends.
+/// Addresses, and the addresses at which the row of each begins and ends; `None` if it has no row.
 type Ranges = [(u64, Option<(u64, u64)>); 4];
 
 /// Asserts that the row of each address has the given range, or that there is no row.
@@ -91,8 +91,8 @@ fn row_count(alloc: Global, section: &[u8]) -> Option<u32>
     Some(count)
 }
 
-/// Where the first two rows of the FDE of `address` end; then where the first row ends when the
-/// same iterator is started again.
+/// Where the first two rows of the FDE of `address` end, and then where the first row ends when the
+/// same iterator is started again at that FDE.
 fn ends_at(frame: &CheckedFrame<'_>, address: u64) -> Option<(u64, u64, u64)> {
     let fde = frame.fde_for_address(address)?;
     let mut rows = frame.rows(&fde);
@@ -107,8 +107,8 @@ fn ends_at(frame: &CheckedFrame<'_>, address: u64) -> Option<(u64, u64, u64)> {
     }
 }
 
-/// The offsets of the CIE and the FDE of `address`, and where its row ends; then where the row in
-/// the same variable ends after `other` is looked up.
+/// The offsets of the CIE and the FDE of `address`, and where its row ends. The last number is
+/// where the row ends that is left in the same `UnwindTableRow` after `other` is looked up with it.
 fn places_at(frame: &CheckedFrame<'_>, address: u64, other: u64) -> Option<(u32, u32, u64, u64)> {
     let mut row = UnwindTableRow::empty();
     let (cie, fde) = frame.row_for_address_into(address, &mut row)?;

@@ -9,7 +9,7 @@ use dw_rows::{CfaRule, CheckedFrame, RegisterRule, UnwindTable, check_frame};
 use std::alloc::{AllocError, Global};
 use std::process::Abort;
 
-/// Enough bytes for any table of these tests.
+/// More bytes than any table of these tests needs.
 const AMPLE: usize = 1 << 20;
 
 /// The compiled table of a section. The checked section is dropped before the table is used.
@@ -19,7 +19,8 @@ fn compiled(alloc: Global, section: &[u8]) -> Result<Option<UnwindTable>, Fault>
     check_frame(alloc, section, LITTLE)?.compile(alloc, AMPLE)
 }
 
-/// Where the row of an address begins and ends, and its return address register.
+/// Where the row of an address begins and ends by the compiled table, and its return address
+/// register.
 fn range_at(table: &UnwindTable, address: u64) -> Option<(u64, u64, u16)> {
     let (row, register) = table.row_and_return_register(address)?;
     Some((row.start_address(), row.end_address(), register))
@@ -113,8 +114,9 @@ fn a_table_agrees_with_its_section_among_many(rt: HostRuntime) -> Result<(), All
     Ok(())
 }
 
-/// Two adjacent FDEs, the first of which begins at address 0; an FDE of no address; one of a single
-/// address; and one that ends at the highest address that an FDE can end at.
+/// A CIE and five FDEs: two that are adjacent, the first of which begins at address 0; one that
+/// covers no address; one that covers a single address; and one that ends at the greatest address
+/// at which an FDE can end.
 fn edges(alloc: Global) -> Result<Vec<u8>, AllocError> {
     let mut section = FUNCTION[..24].to_vec(alloc)?;
     for (initial, range) in [(0, 16), (16, 16), (40, 0), (48, 1), (u64::MAX - 8, 8)] {
@@ -200,8 +202,8 @@ fn a_table_gives_rows_on_either_side_of_2_to_the_32(rt: HostRuntime) -> Result<(
     Ok(())
 }
 
-/// Rows of an FDE of the first address, of one in the middle, and of one of the last address that
-/// can be covered.
+/// The rows of three FDEs: one covers address 0, one begins at 2^63, and one covers the last
+/// address that an FDE can cover.
 const FAR_APART: [Found; 8] = [
     (0, Some((0, 1, 16))),
     (1, None),
@@ -244,8 +246,8 @@ fn a_table_of_all_addresses_has_one_row(rt: HostRuntime) -> Result<(), AllocErro
     Ok(())
 }
 
-/// The CIE of `BIG_FUNCTION`, an FDE of the first address, and an FDE of the last addresses that
-/// can be covered with addresses of four bytes.
+/// The CIE of `BIG_FUNCTION`, an FDE that covers address 0, and an FDE that covers the last
+/// addresses that an FDE can cover if addresses have four bytes.
 fn short_ends(alloc: Global) -> Result<Vec<u8>, AllocError> {
     let mut section = BIG_FUNCTION[..20].to_vec(alloc)?;
     section.extend_from_slice(&[0, 0, 0, 0x14, 0, 0, 0, 0, 0, 0, 0, 0, 0, 0, 0, 1])?;
@@ -342,7 +344,7 @@ fn with_many_rules(alloc: Global) -> Result<Vec<u8>, AllocError> {
     Ok(section)
 }
 
-/// The offset of an address's CFA from register 7.
+/// The offset from register 7 of the CFA at an address. `None` if the CFA has another rule.
 fn cfa_offset(table: &UnwindTable, address: u64) -> Option<i64> {
     match table.row_for_address(address)?.cfa() {
         CfaRule::RegisterAndOffset {
@@ -370,7 +372,8 @@ fn a_table_keeps_hundreds_of_rules_apart(rt: HostRuntime) -> Result<(), Fault> {
     Ok(())
 }
 
-/// For how many numbers of bytes below `rooms` the table of a section has too little room.
+/// How many of the limits of 0, 1, up to `rooms` - 1 bytes are too small for the table of a
+/// section.
 fn refusals(rt: &impl Abort, alloc: Global, frame: &CheckedFrame<'_>, rooms: usize) -> usize {
     let mut refused = 0usize;
     for room in 0..rooms {

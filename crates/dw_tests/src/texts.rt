@@ -1,4 +1,5 @@
-//! Tests of the output of `dw_check`, only through `request` and `run`.
+//! Tests of what the program `dwcheck` writes, through `dw_check::request` and `dw_check::run`,
+//! which do all of its work but reading and writing files.
 
 mod abi_lines;
 mod callers;

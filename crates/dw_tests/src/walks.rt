@@ -1,4 +1,4 @@
-//! Walks up the stack, by checked sections and by compiled tables.
+//! Walks up the stack, by checked sections and by compiled tables, which must agree.
 
 use crate::inputs::{LITTLE, ROUND, Unknown};
 use dw_check::{Backtrace, Stop, backtrace, backtrace_by, backtrace_by_section, check};

@@ -57,7 +57,8 @@ pub extern "C" fn dwcheck_row_at(
     status
 }
 
-/// The caller of the frame at `address`, with the registers and memory that C passes.
+/// The caller of the frame at `address`, computed from the registers and the memory of `state`.
+/// `None` if no module has a row for `address`.
 fn caller_of(
     modules: &[Module<SharedTable>],
     abi: &Abi,
@@ -70,7 +71,8 @@ fn caller_of(
     caller_through(modules, abi, address, &state.registers(), &state.memory())
 }
 
-/// `caller_of` with the modules of a process. A closed process has no modules.
+/// The caller of the frame at `address`, computed by `caller_of` with the modules of `process`. A
+/// closed process has no modules.
 fn caller_within(
     alloc: Global,
     process: &mut CProcess,
@@ -92,8 +94,8 @@ fn caller_within(
     }
 }
 
-/// Writes the caller of the frame at an address as loaded to `caller`, and its registers to
-/// `registers`, as many as fit.
+/// Finds the caller of the frame at `address`, an address as loaded. Writes the caller to `caller`,
+/// and its registers to `registers`, as many as fit.
 #[unsafe(no_mangle)]
 pub extern "C" fn dwcheck_unwind(
     alloc: Global,

@@ -1,4 +1,4 @@
-//! State lines that name callee-saved registers, and the stack pointer.
+//! Lines of a state file that name callee-saved registers (`keep`) and the stack pointer (`sp`).
 
 use crate::inputs::parts_of;
 use crate::texts::cases::comes_to;
@@ -6,8 +6,9 @@ use crate::texts::expressions::LOCATION_WITH_STATE;
 use std::alloc::{AllocError, Global};
 use std::process::Abort;
 
-/// Asserts the outcome of a run with a file and a state file: it is `outcome`, or the parameter
-/// `taken` if `outcome` is that word.
+/// Runs the command `words` with a file of the contents `content` and a state file of the contents
+/// `state`, and asserts the outcome. That is `taken` if `outcome` is the word `taken`, and
+/// `outcome` itself otherwise.
 fn ends_so(
     rt: &(impl Abort + AllocGlobal),
     (words, content, taken): (&str, &str, &str),
@@ -30,8 +31,9 @@ const LOOKUP: (&str, &str, &str) = (
 
 const CALLER: (&str, &str, &str) = ("dwcheck unwind --hex f 0x0 s", "-", "none");
 
-/// Asserts for the state file of each line that `eval`, `locs` and `unwind` have the line's
-/// outcome.
+/// Each line of `cases` is `STATE: OUTCOME`, where `/` stands for the end of a line of the state
+/// file. Runs `eval`, `locs` and `unwind` with this state file, and asserts that each has this
+/// outcome, or, if it is the word `taken`, the outcome of an accepted state file.
 fn end_so(rt: &(impl Abort + AllocGlobal), cases: &str) -> Result<(), AllocError> {
     for case in cases.lines() {
         let parts = parts_of(rt, case);
@@ -42,7 +44,8 @@ fn end_so(rt: &(impl Abort + AllocGlobal), cases: &str) -> Result<(), AllocError
     Ok(())
 }
 
-/// State files with a line that is malformed or contradicts the lines before it.
+/// State files with a line that is malformed or contradicts the lines before it, written as
+/// `end_so` explains. The outcome names the first such line, counted from 1.
 const REFUSED: &str = "\
 keep: state line 1
 keep : state line 1
@@ -67,8 +70,9 @@ keep 7/sp 7/bad/: state line 2
 keep 7/bad/sp 7/: state line 2
 ";
 
-/// State files that are accepted. A callee-saved register that is named again and a second stack
-/// pointer are skipped, even if the second stack pointer would contradict other lines.
+/// State files that are accepted, written as `end_so` explains. A callee-saved register that is
+/// named again and a second stack pointer are skipped, even if the second stack pointer would
+/// contradict other lines.
 const TAKEN: &str = "\
 keep 6: taken
 sp 7/: taken
@@ -86,7 +90,7 @@ fn takes_or_refuses_each_line(rt: HostRuntime) -> Result<(), AllocError> {
     end_so(&rt, TAKEN)
 }
 
-/// State lines that make registers 0 to 126 callee-saved, the greatest number of registers that is
+/// State lines that make registers 0 to 126 callee-saved, which is the greatest number of registers
 /// allowed.
 fn most_lines(alloc: Global) -> Result<String, AllocError> {
     let mut lines = String::new(alloc);
@@ -96,7 +100,8 @@ fn most_lines(alloc: Global) -> Result<String, AllocError> {
     Ok(lines)
 }
 
-/// State files that begin with the lines of `most_lines` (`{MOST}`), and their outcomes.
+/// State files, written as `end_so` explains. They begin with `{MOST}`, which stands for the lines
+/// that `most_lines` gives.
 const MANY: &str = "\
 {MOST}: taken
 {MOST}keep 127/: state line 128

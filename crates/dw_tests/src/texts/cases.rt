@@ -1,9 +1,11 @@
-//! Test cases: each runs `dwcheck` through `request` and `run`, and states the outcome.
+//! How the cases of these tests are written, and how they are run. A case gives the contents of
+//! files, a command line of `dwcheck`, and the outcome of the run.
 //!
-//! The input files are separated by ` | `. Inside a file, `{CIE}` and the like are replaced by the
-//! text of that name (see `parts`), `/` means a newline, and `-` alone is an empty file. An outcome
-//! is the output, in which `/` means a newline and the last newline is left out; or `state line N`
-//! or `bad hex N`, for runs that write nothing.
+//! The contents of several files are separated by ` | `. In a file, `/` stands for a newline, and
+//! `{CIE}` and the like for the text that has this name in `parts`. `-` alone stands for an empty
+//! file. The outcome is the output, in which `/` stands for a newline, and the last newline is left
+//! out. If a file is malformed and nothing is written, the outcome is `state line N`, for line N of
+//! the state file, counted from 1, or `bad hex N`, for the file number N, counted from 0.
 
 ghost use Rattle.std.specs.Prelude.{◌≡◌, length};
 
@@ -23,7 +25,7 @@ pub(crate) fn asked(alloc: Global, line: &str) -> Result<Result<Request, Usage>,
     Ok(request(alloc, words))
 }
 
-/// The bytes of a file that is written in the notation above.
+/// The bytes of the file that `content` stands for; the first comment of this file explains how.
 pub(crate) fn file_of(alloc: Global, content: &str) -> Result<Vec<u8>, AllocError> {
     if content == "-" {
         return Ok(Vec::new(alloc));
@@ -32,7 +34,7 @@ pub(crate) fn file_of(alloc: Global, content: &str) -> Result<Vec<u8>, AllocErro
     Ok(content.replace(alloc, '/', "\n")?.into_bytes())
 }
 
-/// The bytes of files that are written in the notation above.
+/// The bytes of the files that `contents` stands for; the first comment of this file explains how.
 pub(crate) fn files_of(alloc: Global, contents: &str) -> Result<Vec<Vec<u8>>, AllocError> {
     let mut files: Vec<Vec<u8>> = Vec::new(alloc);
     for content in contents.split(" | ") {
@@ -41,7 +43,7 @@ pub(crate) fn files_of(alloc: Global, contents: &str) -> Result<Vec<Vec<u8>>, Al
     Ok(files)
 }
 
-/// How a run with the outcome `outcome` ends, and what it writes.
+/// How a run with the outcome `outcome` ends, and what it writes. `None` if `outcome` is malformed.
 fn end_of<'a>(outcome: &'a str) -> Option<(End, &'a str)> {
     if let Some(line) = outcome.strip_prefix("state line ") {
         return Some((End::StateLine(line.parse::<u64>().ok()?), ""));
@@ -57,7 +59,7 @@ fn end_of<'a>(outcome: &'a str) -> Option<(End, &'a str)> {
     Some((end, outcome))
 }
 
-/// The output that `outcome` stands for in the notation above.
+/// The output that `outcome` stands for: `/` becomes a newline, and a last newline is added.
 pub(crate) fn text_of(alloc: Global, outcome: &str) -> Result<String, AllocError> {
     let mut text = outcome.replace(alloc, '/', "\n")?;
     if !outcome.is_empty() {
@@ -66,8 +68,8 @@ pub(crate) fn text_of(alloc: Global, outcome: &str) -> Result<String, AllocError
     Ok(text)
 }
 
-/// How a run of `line` with `files` ends, and what it writes. `None` if the line is refused, or
-/// asks for another number of files.
+/// How a run of `line` with `files` ends, and what it writes. `None` if the command line is
+/// refused, or asks for another number of files.
 fn ran(alloc: Global, line: &str, files: &[Vec<u8>]) -> Option<(End, Vec<u8>)> {
     let request = asked(alloc, line).ok()?.ok()?;
     if files.len() != request.files().len() {
@@ -78,7 +80,7 @@ fn ran(alloc: Global, line: &str, files: &[Vec<u8>]) -> Option<(End, Vec<u8>)> {
     Some((end, sink.into_inner()))
 }
 
-/// Asserts that a run of `line` with `files` has the outcome `outcome`.
+/// Asserts that the run of the command line `line` with `files` has the outcome `outcome`.
 pub(crate) fn files_come_to(
     rt: &(impl Abort + AllocGlobal),
     line: &str,
@@ -97,8 +99,8 @@ pub(crate) fn files_come_to(
     Ok(())
 }
 
-/// Asserts that a run of `line` has the outcome `outcome`, with the files that `contents` stands
-/// for.
+/// Asserts that the run of the command line `line` has the outcome `outcome`, with the files that
+/// `contents` stands for.
 pub(crate) fn comes_to(
     rt: &(impl Abort + AllocGlobal),
     line: &str,
@@ -109,8 +111,9 @@ pub(crate) fn comes_to(
     files_come_to(rt, line, &files, outcome)
 }
 
-/// Asserts the outcome of each line of `cases`: files, a colon, and the outcome of the command
-/// `words` with these files.
+/// Runs the command line `words` for each line of `cases`, which is `FILE | FILE: OUTCOME`, and
+/// asserts the outcome. There may be more files, or only one. In files and outcomes `/` stands for
+/// the end of a line; the first comment of this file says the rest.
 pub(crate) fn lines_come_to(
     rt: &(impl Abort + AllocGlobal),
     words: &str,
@@ -123,7 +126,8 @@ pub(crate) fn lines_come_to(
     Ok(())
 }
 
-/// The parts of a case that is a paragraph: its files, its command line, and its outcome.
+/// The parts of a case that is a paragraph: the files of its first line, the command line of its
+/// second, and the rest, which is the outcome.
 pub(crate) fn case_of<'a>(rt: &impl Abort, case: &'a str) -> (&'a str, &'a str, &'a str) {
     let Some((contents, rest)) = case.trim_end().split_once('\n') else {
         panic!(rt; "{case} is no case")
@@ -132,8 +136,10 @@ pub(crate) fn case_of<'a>(rt: &impl Abort, case: &'a str) -> (&'a str, &'a str, 
     (contents, words, outcome)
 }
 
-/// Asserts the outcome of each paragraph of `cases`: a line of files, a command line, and the
-/// output with newlines.
+/// Runs each paragraph of `cases`, and asserts its output. Paragraphs are separated by empty lines.
+/// The first line of a paragraph is `FILE | FILE`, with one file or more, in which `/` stands for
+/// the end of a line; the first comment of this file says the rest. The second line is the command
+/// line. The lines after it are the output.
 pub(crate) fn cases_come_to(
     rt: &(impl Abort + AllocGlobal),
     cases: &str,

@@ -1,25 +1,25 @@
-//! Named parts of files, which replace their names in test cases.
+//! Texts with names, which stand for them in the files of test cases.
 
 use std::alloc::{AllocError, Global};
 
-/// Names, and the text that replaces each.
+/// Each line has a name and the text that it stands for.
 ///
-/// `CIE` has 24 bytes, and so have `BARE_CIE`, whose instructions are all nops, and the CIEs of
+/// `CIE` has 24 bytes. So have `BARE_CIE`, whose instructions are all nops, and the CIEs of
 /// versions 1 and 3, whose return address column is 16 or 144. `LONG_CIE`, in the 64-bit format,
-/// has 32 bytes. `FDE` is the beginning of an FDE of 0x1000 to 0x1020 of 32 bytes, and lacks only
-/// the program of eight bytes; `FDE_AT_ZERO` is the same for 0 to 0x20. `FDE_AT` is one that lacks
-/// its addresses too. `PUSHES` and `RULES` are programs for `FDE`. In `RULES` the rules of two
-/// registers are expressions, the second of them empty.
+/// has 32 bytes. `FDE` is the beginning of an FDE of 0x1000 to 0x1020; the FDE has 32 bytes, and
+/// only its program of eight bytes is left out. `FDE_AT_ZERO` is the same for 0 to 0x20. `FDE_AT`
+/// leaves out the addresses too. `PUSHES` and `RULES` are programs for `FDE`. In `RULES` the rules
+/// of two registers are expressions, the second of them empty.
 ///
-/// In the list of `PAIR_AND_DEFAULT`, at 0xc, the object is in register 0 for the first 0x10
-/// addresses from the base on, and has the value 0 at all others. The list of `OVERLAPPING`, at
-/// 0xc, sets the base to 0x2000; the object is in register 0 from 0x2000 to 0x2010, and in register
-/// 1 from 0x2008 to 0x2018, and an entry with an empty range says register 2. `BIG_SHORT` is for
-/// `--big --addr4`: in its list, at 0xc, the object is in memory at register 13 plus 4 from 0x8000
-/// to 0x8010. `LONG` is a table in the 64-bit format with an empty list at 0x1c.
+/// `PAIR_AND_DEFAULT` has a list at 0xc: the object is in register 0 for the first 0x10 addresses
+/// from the base on, and has the value 0 at all others. `OVERLAPPING` has a list at 0xc, which sets
+/// the base to 0x2000: the object is in register 0 from 0x2000 to 0x2010, and in register 1 from
+/// 0x2008 to 0x2018, and an entry with an empty range says register 2. `BIG_SHORT` is for `--big
+/// --addr4`. In its list, at 0xc, the object is in memory at register 13 plus 4 from 0x8000 to
+/// 0x8010. `LONG` is a table in the 64-bit format with an empty list at 0x1c.
 ///
-/// `STACK` is a state file for a walk over `FUNCTION` from 0x1010 to 0x1020. With `LAST_WORD` after
-/// it the walk goes on to 0x2000.
+/// `STACK` is a state file for a walk over `FUNCTION` from 0x1010 to 0x1020. If `LAST_WORD` follows
+/// it, the walk reaches 0x2000 after that.
 const PARTS: &str = "\
 {FUNCTION} {CIE} {FDE} {PUSHES}
 {CIE} 14000000 ffffffff 04 00 08 00 01 78 10 0c0708 9001 00000000
@@ -45,7 +45,7 @@ const PARTS: &str = "\
 {LAST_WORD} mem 0x7f48 0020000000000000/
 ";
 
-/// The text with each name in it replaced by its part.
+/// The text `text`, with each name in it replaced by what it stands for.
 pub(crate) fn with_parts(alloc: Global, text: &str) -> Result<String, AllocError> {
     let mut whole = String::from_str(alloc, text)?;
     for line in PARTS.lines() {

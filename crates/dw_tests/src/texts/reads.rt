@@ -1,4 +1,4 @@
-//! Readers that give few bytes per call, and fail in the middle.
+//! Loads of files from readers that give few bytes per call, or that fail before the end.
 
 use crate::texts::sections::first_row_digits;
 use dw_check::{LoadFault, Reading, Reads, Source, load};
@@ -29,8 +29,8 @@ impl Read for LittleReader<'_> {
 }
 
 /// Loads `bytes` from a reader that gives at most `most` bytes per call and fails after `calls`
-/// calls. Returns whether the load succeeds. After the last byte it takes one more call, which
-/// gives no bytes.
+/// calls. Returns whether the load succeeds. After the last byte, the load makes one more call,
+/// which gives no bytes.
 fn reads(rt: &impl Abort, alloc: Global, bytes: &[u8], most: usize, calls: usize) -> bool {
     let mut source = Reads::new(LittleReader { bytes, most, calls });
     assert_eq!(rt; source.state(), Reading::Open);

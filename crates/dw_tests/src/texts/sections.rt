@@ -1,4 +1,4 @@
-//! Frame sections through `request` and `run`.
+//! Tests of `dwcheck rows` and `dwcheck row`: the rows of frame sections.
 
 use crate::texts::cases::{cases_come_to, comes_to, file_of, files_come_to, lines_come_to};
 use std::alloc::{AllocError, Global};
@@ -7,8 +7,8 @@ use std::process::Abort;
 /// The command that shows the rows of a section, given as hex text.
 pub(crate) const ROWS: &str = "dwcheck rows --hex f";
 
-/// Sections, and their rows: records, programs, expressions of rules, the 64-bit format, and an FDE
-/// after another. The last cases look up single addresses in `FUNCTION`.
+/// Sections and their rows, as `cases_come_to` explains: records, programs, expressions of rules,
+/// the 64-bit format, and two FDEs. The last cases look up single addresses in `FUNCTION`.
 const SHOWN: &str = "\
 {FUNCTION}
 dwcheck rows --hex f
@@ -151,8 +151,9 @@ fn shows_the_rows_of_sections(rt: HostRuntime) -> Result<(), AllocError> {
     cases_come_to(&rt, SHOWN)
 }
 
-/// Sections, and their first faults. Expressions are checked by their use: that of a CFA starts
-/// with an empty stack, that of a register with the CFA. The last files aren't hex text.
+/// Sections and their first faults, as `lines_come_to` explains. An expression is checked by what
+/// it is used for: with an empty stack for a CFA's rule, with the CFA on the stack for a register's
+/// rule. The last files aren't hex text.
 const REFUSED: &str = "\
 f0ffffff: refused 3 ReservedLength frame 0x00000000
 {CIE} {FDE} 0b 00000000000000: refused 16 RestoreWithoutRemember frame 0x00000030
@@ -190,7 +191,8 @@ f0ffffff: refused 3 ReservedLength frame 0x00000000
 00\u{b}: bad hex 0
 ";
 
-/// Sections in big-endian order with addresses of four bytes, and their first faults.
+/// Sections in big-endian order with addresses of four bytes, and their first faults, as
+/// `lines_come_to` explains.
 const BIG_REFUSED: &str = "\
 fffffffe: refused 3 ReservedLength frame 0x00000000
 0000000c 00000000 fffffff0 00000010: refused 11 RangePastTop frame 0x0000000c
@@ -225,7 +227,8 @@ pub(crate) fn first_row_digits(alloc: Global) -> Result<Vec<u8>, AllocError> {
     text.iter().copied().filter(|b| *b != b' ').collect(alloc)
 }
 
-/// The offset of the fault if `FUNCTION` is cut to `length` bytes, or `None` if no record is cut.
+/// The offset of the fault if `FUNCTION` is cut to `length` bytes, or `None` if the cut is between
+/// two records.
 pub(crate) fn cut_off_at(length: usize) -> Option<u32> {
     match length {
         0 | 24 | 56 => None,
@@ -236,7 +239,8 @@ pub(crate) fn cut_off_at(length: usize) -> Option<u32> {
     }
 }
 
-/// Asserts that a run with these files reports that the frame section is truncated at offset `at`.
+/// Asserts that the command line `line` with these files reports that the frame section is
+/// truncated at offset `at`.
 pub(crate) fn is_truncated(
     rt: &(impl Abort + AllocGlobal),
     line: &str,
@@ -247,7 +251,7 @@ pub(crate) fn is_truncated(
     files_come_to(rt, line, files, &wanted)
 }
 
-/// `FUNCTION` is cut to each length.
+/// `FUNCTION` is cut to each possible length.
 #[test]
 fn names_where_a_section_is_cut_off(rt: HostRuntime) -> Result<(), AllocError> {
     let digits = first_row_digits(rt.alloc())?;

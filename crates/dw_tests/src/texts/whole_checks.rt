@@ -1,4 +1,4 @@
-//! Two sections through `request` and `run`: their report, or their first fault.
+//! Tests of `dwcheck check`: reports on two sections, and their first faults.
 
 use crate::texts::cases::{cases_come_to, lines_come_to};
 use crate::texts::sections::{cut_off_at, first_row_digits, is_truncated};
@@ -7,7 +7,7 @@ use std::alloc::AllocError;
 /// The command that checks a frame section and location lists, both given as hex text.
 const CHECK: &str = "dwcheck check --hex f l";
 
-/// Frame sections and lists, and their reports.
+/// Frame sections with lists, and their reports, as `cases_come_to` explains.
 const ACCEPTED: &str = "\
 - | -
 dwcheck check --hex f l
@@ -104,8 +104,9 @@ fn reports_on_two_sections(rt: HostRuntime) -> Result<(), AllocError> {
     cases_come_to(&rt, ACCEPTED)
 }
 
-/// Frame sections and lists, and their first faults. Malformed hex text is reported first, in the
-/// order of the files; then a fault of the frame section; then a fault of the lists.
+/// Frame sections with lists, and their first faults, as `lines_come_to` explains. Malformed hex
+/// text is reported first, in the order of the files; then a fault of the frame section; then a
+/// fault of the lists.
 const REFUSED: &str = "\
 f0ffffff | -: refused 3 ReservedLength frame 0x00000000
 f0ffffff | 080000: refused 3 ReservedLength frame 0x00000000
@@ -128,7 +129,7 @@ fn names_the_first_fault_of_two_sections(rt: HostRuntime) -> Result<(), AllocErr
     lines_come_to(&rt, CHECK, REFUSED)
 }
 
-/// `FUNCTION` is cut to each length.
+/// The frame section `FUNCTION` is cut to each possible length.
 #[test]
 fn names_where_the_frame_section_is_cut_off(rt: HostRuntime) -> Result<(), AllocError> {
     let digits = first_row_digits(rt.alloc())?;

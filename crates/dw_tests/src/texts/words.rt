@@ -128,7 +128,7 @@ fn asks_for_the_value_of_an_option(rt: HostRuntime) -> Result<(), AllocError> {
     Ok(())
 }
 
-/// Accepted command lines, and the names of their files.
+/// Each line is an accepted command line, a colon, and the names of the files that it asks for.
 const GOOD: &str = "\
 dwcheck row --big f 0xFFFFffffFFFFffff: f
 dwcheck row --addr4 f 0x00000000ffffffff: f
@@ -171,7 +171,8 @@ fn asks_for_the_files_of_a_line(rt: HostRuntime) -> Result<(), AllocError> {
     Ok(())
 }
 
-/// How many bytes of each file are needed at most; `None` means the whole file.
+/// Command lines, and for each of their files the number of bytes at its beginning that are needed;
+/// `None` means that the whole file is needed.
 const NEEDED: [(&str, &[Option<u64>]); 4] = [
     ("dwcheck check f l", &[Some(1 << 32), Some(1 << 32)]),
     ("dwcheck unwind f 0x0 s", &[Some(1 << 32), None]),

@@ -1,4 +1,4 @@
-//! Writers that accept few bytes per call, and fail in the middle.
+//! Runs with writers that accept few bytes per call, or that fail before the end.
 
 ghost use Rattle.std.specs.Prelude.{◌≡◌, length};
 
@@ -75,7 +75,7 @@ fn written(
 }
 
 /// How many bytes a writer accepts per call, after how many calls it fails, how a check of two
-/// empty sections ends with it, and how many bytes of the report are written.
+/// empty sections ends with this writer, and how many bytes of the report are written.
 const EMPTY_SECTIONS: [((usize, usize), End, usize); 4] = [
     ((3, 1), End::Output, 3),
     ((1, 1000), End::Done, 61),
@@ -94,8 +94,9 @@ fn writes_a_beginning_of_the_report_on_empty_sections(rt: HostRuntime) -> Result
     Ok(())
 }
 
-/// Asserts that runs end with `End::Output` if the writer fails at its first call, at its second
-/// and so on, until a writer accepts the whole text.
+/// Runs a command with a writer that fails at its first call, then with one that fails at its
+/// second, and so on, until a writer accepts the whole text. Asserts that all runs but the last end
+/// with `End::Output`.
 fn fails_at_each_write(
     rt: &(impl Abort + AllocGlobal),
     line: &str,
@@ -115,7 +116,7 @@ fn fails_at_each_write(
     Ok(())
 }
 
-/// One run of each command, and one that is refused.
+/// One run of each command, and one in which the input is refused, as `cases_come_to` explains.
 const RUNS: &str = "\
 {FUNCTION}
 dwcheck rows --hex f
