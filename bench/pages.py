@@ -33,10 +33,11 @@ import tempfile
 TOP = os.path.dirname(os.path.dirname(os.path.abspath(__file__)))
 INDENT = "    "
 ELF = "dwcheck-elf"
-# The path that pages show for the folder of their sessions.
+# The path that the pages show in the place of the session's folder.
 SHOWN_FOLDER = "/home/user/session"
-# Words that vary: addresses of stacks and libraries of x86-64 programs, of stacks of Go's threads,
-# and of aarch64 and arm programs under qemu; numbers of threads; and perf's counts.
+# Words that differ from run to run: addresses of stacks and libraries of x86-64 programs, of stacks
+# of Go's threads, and of aarch64 and arm programs under qemu; numbers of threads; and perf's
+# counts.
 VARYING = re.compile(r"0x(0*7f[0-9a-f]{9,10}|0*c000[0-9a-f]{6}|0*5502[0-9a-f]{6}|3[ef][0-9a-f]{6})\b"
                      r"|(?<=thread )[0-9]+|\b[0-9]+(?= (?:samples|frames|of which perf|stop not))")
 
@@ -113,8 +114,8 @@ class Shell:
             if line == self.MARK + "\n":
                 break
             written.append(line.rstrip("\n").replace(self.folder, SHOWN_FOLDER))
-        # The line break before the mark ends a line that the command left open; after a complete
-        # line it makes an empty one.
+        # If the command's last line is complete, the line break before the mark makes an empty
+        # line, which is removed. Otherwise it ends the command's last line.
         if written and not written[-1]:
             written.pop()
         return written

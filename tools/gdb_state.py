@@ -30,15 +30,15 @@ except ImportError:
     sys.exit(0 if sys.argv[1:] in ([], ["--help"], ["-h"]) else 2)
 
 ABI_FOLDER = os.path.join(os.path.dirname(os.path.abspath(__file__)), "abi")
-# The bytes below the stack pointer that are written too: a function may still use what it has
+# How many bytes below the stack pointer are written too. A function may still use what it has
 # popped, and x86-64 has its red zone there.
 RED_ZONE = 128
 MOST_STACK = 1 << 18
 PAGE = 4096
 BYTES_IN_LINE = 1024
 
-# gdb's names of registers, in groups: DWARF's number of the first register of a group, and the
-# group's names in order.
+# gdb's names of registers, in groups. Each group has DWARF's number of its first register, and
+# gdb's names of its registers in the order of DWARF's numbers.
 X86_64 = [(0, "rax rdx rcx rbx rsi rdi rbp rsp r8 r9 r10 r11 r12 r13 r14 r15 rip".split())]
 POWERPC = [(0, [f"r{i}" for i in range(32)]), (65, ["lr"])]
 MIPS_TEMPORARIES = {4: "t0 t1 t2 t3 t4 t5 t6 t7", 8: "a4 a5 a6 a7 t0 t1 t2 t3"}

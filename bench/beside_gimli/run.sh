@@ -20,11 +20,11 @@ work=${WORK:-$(mktemp -d)}
 mkdir -p "$work" && work=$(cd "$work" && pwd)
 kit=$(dirname "$(rt doc)")
 
-# the libraries, as one static library
+# Build dwcheck's libraries as one static library.
 if [ ! -d "$work/src" ]; then git clone -q "$checkout" "$work/src"; else git -C "$work/src" pull -q; fi
 (cd "$work/src/crates/dw_times" && rt lib) >"$work/lib.log" 2>&1 </dev/null || { tail -n 5 "$work/lib.log" >&2; exit 1; }
 
-# gimli, from where Debian puts it, and the program that calls both
+# Build the program that calls both libraries. gimli comes from where Debian's package puts it.
 registry=$(dpkg -L librust-gimli-dev | sed -n 's#/gimli-[0-9.]*/Cargo.toml$##p')
 mkdir -p "$work/beside" && cp -r "$here/Cargo.toml" "$here/src" "$work/beside/"
 (cd "$work/beside" && CARGO_TARGET_DIR=$work/target RUSTFLAGS="-L $work/src/crates/dw_times/out -l static=dw_times -L $kit/c -l static=libc_c" \

@@ -2,8 +2,8 @@
 # Compares walks by dwcheck's compiled tables with libunwind's, in one process: addresses and CFAs
 # must agree, and nanoseconds per frame are printed. The stack is 600 frames deep; a third of the
 # frames belong to a shared library that calls back. unw_step caches what it found for an address.
-# unw_backtrace also caches where a return address has its frame's registers, and follows no rules.
-# It takes some seconds once crates/dw_times is built.
+# unw_backtrace caches in addition where the frame of a return address has saved its registers, so
+# that it needs no rules. The comparison takes some seconds once crates/dw_times is built.
 #   bench/beside_libunwind/run.sh [SECTION]..    each SECTION, a raw .debug_frame, is a further
 #                                                module that every look-up searches first
 # PREFIX=FOLDER, where `make install` put libdwcheck, times its dwcheck_backtrace and dwcheck_row_at

@@ -17,8 +17,8 @@ from frame_model import answers
 from list_model import answer
 from pair_model import check_text, state_of, unwind_text
 
-# Expressions of rules that often have a value in these states: sums, words of memory, and divisions
-# by zero.
+# Expressions of rules that often have a value with the registers and memory of these cases: sums,
+# words of memory, and divisions by zero.
 ANSWERED = {
     "cfa": ["7708", "7508", "7310", "7600", "7006", "75109404237f", "71081206", "720806", "8f08", "7408300622", "7130301b", "7430301d",
             "720873003f1a3b2a332422"],

@@ -9,12 +9,12 @@ import subprocess
 import sys
 import tempfile
 
-# files: contents by name; runs: runs of the program on these files; kinds: the kinds under which
-# the case is counted.
+# A case. `files` has the contents of its files by name, `runs` has the runs of the program on these
+# files, and `kinds` has the kinds under which the case is counted.
 Case = collections.namedtuple("Case", "files runs kinds")
-# said: printed if the texts differ. words: the program's arguments, except --big and --addr4, which
-# check() adds; an argument that is a key of `files` becomes that file's path. wanted: the output that
-# the program must write.
+# A run of the program. `said` is printed if the output differs from what is wanted. `words` has the
+# program's arguments, except --big and --addr4, which check() adds; an argument that is a key of
+# `files` becomes that file's path. `wanted` is the output that the program must write.
 Run = collections.namedtuple("Run", "said words wanted")
 
 

@@ -126,7 +126,7 @@ class ModuleMaker(WalkMaker):
     def address(self):
         return (super().address() + self.random.choice(self.loads)) % (self.top + 1)
 
-    # How it is passed.
+    # How the walk is passed to the program.
 
     def hex_text(self, section):
         digits = "".join(self.random.choice([f"{byte:02x}", f"{byte:02X}"]) for byte in section)

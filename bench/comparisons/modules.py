@@ -31,7 +31,7 @@ from walks import FAR, address_word, ended, is_address, kinds_of, limit_word
 
 BAD = ("", "dwcheck: bad argument\n", 2)
 # The program may refuse a bad load address with either of two messages, so None stands for any
-# text.
+# message.
 BAD_LOAD = ("", None, 2)
 
 
@@ -157,7 +157,7 @@ def beside_program(program, number, maker, case, folder):
     return None
 
 
-# The reference.
+# The output that the models give.
 
 def texts_alone(case):
     """The texts for FRAME alone: by the models of one section, and by the model of modules with
@@ -198,7 +198,7 @@ def beside_reference(program, number, case, folder):
     return None, ["compared with the model of one section", f"compared with the program over one section of {len(case.process)} modules"]
 
 
-# What there was.
+# What occurred in the cases.
 
 def look_ups(text):
     """The addresses at which the frames of a walk are looked up."""

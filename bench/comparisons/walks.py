@@ -22,11 +22,12 @@ from pair_model import refused_text, state_of, unwind_text
 from walk_maker import WalkMaker
 from walk_model import limit_of, rows_in, walk, walk_text
 
-# A walk is followed for at most this many frames, to choose a limit near its length.
+# The greatest number of frames for which a walk is followed in order to choose a limit near its
+# length.
 FAR = 60
 BAD_LIMITS = ["65536", "99999", "000001", "0x1", "", " 1", "1 ", "+1", "1_0", "\u0661"]
 BAD_ADDRESSES = ["0x", "1000", "0X1000", "0x00000000000001000", "0x1g", ""]
-# Expressions that need a register of the state, and one that is refused.
+# Locations to evaluate: two that need a register of the state file, and one that is refused.
 EXPRESSIONS = [bytes.fromhex("7708"), bytes.fromhex("720806"), bytes.fromhex("12")]
 
 

@@ -30,7 +30,7 @@ __attribute__((noinline)) int deep(int n) {
 }
 int main(int argc, char **argv) { return deep(argc + 3); }
 """
-# Flags that keep gcc from writing entries of location lists that are refused.
+# Flags that keep gcc from writing kinds of entries in location lists that dwcheck refuses.
 PLAIN = "-O2 -g -gdwarf-5 -gno-variable-location-views -fno-var-tracking-assignments -fvar-tracking -fno-var-tracking-uninit"
 IN_A_FOLDER = 250
 ODD = [0, 1, 0x7F, 0x80, 0xFF, 0xFE, 0x10, 0x9B, 0x2E, 0x0D]

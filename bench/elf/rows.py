@@ -95,7 +95,8 @@ def by_readelf(path):
         elif line.strip().startswith("LOC"):
             columns = line.split()[2:]
         elif line and rows is not None:
-            # A rule that names another register has its number, and its name in parentheses.
+            # If a rule names another register, readelf writes the register's number and then, in
+            # parentheses, its name, which is left out here.
             words = [word for word in line.split() if not word.startswith("(")]
             begin = int(words[0], 16)
             rules = {column: rule_by_readelf(rule) for column, rule in zip(columns, words[2:])}

@@ -38,7 +38,8 @@ def main():
             counts["accepted" if section["accepted"] else "refused"] += 1
             counts["fdes"] += section.get("fdes", 0)
             counts["rows"] += section.get("rows", 0)
-            # For an overlap, the text names another FDE each time, so it is left out.
+            # The text of an overlap names another FDE in each case, so it is left out, and overlaps
+            # are counted together.
             told = [(fault["fault"], fault["fault"] != "Overlap" and fault["what"]) for fault in section.get("faults", [])]
             for (fault, what), count in Counter(told).items():
                 times = f", {count:,} times" if count > 1 else ""

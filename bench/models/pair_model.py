@@ -126,7 +126,7 @@ def answer_text(answer, size):
 
 # State files.
 
-# The greatest number of callee-saved registers of an ABI.
+# The greatest number of callee-saved registers that an ABI may have.
 MAX_KEPT = 127
 
 

@@ -37,7 +37,7 @@ frame 1 0x0000000000001020 cfa value 0x0000000000007f50
 frame 2 0x0000000000002000 none
 stop not covered
 """
-# a frame at 7 is its own caller, whatever the state is
+# A section in which a frame at address 7 has a caller at address 7, whatever the state file says.
 ROUND = bytes.fromhex(CIE + "1c0000000000000000000000000000002000000000000000" + "0f013f1410010000")
 WALK = ["backtrace", "frame", "0x1010", "state", "9"]
 LONGEST = ["backtrace", "round", "0x3", "empty", "65535"]

@@ -12,7 +12,8 @@ volatile int sink;
 void use(void *p, int n);
 void use(void *p, int n) { sink = n + *(volatile char *)p; }
 """
-# what follows the name of a function, in turn
+# What follows the name of a function: its parameters and its body. The functions take these in
+# turn.
 BODIES = [
     "(int n, int a, int b, int c, int d, int e, int g) {{ _Alignas(32) char x[64]; x[0] = n; use(x, n + g); return x[1] + {i}; }}",
     "(int n, ...) {{ va_list v; va_start(v, n); _Alignas(64) char x[128]; x[0] = n; use(x, va_arg(v, int)); va_end(v); return x[0] + {i}; }}",

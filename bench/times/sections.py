@@ -48,7 +48,7 @@ import sys
 
 CIE_PROGRAM = bytes.fromhex("0c07089001")
 FUNCTION = bytes.fromhex("410e108602430d060320000c0708")
-# 128 rules, including that of the return address register
+# A CIE's program with a rule for 128 registers, one of which is the return address register.
 FULL = bytes.fromhex("0c07089001") + b"".join(bytes([0x08, r]) for r in range(127) if r != 16) + bytes.fromhex("08ff01")
 
 

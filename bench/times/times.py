@@ -14,7 +14,7 @@ import tempfile
 from expressions import text
 from sections import FRAMES, section
 
-# the command, and the shape and size of the section
+# What is timed: the command, the shape of the section, and its size.
 SECTIONS = [
     ("rows", "ordinary", 10000), ("rows", "ordinary", 60000), ("rows", "descending", 60000), ("rows", "shuffled", 60000),
     ("rows", "empty", 60000), ("rows", "overlap", 60000), ("check", "nested", 60000),

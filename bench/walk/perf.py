@@ -16,7 +16,7 @@ import tempfile
 
 from compare import lines_of
 
-# perf's names of registers, in the order of DWARF's numbers.
+# perf's names of the registers, in the order of DWARF's register numbers.
 NAMES = ["AX", "DX", "CX", "BX", "SI", "DI", "BP", "SP", *(f"R{i}" for i in range(8, 16)), "IP"]
 ABI = "".join(f"keep {number}\n" for number in [3, 6, 12, 13, 14, 15]) + "sp 7\n"
 

@@ -18,7 +18,7 @@ import traceback
 
 import gdb
 
-# gdb's names of registers, in the order of DWARF's numbers.
+# gdb's names of the registers, in the order of DWARF's register numbers.
 NAMES = ["rax", "rdx", "rcx", "rbx", "rsi", "rdi", "rbp", "rsp", *(f"r{i}" for i in range(8, 16)), "rip"]
 KEPT, POINTER = [3, 6, 12, 13, 14, 15], 7
 RED_ZONE, COPIED, LINE, PAGE = 128, 8192, 1024, 4096

@@ -19,7 +19,8 @@ STATE_TOOL = os.path.join(os.path.dirname(os.path.dirname(HERE)), "tools", "gdb_
 STOPS, PORT, LIMIT = 20, 1300, 40
 LLD = "ld.lld"
 
-# For each target: clang's name and flags, qemu's name, and the linker.
+# For each target: clang's name of it with further flags of clang, qemu's name of it, and the
+# linker.
 TARGETS = {
     "x86-64": (["x86_64-linux-gnu"], "x86_64", LLD),
     "i386": (["i386-linux-gnu"], "i386", LLD),

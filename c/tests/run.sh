@@ -14,7 +14,7 @@ cp "$out/header.c" "$out/header.cc"
 strict="-Wall -Wextra -pedantic -Werror -I$top/c/include"
 cc -std=c11 $strict -c "$out/header.c" -o "$out/header.o"
 c++ -std=c++17 $strict -c "$out/header.cc" -o "$out/header.o"
-frame() { # TYPE: a call with a frame section of elements of this type
+frame() { # TYPE: writes a C function that passes a pointer to this type as the frame section
     printf '#include "dwcheck.h"\nuint32_t call(const %s *frame, dwcheck_fault *fault);\n' "$1"
     printf 'uint32_t call(const %s *frame, dwcheck_fault *fault) { return dwcheck_check(frame, 1, NULL, 0, 0, 8, fault); }\n' "$1"
 }

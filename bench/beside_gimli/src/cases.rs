@@ -1,13 +1,13 @@
 //! Random cases made from real sections: a few records or lists, encoded for a target, with some
-//! bytes changed. Some programs begin with instructions that come near a limit of the profile.
+//! bytes changed. Some programs begin with instructions that come near a limit of docs/PROFILE.md.
 
 use crate::encoded::{Encoded, little, push_uleb, uleb};
 use crate::limits;
 use crate::random::Random;
 use crate::target::Target;
 
-/// A generated section. `inner` has the ranges of its programs and expressions, where a change
-/// tests most.
+/// A generated section. `inner` has the ranges of bytes of its programs and expressions, in which a
+/// change tests most.
 pub struct Case {
     pub bytes: Vec<u8>,
     inner: Vec<(usize, usize)>,
@@ -34,8 +34,8 @@ impl Case {
         case
     }
 
-    /// Changes some bytes, or none; most changes are in programs and expressions. Returns whether
-    /// the case differs.
+    /// Changes some bytes, or none. Most of the changed bytes are in programs and expressions.
+    /// Returns whether the case is changed at all.
     pub fn change(&mut self, random: &mut Random) -> bool {
         let before = self.bytes.clone();
         let count = *random.of(&[0, 1, 1, 1, 1, 2, 2, 2, 3, 5]);
@@ -87,9 +87,9 @@ fn factors(body: &[u8]) -> Option<usize> {
 }
 
 impl Frames {
-    /// Adds the records of a little-endian section with addresses of 8 bytes. CIEs that aren't of
-    /// version 4 without augmentation are left out, as are their FDEs and programs with an unknown
-    /// opcode.
+    /// Adds the records of a little-endian section with addresses of 8 bytes. CIEs are left out if
+    /// they have another version than 4, an augmentation, or a program with an unknown opcode, and
+    /// so are their FDEs. FDEs whose program has an unknown opcode are left out too.
     pub fn add(&mut self, section: &[u8]) {
         let mut cies = Vec::new();
         let mut at = 0;
@@ -146,7 +146,8 @@ impl Frames {
     }
 }
 
-/// Appends a record, in the 64-bit format if `wide`: its length, `head`, and its program.
+/// Appends a record, in the 64-bit format if `wide` is true: its length, then the bytes `head` of
+/// its header, then its program.
 fn push_record(case: &mut Case, wide: bool, target: Target, head: &[u8], program: &[u8]) {
     let length = (head.len() + program.len()) as u64;
     if wide {
@@ -198,8 +199,8 @@ pub struct Lists {
     lists: Vec<Vec<Entry>>,
 }
 
-/// The first entry of the bytes, and its length in bytes. `None` if its code or its expression
-/// isn't known.
+/// The first entry of the bytes, and its length in bytes. `None` if the kind of entry isn't known,
+/// or an operation of its expression.
 fn entry(bytes: &[u8]) -> Option<(Entry, usize)> {
     let code = *bytes.first()?;
     let (operands, mut at) = match code {
@@ -326,8 +327,8 @@ fn push_entry(case: &mut Case, target: Target, entry: &Entry) {
     }
 }
 
-/// A random expression of constants, registers and operations on them. It mostly leaves an entry on
-/// the stack.
+/// A random expression of constants, registers and operations on them. Most of these expressions
+/// leave an entry on the stack.
 pub fn made_expression(random: &mut Random, target: Target) -> Vec<u8> {
     let mut bytes = vec![0x30 + random.below(32) as u8];
     let mut height = 1;
@@ -349,7 +350,7 @@ pub fn made_expression(random: &mut Random, target: Target) -> Vec<u8> {
                 height += 1;
             }
             4 => {
-                // a branch that skips `count` nops or fewer, or a drop of the constant
+                // a drop of the constant, or a branch that skips at most `count` nops
                 push_constant(&mut bytes, random, target);
                 let count = random.below(3);
                 bytes.push(if random.one_of(4) { 0x13 } else { 0x28 });

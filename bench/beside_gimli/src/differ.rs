@@ -1,8 +1,8 @@
 //! The differential run: random cases are read by dwcheck's libraries and by gimli.
 //!
 //! If dwcheck accepts a case, gimli must read the same, so whatever gimli can't read must be
-//! refused by dwcheck. It is no difference if dwcheck refuses what gimli reads: gimli checks
-//! little.
+//! refused by dwcheck. If dwcheck refuses a case that gimli reads, that is no difference, since
+//! gimli checks little.
 
 use crate::cases::{Case, Frames, Lists, made_expression};
 use crate::limits;
@@ -21,8 +21,8 @@ struct Counts {
     /// For each fault number: how many cases dwcheck refused, and how many of these gimli reads.
     refused: BTreeMap<u64, (u64, u64)>,
     differences: u64,
-    /// Differences that aren't counted, since gimli may shift by a greater count (see
-    /// `may_shift_further`).
+    /// Differences that aren't counted as such, since gimli may shift by a greater count than
+    /// dwcheck (see `may_shift_further`).
     shifts: u64,
 }
 
@@ -61,8 +61,8 @@ impl Counts {
     }
 }
 
-/// A case of a frame section. If it is accepted, the rows that its compiled table gives are
-/// compared too.
+/// Compares one random case of a frame section. If it is accepted, the rows that its compiled table
+/// gives are compared too.
 fn frame_case(frames: &Frames, random: &mut Random, target: Target, counts: &mut Counts, tables: &mut Counts) {
     let mut case = frames.case(random, target);
     let changed = case.change(random);

@@ -1,5 +1,5 @@
-//! Programs and expressions of real sections. They are split into parts where their encoding
-//! depends on the target, so that they can be encoded for another target.
+//! Programs and expressions of real sections, split into parts. The parts whose encoding depends on
+//! the target are separate, so that they can be encoded for another target.
 
 use crate::target::Target;
 
@@ -8,7 +8,7 @@ use crate::target::Target;
 enum Part {
     /// Bytes that are the same for every target.
     Bytes(Vec<u8>),
-    /// A number, and its size in bytes.
+    /// A number, and how many bytes it has.
     Fixed(u64, usize),
     Address(u64),
     /// An expression with its length before it.
@@ -20,9 +20,9 @@ pub struct Encoded {
     parts: Vec<Part>,
 }
 
-/// The operands of a call frame instruction, a letter each: `a` an address, a digit a number of so
-/// many bytes, `u` a LEB128 number, `b` a block that is an expression. `None` if the opcode isn't
-/// known.
+/// The operands of a call frame instruction, one letter or digit for each: `a` is an address, a
+/// digit is a number of that many bytes, `u` is a LEB128 number, and `b` is an expression with its
+/// length before it. `None` if the opcode isn't known.
 fn instruction_operands(code: u8) -> Option<&'static str> {
     Some(match code {
         0x40..=0x7f | 0xc0..=0xff => "",
@@ -40,8 +40,8 @@ fn instruction_operands(code: u8) -> Option<&'static str> {
     })
 }
 
-/// The operands of an operation, in the letters of `instruction_operands`; `i` is a LEB128 length
-/// followed by as many bytes.
+/// The operands of an operation, in the letters that `instruction_operands` explains. In addition,
+/// `i` is a LEB128 length followed by that many bytes. `None` if the opcode isn't known.
 fn operation_operands(code: u8) -> Option<&'static str> {
     Some(match code {
         0x03 => "a",
@@ -58,7 +58,7 @@ fn operation_operands(code: u8) -> Option<&'static str> {
     })
 }
 
-/// An unsigned LEB128 number of at most nine bytes, and its length in bytes.
+/// An unsigned LEB128 number, and its length in bytes. `None` if it has more than nine bytes.
 pub fn uleb(bytes: &[u8]) -> Option<(u64, usize)> {
     let mut number = 0;
     for (place, byte) in bytes.iter().take(9).enumerate() {
@@ -78,7 +78,7 @@ pub fn push_uleb(bytes: &mut Vec<u8>, mut number: u64) {
     bytes.push(number as u8);
 }
 
-/// The first `size` bytes as a little-endian number.
+/// The first `size` bytes as a little-endian number. `None` if there are fewer bytes.
 pub fn little(bytes: &[u8], size: usize) -> Option<u64> {
     let bytes = bytes.get(..size)?;
     Some(bytes.iter().rev().fold(0, |number, byte| number << 8 | u64::from(*byte)))

@@ -1,10 +1,10 @@
-//! Programs and expressions that come near a limit of the profile, or exceed it by a little.
+//! Programs and expressions that come near a limit of docs/PROFILE.md, or exceed it by a little.
 
 use crate::encoded::push_uleb;
 use crate::random::Random;
 use crate::target::Target;
 
-/// A number from `limit - 4` to `limit + 2`: more of these are within the limit than above.
+/// A random number from `limit - 4` to `limit + 2`, so that most are within the limit.
 fn near(random: &mut Random, limit: usize) -> usize {
     limit - 4 + random.below(7)
 }
@@ -17,8 +17,8 @@ fn push_sleb(bytes: &mut Vec<u8>, mut number: i64) {
     bytes.push(number as u8 & 0x7f);
 }
 
-/// The beginning of an FDE's program: nested remember_state instructions, offsets near 64 bits, or
-/// many rules.
+/// The beginning of an FDE's program: nested remember_state instructions, offsets that nearly don't
+/// fit in 64 bits, or rules of many registers.
 pub fn program(random: &mut Random) -> Vec<u8> {
     match random.below(3) {
         0 => remembered(random),
@@ -27,8 +27,8 @@ pub fn program(random: &mut Random) -> Vec<u8> {
     }
 }
 
-/// Nested remember_state instructions, with a change of a rule after most of them, and then as many
-/// restore_state instructions; now and then one fewer or one more.
+/// Nested remember_state instructions, most of them followed by a change of a rule, and then the
+/// same number of restore_state instructions, or sometimes one fewer or one more.
 fn remembered(random: &mut Random) -> Vec<u8> {
     let mut bytes = Vec::new();
     let count = near(random, 16);
@@ -46,8 +46,8 @@ fn remembered(random: &mut Random) -> Vec<u8> {
     bytes
 }
 
-/// Instructions whose offset comes near the limits of 64 bits, either as it is or when it is
-/// multiplied by an alignment factor.
+/// Instructions with an offset that is near the limits of 64 bits, either as it is written or after
+/// it is multiplied by an alignment factor.
 fn far_offsets(random: &mut Random) -> Vec<u8> {
     let mut bytes = Vec::new();
     for _ in 0..1 + random.below(3) {
@@ -95,7 +95,7 @@ fn many_rules(random: &mut Random) -> Vec<u8> {
     bytes
 }
 
-/// An expression with a high stack, with branches over operations that move the stack, or with many
+/// An expression with a high stack, with branches over operations that push and pop, or with many
 /// pieces.
 pub fn expression(random: &mut Random, target: Target) -> Vec<u8> {
     match random.below(3) {
@@ -122,7 +122,7 @@ fn high(random: &mut Random) -> Vec<u8> {
     bytes
 }
 
-/// Operations that leave the stack height as it was, now and then with some that don't.
+/// Operations that together leave the stack height as it was, or, now and then, change it.
 fn body(random: &mut Random) -> Vec<u8> {
     let mut bytes = Vec::new();
     for _ in 0..random.below(4) {
@@ -134,7 +134,8 @@ fn body(random: &mut Random) -> Vec<u8> {
     bytes
 }
 
-/// Branches that skip a body, or that choose between two bodies. Some lead to other bytes.
+/// Branches that skip a few operations, or that choose between two groups of them. Some lead to
+/// other bytes.
 fn branching(random: &mut Random, target: Target) -> Vec<u8> {
     let mut bytes = vec![0x35];
     for _ in 0..1 + random.below(4) {
@@ -152,7 +153,7 @@ fn branching(random: &mut Random, target: Target) -> Vec<u8> {
     bytes
 }
 
-/// Nearly as many pieces as are allowed, or a few more, of every kind.
+/// A number of pieces of every kind that is near the limit, or exceeds it by a little.
 fn pieces(random: &mut Random) -> Vec<u8> {
     let mut bytes = Vec::new();
     for _ in 0..near(random, 32) {

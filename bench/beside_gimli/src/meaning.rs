@@ -1,5 +1,5 @@
-//! Checksums of what gimli reads of a section or an expression. They equal those of crates/dw_times
-//! if both read the same.
+//! Checksums of what gimli reads from a section or an expression. They equal those of
+//! crates/dw_times if gimli and dwcheck read the same.
 
 use crate::random::Random;
 use crate::target::Target;
@@ -13,7 +13,7 @@ use gimli::{
 type Bytes<'a> = EndianSlice<'a, RunTimeEndian>;
 type Frame<'a> = DebugFrame<Bytes<'a>>;
 
-/// The checksum that `Mixed` of crates/dw_times computes.
+/// The same checksum as `Mixed` of crates/dw_times.
 #[derive(Default)]
 struct Mixed {
     number: u64,
@@ -43,7 +43,7 @@ impl Mixed {
     }
 }
 
-/// Storage with room for everything that `dwcheck` accepts.
+/// Storage for gimli with room for every expression and row that `dwcheck` accepts.
 struct Places;
 
 impl<R: Reader> EvaluationStorage<R> for Places {
@@ -119,7 +119,7 @@ fn other(operation: Operation<Bytes<'_>>) -> Parts {
     }
 }
 
-/// Adds the number of operations, and each operation with its offset.
+/// Adds the number of operations to the checksum, and each operation with its offset.
 fn add_operations(mixed: &mut Mixed, expression: Expression<Bytes<'_>>, target: Target) -> Result<(), Error> {
     let mut found = Vec::new();
     let mut operations = expression.operations(target.encoding());
@@ -176,8 +176,8 @@ fn add_pieces(mixed: &mut Mixed, pieces: &[Piece<Bytes<'_>>], kind: Kind, target
     Ok(())
 }
 
-/// Adds the outcome of an expression on the machine of crates/dw_times: register N contains N + 7,
-/// and each byte of memory is 0x5a.
+/// Adds the outcome of an expression to the checksum. It is evaluated on the machine of
+/// crates/dw_times: register N contains N + 7, and each byte of memory is 0x5a.
 fn add_value(mixed: &mut Mixed, expression: Expression<Bytes<'_>>, kind: Kind, target: Target) -> Result<(), Error> {
     let mut evaluation = Evaluation::<_, Places>::new_in(expression.0, target.encoding());
     evaluation.set_object_address(0x3000);
@@ -222,8 +222,8 @@ fn add_expression(
     mixed.add(expression.0.offset_from(section) as u64);
     add_operations(mixed, expression, target)?;
     if expression.0.is_empty() && kind == Kind::Location {
-        // An empty location. gimli reports an empty stack here, and its users don't evaluate such
-        // expressions.
+        // An empty location. gimli would report an empty stack here, and its users don't evaluate
+        // such expressions.
         mixed.add(2);
         mixed.add(1);
         return Ok(());
@@ -298,7 +298,7 @@ fn add_cie(mixed: &mut Mixed, cie: &CommonInformationEntry<Bytes<'_>>) {
     );
 }
 
-/// Adds an FDE and its rows, except rows that cover no address.
+/// Adds an FDE and its rows to the checksum, except rows that cover no address.
 fn add_fde(mixed: &mut Mixed, frame: &Frame<'_>, section: Bytes<'_>, fde: &FrameDescriptionEntry<Bytes<'_>>) -> Result<(), Error> {
     mixed.add(fde.offset() as u64);
     mixed.add_three(fde.cie().offset() as u64, fde.initial_address(), fde.len());
@@ -313,7 +313,7 @@ fn add_fde(mixed: &mut Mixed, frame: &Frame<'_>, section: Bytes<'_>, fde: &Frame
     Ok(())
 }
 
-/// The checksum of a frame section, if gimli can read it.
+/// The checksum of a frame section, or gimli's error if it can't read the section.
 pub fn frame_answer(bytes: &[u8], target: Target) -> Result<u64, Error> {
     let section = EndianSlice::new(bytes, target.order());
     let mut frame = DebugFrame::from(section);
@@ -359,8 +359,8 @@ fn covering<'a>(frame: &Frame<'a>) -> Result<Vec<FrameDescriptionEntry<Bytes<'a>
     Ok(fdes)
 }
 
-/// Adds an address, and its row with the return address register of the row's CIE, or that there is
-/// no row.
+/// Adds an address to the checksum, and its row with the return address register of the row's CIE,
+/// or that it has no row.
 fn add_found(
     mixed: &mut Mixed,
     frame: &Frame<'_>,
@@ -404,8 +404,8 @@ impl<'a> Rows<'a> {
         Ok(Rows { section, frame, fdes })
     }
 
-    /// For each FDE: its first address, the address before, its last address, the address after,
-    /// and an address inside.
+    /// Addresses at the bounds of each FDE: its first address and the one before, its last address
+    /// and the one after, and a random one inside.
     pub fn addresses(&self, random: &mut Random) -> Vec<u64> {
         let around = |fde: &FrameDescriptionEntry<Bytes<'_>>| {
             let (start, end) = (fde.initial_address(), fde.initial_address().wrapping_add(fde.len()));
@@ -414,7 +414,7 @@ impl<'a> Rows<'a> {
         self.fdes.iter().flat_map(around).collect()
     }
 
-    /// The checksum of the rows of these addresses.
+    /// The checksum of the rows at these addresses.
     pub fn answer(&self, addresses: &[u64]) -> Result<u64, Error> {
         let mut mixed = Mixed::default();
         for &address in addresses {
@@ -426,8 +426,8 @@ impl<'a> Rows<'a> {
 
 /// An entry of a location list that has an expression.
 struct Entry<'a> {
-    /// A base address, and the beginning and end of the range relative to it. The base is the
-    /// unit's if it is `None`. A default location has no range.
+    /// A base address, and the beginning and end of the range relative to it. If the base address
+    /// is `None`, it is that of the unit. A default location has no range.
     range: Option<(Option<u64>, u64, u64)>,
     expression: Expression<Bytes<'a>>,
 }
@@ -438,7 +438,7 @@ struct List<'a> {
     entries: Vec<Entry<'a>>,
 }
 
-/// Reads the list at an offset. Returns the offset after its end, and the list.
+/// Reads the list at an offset. Returns the offset of the byte after it, and the list.
 fn list<'a>(lists: &LocationLists<Bytes<'a>>, section: Bytes<'a>, at: usize, target: Target) -> Result<(usize, List<'a>), Error> {
     let mut raw = lists.raw_locations(LocationListsOffset(at), target.encoding())?;
     let (mut end, mut base, mut entries) = (at, None, Vec::new());
@@ -493,8 +493,8 @@ impl<'a> Lists<'a> {
         Ok(Lists { section, target, lists: found })
     }
 
-    /// For each range: its first address, the address before, its last address, and the address
-    /// after.
+    /// Addresses at the bounds of each range: its first address and the one before, its last
+    /// address and the one after.
     pub fn bounds(&self, unit: u64) -> Vec<u64> {
         let entries = self.lists.iter().flat_map(|list| &list.entries);
         let ranges = entries.filter_map(|entry| entry.range);
@@ -509,8 +509,8 @@ impl<'a> Lists<'a> {
             .collect()
     }
 
-    /// The checksum of the lists: the expressions that hold at each of these addresses, for a unit
-    /// with the base address `unit`, and all expressions.
+    /// The checksum of the lists: of the expressions that apply at each of these addresses, for a
+    /// unit with the base address `unit`, and of all expressions.
     pub fn answer(&self, unit: u64, addresses: &[u64]) -> Result<u64, Error> {
         let mut mixed = Mixed::default();
         for list in &self.lists {
@@ -544,9 +544,9 @@ impl<'a> Lists<'a> {
     }
 }
 
-/// Whether an expression has a shift and the target has addresses of four bytes. There dwcheck's
-/// stack entries are below 2^32. gimli may keep a greater shift count, from a longer constant or
-/// from `not`, and then shifts all bits out.
+/// Whether the results of gimli and dwcheck may differ because an expression has a shift and
+/// addresses have four bytes. dwcheck's stack entries are then below 2^32. gimli may keep a greater
+/// shift count, from a longer constant or from `not`, and then shifts all bits out.
 pub fn may_shift_further(bytes: &[u8], target: Target) -> bool {
     let mut operations = Expression(EndianSlice::new(bytes, target.order())).operations(target.encoding());
     let mut shifts = false;
@@ -556,7 +556,8 @@ pub fn may_shift_further(bytes: &[u8], target: Target) -> bool {
     target.small && shifts
 }
 
-/// The checksum of an expression's meaning, if gimli can read and run the expression.
+/// The checksum of an expression's meaning, or gimli's error if it can't read or run the
+/// expression.
 pub fn expression_answer(bytes: &[u8], kind: Kind, target: Target) -> Result<u64, Error> {
     let section = EndianSlice::new(bytes, target.order());
     let mut mixed = Mixed::default();

@@ -1,4 +1,5 @@
-//! The exports of crates/dw_times. A section or an expression is passed as a pointer and a length.
+//! The exports of crates/dw_times, which call dwcheck's libraries. A section or an expression is
+//! passed to them as a pointer and a length.
 
 
 type Start = *const u8;
@@ -30,12 +31,12 @@ unsafe extern "C" {
     fn bench_expression_answer(bytes: Start, n: usize, big: bool, small: bool, location: bool) -> u64;
 }
 
-/// The number of FDEs of a section, 0 if the section is refused.
+/// The number of FDEs of a section, or 0 if the section is refused.
 pub fn check(section: &[u8]) -> usize {
     unsafe { bench_check(section.as_ptr(), section.len()) }
 }
 
-/// The number of expressions of a section of lists, 0 if the section is refused.
+/// The number of expressions of a section of lists, or 0 if the section is refused.
 pub fn check_lists(section: &[u8]) -> usize {
     unsafe { bench_check_lists(section.as_ptr(), section.len()) }
 }
@@ -102,8 +103,8 @@ pub fn frame_answer(section: &[u8], big: bool, small: bool) -> u64 {
     unsafe { bench_frame_answer(section.as_ptr(), section.len(), big, small) }
 }
 
-/// The checksum of a section of lists and of what it gives at some addresses, or the number of its
-/// first fault.
+/// The checksum of a section of lists and of the expressions that apply at some addresses, or the
+/// number of its first fault.
 pub fn lists_answer(section: &[u8], big: bool, small: bool, base: u64, addresses: &[u64]) -> u64 {
     unsafe {
         let (start, n) = (section.as_ptr(), section.len());
@@ -111,8 +112,8 @@ pub fn lists_answer(section: &[u8], big: bool, small: bool, base: u64, addresses
     }
 }
 
-/// The checksum of the meaning of an expression, which is a location or a register's rule, or the
-/// number of its first fault.
+/// The checksum of the meaning of an expression, or the number of its first fault. The expression
+/// is a location if `location` is true, and a register's rule otherwise.
 pub fn expression_answer(bytes: &[u8], big: bool, small: bool, location: bool) -> u64 {
     unsafe { bench_expression_answer(bytes.as_ptr(), bytes.len(), big, small, location) }
 }

@@ -1,4 +1,4 @@
-//! Random numbers, the same for the same seed.
+//! Pseudo-random numbers, which are always the same for the same seed.
 
 pub struct Random {
     state: u64,
@@ -21,7 +21,7 @@ impl Random {
         ((u128::from(self.next()) * end as u128) >> 64) as usize
     }
 
-    /// True once in `times` calls, on average.
+    /// True in one of `times` calls, on average.
     pub fn one_of(&mut self, times: usize) -> bool {
         self.below(times) == 0
     }

@@ -1,4 +1,4 @@
-//! How a section encodes its numbers.
+//! The target of a section: its byte order, and the size of its addresses.
 
 use gimli::{Encoding, Format, RunTimeEndian};
 

@@ -1,4 +1,4 @@
-//! The work that is timed, done with gimli, which checks nothing.
+//! The work that is timed, done with gimli. Unlike dwcheck, gimli checks nothing before it reads.
 
 use crate::random::Random;
 use gimli::{
@@ -48,7 +48,7 @@ fn rows(frame: &DebugFrame<Bytes<'_>>) -> u64 {
     sum
 }
 
-/// All rows of a section, for a process that does nothing else.
+/// The sum of the end addresses of all rows of a section, for a process that does nothing else.
 pub fn all_rows(bytes: &[u8]) -> u64 {
     let mut frame = DebugFrame::new(bytes, LittleEndian);
     frame.set_address_size(8);
@@ -68,7 +68,7 @@ fn index(frame: &DebugFrame<Bytes<'_>>) -> Vec<(u64, u64, usize)> {
     index
 }
 
-/// The end address of the row of an address, which is found with the index.
+/// The end address of the row of an address. The FDE is found with the index.
 fn look_up<'a>(
     frame: &DebugFrame<Bytes<'a>>,
     index: &[(u64, u64, usize)],
@@ -84,7 +84,7 @@ fn look_up<'a>(
     row.expect("a row").end_address()
 }
 
-/// A section that gimli reads, with the `index` of its FDEs.
+/// A section that gimli reads, and the index of its FDEs that `index` makes.
 pub struct Section<'a> {
     frame: DebugFrame<Bytes<'a>>,
     index: Vec<(u64, u64, usize)>,
@@ -103,14 +103,14 @@ impl<'a> Section<'a> {
         rows(&self.frame)
     }
 
-    /// The sum of the end addresses of the rows of these addresses.
+    /// The sum of the end addresses of the rows at these addresses.
     pub fn look_up(&self, addresses: &[u64]) -> u64 {
         let mut context = Box::new(UnwindContext::new());
         let found = addresses.iter().map(|&address| look_up(&self.frame, &self.index, &mut context, address));
         found.fold(0, u64::wrapping_add)
     }
 
-    /// 10,000 addresses that FDEs cover.
+    /// 10,000 random addresses that FDEs cover.
     pub fn addresses(&self) -> Vec<u64> {
         let mut random = Random::new(1);
         let mut one = || {
@@ -121,7 +121,7 @@ impl<'a> Section<'a> {
     }
 }
 
-/// Reads each operation of an expression, and returns their number.
+/// Reads each operation of an expression, and returns the number of operations.
 fn operations(expression: Expression<Bytes<'_>>, encoding: Encoding) -> u64 {
     let mut operations = expression.operations(encoding);
     let mut count = 0;
@@ -156,7 +156,7 @@ fn list(lists: &LocationLists<Bytes<'_>>, section: Bytes<'_>, at: usize, encodin
     (at + 1, count)
 }
 
-/// Reads all lists of all tables, and returns the number of operations.
+/// Reads all lists of all tables, and returns the number of operations in their expressions.
 pub fn all_lists(bytes: &[u8]) -> u64 {
     let section = EndianSlice::new(bytes, LittleEndian);
     let lists = LocationLists::new(DebugLoc::new(&[], LittleEndian), DebugLocLists::new(bytes, LittleEndian));
@@ -180,7 +180,7 @@ pub fn all_lists(bytes: &[u8]) -> u64 {
     count
 }
 
-/// Storage of fixed size, so that nothing is allocated.
+/// Storage of a fixed size for gimli, so that it allocates nothing.
 struct Fixed;
 
 impl<R: Reader> EvaluationStorage<R> for Fixed {
@@ -189,7 +189,7 @@ impl<R: Reader> EvaluationStorage<R> for Fixed {
     type Result = [gimli::Piece<R>; 32];
 }
 
-/// The result of an expression if each register contains 7.
+/// The result of an expression on a machine whose registers all contain 7.
 pub fn evaluate(bytes: &[u8]) -> u64 {
     let encoding = Encoding { address_size: 8, format: Format::Dwarf32, version: 5 };
     let bytes = EndianSlice::new(black_box(bytes), LittleEndian);

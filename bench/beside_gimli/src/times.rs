@@ -1,4 +1,4 @@
-//! The times of dwcheck's libraries and of gimli, in nanoseconds, with their ratio.
+//! Times dwcheck's libraries and gimli, and prints both times in nanoseconds, with their ratio.
 
 use crate::{ours, theirs};
 use std::collections::HashMap;
@@ -10,12 +10,12 @@ unsafe extern "C" {
     fn clock_gettime(clock: i32, time: &mut Time) -> i32;
 }
 
-/// Seconds and nanoseconds.
+/// The C library's `timespec`: seconds and nanoseconds.
 #[repr(C)]
 #[derive(Default)]
 struct Time(i64, i64);
 
-/// The processor time of this thread, in nanoseconds. Other work on the machine adds little to it.
+/// The processor time of this thread, in nanoseconds. Other work on the machine hardly adds to it.
 fn now() -> f64 {
     const THREAD: i32 = 3;
     let mut time = Time::default();
@@ -29,8 +29,8 @@ fn time_of<T>(work: impl FnOnce() -> T) -> f64 {
     now() - start
 }
 
-/// The least time of some runs of each. The runs alternate, so that other work on the machine
-/// affects both.
+/// The least time of `ours` and that of `theirs`, over several runs of each. The runs alternate, so
+/// that other work on the machine affects both.
 fn least_of_both<T, U>(runs: usize, mut ours: impl FnMut() -> T, mut theirs: impl FnMut() -> U) -> (f64, f64) {
     (0..runs).fold((f64::MAX, f64::MAX), |least, _| {
         (least.0.min(time_of(&mut ours)), least.1.min(time_of(&mut theirs)))
@@ -74,8 +74,8 @@ fn frame(name: &str, bytes: &[u8]) {
     table(name, bytes, &section, &addresses, check);
 }
 
-/// `mallinfo2` of the C library: the fifth number is the bytes in separate mappings, the eighth the
-/// other bytes in use.
+/// The result of the C library's `mallinfo2`. The number at index 4 is how many bytes in use are in
+/// separate mappings, and the number at index 7 how many other bytes are in use.
 #[repr(C)]
 struct MallocInfo([usize; 10]);
 
@@ -89,8 +89,8 @@ fn allocated() -> usize {
     found.0[4] + found.0[7]
 }
 
-/// The number of bytes that are allocated for most of the time while `work` runs, beyond those that
-/// were allocated before.
+/// The number of bytes that `work` has allocated for most of the time while it runs. Bytes that
+/// were allocated before it aren't counted.
 fn held_by<T>(work: impl FnOnce() -> T) -> usize {
     let before = allocated();
     let done = AtomicBool::new(false);
@@ -111,7 +111,8 @@ fn held_by<T>(work: impl FnOnce() -> T) -> usize {
     })
 }
 
-/// Times the compiled table of a section. The checked section is dropped before the first look-up.
+/// Times the compiled table of a section. The checked section is dropped before the first look-up
+/// in the table.
 fn table(name: &str, bytes: &[u8], section: &theirs::Section<'_>, addresses: &[u64], check: f64) {
     const TIMES: u32 = 40;
     let each = |many: f64, once: f64| (many - once) / f64::from(TIMES) / addresses.len() as f64;
@@ -139,7 +140,7 @@ fn lists(name: &str, bytes: &[u8]) {
     line(&format!("{name}: check; gimli reads entries and operations"), check, Some(read));
 }
 
-/// The time of one of many repetitions, without the work that is done only once.
+/// The time of one of many repetitions of `work`. What it does only once isn't counted.
 fn each(work: impl Fn(u32) -> u64) -> f64 {
     const TIMES: u32 = 20_000;
     (least(9, || work(TIMES + 1)) - least(9, || work(1))) / f64::from(TIMES)
@@ -154,7 +155,8 @@ fn expression(name: &str, bytes: &[u8]) {
 
 fn expressions() {
     let two = [0x22, 0x1e, 0x27, 0x1c, 0x21, 0x22, 0x1e, 0x1a, 0x22, 0x24];
-    // 60 operations: a literal, 29 times a literal and an operation with two operands, and `neg`
+    // 60 operations: a literal, then 29 times a literal and an operation with two operands, then
+    // `neg`
     let mut sixty = vec![0x31u8];
     for i in 0..29 {
         sixty.extend([0x31 + i as u8 % 7, two[i % 10]]);

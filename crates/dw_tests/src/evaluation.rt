@@ -39,8 +39,8 @@ fn address(address: u64) -> Option<(Outcome<'static>, u32)> {
     Some((Outcome::Single(Location::Address(address)), 1))
 }
 
-/// Operations that push a value they are passed, and the address that each gives with 8-byte
-/// addresses and with 4-byte ones.
+/// Operations that push the content of a register or a value of the context, some with an offset,
+/// and the address that each gives with 8-byte addresses and with 4-byte ones.
 const HANDED_IN: [(&[u8], u64, u64); 5] = [
     (&[0x77, 0x08], 0x1_0000_7f08, 0x7f08),
     (&[0x92, 0x07, 0x78], 0x1_0000_7ef8, 0x7ef8),

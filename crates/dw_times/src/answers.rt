@@ -1,4 +1,5 @@
-//! A checksum of what a section contains, or the number of the section's first fault.
+//! A checksum of what is read from a section or an expression, for comparisons with gimli. If the
+//! input is refused, the result is the number of its first fault instead.
 
 use crate::meaning::add_expression;
 use crate::mixed::Mixed;
@@ -20,7 +21,7 @@ pub(crate) fn target_of(big: bool, small: bool) -> Target {
     }
 }
 
-/// The answer for a section of 2^32 bytes or more.
+/// The result for a section of 2^32 bytes or more: the number of the fault `SectionTooLong`.
 fn too_long() -> u64 {
     u64::from(FaultKind::SectionTooLong.number())
 }
@@ -43,7 +44,7 @@ fn add_fde(mixed: &mut Mixed, fde: &FrameDescriptionEntry<'_>) {
     mixed.add_three(fde.cie_pointer, fde.initial_location, fde.address_range);
 }
 
-/// Adds an expression's offset in the section, and its length in bytes.
+/// Adds an expression's offset in the section, and its length in bytes, to the checksum.
 fn add_named(mixed: &mut Mixed, offset: u32, expression: &CheckedExpression<'_>) {
     mixed.add(u64::from(offset));
     mixed.add(expression.expression().bytes().len() as u64);
@@ -61,7 +62,7 @@ pub(crate) fn add_cfa(mixed: &mut Mixed, cfa: CfaRule<'_>) {
     }
 }
 
-/// Adds a register's rule. An undefined rule, or no rule, adds nothing.
+/// Adds a register's rule to the checksum. An undefined rule, or no rule, adds nothing.
 pub(crate) fn add_rule(mixed: &mut Mixed, register: u16, rule: RegisterRule<'_>) {
     let number = u64::from(register);
     match rule {
@@ -91,14 +92,14 @@ fn add_row(mixed: &mut Mixed, row: &UnwindTableRow<'_, '_>) {
     }
 }
 
-/// Adds the remaining rows.
+/// Adds the rows that `rows` has not given yet to the checksum.
 fn add_rows<'f, 'a>(mixed: &mut Mixed, rows: &mut Rows<'f, 'a>, row: &mut UnwindTableRow<'f, 'a>) {
     'rows: while rows.next_into(row) {
         add_row(mixed, row);
     }
 }
 
-/// Adds each FDE, and its rows.
+/// Adds each FDE, and its rows, to the checksum.
 fn add_fdes(mixed: &mut Mixed, frame: &CheckedFrame<'_>) {
     let Some(first) = frame.fdes().first() else {
         return;
@@ -137,8 +138,8 @@ pub extern "C" fn bench_frame_answer(alloc: Global, section: &[u8], big: bool, s
     }
 }
 
-/// For each list, adds its offset, and the offsets of the expressions that hold at each of
-/// `addresses`.
+/// Adds each list to the checksum: its offset, and the offsets of the expressions that apply at
+/// each of `addresses`.
 fn add_held(mixed: &mut Mixed, lists: &CheckedLists<'_>, base: u64, addresses: &[u64]) {
     for list in lists.lists() {
         mixed.add(u64::from(list.offset()));
@@ -160,9 +161,9 @@ fn lists_number(alloc: Global, lists: &CheckedLists<'_>, base: u64, addresses: &
     mixed.answer()
 }
 
-/// The checksum of a section of location lists: of each list's offset, the expressions that hold at
-/// each of `addresses`, and all expressions of the section. If the section is refused, the number
-/// of its first fault.
+/// The checksum of a section of location lists: of each list's offset, the expressions that apply
+/// at each of `addresses`, and all expressions of the section. If the section is refused, the
+/// number of its first fault.
 #[unsafe(no_mangle)]
 pub extern "C" fn bench_lists_answer(
     alloc: Global,

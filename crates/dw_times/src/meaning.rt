@@ -1,5 +1,5 @@
 //! A checksum of what an expression means: of its operations, and of its outcome on a machine whose
-//! registers and memory are all known.
+//! registers and memory all have known contents.
 
 use crate::machine::{CONTEXT, Known};
 use crate::mixed::Mixed;
@@ -12,7 +12,7 @@ use std::alloc::Global;
 /// meaning, such as `const1u 2` and `lit2`, have the same parts.
 type Parts = (u64, u64, u64);
 
-/// The parts of an operation that pushes a value.
+/// The parts of an operation that pushes a value. `None` for any other operation.
 fn pushing(operation: Operation<'_>) -> Option<Parts> {
     match operation {
         Operation::Addr { address } => Some((1, address, 0)),
@@ -43,7 +43,8 @@ fn pushing(operation: Operation<'_>) -> Option<Parts> {
     }
 }
 
-/// The parts of an operation that computes a value from entries of the stack.
+/// The parts of an operation that computes a value from entries of the stack. `None` for any other
+/// operation.
 fn computing(operation: Operation<'_>) -> Option<Parts> {
     match operation {
         Operation::Abs => Some((20, 0, 0)),
@@ -71,7 +72,8 @@ fn computing(operation: Operation<'_>) -> Option<Parts> {
     }
 }
 
-/// The parts of any other operation; `word` is the size of an address in bytes.
+/// The parts of the operations that `pushing` and `computing` leave out. `word` is the size of an
+/// address in bytes.
 fn other(operation: Operation<'_>, word: u64) -> Parts {
     match operation {
         Operation::Deref => (50, word, 0),
@@ -102,7 +104,7 @@ fn parts_of(operation: Operation<'_>, word: u64) -> Parts {
     }
 }
 
-/// Adds the operations of an expression, each with its offset.
+/// Adds the operations of an expression, each with its offset, to the checksum.
 fn add_operations(alloc: Global, mixed: &mut Mixed, expression: Expression<'_>) {
     let word = u64::from(expression.target().address_size.bytes());
     if let Ok(list) = operations(alloc, &expression) {
@@ -114,7 +116,7 @@ fn add_operations(alloc: Global, mixed: &mut Mixed, expression: Expression<'_>) 
     }
 }
 
-/// Adds where an object is.
+/// Adds the location of an object to the checksum.
 fn add_location(mixed: &mut Mixed, location: Location<'_>) {
     match location {
         Location::Empty => mixed.add(1),
@@ -125,7 +127,7 @@ fn add_location(mixed: &mut Mixed, location: Location<'_>) {
     }
 }
 
-/// Adds the size of a piece in bits, and its bit offset if it has one.
+/// Adds the size of a piece in bits, and its bit offset if it has one, to the checksum.
 fn add_size(mixed: &mut Mixed, size: PieceSize) {
     match size {
         PieceSize::Bytes(bytes) => mixed.add_three(1, u64::from(bytes) * 8, 0),
@@ -133,7 +135,7 @@ fn add_size(mixed: &mut Mixed, size: PieceSize) {
     }
 }
 
-/// Adds the outcome of an evaluation.
+/// Adds the outcome of an evaluation to the checksum.
 fn add_outcome(mixed: &mut Mixed, outcome: &Outcome<'_>) {
     match outcome {
         Outcome::Value(value) => mixed.add_three(1, *value, 0),
@@ -153,7 +155,8 @@ fn add_outcome(mixed: &mut Mixed, outcome: &Outcome<'_>) {
     }
 }
 
-/// Adds a checked expression: its offset, its operations, and its outcome.
+/// Adds a checked expression to the checksum: its offset in the section, its operations, and its
+/// outcome.
 pub(crate) fn add_expression(
     alloc: Global,
     mixed: &mut Mixed,

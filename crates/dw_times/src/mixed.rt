@@ -1,5 +1,5 @@
-//! A checksum of a sequence of numbers. If two readers of the same bytes get the same checksum,
-//! they agree.
+//! A checksum of a sequence of numbers. Two readers of the same bytes that add what they read agree
+//! if they get the same checksum.
 
 /// The checksum of the numbers added so far; their order matters.
 #[derive(Clone, Copy)]

@@ -134,7 +134,8 @@ fn add_row(mixed: &mut Mixed, row: &UnwindRow<'_, '_>) {
     }
 }
 
-/// Adds `address`, and its row with the return address register, or that there is no row.
+/// Adds `address` to the checksum, and its row with the return address register, or that it has no
+/// row.
 fn add_found(mixed: &mut Mixed, table: &UnwindTable, address: u64) {
     mixed.add(address);
     match table.row_and_return_register(address) {

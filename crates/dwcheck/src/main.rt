@@ -94,7 +94,8 @@ fn file_content(
     }
 }
 
-/// The contents of each file of a request, up to `Request::needed_length`.
+/// The contents of each file of a request. Of a file, no more than `Request::needed_length` is
+/// read.
 fn file_contents(rt: &(impl Files + AllocGlobal), request: &Request) -> Result<Vec<Vec<u8>>, Ending>
     ensures { IfOk result (λ contents. vec_len contents ≡ length request.now.files) }
 {

@@ -1,4 +1,5 @@
-//! A crash reporter: prints the innermost frames of each thread of a core file, with the names of functions.
+//! A crash reporter: prints the innermost frames of each thread of a core file, with the names of
+//! functions.
 //!
 //!     stack PROGRAM CORE
 //!
