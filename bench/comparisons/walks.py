@@ -27,7 +27,8 @@ from walk_model import limit_of, rows_in, walk, walk_text
 FAR = 60
 BAD_LIMITS = ["65536", "99999", "000001", "0x1", "", " 1", "1 ", "+1", "1_0", "\u0661"]
 BAD_ADDRESSES = ["0x", "1000", "0X1000", "0x00000000000001000", "0x1g", ""]
-# Locations to evaluate: two that need a register of the state file, and one that is refused.
+# Expressions to evaluate as the rule of a CFA: two that need a register of the state file, and one
+# that is refused.
 EXPRESSIONS = [bytes.fromhex("7708"), bytes.fromhex("720806"), bytes.fromhex("12")]
 
 

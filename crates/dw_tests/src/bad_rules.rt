@@ -1,5 +1,5 @@
-//! Rules whose expressions are refused, each for another reason, and other faults of the same
-//! programs that are reported instead because they come first.
+//! Rules whose expressions are refused, each for another reason, and programs that have other
+//! faults besides: which fault is reported first.
 
 use crate::inputs::LITTLE;
 use dw_bytes::{Fault, FaultKind};
@@ -111,10 +111,10 @@ fn names_the_fault_of_an_expression_in_a_rule(rt: HostRuntime) {
     }
 }
 
-/// Sections with two faults, or with one that isn't in an expression: the end of a CIE's program,
-/// an FDE's program, the fault that is reported, and its offset. In order: a block of an expression
-/// that is cut short; an offset that doesn't fit in 64 bits, before a bad expression; and a bad
-/// expression in the CIE, before a fault of the FDE.
+/// The end of a CIE's program, an FDE's program, and the first fault of the section with its
+/// offset. In order: a block of an expression is cut short; an offset doesn't fit in 64 bits, and
+/// an expression after it would be refused; an expression in the CIE is refused, and the FDE has a
+/// fault too.
 const BEFORE: [(&[u8], &[u8], FaultKind, u32); 3] = [
     (&[], &[0x10, 6, 5, 0x12], FaultKind::Truncated, 47),
     (
@@ -153,8 +153,8 @@ fn behind_most(alloc: Global, rule: &[u8]) -> Result<Vec<u8>, AllocError> {
 }
 
 /// Instructions that give a 129th register a rule, with the fault of each and its offset. The
-/// expression of the first is bad; that of the second is good, so its fault is that there are too
-/// many rules.
+/// expression of the first is refused. That of the second would be accepted, so the fault is that
+/// there are too many rules.
 const ONE_TOO_MANY: [(&[u8], FaultKind, u32); 2] = [
     (&[0x10, 0x80, 1, 1, 0x18], FaultKind::UnknownOperation, 304),
     (&[0x10, 0x80, 1, 0], FaultKind::TooManyRules, 300),

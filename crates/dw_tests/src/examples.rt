@@ -66,8 +66,8 @@ pub fn computed_value<R: Registers, M: Memory>(
     }
 }
 
-/// The caller of the frame at `address` by a compiled table. It is the caller that the section
-/// gives from which the table was compiled, even if that section's bytes no longer exist.
+/// The caller of the frame at `address`, computed with a compiled table. The section from which the
+/// table was compiled gives the same caller, but its bytes are no longer needed.
 pub fn caller_by_table<R: Registers, M: Memory>(
     table: &UnwindTable,
     abi: &Abi,

@@ -107,8 +107,9 @@ fn ends_at(frame: &CheckedFrame<'_>, address: u64) -> Option<(u64, u64, u64)> {
     }
 }
 
-/// The offsets of the CIE and the FDE of `address`, and where its row ends. The last number is
-/// where the row ends that is left in the same `UnwindTableRow` after `other` is looked up with it.
+/// The offsets of the CIE and the FDE of `address`, and where the row of `address` ends. After
+/// that, `other` is looked up with the same `UnwindTableRow`. The last number is where the row ends
+/// that it then holds.
 fn places_at(frame: &CheckedFrame<'_>, address: u64, other: u64) -> Option<(u32, u32, u64, u64)> {
     let mut row = UnwindTableRow::empty();
     let (cie, fde) = frame.row_for_address_into(address, &mut row)?;

@@ -66,7 +66,7 @@ abbrev pub bytes_of_piece : Option Piece → List ℕ
 bytes_of_piece None = []
 bytes_of_piece (Some p) = bytes_of_location p.location
 
--- the bytes that C gets of an outcome: those of a single location, or those of piece n, counted
+-- the bytes that C gets for an outcome: those of a single location, or those of piece n, counted
 -- from 0; the empty list if there are none
 abbrev pub bytes_of_outcome : ℕ → Outcome → List ℕ
 bytes_of_outcome n (single l) = bytes_of_location l

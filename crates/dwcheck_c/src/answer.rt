@@ -38,7 +38,7 @@ fn of_kind(kind: u32, value: u64) -> CAnswer
     }
 }
 
-/// Converts an answer to C's struct.
+/// Converts what is known of a CFA, a return address or a register to C's struct.
 pub(crate) fn shown_answer(answer: Answer) -> CAnswer
     ensures { result ≡ canswer_of (answer_in answer) }
 {

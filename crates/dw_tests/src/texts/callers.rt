@@ -3,10 +3,11 @@
 use crate::texts::cases::{cases_come_to, lines_come_to};
 use std::alloc::AllocError;
 
-/// Cases as `cases_come_to` explains them: a frame section and a state file, then a command, then
-/// its output. They cover undefined rules; expression rules, one of which divides by zero; and an
-/// ABI (`keep`, `sp`) that gives rules to registers without a rule in the row. With 4-byte
-/// addresses, sums wrap modulo 2^32, and a word that runs past the last address is unreadable.
+/// Callers: undefined rules; expression rules, one of which divides by zero; and an ABI (`keep`,
+/// `sp`) that gives rules to registers without a rule in the row. With 4-byte addresses, sums wrap
+/// modulo 2^32, and a word that runs past the last address is unreadable. Each paragraph is a line
+/// with a frame section and a state file, a command line and its output, as `cases_come_to`
+/// explains.
 const CALLERS: &str = "\
 {FUNCTION} | reg 6 0x7f00/mem 0x7f00 0080000000000000/mem 0x7f08 3412000000000000/
 dwcheck unwind --hex f 0x1010 s
@@ -94,8 +95,9 @@ r14 unreadable
 return unreadable
 ";
 
-/// Cases as `lines_come_to` explains them: a frame section and a state file. Malformed hex text is
-/// reported before a bad line of the state file, and such a line before a fault of the section.
+/// Malformed hex text is reported before a bad line of the state file, and that before a fault of
+/// the section. Each line is `FILE | STATE: OUTCOME`, as `lines_come_to` explains; `/` stands for
+/// the end of a line.
 const IN_THEIR_ORDER: &str = "\
 f0ffff | reg 6 0x1: refused 1 Truncated frame 0x00000000
 f0ffffff | reg 6 0x1//reg 6/: state line 3

@@ -4,8 +4,8 @@ use crate::texts::cases::{cases_come_to, lines_come_to};
 use crate::texts::sections::ROWS;
 use std::alloc::AllocError;
 
-/// Sections and their rows, as `cases_come_to` explains. The last section has CIEs of versions 1, 3
-/// and 4.
+/// Sections and their rows. The last section has CIEs of versions 1, 3 and 4. Each paragraph is a
+/// line of files, a command line and its output, as `cases_come_to` explains.
 const SHOWN: &str = "\
 {CIE_1} {FDE} {PUSHES}
 dwcheck rows --hex f
@@ -43,9 +43,9 @@ fde 0x00000088 cie 0x00000018 0x0000000000001021..0x0000000000001022 ra r16
 row 0x0000000000001021..0x0000000000001022 cfa=r7+8 r16=[c-8]
 ";
 
-/// `FUNCTION` with another version in its CIE, and the first fault, as `lines_come_to` explains.
-/// CIEs of versions 1 and 3 don't have two of the fields, so the program begins two bytes earlier.
-/// The last sections are one CIE in the 64-bit format.
+/// `FUNCTION` with another version in its CIE, and the first fault. Each line is `FILE: OUTCOME`,
+/// as `lines_come_to` explains. CIEs of versions 1 and 3 don't have two of the fields, so the
+/// program begins two bytes earlier. The last sections are one CIE in the 64-bit format.
 const OTHER_VERSIONS: &str = "\
 14000000 ffffffff 00 00 08 00 01 78 10 0c0708 9001 00000000 {FDE} {PUSHES}: refused 4 Version frame 0x00000008
 14000000 ffffffff 01 00 08 00 01 78 10 0c0708 9001 00000000 {FDE} {PUSHES}: refused 13 NotInCie frame 0x0000000d

@@ -84,8 +84,9 @@ fn takes_a_height_of_128_and_no_more(rt: HostRuntime) -> Result<(), AllocError> 
     comes_to(&rt, LOCATION, &higher, fault)
 }
 
-/// Locations, some with a state file, and their outcomes, as `evaluate_to` explains. An ABI gives
-/// an expression no register: register 6 stays unreadable if only `keep` or `sp` names it.
+/// Locations and their outcomes. Each line is `HEX: OUTCOME`, or `HEX | STATE: OUTCOME` if there is
+/// a state file, as `evaluate_to` explains; `/` stands for the end of a line. An ABI gives an
+/// expression no register: register 6 stays unreadable if only `keep` or `sp` names it.
 const LOCATIONS: &str = "\
 32 33 22: address 0x0000000000000005/steps 3 depth 2
 31 32 28 0000: address 0x0000000000000001/steps 3 depth 2
@@ -134,8 +135,8 @@ const LOCATIONS: &str = "\
 7600 | sp 6/reg 6 0x5/: address 0x0000000000000005/steps 1 depth 1
 ";
 
-/// Locations in big-endian order, some with a state file, and their outcomes, as `evaluate_to`
-/// explains.
+/// Locations in big-endian order and their outcomes. Each line is `HEX: OUTCOME`, or `HEX | STATE:
+/// OUTCOME` if there is a state file, as `evaluate_to` explains; `/` stands for the end of a line.
 const BIG_STATES: &str = "\
 0a1000 06 | mem 0x1000 0102030405060708: address 0x0102030405060708/steps 2 depth 1
 0a1000 9402 | mem 0x1000 3412: address 0x0000000000003412/steps 2 depth 1
@@ -144,8 +145,9 @@ const BIG_STATES: &str = "\
 30 28 0001 96 32: address 0x0000000000000002/steps 4 depth 1
 ";
 
-/// Locations with addresses of four bytes, some with a state file, and their outcomes, as
-/// `evaluate_to` explains.
+/// Locations with addresses of four bytes and their outcomes. Each line is `HEX: OUTCOME`, or `HEX
+/// | STATE: OUTCOME` if there is a state file, as `evaluate_to` explains; `/` stands for the end of
+/// a line.
 const SHORT_STATES: &str = "\
 0a0010 06 | mem 0x1000 01020304: address 0x04030201/steps 2 depth 1
 0c00000080 0dffffffff 1b: address 0x80000000/steps 3 depth 2
@@ -161,8 +163,9 @@ const SHORT_STATES: &str = "\
 0c00000080 0820 26: address 0xffffffff/steps 3 depth 2
 ";
 
-/// Expressions of registers' rules, some with a state file, and their outcomes, as `evaluate_to`
-/// explains: `HEX: OUTCOME`, or `HEX | STATE: OUTCOME`, where `/` stands for the end of a line.
+/// Expressions of registers' rules and their outcomes. Each line is `HEX: OUTCOME`, or `HEX |
+/// STATE: OUTCOME` if there is a state file, as `evaluate_to` explains; `/` stands for the end of a
+/// line.
 const REGISTER_STATES: &str = "\
 12 22 | cfa 0x10: value 0x0000000000000020/steps 2 depth 2
 12 22: unreadable at 0x00000000/steps 0 depth 2
@@ -171,8 +174,8 @@ const REGISTER_STATES: &str = "\
 12 13 | cfa 0x10: value 0x0000000000000010/steps 2 depth 2
 ";
 
-/// Expressions of a CFA's rule, some with a state file, and their outcomes, as `evaluate_to`
-/// explains: `HEX: OUTCOME`, or `HEX | STATE: OUTCOME`, where `/` stands for the end of a line.
+/// Expressions of a CFA's rule and their outcomes. Each line is `HEX: OUTCOME`, or `HEX | STATE:
+/// OUTCOME` if there is a state file, as `evaluate_to` explains; `/` stands for the end of a line.
 const CFA_STATES: &str = "\
 7708 | //reg 7 0x10/reg 7 0x20/: value 0x0000000000000018/steps 1 depth 1
 7700 | cfa 0x10: unreadable at 0x00000000/steps 1 depth 1
@@ -188,7 +191,7 @@ fn shows_what_expressions_come_to(rt: HostRuntime) -> Result<(), AllocError> {
     evaluate_to(&rt, CFA, CFA_STATES)
 }
 
-/// Locations in hex, and their first faults: `HEX: OUTCOME`.
+/// Locations and their first faults. Each line is `HEX: OUTCOME`, as `lines_come_to` explains.
 const REFUSED: &str = "\
 12: refused 35 Underflow expression 0x00000000
 30 28 0100 31 32: refused 37 Mismatch expression 0x00000005
@@ -215,7 +218,8 @@ const REFUSED: &str = "\
 938080808010: refused 42 PieceSize expression 0x00000000
 ";
 
-/// Expressions of a CFA's rule in hex, and their first faults: `HEX: OUTCOME`.
+/// Expressions of a CFA's rule and their first faults. Each line is `HEX: OUTCOME`, as
+/// `lines_come_to` explains.
 const REFUSED_FOR_A_CFA: &str = "\
 12 22: refused 35 Underflow expression 0x00000000
 9c: refused 31 NotInFrame expression 0x00000000
@@ -223,7 +227,8 @@ const REFUSED_FOR_A_CFA: &str = "\
 -: refused 40 EndsEmpty expression 0x00000000
 ";
 
-/// Locations with addresses of four bytes in hex, and their first faults: `HEX: OUTCOME`.
+/// Locations with addresses of four bytes, and their first faults. Each line is `HEX: OUTCOME`, as
+/// `lines_come_to` explains.
 const REFUSED_WHEN_SHORT: &str = "\
 30 9408: refused 32 BadSize expression 0x00000001
 30 9403: refused 32 BadSize expression 0x00000001
@@ -239,9 +244,9 @@ fn names_the_first_fault_of_an_expression(rt: HostRuntime) -> Result<(), AllocEr
     comes_to(&rt, LOCATION, &pieces, fault)
 }
 
-/// Expressions and state files with a malformed line: `HEX | STATE: OUTCOME`, as `lines_come_to`
-/// explains. The malformed line is reported before the fault of the expression `12`, and after
-/// malformed hex text.
+/// State files with a malformed line. It is reported before the fault of the expression `12`, and
+/// after malformed hex text. Each line is `HEX | STATE: OUTCOME`, as `lines_come_to` explains; `/`
+/// stands for the end of a line.
 const BAD_LINES: &str = "\
 12 | reg  7 0x1: state line 1
 12 | reg 7  0x1: state line 1
@@ -276,9 +281,9 @@ const BAD_LINES: &str = "\
 3 | bad: bad hex 0
 ";
 
-/// Expressions and state files, as `lines_come_to` explains. The first line of each state file has
-/// an address or a value that doesn't fit in four bytes, or memory that goes past the last address
-/// of four bytes.
+/// State files whose first line has an address or a value that doesn't fit in four bytes, or memory
+/// that goes past the last address of four bytes. Each line is `HEX | STATE: OUTCOME`, as
+/// `lines_come_to` explains.
 const LONG_LINES: &str = "\
 30 | reg 0 0x100000000: state line 1
 30 | mem 0x100000000 00: state line 1

@@ -3,8 +3,8 @@
 use crate::texts::cases::{cases_come_to, lines_come_to};
 use std::alloc::AllocError;
 
-/// Sections, and what one of their lists gives at an address, as `cases_come_to` explains. Only the
-/// last case has a state file.
+/// Sections, and what one of their lists gives at an address. Only the last case has a state file.
+/// Each paragraph is a line of files, a command line and its output, as `cases_come_to` explains.
 const FOUND: &str = "\
 {PAIR_AND_DEFAULT}
 dwcheck locs --hex l 0xc 0x1000 0x1005
@@ -99,7 +99,8 @@ fn shows_what_holds_at_an_address(rt: HostRuntime) -> Result<(), AllocError> {
     cases_come_to(&rt, FOUND)
 }
 
-/// Sections that are refused, and their first faults, as `lines_come_to` explains.
+/// Sections that are refused, and their first faults. Each line is `FILE: OUTCOME`, as
+/// `lines_come_to` explains.
 const REFUSED: &str = "\
 0d000000 0500 08 00 00000000 04 10 00 00 00: refused 52 BackRange lists 0x0000000c
 0a000000 0500 08 00 00000000 05 00: refused 54 NoEnd lists 0x0000000e
@@ -112,8 +113,9 @@ const REFUSED: &str = "\
 080000: refused 1 Truncated lists 0x00000000
 ";
 
-/// Sections and state files, as `lines_come_to` explains. Malformed hex text is reported before a
-/// bad line of the state file, and such a line before a fault of the section.
+/// Malformed hex text is reported before a bad line of the state file, and that before a fault of
+/// the section. Each line is `FILE | STATE: OUTCOME`, as `lines_come_to` explains; `/` stands for
+/// the end of a line.
 const IN_THEIR_ORDER: &str = "\
 080000 | reg 1 0x1//reg 1/: state line 3
 08000 | reg 1 0x1//reg 1/: bad hex 0

@@ -3,9 +3,9 @@
 use crate::texts::cases::{cases_come_to, lines_come_to};
 use std::alloc::AllocError;
 
-/// Rows of a module that isn't loaded where it was linked, as `cases_come_to` explains. The row
-/// shows addresses as linked. Sums of addresses wrap at 2^64, or at 2^32 with addresses of four
-/// bytes.
+/// Rows of a module that isn't loaded where it was linked. The row shows addresses as linked. Sums
+/// of addresses wrap at 2^64, or at 2^32 with addresses of four bytes. Each paragraph is a line of
+/// files, a command line and its output, as `cases_come_to` explains.
 const LOADED: &str = "\
 {FUNCTION}
 dwcheck row --load 0x400000 --hex f 0x401000
@@ -28,8 +28,9 @@ dwcheck row --big --addr4 --load 0xffffffff --hex f 0x7fff
 row 0x00008000..0x00008008 cfa=r13+0
 ";
 
-/// Callers, as `cases_come_to` explains: by a module that isn't loaded where it was linked, by a
-/// further module, and by the first of two modules that cover the address.
+/// Callers by a module that isn't loaded where it was linked, by a further module, and by the first
+/// of two modules that cover the address. Each paragraph is a line of files, a command line and its
+/// output, as `cases_come_to` explains.
 const CALLERS: &str = "\
 {FUNCTION} | reg 6 0x7f00/mem 0x7f00 0080000000000000/mem 0x7f08 3412000000000000/
 dwcheck unwind --load 0x400000 --hex f 0x401010 s
@@ -56,8 +57,9 @@ r16 undefined
 return undefined
 ";
 
-/// Walks, as `cases_come_to` explains, from a further module (`--module`) into the module of the
-/// first section, and from there into a further module.
+/// Walks from a further module (`--module`) into the module of the first section, and from there
+/// into a further module. Each paragraph is a line of files, a command line and its output, as
+/// `cases_come_to` explains.
 const WALKS: &str = "\
 {FUNCTION} | {STACK}{LAST_WORD} | {FUNCTION}
 dwcheck backtrace --module 0x400000=m --hex f 0x401010 s 9
@@ -85,10 +87,10 @@ frame 0 0x0000000000401010 none
 stop not covered
 ";
 
-/// Three files in each line, as `lines_come_to` explains: the first section, the state file, and
-/// the section of a further module. Malformed hex text of the first section is reported first, then
-/// a bad line of the state file, then malformed hex text of the further module, then the first
-/// fault of the first section, then that of the further module.
+/// Each line is `FILE | STATE | FILE: OUTCOME`, as `lines_come_to` explains: the first section, the
+/// state file, and the section of a further module. Malformed hex text of the first section is
+/// reported first, then a bad line of the state file, then malformed hex text of the further
+/// module, then the first fault of the first section, then that of the further module.
 const IN_THEIR_ORDER: &str = "\
 {FUNCTION} | - | f0ffffff: refused 3 ReservedLength frame 0x00000000
 f0ffff | - | f0ffffff: refused 1 Truncated frame 0x00000000

@@ -5,9 +5,9 @@ use crate::texts::expressions::{LOCATION, SHORT_LOCATION, evaluate_to, evaluates
 use std::alloc::AllocError;
 use std::process::Abort;
 
-/// Each line is `HEX: LONG SHORT steps N depth N`: an expression, some with ` | ` and a state file
-/// after it, the address that it gives with 8-byte addresses, the address that it gives with 4-byte
-/// ones, and its steps and depth.
+/// Each line is `HEX: LONG SHORT steps N depth N`: an expression, the address that it gives with
+/// 8-byte addresses, the address that it gives with 4-byte ones, and its steps and depth. Some
+/// expressions are followed by ` | ` and a state file.
 const BOTH: &str = "\
 08ff: 0x00000000000000ff 0x000000ff steps 1 depth 1
 09ff: 0xffffffffffffffff 0xffffffff steps 1 depth 1
@@ -86,7 +86,8 @@ const BOTH: &str = "\
 0a0410 9404 | mem 0x1000 34127856bc9af0deff: 0x00000000def09abc 0xdef09abc steps 2 depth 1
 ";
 
-/// Expressions and their outcomes with addresses of eight bytes, as `evaluate_to` explains.
+/// Expressions and their outcomes with addresses of eight bytes. Each line is `HEX: OUTCOME`, as
+/// `evaluate_to` explains; `/` stands for the end of a line.
 const LONG: &str = "\
 03 0807060504030201: address 0x0102030405060708/steps 1 depth 1
 0affff: address 0x000000000000ffff/steps 1 depth 1
@@ -124,8 +125,8 @@ const LONG: &str = "\
 0f0000000000000080 09ff 1b: address 0x8000000000000000/steps 3 depth 2
 ";
 
-/// Expressions and their outcomes with addresses of four bytes, as `evaluate_to` explains. The
-/// outcomes depend on the address size.
+/// Expressions whose outcomes depend on the address size, and their outcomes with addresses of four
+/// bytes. Each line is `HEX: OUTCOME`, as `evaluate_to` explains; `/` stands for the end of a line.
 const SHORT: &str = "\
 03 04030201: address 0x01020304/steps 1 depth 1
 0bfeff: address 0xfffffffe/steps 1 depth 1
@@ -151,8 +152,8 @@ const SHORT: &str = "\
 /// The command that evaluates a location in big-endian order with addresses of four bytes.
 const BIG_SHORT_LOCATION: &str = "dwcheck eval --big --addr4 location --hex e";
 
-/// A location in big-endian order with addresses of four bytes, and its outcome, as `evaluate_to`
-/// explains.
+/// A location in big-endian order with addresses of four bytes. The line is `HEX: OUTCOME`, as
+/// `evaluate_to` explains; `/` stands for the end of a line.
 const BIG_SHORT: &str = "\
 03 01020304: address 0x01020304/steps 1 depth 1
 ";

@@ -1,4 +1,4 @@
-//! Texts with names, which stand for them in the files of test cases.
+//! Named texts, whose names stand for them in the files of test cases.
 
 use std::alloc::{AllocError, Global};
 

@@ -1,4 +1,4 @@
-//! Loads of files from readers that give few bytes per call, or that fail before the end.
+//! Tests of loading files from readers that give few bytes per call, or that fail before the end.
 
 use crate::texts::sections::first_row_digits;
 use dw_check::{LoadFault, Reading, Reads, Source, load};

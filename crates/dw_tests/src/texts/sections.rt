@@ -7,8 +7,9 @@ use std::process::Abort;
 /// The command that shows the rows of a section, given as hex text.
 pub(crate) const ROWS: &str = "dwcheck rows --hex f";
 
-/// Sections and their rows, as `cases_come_to` explains: records, programs, expressions of rules,
-/// the 64-bit format, and two FDEs. The last cases look up single addresses in `FUNCTION`.
+/// Sections and their rows: records, programs, expressions of rules, the 64-bit format, and two
+/// FDEs. The last cases look up single addresses in `FUNCTION`. Each paragraph is a line of files,
+/// a command line and its output, as `cases_come_to` explains.
 const SHOWN: &str = "\
 {FUNCTION}
 dwcheck rows --hex f
@@ -151,9 +152,9 @@ fn shows_the_rows_of_sections(rt: HostRuntime) -> Result<(), AllocError> {
     cases_come_to(&rt, SHOWN)
 }
 
-/// Sections and their first faults, as `lines_come_to` explains. An expression is checked by what
-/// it is used for: with an empty stack for a CFA's rule, with the CFA on the stack for a register's
-/// rule. The last files aren't hex text.
+/// Sections and their first faults. Each line is `FILE: OUTCOME`, as `lines_come_to` explains. An
+/// expression is checked by what it is used for: with an empty stack for a CFA's rule, with the CFA
+/// on the stack for a register's rule. The last files aren't hex text.
 const REFUSED: &str = "\
 f0ffffff: refused 3 ReservedLength frame 0x00000000
 {CIE} {FDE} 0b 00000000000000: refused 16 RestoreWithoutRemember frame 0x00000030
@@ -191,8 +192,8 @@ f0ffffff: refused 3 ReservedLength frame 0x00000000
 00\u{b}: bad hex 0
 ";
 
-/// Sections in big-endian order with addresses of four bytes, and their first faults, as
-/// `lines_come_to` explains.
+/// Sections in big-endian order with addresses of four bytes, and their first faults. Each line is
+/// `FILE: OUTCOME`, as `lines_come_to` explains.
 const BIG_REFUSED: &str = "\
 fffffffe: refused 3 ReservedLength frame 0x00000000
 0000000c 00000000 fffffff0 00000010: refused 11 RangePastTop frame 0x0000000c
@@ -227,8 +228,7 @@ pub(crate) fn first_row_digits(alloc: Global) -> Result<Vec<u8>, AllocError> {
     text.iter().copied().filter(|b| *b != b' ').collect(alloc)
 }
 
-/// The offset of the fault if `FUNCTION` is cut to `length` bytes, or `None` if the cut is between
-/// two records.
+/// The offset of the fault if `FUNCTION` is cut to `length` bytes, or `None` if no record is cut.
 pub(crate) fn cut_off_at(length: usize) -> Option<u32> {
     match length {
         0 | 24 | 56 => None,

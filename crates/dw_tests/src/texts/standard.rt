@@ -32,8 +32,9 @@ fn shows_the_rows_of_the_standards_machine(rt: HostRuntime) -> Result<(), AllocE
 }
 
 /// Operations on a stack with 17 on top, then 29, then 1000 (sections 2.5.1.3 and D.1.2): dup,
-/// drop, pick 2, over, swap and rot, as `evaluate_to` explains. One drop more in each case shows
-/// the next entry, until the stack is empty.
+/// drop, pick 2, over, swap and rot. Each line is `HEX: OUTCOME`, as `evaluate_to` explains; `/`
+/// stands for the end of a line. After each operation, drops show the entries below the top, one by
+/// one, until the stack is empty.
 const STACK: &str = "\
 0ae803 4d 41 12: address 0x0000000000000011/steps 4 depth 4
 0ae803 4d 41 12 13: address 0x0000000000000011/steps 5 depth 4
@@ -63,12 +64,13 @@ const STACK: &str = "\
 0ae803 4d 41 17 13 13 13: refused 40 EndsEmpty expression 0x00000009
 ";
 
-/// Location descriptions (sections 2.6.1.1, 2.6.1.2 and D.1.3), as `evaluate_to` explains: reg3;
-/// regx 54; addr 0x80d0045c; breg11 44; breg31 64; fbreg -50, with the value of breg31 64 as the
-/// frame base, and without a frame base; bregx 54 32 and deref; registers 3 and 10 in pieces;
-/// register 0, nothing and fbreg -12 in pieces; the sum of two registers as a value; 1 and such a
-/// sum in pieces. Finally entry_value 1 reg5 and entry_value 2 breg5 0, which docs/PROFILE.md
-/// doesn't allow.
+/// Location descriptions (sections 2.6.1.1, 2.6.1.2 and D.1.3). Each line is `HEX: OUTCOME`, or
+/// `HEX | STATE: OUTCOME` if there is a state file, as `evaluate_to` explains; `/` stands for the
+/// end of a line. In order: reg3; regx 54; addr 0x80d0045c; breg11 44; breg31 64; fbreg -50, with
+/// the value of breg31 64 as the frame base, and without a frame base; bregx 54 32 and deref;
+/// registers 3 and 10 in pieces; register 0, nothing and fbreg -12 in pieces; the sum of two
+/// registers as a value; 1 and such a sum in pieces. Finally entry_value 1 reg5 and entry_value 2
+/// breg5 0, which docs/PROFILE.md doesn't allow.
 const LOCATIONS: &str = "\
 53: register 3/steps 1 depth 0
 9036: register 54/steps 1 depth 0
@@ -88,8 +90,8 @@ a30155 9f: refused 30 UnknownOperation expression 0x00000000
 a3027500 9f: refused 30 UnknownOperation expression 0x00000000
 ";
 
-/// plus_uconst 4, which gets the address of a structure from the stack (section D.1.3), as
-/// `evaluate_to` explains.
+/// plus_uconst 4, which gets the address of a structure from the stack (section D.1.3). The line is
+/// `HEX | STATE: OUTCOME`, as `evaluate_to` explains.
 const MEMBER: &str = "\
 2304 | cfa 0x7f00: value 0x0000000000007f04/steps 1 depth 1
 ";

@@ -3,9 +3,10 @@
 use crate::texts::cases::cases_come_to;
 use std::alloc::AllocError;
 
-/// Walks from 0x1010, and their output, as `cases_come_to` explains. Without `LAST_WORD`, the word
-/// at which frame 1 has saved its return address isn't known. In the last walk, the word at which
-/// frame 0 has saved register 6 isn't known.
+/// Walks from 0x1010, and their output. Without `LAST_WORD`, the word at which frame 1 has saved
+/// its return address isn't known. In the last walk, the word at which frame 0 has saved register 6
+/// isn't known. Each paragraph is a line of files, a command line and its output, as
+/// `cases_come_to` explains.
 const WALKS: &str = "\
 {FUNCTION} | {STACK}{LAST_WORD}
 dwcheck backtrace --hex f 0x1010 s 9
@@ -57,10 +58,11 @@ frame 1 0x0000000000001020 cfa unreadable
 stop return unreadable
 ";
 
-/// Walks from address 3 in an FDE of 0 to 0x20, as `cases_come_to` explains. The first is endless:
-/// the CFA is always 15, and the return address always 7. Others return to 0. As a return address 0
-/// isn't covered, although an FDE covers 0, because the address before it is looked up. In the last
-/// ones the return address is undefined, or its expression divides by zero.
+/// Walks from address 3 in an FDE of 0 to 0x20. The first is endless: the CFA is always 15, and the
+/// return address always 7. Others return to 0. As a return address 0 isn't covered, although an
+/// FDE covers 0, because the address before it is looked up. In the last ones the return address is
+/// undefined, or its expression divides by zero. Each paragraph is a line of files, a command line
+/// and its output, as `cases_come_to` explains.
 const FROM_THREE: &str = "\
 {CIE} {FDE_AT_ZERO} 0f013f 141001 0000 | reg 7 0x10
 dwcheck backtrace --hex f 0x3 s 4

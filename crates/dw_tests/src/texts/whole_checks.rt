@@ -7,7 +7,8 @@ use std::alloc::AllocError;
 /// The command that checks a frame section and location lists, both given as hex text.
 const CHECK: &str = "dwcheck check --hex f l";
 
-/// Frame sections with lists, and their reports, as `cases_come_to` explains.
+/// Frame sections with lists, and their reports. Each paragraph is a line of files, a command line
+/// and its output, as `cases_come_to` explains.
 const ACCEPTED: &str = "\
 - | -
 dwcheck check --hex f l
@@ -104,9 +105,9 @@ fn reports_on_two_sections(rt: HostRuntime) -> Result<(), AllocError> {
     cases_come_to(&rt, ACCEPTED)
 }
 
-/// Frame sections with lists, and their first faults, as `lines_come_to` explains. Malformed hex
-/// text is reported first, in the order of the files; then a fault of the frame section; then a
-/// fault of the lists.
+/// Frame sections with lists, and their first faults. Each line is `FRAME | LISTS: OUTCOME`, as
+/// `lines_come_to` explains. Malformed hex text is reported first, in the order of the files; then
+/// a fault of the frame section; then a fault of the lists.
 const REFUSED: &str = "\
 f0ffffff | -: refused 3 ReservedLength frame 0x00000000
 f0ffffff | 080000: refused 3 ReservedLength frame 0x00000000

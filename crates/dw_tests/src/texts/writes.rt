@@ -1,4 +1,4 @@
-//! Runs with writers that accept few bytes per call, or that fail before the end.
+//! Tests of writing output to writers that accept few bytes per call, or that fail before the end.
 
 ghost use Rattle.std.specs.Prelude.{◌≡◌, length};
 
@@ -116,7 +116,8 @@ fn fails_at_each_write(
     Ok(())
 }
 
-/// One run of each command, and one in which the input is refused, as `cases_come_to` explains.
+/// One run of each command, and one in which the input is refused. Each paragraph is a line of
+/// files, a command line and its output, as `cases_come_to` explains.
 const RUNS: &str = "\
 {FUNCTION}
 dwcheck rows --hex f
