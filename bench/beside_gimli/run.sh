@@ -8,8 +8,8 @@
 #   bench/beside_gimli/run.sh differ FRAMES LISTS EXPRESSIONS SEED SECTION ..
 #                                                makes this many random cases of each kind from
 #                                                the sections, reads them with both, and counts the
-#                                                results; compares rows by compiled tables too, of
-#                                                the accepted cases and of the sections
+#                                                results; compares also the rows of the compiled tables
+#                                                of the accepted cases and of the sections
 # Sections are raw and little-endian with addresses of 8 bytes: .debug_loclists if the name ends
 # with .lists, else .debug_frame. WORK=FOLDER keeps what was built. It needs gcc, cargo and Debian's
 # librust-gimli-dev (apt-get install librust-gimli-dev).

@@ -87,9 +87,9 @@ fn factors(body: &[u8]) -> Option<usize> {
 }
 
 impl Frames {
-    /// Adds the records of a little-endian section with addresses of 8 bytes. CIEs are left out if
-    /// they have another version than 4, an augmentation, or a program with an unknown opcode, and
-    /// so are their FDEs. FDEs whose program has an unknown opcode are left out too.
+    /// Adds the records of a little-endian section with addresses of 8 bytes. A CIE is left out if
+    /// it has a version other than 4, an augmentation, or a program with an unknown opcode, and so
+    /// are its FDEs. An FDE is left out too if its program has an unknown opcode.
     pub fn add(&mut self, section: &[u8]) {
         let mut cies = Vec::new();
         let mut at = 0;

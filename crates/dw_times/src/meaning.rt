@@ -8,8 +8,8 @@ use dw_ops::{Expression, Operation, operations};
 use dw_stack::CheckedExpression;
 use std::alloc::Global;
 
-/// What identifies the meaning of an operation: a code and two operands. Operations with the same
-/// meaning, such as `const1u 2` and `lit2`, have the same parts.
+/// What identifies the meaning of an operation: a number that this file gives to its kind, and two
+/// operands. Operations with the same meaning, such as `const1u 2` and `lit2`, have the same parts.
 type Parts = (u64, u64, u64);
 
 /// The parts of an operation that pushes a value. `None` for any other operation.

@@ -1,5 +1,5 @@
-//! A checksum of a sequence of numbers. Two readers of the same bytes that add what they read agree
-//! if they get the same checksum.
+//! A checksum of a sequence of numbers. Two readers of the same bytes add what they read; if their
+//! checksums are equal, they have read the same.
 
 /// The checksum of the numbers added so far; their order matters.
 #[derive(Clone, Copy)]

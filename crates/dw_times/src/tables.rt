@@ -12,8 +12,8 @@ use std::alloc::Global;
 /// More bytes than any table needs.
 const AMPLE: usize = 1 << 40;
 
-/// The compiled table of a section, or `None` if the section has 2^32 bytes or more, is refused, or
-/// memory runs out. It doesn't borrow the section.
+/// The compiled table of a section, which doesn't borrow the section. `None` if the section has
+/// 2^32 bytes or more, is refused, or memory runs out.
 fn compiled(alloc: Global, section: &[u8], target: Target) -> Option<UnwindTable> {
     if section.len() >= 1 << 32 {
         return None;

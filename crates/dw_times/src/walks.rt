@@ -62,8 +62,8 @@ pub struct WalkEnd {
     pub stop: u32,
 }
 
-/// Modules with the compiled tables of these sections, or `None` if a section is refused or memory
-/// runs out. They don't borrow the sections.
+/// Modules with the compiled tables of these sections, which don't borrow the sections. `None` if a
+/// section is refused or has 2^32 bytes or more, or memory runs out.
 fn modules_of(alloc: Global, sections: &[LoadedSection<'_>]) -> Option<Vec<Module<UnwindTable>>> {
     let mut modules = Vec::new(alloc);
     for section in sections {

@@ -41,8 +41,8 @@ puts_from xs slots i d room =
     ap (λ n. slice_set (put_into (take i xs) slots) n (get_or xs i d)) many ∙ puts_next (take i xs) slots (get_or xs i d)
     ∙ ap (λ l. put_into l slots) (sym next)
 
--- If `all` is the elements that came, converted by `view`, followed by those that are left, then it
--- is so too when the first element that is left has come.
+-- If `all` is the elements that came, converted by `view`, followed by `left`, then this still
+-- holds after the first element of `left` is moved to the end of those that came.
 pub comes : {X Y : Type 0} (view : X → Y) (came : List X) (x : X) (left rest all : List Y) → map view came ++ left ≡ all
     → left ≡ view x ∷ rest → map view (came ++ x ∷ []) ++ rest ≡ all
 comes view came x left rest all whole next =
