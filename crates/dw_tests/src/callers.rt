@@ -24,8 +24,8 @@ fn is_worked(caller: &Option<Caller>) -> bool {
 }
 
 /// The caller of the frame at `address`, found in three ways that must agree: from both sections,
-/// from the frame section alone, and from its compiled table. The last two are passed an ABI
-/// without rules.
+/// from the frame section alone, and from its compiled table. The last two are passed an ABI that
+/// names no register.
 fn callers(alloc: Global, address: u64) -> Option<[Option<Caller>; 3]> {
     let checked = check(alloc, &FUNCTION, &[], LITTLE).ok()?;
     let frame = check_frame(alloc, &FUNCTION, LITTLE).ok()?;

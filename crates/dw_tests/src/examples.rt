@@ -19,9 +19,9 @@ use dw_stack::CheckedExpression;
 
 /// The offset from the CFA, in bytes, at which the function at `address` has saved a register.
 ///
-/// It is the rule of the only row that covers `address` (`dw_rows::laws::exact_rows`). The look-up
-/// can't fail, so `None` means that no FDE covers `address`, or that the register's rule isn't an
-/// offset.
+/// The offset is that of the register's rule in the only row that covers `address`
+/// (`dw_rows::laws::exact_rows`). The look-up can't fail, so `None` means that no FDE covers
+/// `address`, or that the register's rule isn't an offset.
 pub fn saved_offset(frame: &CheckedFrame<'_>, address: u64, register: u16) -> Option<i64>
     ensures { IfSome result (λ n. (row : Row) × (row_of frame.now address ≡ Some row)
         × (rule_in row.rules register ≡ offset n)) }

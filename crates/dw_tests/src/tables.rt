@@ -19,15 +19,15 @@ fn compiled(alloc: Global, section: &[u8]) -> Result<Option<UnwindTable>, Fault>
     check_frame(alloc, section, LITTLE)?.compile(alloc, AMPLE)
 }
 
-/// Where the row of an address begins and ends by the compiled table, and its return address
-/// register.
+/// Where the row of an address begins and ends, and its return address register, as the compiled
+/// table gives them. `None` if the address has no row.
 fn range_at(table: &UnwindTable, address: u64) -> Option<(u64, u64, u16)> {
     let (row, register) = table.row_and_return_register(address)?;
     Some((row.start_address(), row.end_address(), register))
 }
 
-/// Where the row of an address begins and ends by the checked section, and its return address
-/// register.
+/// Where the row of an address begins and ends, and its return address register, as the checked
+/// section gives them. `None` if the address has no row.
 fn range_in(frame: &CheckedFrame<'_>, address: u64) -> Option<(u64, u64, u16)> {
     let row = frame.row_for_address(address)?;
     let cie = frame.cie_of(&frame.fde_for_address(address)?);

@@ -135,8 +135,9 @@ const LOCATIONS: &str = "\
 7600 | sp 6/reg 6 0x5/: address 0x0000000000000005/steps 1 depth 1
 ";
 
-/// Locations in big-endian order and their outcomes. Each line is `HEX: OUTCOME`, or `HEX | STATE:
-/// OUTCOME` if there is a state file, as `evaluate_to` explains; `/` stands for the end of a line.
+/// Locations in big-endian order and their outcomes. Each line is `HEX: OUTCOME`, or
+/// `HEX | STATE: OUTCOME` if there is a state file, as `evaluate_to` explains; `/` stands for the
+/// end of a line.
 const BIG_STATES: &str = "\
 0a1000 06 | mem 0x1000 0102030405060708: address 0x0102030405060708/steps 2 depth 1
 0a1000 9402 | mem 0x1000 3412: address 0x0000000000003412/steps 2 depth 1
@@ -145,9 +146,9 @@ const BIG_STATES: &str = "\
 30 28 0001 96 32: address 0x0000000000000002/steps 4 depth 1
 ";
 
-/// Locations with addresses of four bytes and their outcomes. Each line is `HEX: OUTCOME`, or `HEX
-/// | STATE: OUTCOME` if there is a state file, as `evaluate_to` explains; `/` stands for the end of
-/// a line.
+/// Locations with addresses of four bytes and their outcomes. Each line is `HEX: OUTCOME`, or
+/// `HEX | STATE: OUTCOME` if there is a state file, as `evaluate_to` explains; `/` stands for the
+/// end of a line.
 const SHORT_STATES: &str = "\
 0a0010 06 | mem 0x1000 01020304: address 0x04030201/steps 2 depth 1
 0c00000080 0dffffffff 1b: address 0x80000000/steps 3 depth 2
@@ -163,9 +164,9 @@ const SHORT_STATES: &str = "\
 0c00000080 0820 26: address 0xffffffff/steps 3 depth 2
 ";
 
-/// Expressions of registers' rules and their outcomes. Each line is `HEX: OUTCOME`, or `HEX |
-/// STATE: OUTCOME` if there is a state file, as `evaluate_to` explains; `/` stands for the end of a
-/// line.
+/// Expressions of registers' rules and their outcomes. Each line is `HEX: OUTCOME`, or
+/// `HEX | STATE: OUTCOME` if there is a state file, as `evaluate_to` explains; `/` stands for the
+/// end of a line.
 const REGISTER_STATES: &str = "\
 12 22 | cfa 0x10: value 0x0000000000000020/steps 2 depth 2
 12 22: unreadable at 0x00000000/steps 0 depth 2
@@ -174,8 +175,9 @@ const REGISTER_STATES: &str = "\
 12 13 | cfa 0x10: value 0x0000000000000010/steps 2 depth 2
 ";
 
-/// Expressions of a CFA's rule and their outcomes. Each line is `HEX: OUTCOME`, or `HEX | STATE:
-/// OUTCOME` if there is a state file, as `evaluate_to` explains; `/` stands for the end of a line.
+/// Expressions of a CFA's rule and their outcomes. Each line is `HEX: OUTCOME`, or
+/// `HEX | STATE: OUTCOME` if there is a state file, as `evaluate_to` explains; `/` stands for the
+/// end of a line.
 const CFA_STATES: &str = "\
 7708 | //reg 7 0x10/reg 7 0x20/: value 0x0000000000000018/steps 1 depth 1
 7700 | cfa 0x10: unreadable at 0x00000000/steps 1 depth 1

@@ -14,9 +14,9 @@ use std::alloc::{AllocError, Global};
 /// `PAIR_AND_DEFAULT` has a list at 0xc: the object is in register 0 for the first 0x10 addresses
 /// from the base on, and has the value 0 at all others. `OVERLAPPING` has a list at 0xc, which sets
 /// the base to 0x2000: the object is in register 0 from 0x2000 to 0x2010, and in register 1 from
-/// 0x2008 to 0x2018, and an entry with an empty range says register 2. `BIG_SHORT` is for `--big
-/// --addr4`. In its list, at 0xc, the object is in memory at register 13 plus 4 from 0x8000 to
-/// 0x8010. `LONG` is a table in the 64-bit format with an empty list at 0x1c.
+/// 0x2008 to 0x2018, and an entry with an empty range says register 2. `BIG_SHORT` is for
+/// `--big --addr4`. In its list, at 0xc, the object is in memory at register 13 plus 4 from 0x8000
+/// to 0x8010. `LONG` is a table in the 64-bit format with an empty list at 0x1c.
 ///
 /// `STACK` is a state file for a walk over `FUNCTION` from 0x1010 to 0x1020. If `LAST_WORD` follows
 /// it, the walk reaches 0x2000 after that.
