@@ -7,7 +7,7 @@ use Rattle.dwcheck_c.specs.declared.fault.CFault.{CFault}
 use Rattle.dwcheck_c.specs.declared.fault.TheConstants.{IN_FRAME, IN_LISTS, IN_EXPRESSION}
 use Rattle.dwcheck_c.specs.Faults.{cfault_of}
 
--- C's number for the input that a fault's offset refers to
+-- the number that C gets for the input that a fault's offset refers to
 abbrev pub section_number : Section → ℕ
 section_number Frame = IN_FRAME
 section_number Lists = IN_LISTS

@@ -64,7 +64,8 @@ pub(crate) fn shown_frame(frame: BriefFrame) -> CFrame
     }
 }
 
-/// The number that C gets for the reason why a walk ended: `DWCHECK_STOP_` in c/include/dwcheck.h.
+/// The number that C gets for the reason why a walk ended. It is one of the constants
+/// `DWCHECK_STOP_` of c/include/dwcheck.h.
 pub(crate) fn stop_code(stop: Stop) -> u32
     ensures { result ≡ stop_number stop }
 {

@@ -13,7 +13,7 @@ use dw_bytes::FaultKind;
 use dw_check::{Section, check};
 use std::alloc::Global;
 
-/// C's number for the input that a fault's offset refers to.
+/// The number that C gets for the input that a fault's offset refers to.
 fn within(section: Section) -> u32
     ensures { result ≡ section_number section }
 {
